@@ -1,2 +1,4 @@
 pub mod Listed
 pub mod ListedLaws
+pub mod Answers
+pub mod Desks

@@ -2,6 +2,12 @@
 //! answers and rows are those of its own small machine, run over its own events alone.
 #![tactic(auto)]
 
+mod desk;
+mod event;
+mod founding;
+mod handling;
 mod lists;
 
+pub use crate::desk::Desk;
+pub use crate::event::{Event, RunFault};
 pub use crate::lists::Lists;
