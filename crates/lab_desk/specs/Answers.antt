@@ -1,8 +1,7 @@
 -- What the desk answers: to a request its reply text, to a founding a line.
-use Rattle.std.specs.Prelude.{◌≡◌, bytes_eq, if◌then◌else◌, ℕ, List, [], ◌∷◌, ◌++◌, Option, Some, None, Result, Ok, Err, codes, decimal}
+use Rattle.std.specs.Prelude.{◌≡◌, ◌⊎◌, bytes_eq, if◌then◌else◌, ℕ, List, ◌++◌, Option, Some, None, Result, Ok, Err, codes, decimal}
 use Rattle.lab_names.specs.declared.Tick.{Tick}
 use Rattle.lab_records.specs.declared.lab.Lab.{Lab}
-use Rattle.lab_records.specs.declared.command.Command.{Command}
 use Rattle.lab_records.specs.declared.command.Founding.{Founding}
 use Rattle.lab_records.specs.declared.command.Reply.{Reply}
 use Rattle.lab_records.specs.declared.command.Reply.TheVariants.{Refused as RefusedReply}
@@ -13,9 +12,8 @@ use Rattle.lab_records.specs.declared.refusal.Refusal.TheVariants.{BadName, NoSu
 use Rattle.lab_records.specs.Machine.{step, born, after_birth}
 use Rattle.lab_records.specs.Changes.{changed_in}
 use Rattle.lab_records.specs.declared.command.Change.{Change}
-use Rattle.lab_records.specs.Refusals.{number_of, word_of, fault_number, fault_word}
+use Rattle.lab_records.specs.Refusals.{number_of, word_of}
 use Rattle.lab_wire.specs.declared.Ask.{Ask}
-use Rattle.lab_wire.specs.Foundings.{founding_named}
 
 -- a founding from its body: the body's refusal first, and then the machine's
 abbrev pub born_of : Option Lab → List ℕ → Tick → Result Founding Refusal → Result Lab Refusal
@@ -23,8 +21,8 @@ born_of lab code tick (Err refusal) = Err refusal
 born_of lab code tick (Ok founding) = born lab code tick founding
 
 -- the line that tells of a refused founding: `refused <number> <word>`
-abbrev pub refused_line : Fault → List ℕ
-refused_line fault = codes "refused " ++ decimal (fault_number fault) ++ codes " " ++ fault_word fault ++ codes "\n"
+abbrev pub refused_line : Refusal → List ℕ
+refused_line refusal = codes "refused " ++ decimal (number_of refusal) ++ codes " " ++ word_of refusal ++ codes "\n"
 
 -- the line that tells of a founding: `founded <code>`
 abbrev pub founded_line : List ℕ → List ℕ
@@ -65,11 +63,25 @@ FoundingMay may_refuse is_said BadBody = is_said BadBody
 -- the line that answers a founding
 abbrev pub line_of : List ℕ → Result Lab Refusal → List ℕ
 line_of code (Ok lab) = founded_line code
-line_of code (Err refusal) = refused_line (RefusedFault refusal)
+line_of code (Err refusal) = refused_line refusal
 
 -- the line for want of memory, and that for the store's refusal
 abbrev pub memory_line : List ℕ
-memory_line = refused_line (Memory (record {}))
+memory_line = codes "refused 90 memory\n"
 
 abbrev pub storage_line : List ℕ
-storage_line = refused_line (RefusedFault Storage)
+storage_line = refused_line Storage
+
+-- a line, or that for want of memory where there is none
+abbrev pub shown : Option (List ℕ) → List ℕ
+shown None = memory_line
+shown (Some line) = line
+
+-- a line tells of want of memory, or of a store that may refuse
+abbrev pub IsRefusedLine : Type 0 → List ℕ → Type 0
+IsRefusedLine may_refuse line = (line ≡ memory_line) ⊎ (may_refuse × (line ≡ storage_line))
+
+-- a fact on the refusal of a fault; want of memory is none
+abbrev pub IfRefused : Fault → (Refusal → Type 0) → Type 0
+IfRefused (RefusedFault refusal) P = P refusal
+IfRefused (Memory want) P = ⊥

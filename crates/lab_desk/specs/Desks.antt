@@ -6,8 +6,6 @@ use Rattle.lab_records.specs.declared.refusal.Refusal.TheVariants.{Storage}
 use Rattle.lab_records.specs.declared.lab.Lab.{Lab}
 use Rattle.lab_records.specs.declared.command.Change.{Change}
 use Rattle.lab_records.specs.declared.refusal.Refusal.{Refusal}
-use Rattle.lab_records.specs.declared.fault.Fault.{Fault}
-use Rattle.lab_records.specs.declared.fault.Fault.TheVariants.{Refused as RefusedFault, Memory}
 use Rattle.lab_records.specs.Changes.{SameMeaning}
 use Rattle.lab_wire.specs.declared.Ask.{Ask}
 use Rattle.lab_wire.specs.Replies.{reply_text, memory_text}
@@ -35,8 +33,3 @@ pub record RefusesRequest (may_refuse rests : Type 0) (old new : List ℕ → Op
   pub replied : (reply ≡ memory_text) ⊎ (may_refuse × (reply ≡ storage_text tick))
   pub same : SameMeaning old new
   pub rows : rests
-
--- a fact on the refusal of a fault; want of memory is none
-abbrev pub IfRefused : Fault → (Refusal → Type 0) → Type 0
-IfRefused (RefusedFault refusal) P = P refusal
-IfRefused (Memory want) P = ⊥

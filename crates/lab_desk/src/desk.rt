@@ -1,6 +1,6 @@
 //! The desk: one body for every keeper.
 
-ghost use Rattle.std.specs.Prelude.{◌≡◌, ◌⊎◌, ℕ, List, [], IfOk, IfErr, OnOk, OnErr, IsOk, Ok, Err, Bool, true, false, IfSome};
+ghost use Rattle.std.specs.Prelude.{◌≡◌, ◌⊎◌, ◌≤◌, length, vec_capacity, ℕ, List, [], IfOk, IfErr, OnOk, OnErr, IsOk, Ok, Err, Bool, true, false, IfSome};
 ghost use Rattle.lab_records.specs.declared.command.Reply.TheVariants.{Refused as RefusedReply};
 ghost use Rattle.lab_records.specs.Changes.{SameMeaning};
 ghost use Rattle.lab_records.specs.Refusals.{MayFail};
@@ -8,10 +8,13 @@ ghost use Rattle.lab_records.specs.declared.lab.Lab.{Lab as WholeLab};
 ghost use Rattle.lab_wire.specs.Asked.{asked};
 ghost use Rattle.lab_wire.specs.Replies.{reply_text, memory_text};
 ghost use Rattle.lab_wire.specs.Foundings.{founding_named};
-ghost use Rattle.lab_desk.specs.Answers.{reply_to, after_request, MovesFor, born_of, after_founding, FoundingMay};
-ghost use Rattle.lab_desk.specs.Desks.{TakesRequest, RefusesRequest, IfRefused};
+ghost use Rattle.lab_desk.specs.Answers.{reply_to, after_request, MovesFor, born_of, after_founding, FoundingMay, line_of, shown, IsRefusedLine, IfRefused};
+ghost use Rattle.lab_desk.specs.Faults.{IsMemoryFault};
+ghost use Rattle.std.specs.Option.{option_map};
+ghost use Rattle.lab_desk.specs.Desks.{TakesRequest, RefusesRequest};
 
-use crate::founding::found_from;
+use crate::event::{Event, RunFault};
+use crate::founding::{Line, answer_founding, found_from};
 use crate::handling::answer_request;
 use lab_names::{LabCode, OutOfMemory, Tick};
 use lab_records::{Fault, Keeper, Reply};
@@ -128,6 +131,35 @@ impl<S: Keeper + Drop> Desk<S> {
         ensures refusing { S.may_refuse self.new.keeper → S.may_refuse self.old.keeper }
     {
         found_from(self.alloc, &mut self.keeper, lab, tick, body)
+    }
+
+    /// Founds a laboratory, and says so in a line.
+    pub(crate) fn answer_founding(&mut self, lab: &LabCode, tick: &Tick, body: &[u8]) -> Line
+        ensures taken { S.is_honest self.new.keeper → S.is_reached self.old.keeper → result.taken ≡ true →
+            shown (option_map (λ line. line.items) result.text) ≡ line_of lab.now (born_of (S.meaning self.old.keeper lab.now) lab.now tick.now (founding_named body.now)) }
+        ensures after { S.is_honest self.new.keeper → S.is_reached self.old.keeper → result.taken ≡ true → (code : List ℕ) →
+            S.meaning self.new.keeper code ≡ after_founding code (S.meaning self.old.keeper code) lab.now tick.now (founding_named body.now) }
+        ensures refused { result.taken ≡ false →
+            IsRefusedLine (S.may_refuse self.old.keeper) (shown (option_map (λ line. line.items) result.text)) }
+        ensures same { S.is_honest self.new.keeper → S.is_reached self.old.keeper → result.taken ≡ false →
+            SameMeaning (S.meaning self.old.keeper) (S.meaning self.new.keeper) }
+        ensures honest { S.is_honest self.new.keeper → S.is_honest self.old.keeper }
+        ensures reached { S.is_honest self.new.keeper → S.is_reached self.old.keeper → S.is_reached self.new.keeper }
+        ensures refusing { S.may_refuse self.new.keeper → S.may_refuse self.old.keeper }
+    {
+        answer_founding(self.alloc, &mut self.keeper, lab, tick, body)
+    }
+
+    /// Room for one word an event.
+    pub(crate) fn room_for(&self, events: &[Event]) -> Result<Vec<bool>, RunFault>
+        ensures empty { IfOk result (λ taken. taken.items ≡ []) }
+        ensures room { IfOk result (λ taken. length events.now ≤ vec_capacity taken) }
+        ensures memory { IfErr result IsMemoryFault }
+    {
+        match Vec::with_capacity(self.alloc, events.len()) {
+            Ok(taken) => Ok(taken),
+            Err(_) => Err(RunFault::Memory(OutOfMemory)),
+        }
     }
 
     /// The keeper, given up.

@@ -7,6 +7,7 @@ mod event;
 mod founding;
 mod handling;
 mod lists;
+mod run;
 
 pub use crate::desk::Desk;
 pub use crate::event::{Event, RunFault};
