@@ -39,11 +39,11 @@ place_in_year day = place_of days_in_year day 1970 day
 
 -- the month of a day, from 1 for January
 unfoldable pub month_of : ℕ → ℕ
-month_of day = span_of (days_in_month (year_of day)) 12 1 (place_in_year day)
+month_of day = span_of (days_in_month (year_of day)) 11 1 (place_in_year day)
 
 -- the day of the month of a day, from 1
 unfoldable pub day_of_month : ℕ → ℕ
-day_of_month day = place_of (days_in_month (year_of day)) 12 1 (place_in_year day) + 1
+day_of_month day = place_of (days_in_month (year_of day)) 11 1 (place_in_year day) + 1
 
 -- the day of the week of a day, from 1 for Monday to 7 for Sunday: 1970-01-01 was a Thursday
 unfoldable pub weekday_of : ℕ → ℕ

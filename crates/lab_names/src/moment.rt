@@ -69,6 +69,7 @@ impl Moment {
     }
 
     /// Writes the moment as `YYYY-MM-DDTHH:MM:SSZ`.
+    #[tactic(auto, unfolding(crate::specs::Stamp::stamp_text, crate::specs::Stamp::stamp_of, crate::specs::Moment::moment_text))]
     pub fn print(&self, text: &mut [u8; 20])
         ensures { text.new ≡ moment_text self.now }
     {

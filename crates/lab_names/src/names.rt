@@ -2,6 +2,7 @@
 ghost use Rattle.std.specs.Prelude.{◌≡◌, List, ℕ, IsTrue, IfOk, IfErr, nat_eq};
 ghost use Rattle.std.specs.Cmp.Lexicographic.{pointwise, nat_list_eq_equiv};
 ghost use Rattle.std.specs.Cmp.{partial_equiv_from_equiv};
+ghost use Rattle.std.specs.List.{list_all};
 ghost use Rattle.lab_names.specs.Names.{is_code_byte, is_lab_code, is_name_byte, is_name};
 
 use crate::{NameFault, OutOfMemory};
@@ -42,6 +43,12 @@ fn is_code_character(byte: u8) -> bool
     byte.is_ascii_lowercase() || byte.is_ascii_digit() || byte == b'-'
 }
 
+fn are_code_characters(bytes: &[u8]) -> bool
+    ensures { result ≡ list_all is_code_byte bytes.now }
+{
+    bytes.iter().all(|byte| is_code_character(*byte))
+}
+
 impl LabCode {
     ghost use Rattle.lab_names.specs.Faults.{NameFaultFits};
 
@@ -58,6 +65,7 @@ impl LabCode {
         Ok(LabCode { text })
     }
 
+    #[tactic(auto, unfolding(crate::specs::Names::is_lab_code))]
     fn admits(text: &str) -> bool
         ensures { result ≡ is_lab_code text.now }
     {
@@ -67,7 +75,7 @@ impl LabCode {
         };
         bytes.len() <= LAB_CODE_LIMIT
             && first.is_ascii_lowercase()
-            && bytes.iter().all(|byte| is_code_character(*byte))
+            && are_code_characters(bytes)
     }
 
     /// The code's text.
@@ -127,6 +135,12 @@ fn is_printed(byte: u8) -> bool
     byte >= b' ' && byte != DELETE
 }
 
+fn are_printed(bytes: &[u8]) -> bool
+    ensures { result ≡ list_all is_name_byte bytes.now }
+{
+    bytes.iter().all(|byte| is_printed(*byte))
+}
+
 impl Name {
     ghost use Rattle.lab_names.specs.Faults.{NameFaultFits};
 
@@ -143,6 +157,7 @@ impl Name {
         Ok(Name { text })
     }
 
+    #[tactic(auto, using(crate::proofs::NamesLemmas::is_name_of_bytes), unfolding(crate::specs::Names::is_name))]
     fn admits(text: &str) -> bool
         ensures { result ≡ is_name text.now }
     {
@@ -150,10 +165,10 @@ impl Name {
         let (Some(first), Some(last)) = (bytes.first(), bytes.last()) else {
             return false;
         };
-        bytes.len() <= NAME_LIMIT
-            && *first != b' '
-            && *last != b' '
-            && bytes.iter().all(|byte| is_printed(*byte))
+        if bytes.len() > NAME_LIMIT || *first == b' ' || *last == b' ' {
+            return false;
+        }
+        are_printed(bytes)
     }
 
     /// The name's text.

@@ -22,6 +22,7 @@ impl Stamp {
     ghost use Rattle.lab_names.specs.Stamp.{stamp_text, IsInWidth};
 
     /// The text `YYYY-MM-DDTHH:MM:SSZ`.
+    #[tactic(auto, unfolding(crate::specs::Stamp::stamp_text))]
     pub fn text(&self) -> [u8; STAMP_LEN]
         requires { IsInWidth self.now }
         ensures { result ≡ stamp_text self.now }

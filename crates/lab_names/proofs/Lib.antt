@@ -1,0 +1,4 @@
+pub mod SpanLemmas
+pub mod CalendarLemmas
+pub mod NamesLemmas
+pub mod StampLemmas
