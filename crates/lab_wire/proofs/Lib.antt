@@ -1,0 +1,3 @@
+pub mod HeadLaws
+pub mod HeadLemmas
+pub mod LineLemmas
