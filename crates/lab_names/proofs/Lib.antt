@@ -1,0 +1,3 @@
+pub mod SpanLemmas
+pub mod CalendarLemmas
+pub mod NamesLemmas
