@@ -1,13 +1,15 @@
 -- The head of a request as lines and words that compute: where it ends, how long it may be, and
 -- what its request line and field lines are (RFC 9112, sections 2.1, 2.2, 3 and 5; RFC 9110,
 -- sections 5.1 and 7.2). The classes of bytes are those of the kit's `httparse`.
-use Rattle.std.specs.Prelude.{ℕ, ◌+◌, Bool, true, false, ◌&&◌, ◌||◌, not, List, [], ◌∷◌, length, take, if◌then◌else◌, ◌==◌, nat_lt, nat_le, map, count_by, take_while, Option, Some, None, codes}
+use Rattle.std.specs.Prelude.{ℕ, ◌+◌, Bool, true, false, ◌&&◌, ◌||◌, not, List, [], ◌∷◌, length, take, if◌then◌else◌, ◌==◌, nat_lt, nat_le, map, count_by, take_while, Option, Some, None, Result, Ok, Err, codes}
 use Rattle.std.specs.List.{list_all, list_any, slice_split, before_first, after_first}
 use Rattle.std.specs.Str.{is_utf8, bytes_eq, str_eq_ignore_ascii_case}
 use Rattle.std.specs.Str.Lines.{strip_carriage_return}
 use Rattle.httparse.specs.Ascii.{line_feed, carriage_return, space, colon}
 use Rattle.httparse.specs.Grammar.{is_token, is_uri_byte, is_value_byte}
 use Rattle.httparse.specs.Pieces.{is_newline}
+use Rattle.lab_records.specs.declared.refusal.Refusal.{Refusal}
+use Rattle.lab_records.specs.declared.refusal.Refusal.TheVariants.{BadHead, HeadTooLong}
 
 -- how many bytes may come before the end of a head, those that are dropped counted
 abbrev pub head_limit : ℕ
@@ -54,11 +56,11 @@ head_lines text = take_while (λ line. not (is_empty_line line)) (ended_lines te
 unfoldable pub has_end : List ℕ → Bool
 has_end text = list_any is_empty_line (ended_lines text)
 
--- the limit has come and no end, or more field lines than may stand below the request line
-unfoldable pub is_too_long : List ℕ → Bool
-is_too_long bytes =
-    (nat_le head_limit (length bytes) && not (has_end (head_text bytes)))
-    || nat_lt (1 + field_limit) (length (head_lines (head_text bytes)))
+-- so many bytes have come that a head must have ended and has not, or it has more field lines than
+-- may stand below the request line
+unfoldable pub is_over_limits : ℕ → List ℕ → Bool
+is_over_limits came text =
+    (nat_le head_limit came && not (has_end text)) || nat_lt (1 + field_limit) (length (head_lines text))
 
 -- the words between single spaces
 abbrev pub words : List ℕ → List (List ℕ)
@@ -121,5 +123,16 @@ head_of text =
     if has_end text then head_of_lines (map strip_carriage_return (head_lines text)) else None
 
 -- HTTP/1.1 wants exactly one Host
-abbrev pub keeps_host_rule : Head → Bool
+unfoldable pub keeps_host_rule : Head → Bool
 keeps_host_rule head = not (is_version_1_1 head.version) || count_by is_host head.names == 1
+
+-- the head that was read, if it keeps that rule
+abbrev pub checked_head : Option Head → Result Head Refusal
+checked_head None = Err BadHead
+checked_head (Some head) = if keeps_host_rule head then Ok head else Err BadHead
+
+-- the head of a request, or why there is none
+unfoldable pub good_head : List ℕ → Result Head Refusal
+good_head bytes =
+    if is_over_limits (length bytes) (head_text bytes) then Err HeadTooLong
+    else checked_head (head_of (head_text bytes))
