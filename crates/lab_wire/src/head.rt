@@ -2,7 +2,7 @@
 ghost use Rattle.std.specs.Prelude.{◌≡◌, ◌+◌, ◌≤◌, ℕ, List, length, All, IsTrue, IfOk, IfErr, IfSome, IfNone, Ok, Err, position, count_by};
 ghost use Rattle.httparse.specs.Grammar.{ReadsRequest, RequestHead};
 ghost use Rattle.httparse.specs.Spans.{IsHeaderWithin, IsRequestWithin, IsRequestOf, span_bytes};
-ghost use Rattle.lab_wire.specs.Heads.{is_line_feed, is_empty_line, without_front, head_lines, has_end, is_over_limits, is_host, Head, good_head};
+ghost use Rattle.lab_wire.specs.Heads.{is_line_feed, is_empty_line, without_front, head_text, head_lines, has_end, is_over_limits, is_host, Head, good_head};
 
 use httparse::Status;
 use httparse::spans::{EMPTY_HEADER_SPAN, HeaderSpan, RequestSpans, parse_request};
@@ -37,6 +37,14 @@ fn without_front(bytes: &[u8]) -> &[u8]
         rest = after;
     }
     rest
+}
+
+// What is read of the bytes.
+#[tactic(auto, using(crate::proofs::ReadLemmas::take_within))]
+fn head_text(bytes: &[u8]) -> &[u8]
+    ensures { result.now ≡ head_text bytes.now }
+{
+    without_front(&bytes[..bytes.len().min(HEAD_LIMIT)])
 }
 
 fn is_empty_line(line: &[u8]) -> bool
@@ -120,7 +128,7 @@ pub fn read_head(bytes: &[u8]) -> Result<RequestLine<'_>, Refusal>
         × (line.method.now ≡ head.method) × (line.target.now ≡ head.target)) }
     ensures refused { IfErr result (λ refusal. good_head bytes.now ≡ Err refusal) }
 {
-    let text = without_front(&bytes[..bytes.len().min(HEAD_LIMIT)]);
+    let text = head_text(bytes);
     if is_over_limits(bytes.len(), text) {
         return Err(Refusal::HeadTooLong);
     }

@@ -1,6 +1,6 @@
 //! What a request asks: the laboratory and the command that its head names.
 ghost use Rattle.std.specs.Prelude.{◌≡◌, Ok, Err, Some, None, IfOk, IfErr, MatchOption};
-ghost use Rattle.lab_wire.specs.Asked.{path_of, code_in, asked, AskFaultFits};
+ghost use Rattle.lab_wire.specs.Asked.{path_of, code_in, card_of, asked, AskFaultFits};
 
 use crate::head::read_head;
 use crate::request::Ask;
@@ -14,6 +14,32 @@ fn code_in(target: &str) -> Option<&str>
 {
     let path = target.split_once('?').map_or(target, |(path, _)| path);
     path.strip_prefix("/labs/")
+}
+
+// The code in a request for a laboratory's card, which may be none.
+fn card_code(bytes: &[u8]) -> Result<&str, Refusal>
+    ensures found { IfOk result (λ code. asked bytes.now ≡ card_of (Some code.now)) }
+    ensures refused { IfErr result (λ refusal. asked bytes.now ≡ Err refusal) }
+{
+    let line = read_head(bytes)?;
+    if line.method != b"GET".as_slice() {
+        return Err(Refusal::NoRoute);
+    }
+    code_in(line.target).ok_or(Refusal::NoRoute)
+}
+
+fn card(alloc: Global, code: &str) -> Result<Ask, Fault>
+    ensures asks { IfOk result (λ asks. card_of (Some code.now) ≡ Ok asks) }
+    ensures fault { IfErr result (AskFaultFits (card_of (Some code.now))) }
+{
+    match LabCode::parse(alloc, code) {
+        Ok(lab) => Ok(Ask {
+            lab,
+            command: Command::Card,
+        }),
+        Err(NameFault::BadName) => Err(Fault::Refused(Refusal::NoRoute)),
+        Err(NameFault::Memory(want)) => Err(Fault::Memory(want)),
+    }
 }
 
 /// Reads what the bytes of a request ask, from its head alone.
@@ -33,19 +59,8 @@ pub fn ask(alloc: Global, bytes: &[u8]) -> Result<Ask, Fault>
     ensures asks { IfOk result (λ asks. asked bytes.now ≡ Ok asks) }
     ensures fault { IfErr result (AskFaultFits (asked bytes.now)) }
 {
-    let line = read_head(bytes).map_err(Fault::Refused)?;
-    if line.method != b"GET".as_slice() {
-        return Err(Fault::Refused(Refusal::NoRoute));
-    }
-    let Some(code) = code_in(line.target) else {
-        return Err(Fault::Refused(Refusal::NoRoute));
-    };
-    match LabCode::parse(alloc, code) {
-        Ok(lab) => Ok(Ask {
-            lab,
-            command: Command::Card,
-        }),
-        Err(NameFault::BadName) => Err(Fault::Refused(Refusal::NoRoute)),
-        Err(NameFault::Memory(want)) => Err(Fault::Memory(want)),
+    match card_code(bytes) {
+        Ok(code) => card(alloc, code),
+        Err(refusal) => Err(Fault::Refused(refusal)),
     }
 }
