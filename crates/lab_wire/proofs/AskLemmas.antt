@@ -1,10 +1,9 @@
 -- What the bytes ask, step by step of the reading.
-use Rattle.std.proofs.Common.{◌≡◌, ◌≢◌, ℕ, Bool, true, false, List, refl, sym, ap, ◌∙◌, Option, Some, None, Result, Ok, Err}
-use Rattle.std.specs.Prelude.{IsTrue, IsFalse, IsOk, codes}
+use Rattle.std.proofs.Common.{◌≡◌, ℕ, Bool, true, false, List, [], ◌∷◌, refl, sym, ap, ◌∙◌, Option, Some, None, Result, Ok, Err, IfOk, IfErr, Bor, cond}
+use Rattle.std.specs.Prelude.{codes, not, MatchOption}
+use Rattle.std.specs.Option.{ok_or}
 use Rattle.std.specs.Str.{bytes_eq}
-use Rattle.std.proofs.lemmas.Bool.{cond-true, cond-false}
-use Rattle.lab_names.specs.Names.{is_lab_code}
-use Rattle.lab_records.specs.declared.command.Command.TheVariants.{Card}
+use Rattle.std.proofs.lemmas.Bool.{cond-true, cond-false, not-true, not-false}
 use Rattle.lab_records.specs.declared.refusal.Refusal.{Refusal}
 use Rattle.lab_records.specs.declared.refusal.Refusal.TheVariants.{NoRoute}
 use Rattle.lab_wire.specs.declared.request.Ask.{Ask}
@@ -15,36 +14,45 @@ pub asked_refused : (bytes : List ℕ) (refusal : Refusal) → good_head bytes �
 unfolding asked
 asked_refused bytes refusal is = ap asked_by is
 
--- a good head, and the words of its request line
-pub record HasWords (bytes method target : List ℕ) : Type 0 where
-  pub head : Head
-  pub good : good_head bytes ≡ Ok head
-  pub method_is : method ≡ head.method
-  pub target_is : target ≡ head.target
+-- a good head, whose request line has these words
+abbrev pub HasWords : List ℕ → List ℕ → List ℕ → Type 0
+HasWords bytes method target =
+    (head : Head) × (good_head bytes ≡ Ok head) × (method ≡ head.method) × (target ≡ head.target)
 
 asked_words : (bytes method target : List ℕ) → HasWords bytes method target → asked bytes ≡ asked_of method target
 unfolding asked
 asked_words bytes method target words =
-    ap asked_by words.good ∙ (λ i. asked_of (sym words.method_is i) (sym words.target_is i))
+    ap asked_by words.1 ∙ (λ i. asked_of (sym words.2 i) (sym words.3 i))
+
+-- `method != b"GET"` tests for another method
+pub is_other : (method get : List ℕ) (differs answer : Bool) → get ≡ codes "GET" → differs ≡ not (bytes_eq method get)
+    → differs ≡ answer → not (bytes_eq method (codes "GET")) ≡ answer
+is_other method get differs answer same is told = ap (λ g. not (bytes_eq method g)) (sym same) ∙ sym is ∙ told
 
 pub other_method : (bytes method target : List ℕ) → HasWords bytes method target
-    → bytes_eq method (codes "GET") ≡ false → asked bytes ≡ Err NoRoute
+    → not (bytes_eq method (codes "GET")) ≡ true → asked bytes ≡ Err NoRoute
 unfolding asked_of
 other_method bytes method target words other =
-    asked_words bytes method target words ∙ cond-false (bytes_eq method (codes "GET")) (card_of (code_in (path_of target))) (Err NoRoute) other
+    asked_words bytes method target words
+    ∙ cond-false (bytes_eq method (codes "GET")) (card_of (code_in (path_of target))) (Err NoRoute) (not-true _ other)
 
 -- by GET, the card of the code in the path
-pub asked_by_get : (bytes method target : List ℕ) (code : Option (List ℕ)) → HasWords bytes method target
-    → bytes_eq method (codes "GET") ≡ true → code_in (path_of target) ≡ code → asked bytes ≡ card_of code
+pub asked_by_get : (bytes method target : List ℕ) → HasWords bytes method target
+    → not (bytes_eq method (codes "GET")) ≡ false → asked bytes ≡ card_of (code_in (path_of target))
 unfolding asked_of
-asked_by_get bytes method target code words get is =
+asked_by_get bytes method target words get =
     asked_words bytes method target words
-    ∙ cond-true (bytes_eq method (codes "GET")) (card_of (code_in (path_of target))) (Err NoRoute) get
-    ∙ ap card_of is
+    ∙ cond-true (bytes_eq method (codes "GET")) (card_of (code_in (path_of target))) (Err NoRoute) (not-false _ get)
 
-pub card_asked : (code : List ℕ) → IsTrue (is_lab_code code)
-    → card_of (Some code) ≡ Ok (record { lab = code; command = Card })
-card_asked code is = cond-true (is_lab_code code) (Ok (record { lab = code; command = Card })) (Err NoRoute) is
+-- the code that was found, and that none was
+pub found_code : (found : Option (Bor (List ℕ))) (code : Option (List ℕ)) (asks : Result Ask Refusal)
+    → MatchOption found (code ≡ None) (λ part. code ≡ Some part.now) → asks ≡ card_of code
+    → IfOk (ok_or found NoRoute) (λ part. asks ≡ card_of (Some part.now))
+found_code None code asks is by = tt
+found_code (Some part) code asks is by = by ∙ ap card_of is
 
-pub no_card : (code : List ℕ) → IsFalse (is_lab_code code) → card_of (Some code) ≡ Err NoRoute
-no_card code is = cond-false (is_lab_code code) (Ok (record { lab = code; command = Card })) (Err NoRoute) is
+pub no_code : (found : Option (Bor (List ℕ))) (code : Option (List ℕ)) (asks : Result Ask Refusal)
+    → MatchOption found (code ≡ None) (λ part. code ≡ Some part.now) → asks ≡ card_of code
+    → IfErr (ok_or found NoRoute) (λ refusal. asks ≡ Err refusal)
+no_code None code asks is by = by ∙ ap card_of is
+no_code (Some part) code asks is by = tt
