@@ -1,2 +1,6 @@
 pub mod Asked
+pub mod Dates
+pub mod Foundings
 pub mod Heads
+pub mod Replies
+pub mod Statuses
