@@ -1,9 +1,9 @@
 //! What is decided of a command, from the part of the laboratory that the command needs.
 
-ghost use Rattle.std.specs.Prelude.{◌≡◌, IfOk, Some};
+ghost use Rattle.std.specs.Prelude.{◌≡◌, Option, IfOk, Some};
 ghost use Rattle.lab_records.specs.declared.lab.Lab.{Lab as WholeLab};
 ghost use Rattle.lab_records.specs.Machine.{step};
-ghost use Rattle.lab_records.specs.Parts.{need_of, part};
+ghost use Rattle.lab_records.specs.Parts.{need_of, part_of};
 ghost use Rattle.lab_records.specs.Changes.{ChangesFit, changed_in};
 
 use crate::command::{Command, Need, Outcome, Reply, Slice};
@@ -31,12 +31,13 @@ pub fn decide(
     tick: &Tick,
     command: &Command,
 ) -> Result<Outcome, OutOfMemory>
-    ensures reply { (lab : WholeLab) → slice.now ≡ part (need_of command.now) lab →
-        IfOk result (λ outcome. outcome.reply ≡ (step (Some lab) tick.now command.now).reply) }
-    ensures fit { (lab : WholeLab) → slice.now ≡ part (need_of command.now) lab →
-        IfOk result (λ outcome. ChangesFit (Some lab) outcome.changes.items) }
-    ensures changed { (lab : WholeLab) → slice.now ≡ part (need_of command.now) lab →
-        IfOk result (λ outcome. changed_in (Some lab) outcome.changes.items ≡ (step (Some lab) tick.now command.now).after) }
+    // For any laboratory of which the slice is the part that the command needs:
+    ensures reply { (lab : Option WholeLab) → part_of (need_of command.now) lab ≡ Some slice.now →
+        IfOk result (λ outcome. outcome.reply ≡ (step lab tick.now command.now).reply) }
+    ensures fit { (lab : Option WholeLab) → part_of (need_of command.now) lab ≡ Some slice.now →
+        IfOk result (λ outcome. ChangesFit lab outcome.changes.items) }
+    ensures after { (lab : Option WholeLab) → part_of (need_of command.now) lab ≡ Some slice.now →
+        IfOk result (λ outcome. changed_in lab outcome.changes.items ≡ (step lab tick.now command.now).after) }
 {
     let reply = if tick.moment.seconds() < slice.last.seconds() {
         Reply::Refused(Refusal::ClockBehind)

@@ -6,7 +6,7 @@ ghost use Rattle.lab_records.specs.Refusals.{fault_number, fault_word};
 
 use crate::refusal::Refusal;
 use lab_names::OutOfMemory;
-use std::alloc::AllocError;
+use std::alloc::{AllocError, AllocFailed};
 use thiserror::Error;
 
 /// Why a call gave no answer of its kind: it was refused, or memory ran out. Each call says which refusals
@@ -28,7 +28,7 @@ impl Fault {
     {
         match self {
             Fault::Refused(refusal) => refusal.number(),
-            Fault::Memory(_) => 90,
+            Fault::Memory(want) => want.number(),
         }
     }
 
@@ -38,7 +38,7 @@ impl Fault {
     {
         match self {
             Fault::Refused(refusal) => refusal.word(),
-            Fault::Memory(_) => "memory",
+            Fault::Memory(want) => want.word(),
         }
     }
 }
@@ -52,11 +52,17 @@ impl From<OutOfMemory> for Fault {
 }
 
 impl From<AllocError> for Fault {
-    ghost use Rattle.lab_names.specs.declared.OutOfMemory.{OutOfMemory as Want};
-
-    ghost from_gives = { λ _ fault. (want : Want) × (fault ≡ Memory want) };
+    ghost from_gives = { λ _ fault. fault ≡ Memory (record {}) };
 
     fn from(_error: AllocError) -> Fault {
+        Fault::Memory(OutOfMemory)
+    }
+}
+
+impl<T: Drop> From<AllocFailed<T>> for Fault {
+    ghost from_gives = { λ _ fault. fault ≡ Memory (record {}) };
+
+    fn from(_error: AllocFailed<T>) -> Fault {
         Fault::Memory(OutOfMemory)
     }
 }

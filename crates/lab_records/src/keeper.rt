@@ -2,7 +2,7 @@
 //! keeper, so what a keeper promises is said here: of the meaning of each laboratory, of the keeper's own
 //! rows, and of what passes from one call to the next.
 
-ghost use Rattle.std.specs.Prelude.{◌≡◌, ◌≢◌, ℕ, List, Option, Some, None, IsSome, IfOk, IfErr, OnOk, OnErr};
+ghost use Rattle.std.specs.Prelude.{◌≡◌, ◌≢◌, ℕ, List, [], Option, Some, None, IsSome, IfOk, IfErr, OnOk, OnErr};
 ghost use Rattle.lab_records.specs.declared.lab.Lab.{Lab as WholeLab};
 ghost use Rattle.lab_records.specs.declared.command.Change.{Change as OneChange};
 ghost use Rattle.lab_records.specs.Machine.{newborn};
@@ -86,6 +86,9 @@ pub trait Keeper {
 
     /// Rows that stay as they were stay so over two calls.
     ghost rests_on: { (first next last : Self) → rests first next → rests next last → rests first last };
+
+    /// Rows that stay as they were have made no change.
+    ghost rests_unchanged: { (first next : Self) (code : List ℕ) → rests first next → moves first next code [] };
 
     /// Changes after a call that left the rows are the same changes of the rows before it.
     ghost moves_on: { (first next last : Self) (code : List ℕ) (changes : List OneChange) →
