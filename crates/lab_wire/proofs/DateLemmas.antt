@@ -1,13 +1,13 @@
 -- The date that `httpdate` gives a moment is the date that the calendar gives it.
-use Rattle.std.proofs.Common.{◌≡◌, ℕ, zero, suc, ◌+◌, ◌-◌, ◌*◌, ◌/◌, ◌%◌, ◌<◌, ◌≤◌, refl, sym, ap, ◌∙◌, arith}
-use Rattle.std.proofs.lemmas.Bool.Decides.{nat_tests}
+use Rattle.std.proofs.Common.{◌≡◌, ℕ, zero, suc, ◌+◌, ◌-◌, ◌*◌, ◌%◌, ◌<◌, ◌≤◌, refl, sym, ◌∙◌, arith}
 use Rattle.httpdate.specs.Calendar.{days_of_years, days_of_months, days_from_civil, IsCivilDate}
 use Rattle.httpdate.proofs.CalendarLemmas.{days_of_months_all}
 use Rattle.httpdate.specs.Date.{date_text, unix_secs}
 use Rattle.httpdate.specs.declared.date.HttpDate.{HttpDate}
-use Rattle.lab_names.specs.Calendar.{day_of, days_in_year, days_in_month, year_of, place_in_year, month_of, day_of_month, weekday_of, hour_of, minute_of, second_of, span_of, place_of}
+use Rattle.lab_names.specs.Calendar.{day_of, days_in_year, days_in_month, year_of, place_in_year, month_of, day_of_month, weekday_of, hour_of, minute_of, second_of}
+use Rattle.lab_names.proofs.CalendarLemmas.{days_in_year_ge}
 use Rattle.lab_names.proofs.SpanLemmas.{total, total-zero, total-last, total_mono, total_ge, span_of-total, place_of-total}
-use Rattle.lab_wire.specs.Dates.{imf_fixdate, fixdate_text, clock_text}
+use Rattle.lab_wire.specs.Dates.{imf_fixdate}
 
 years-total : (n : ℕ) → days_of_years n ≡ total days_in_year 1970 n
 unfolding days_of_years
@@ -21,25 +21,16 @@ months-total y (suc n) =
     let same : 1 + n ≡ suc n = omega arith in
     omega (arith, months-total y n, rw same at (total-last (days_in_month y) 1 n))
 
--- no year is empty
-year_has_days : (y : ℕ) → 1 ≤ days_in_year y
-year_has_days y = grind (arith, nat_tests)
-
--- the calendar's parts of the day that lies r days into month 1 + k of year 1970 + n
-record HasParts (day n k r : ℕ) : Type 0 where
-  pub year : year_of day ≡ 1970 + n
-  pub month : month_of day ≡ 1 + k
-  pub day_of_the_month : day_of_month day ≡ r + 1
-
+-- the day in place p of year 1970 + n, and in place r of the month k months after January
 year_at : (n p : ℕ) → p < days_in_year (1970 + n) → year_of (total days_in_year 1970 n + p) ≡ 1970 + n
 unfolding year_of
 year_at n p h =
-    span_of-total days_in_year (total days_in_year 1970 n + p) 1970 n p (omega (arith, total_ge days_in_year 1970 n year_has_days)) h
+    span_of-total days_in_year (total days_in_year 1970 n + p) 1970 n p (omega (arith, total_ge days_in_year 1970 n days_in_year_ge)) h
 
 place_at : (n p : ℕ) → p < days_in_year (1970 + n) → place_in_year (total days_in_year 1970 n + p) ≡ p
 unfolding place_in_year
 place_at n p h =
-    place_of-total days_in_year (total days_in_year 1970 n + p) 1970 n p (omega (arith, total_ge days_in_year 1970 n year_has_days)) h
+    place_of-total days_in_year (total days_in_year 1970 n + p) 1970 n p (omega (arith, total_ge days_in_year 1970 n days_in_year_ge)) h
 
 month_at : (day y k r : ℕ) → year_of day ≡ y → place_in_year day ≡ total (days_in_month y) 1 k + r → k ≤ 11 → r < days_in_month y (1 + k) → month_of day ≡ 1 + k
 unfolding month_of

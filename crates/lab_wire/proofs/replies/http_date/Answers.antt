@@ -1,7 +1,6 @@
-use Rattle.std.proofs.Common.{◌≡◌, arith}
+use Rattle.std.proofs.Common.{arith}
 use Rattle.std.proofs.lemmas.Int.{ints}
 use Rattle.std.proofs.lemmas.Result.{IfOk-at_ok}
-use Rattle.httpdate.specs.Date.{unix_secs}
 use Rattle.lab_wire.proofs.DateLemmas.{date_text_is}
 use Rattle.lab_wire.proofs.replies.http_date.Goals as goal
 

@@ -1,6 +1,5 @@
-use Rattle.std.proofs.Common.{ap, ◌∙◌, Some, None}
-use Rattle.std.proofs.lemmas.Result.{IfOk-equal}
-use Rattle.lab_wire.specs.Replies.{memory_text, message_text}
+use Rattle.std.proofs.Common.{◌∙◌}
+use Rattle.lab_wire.specs.Replies.{memory_text}
 use Rattle.lab_wire.proofs.replies.memory_reply.Goals as goal
 
 pub returns : goal.returns
