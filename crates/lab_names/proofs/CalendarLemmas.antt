@@ -40,17 +40,17 @@ date_of y m d day h e =
     by_lt_z y (pos 1970)
     (λ lt. absurd (omega (arith, count, day_count-epoch, day_count-lt_year y m d (pos 1970) 1 1 h (omega arith) lt)))
     (λ le.
-      let n = up y - (1970 + down y) in
-      let year : y ≡ pos (1970 + n) = omega (arith, signed_arith) in
-      let first = rw year at (day_count-day_of_year y m d h.2.0) in
-      let bound = rw year at (day_of_year_bound y m d h) in
-      let same = rw year at count in
-      record {
-        years = n;
-        year = year;
-        day_is = omega (arith, first, same, day_count-total n, days_of_months-total (1970 + n) (m - 1));
-        in_year = omega (arith, bound, days_of_months-total (1970 + n) (m - 1));
-      })
+    let n = up y - (1970 + down y) in
+    let year : y ≡ pos (1970 + n) = omega (arith, signed_arith) in
+    let first = rw year at (day_count-day_of_year y m d h.2.0) in
+    let bound = rw year at (day_of_year_bound y m d h) in
+    let same = rw year at count in
+    record {
+      years = n;
+      year = year;
+      day_is = omega (arith, first, same, day_count-total n, days_of_months-total (1970 + n) (m - 1));
+      in_year = omega (arith, bound, days_of_months-total (1970 + n) (m - 1));
+    })
 
 -- the year, the month and the day of the month of a date's day are the date's own
 pub record IsYmdOf (y : ℤ) (m d day : ℕ) : Type 0 where
@@ -138,9 +138,9 @@ has_date_at : (day n k : ℕ) → day ≤ 2_932_896 → year_of day ≡ 1970 + n
 has_date_at day n k before year day_is month few first place in_month =
     let back : 1 + k - 1 ≡ k = omega arith in
     let early : n < 8030 = elim (cases_lt n 8030) [
-        inl lt ↦ lt
+      | inl lt ↦ lt
       | inr le ↦ absurd (omega (arith, total-years, total_mono days_in_year 1970 8030 n le))
-      ] in
+    ] in
     let of_year = rw back at (day_count-day_of_year (pos (1970 + n)) (1 + k) (day_of_month day) first) in
     let count : day_count (pos (1970 + n)) (1 + k) (day_of_month day) ≡ 4_371_953 + day = omega (arith, of_year, day_count-total n, days_of_months-total (1970 + n) k) in
     record {

@@ -22,7 +22,3 @@ moment_text second =
 -- no moment has this text
 abbrev pub IsNoMoment : List ℕ → Type 0
 IsNoMoment text = (second : ℕ) → IsTrue (is_moment second) → text ≢ moment_text second
-
--- no two moments share a text
-abbrev pub TextsDiffer : ℕ → ℕ → Type 0
-TextsDiffer first second = moment_text first ≡ moment_text second → first ≡ second

@@ -6,7 +6,7 @@ ghost use Rattle.lab_names.specs.Stamp.{stamp_of, IsInWidth};
 
 use crate::MomentFault;
 use crate::stamp::Stamp;
-use jiff_core::civil::Date;
+use jiff_core::civil::{Date, DateTime, Time};
 use std::marker::Model;
 
 /// The seconds of the last moment, 9999-12-31T23:59:59Z.
@@ -69,7 +69,6 @@ impl Moment {
     }
 
     /// Writes the moment as `YYYY-MM-DDTHH:MM:SSZ`.
-    #[tactic(auto, unfolding(crate::specs::Stamp::stamp_text, crate::specs::Stamp::stamp_of, crate::specs::Moment::moment_text))]
     pub fn print(&self, text: &mut [u8; 20])
         ensures { text.new ≡ moment_text self.now }
     {
@@ -79,6 +78,7 @@ impl Moment {
     /// Reads the text that `print` writes, and no other text.
     pub fn parse(text: &str) -> Result<Moment, MomentFault>
         ensures value { IfOk result (λ moment. IsTrue (is_moment moment) × (text.now ≡ moment_text moment)) }
+        ensures printed { (n : ℕ) → IsTrue (is_moment n) → text.now ≡ moment_text n → result ≡ Ok n }
         ensures fault { IfErr result (λ _. IsNoMoment text.now) }
     {
         let stamp = Stamp::read(text.as_bytes()).ok_or(MomentFault::BadMoment)?;
@@ -107,15 +107,10 @@ impl Moment {
         ensures { MatchOption result ((n : ℕ) → IsTrue (is_moment n) → stamp.now ≢ stamp_of n)
             (λ moment. IsTrue (is_moment moment) × (stamp.now ≡ stamp_of moment)) }
     {
-        if stamp.hour > 23 || stamp.minute > 59 || stamp.second > 59 {
-            return None;
-        }
         let date = Date::new(stamp.year as i16, stamp.month as i8, stamp.day as i8).ok()?;
-        let day = date.days_since_min().checked_sub(DAYS_BEFORE_EPOCH)?;
-        let second = stamp.hour as u64 * 3600 + stamp.minute as u64 * 60 + stamp.second as u64;
-        Some(Moment {
-            seconds: day as u64 * SECONDS_IN_DAY + second,
-        })
+        let time = Time::new(stamp.hour as i8, stamp.minute as i8, stamp.second as i8, 0).ok()?;
+        let seconds = DateTime { date, time }.to_second();
+        Moment::from_seconds(seconds).ok()
     }
 }
 

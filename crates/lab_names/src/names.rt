@@ -73,9 +73,7 @@ impl LabCode {
         let Some(first) = bytes.first() else {
             return false;
         };
-        bytes.len() <= LAB_CODE_LIMIT
-            && first.is_ascii_lowercase()
-            && are_code_characters(bytes)
+        bytes.len() <= LAB_CODE_LIMIT && first.is_ascii_lowercase() && are_code_characters(bytes)
     }
 
     /// The code's text.
