@@ -1,5 +1,5 @@
 -- What the bytes ask, step by step of the reading.
-use Rattle.std.proofs.Common.{◌≡◌, ℕ, Bool, true, false, List, [], ◌∷◌, refl, sym, ap, ◌∙◌, Option, Some, None, Result, Ok, Err, IfOk, IfErr, Bor, cond}
+use Rattle.std.proofs.Common.{◌≡◌, ℕ, Bool, true, false, List, sym, ap, ◌∙◌, Option, Some, None, Result, Ok, Err, IfOk, IfErr, Bor}
 use Rattle.std.specs.Prelude.{codes, not, MatchOption}
 use Rattle.std.specs.Option.{ok_or}
 use Rattle.std.specs.Str.{bytes_eq}

@@ -1,21 +1,18 @@
 -- The lines and words of a head are what the grammar of `httparse` says of its bytes.
-use Rattle.std.proofs.Common.{◌≡◌, ◌≢◌, ℕ, ◌+◌, ◌<◌, ◌≤◌, Bool, true, false, cond, List, [], ◌∷◌, ◌++◌, length, take, drop, map, refl, sym, ap, ◌∙◌, subst, arith, append_assoc, append-nil, Option, Some, None, inl, inr, nat_lt, ◌-◌, get_or, length-append}
-use Rattle.std.specs.Prelude.{◌&&◌, ◌||◌, ◌==◌, All, IsTrue, IsUtf8, not, take_while, codes}
-use Rattle.std.specs.List.{list_any, list_all, slice_split, position_or_len, before_first, after_first, flat_map, join_with_byte}
-use Rattle.std.specs.Str.{is_utf8, bytes_eq}
+use Rattle.std.proofs.Common.{◌≡◌, ◌≢◌, ℕ, ◌+◌, ◌<◌, ◌≤◌, Bool, true, false, cond, List, [], ◌∷◌, ◌++◌, length, take, drop, map, refl, sym, ap, ◌∙◌, arith, append_assoc, append-nil, nat_lt, ◌-◌, get_or, length-append}
+use Rattle.std.specs.Prelude.{◌||◌, ◌==◌, All, not}
+use Rattle.std.specs.List.{list_all, position_or_len, after_first, flat_map}
 use Rattle.std.specs.Str.Lines.{strip_carriage_return}
 use Rattle.std.proofs.Math.Seq.{get_or-append_seam, take-append_seam, drop-append-add}
 use Rattle.std.proofs.lemmas.List.{take-append-drop, drop_more}
-use Rattle.std.proofs.lemmas.Bool.{false≢true, or_from, or_parts, or_cases, and_from, and_parts, ne_eqb, eqb-true, cond-true, cond-false, lt-ltb, ltb-true, not-true, not_from_false, cases_Bool}
+use Rattle.std.proofs.lemmas.Bool.{false≢true, or_from, and_from, and_parts, ne_eqb, eqb-true, cond-false, lt-ltb, ltb-true}
 use Rattle.std.proofs.lemmas.List.Elements.{All-append, All-cons, All-nil, All-head, All-tail, All-weaker}
-use Rattle.std.proofs.lemmas.List.Splits.{slice_split_at, slice_split_none, join_with_byte-slice_split}
 use Rattle.std.proofs.lemmas.List.Sums.{list_all-from_AllPass, AllPass-from_list_all, split_at_first, passes_at_first}
-use Rattle.std.proofs.lemmas.Str.{IsUtf8-from_is_utf8, is_utf8-from_IsUtf8}
 use Rattle.std.proofs.lemmas.Grind.{common_steps}
-use Rattle.httparse.specs.Grammar.{is_token_byte, is_token, IsToken, is_uri_byte, is_value_byte, AllPass, LineEnd, crlf, lf, print_end, print_version, Field, print_field, IsField, print_section, RequestHead, ReadsRequest}
+use Rattle.httparse.specs.Grammar.{is_token_byte, is_token, IsToken, is_value_byte, AllPass, LineEnd, crlf, lf, print_end, Field, print_field, IsField, print_section}
 use Rattle.httparse.specs.Pieces.{is_newline}
-use Rattle.httparse.proofs.PieceLemmas.{space_ends_token, colon_ends_token, token_is_no_newline}
-use Rattle.lab_wire.specs.Heads.{is_line_feed, but_last, ended_lines, is_empty_line, head_lines, has_end, words, is_target, is_version_1_1, is_version, field_name, is_field_line, Head, is_head, head_of_words, head_of_lines, head_of}
+use Rattle.httparse.proofs.PieceLemmas.{colon_ends_token, token_is_no_newline}
+use Rattle.lab_wire.specs.Heads.{is_line_feed, ended_lines, is_empty_line, head_lines, has_end, field_name, is_field_line}
 use Rattle.lab_wire.proofs.LineLemmas.{ended_lines_at, full_line, empty_line}
 
 -- ---- bytes
@@ -71,9 +68,9 @@ ended_line line end rest plain =
     ap (λ t. ended_lines (line ++ t)) (end_split end rest)
     ∙ ap ended_lines (sym (append_assoc line (return_of end) (10 ∷ rest)))
     ∙ ended_lines_at (line ++ return_of end) rest
-        (All-append (λ b. is_line_feed b ≡ false) line (return_of end)
-            (All-weaker (λ b. is_newline b ≡ false) (λ b. is_line_feed b ≡ false) plain_no_lf line plain)
-            (no_lf_return end))
+    (All-append (λ b. is_line_feed b ≡ false) line (return_of end)
+    (All-weaker (λ b. is_newline b ≡ false) (λ b. is_line_feed b ≡ false) plain_no_lf line plain)
+    (no_lf_return end))
 
 -- the CR is taken off
 pub stripped : (line : List ℕ) (end : LineEnd) → IsPlain line → strip_carriage_return (line ++ return_of end) ≡ line
@@ -87,7 +84,7 @@ stripped [] lf plain = refl
 stripped (b ∷ line) lf plain =
     ap strip_carriage_return (append-nil (b ∷ line))
     ∙ cond-false _ (take (length (b ∷ line) - 1) (b ∷ line)) (b ∷ line)
-        (plain_no_cr (get_or (b ∷ line) (length (b ∷ line) - 1) 0) (plain (length (b ∷ line) - 1) 0 (omega arith)))
+    (plain_no_cr (get_or (b ∷ line) (length (b ∷ line) - 1) 0) (plain (length (b ∷ line) - 1) 0 (omega arith)))
 
 -- a line is what is left of it and that CR
 pub stripped_back : (line : List ℕ) → (end : LineEnd) × (line ≡ strip_carriage_return line ++ return_of end)
@@ -100,10 +97,12 @@ stripped_back (b ∷ line) = by (get_or (b ∷ line) (length (b ∷ line) - 1) 0
         let n : ℕ = length (b ∷ line) - 1 in
         let last : get_or (b ∷ line) n 0 ≡ 13 = eqb-true _ 13 is in
         let all : length (b ∷ line) ≤ n + 1 = omega arith in
-        let none : drop (n + 1) (b ∷ line) ≡ [] = grind (arith, common_steps) in
-        (crlf, sym (take-append-drop n (b ∷ line))
-            ∙ ap (λ l. take n (b ∷ line) ++ l)
-                (drop_more (b ∷ line) n 0 (omega arith) ∙ ap (λ v. v ∷ drop (n + 1) (b ∷ line)) last ∙ ap (λ l. 13 ∷ l) none))
+        let none : drop (n + 1) (b ∷ line) ≡ [] = grind (arith, common_steps) in (
+          crlf,
+          sym (take-append-drop n (b ∷ line))
+              ∙ ap (λ l. take n (b ∷ line) ++ l)
+              (drop_more (b ∷ line) n 0 (omega arith) ∙ ap (λ v. v ∷ drop (n + 1) (b ∷ line)) last ∙ ap (λ l. 13 ∷ l) none),
+        )
     by false is = (lf, sym (append-nil (b ∷ line)))
 
 pub two_bytes : (line : List ℕ) → 1 < length line → is_empty_line line ≡ false
@@ -152,10 +151,9 @@ section_lines (f ∷ fields) last rest all =
     let is = All-head IsField f fields all in
     let more = section_lines fields last rest (All-tail IsField f fields all) in
     let line = full_line (line_of f ++ (print_end f.end ++ (print_section fields last ++ rest)))
-        (ended_line_of f) (print_section fields last ++ rest)
-        (ended_line (line_of f) f.end (print_section fields last ++ rest) (plain_field f is))
-        (two_bytes (ended_line_of f) (long_field f is)) in
-    (
+    (ended_line_of f) (print_section fields last ++ rest)
+    (ended_line (line_of f) f.end (print_section fields last ++ rest) (plain_field f is))
+    (two_bytes (ended_line_of f) (long_field f is)) in (
       ap head_lines (next_field f fields last rest) ∙ line.0 ∙ ap (λ ls. ended_line_of f ∷ ls) more.0,
       ap has_end (next_field f fields last rest) ∙ line.1 ∙ more.1,
     )
@@ -175,7 +173,7 @@ place_of : (stop : ℕ) (front rest : List ℕ) → All (λ b. (b == stop) ≡ f
 place_of stop [] rest none same = ap (λ t. cond (not t) (1 + position_or_len (λ b. b == stop) rest) 0) same
 place_of stop (b ∷ front) rest none same =
     ap (λ t. cond (not t) (1 + position_or_len (λ v. v == stop) (front ++ stop ∷ rest)) 0)
-        (All-head (λ v. (v == stop) ≡ false) b front none)
+    (All-head (λ v. (v == stop) ≡ false) b front none)
     ∙ ap (λ n. 1 + n) (place_of stop front rest (All-tail (λ v. (v == stop) ≡ false) b front none) same)
     ∙ omega arith
 
@@ -201,9 +199,9 @@ token_from bytes is =
 pub is_field_line_of : (f : Field) → IsField f → is_field_line (line_of f) ≡ true
 is_field_line_of f is =
     and_from _ _ (and_from _ _
-        (ap is_token (name_of_line f is) ∙ is_token_from f.name is.name)
-        (ap (λ l. nat_lt (length l) (length (line_of f))) (name_of_line f is)
-            ∙ lt-ltb (length f.name) (length (line_of f)) (omega (arith, length-append f.name (58 ∷ f.raw)))))
+    (ap is_token (name_of_line f is) ∙ is_token_from f.name is.name)
+    (ap (λ l. nat_lt (length l) (length (line_of f))) (name_of_line f is)
+    ∙ lt-ltb (length f.name) (length (line_of f)) (omega (arith, length-append f.name (58 ∷ f.raw)))))
     (ap (list_all is_value_byte) (value_of_line f is) ∙ list_all-from_AllPass is_value_byte f.raw is.raw)
 
 shorter_than : (n : ℕ) (line : List ℕ) → length (take n line) < length line → n < length line
@@ -218,8 +216,7 @@ field_from_line line end is =
     let place : ℕ = position_or_len (λ b. b == 58) line in
     let shorter : length (take place line) < length line = ltb-true _ _ inner.1 in
     let found : place < length line = shorter_than place line shorter in
-    let colon : get_or line place 0 ≡ 58 = eqb-true _ 58 (passes_at_first (λ b. b == 58) line 0 found) in
-    (
+    let colon : get_or line place 0 ≡ 58 = eqb-true _ 58 (passes_at_first (λ b. b == 58) line 0 found) in (
       record { name = field_name line; raw = after_first (λ b. b == 58) line; end = end },
       record { name = token_from (field_name line) inner.0; raw = AllPass-from_list_all is_value_byte _ outer.1 },
       sym (split_at_first (λ b. b == 58) line 0 found

@@ -1,9 +1,9 @@
 -- The lines of a text, one after another.
-use Rattle.std.proofs.Common.{◌≡◌, ℕ, ◌+◌, ◌<◌, ◌≤◌, Bool, true, false, cond, List, [], ◌∷◌, ◌++◌, length, take, drop, refl, sym, ap, ◌∙◌, arith, append_assoc, Option, Some, None, nat_lt, ◌-◌, length-drop}
+use Rattle.std.proofs.Common.{◌≡◌, ℕ, ◌+◌, ◌<◌, ◌≤◌, Bool, true, false, cond, List, [], ◌∷◌, ◌++◌, length, take, drop, refl, sym, ap, ◌∙◌, arith, Some, None, nat_lt, ◌-◌, length-drop}
 use Rattle.std.specs.Prelude.{◌||◌, All, not, take_while, position}
 use Rattle.std.specs.List.{list_any, slice_split, position_or_len, before_first, after_first}
 use Rattle.std.proofs.lemmas.List.Splits.{slice_split_at, slice_split_first, slice_split_none, length-slice_split}
-use Rattle.std.proofs.lemmas.List.Sums.{take_while-cons, fails_before_first, prefix_len-le-length}
+use Rattle.std.proofs.lemmas.List.Sums.{take_while-cons, fails_before_first}
 use Rattle.std.proofs.lemmas.Grind.{common_steps}
 use Rattle.lab_wire.specs.Heads.{is_line_feed, but_last, ended_lines, is_empty_line, head_lines, has_end}
 
@@ -36,8 +36,8 @@ pub full_line : (text line rest : List ℕ) → ended_lines text ≡ line ∷ en
 unfolding head_lines has_end
 full_line text line rest lines is = (
   ap (take_while (λ l. not (is_empty_line l))) lines
-  ∙ take_while-cons (λ l. not (is_empty_line l)) line (ended_lines rest)
-  ∙ ap (λ b. cond (not b) (line ∷ head_lines rest) []) is,
+      ∙ take_while-cons (λ l. not (is_empty_line l)) line (ended_lines rest)
+      ∙ ap (λ b. cond (not b) (line ∷ head_lines rest) []) is,
   ap (list_any is_empty_line) lines ∙ ap (λ b. b || has_end rest) is,
 )
 
@@ -48,8 +48,8 @@ pub empty_line : (text line rest : List ℕ) → ended_lines text ≡ line ∷ e
 unfolding head_lines has_end
 empty_line text line rest lines is = (
   ap (take_while (λ l. not (is_empty_line l))) lines
-  ∙ take_while-cons (λ l. not (is_empty_line l)) line (ended_lines rest)
-  ∙ ap (λ b. cond (not b) (line ∷ head_lines rest) []) is,
+      ∙ take_while-cons (λ l. not (is_empty_line l)) line (ended_lines rest)
+      ∙ ap (λ b. cond (not b) (line ∷ head_lines rest) []) is,
   ap (list_any is_empty_line) lines ∙ ap (λ b. b || has_end rest) is,
 )
 
@@ -105,9 +105,9 @@ pub counted : (text rest : List ℕ) (lines k : ℕ) → position is_line_feed r
     → lines + length (head_lines rest) ≡ length (head_lines text)
     → has_end rest ≡ has_end text
     → let next : List ℕ = take (length rest - (k + 1)) (drop (k + 1) rest) in
-      (lines + 1 + length next ≤ length text)
-      × (lines + 1 + length (head_lines next) ≡ length (head_lines text))
-      × (has_end next ≡ has_end text)
+    (lines + 1 + length next ≤ length text)
+    × (lines + 1 + length (head_lines next) ≡ length (head_lines text))
+    × (has_end next ≡ has_end text)
 counted text rest lines k at is fits counts ends =
     let more = first_line_full rest k at is in
     let place = some_place (position_or_len is_line_feed rest) (length rest) _ k refl at in

@@ -1,6 +1,6 @@
 -- From what `httparse` answers to the reading of a head.
-use Rattle.std.proofs.Common.{◌≡◌, ◌≢◌, ℕ, ◌+◌, ◌<◌, ◌≤◌, ◌⊎◌, Bool, true, false, cond, List, [], ◌∷◌, ◌++◌, length, take, map, refl, sym, ap, ◌∙◌, subst, arith, Option, Some, None, Result, Ok, Err, inl, inr, suc, zero, min}
-use Rattle.std.specs.Prelude.{◌||◌, ◌==◌, not, count_by, nat_lt, if◌then◌else◌}
+use Rattle.std.proofs.Common.{◌≡◌, ◌≢◌, ℕ, ◌+◌, ◌≤◌, Bool, true, false, cond, List, [], ◌∷◌, length, take, map, refl, sym, ap, ◌∙◌, subst, arith, Option, Some, None, Result, Ok, Err, suc, zero, min}
+use Rattle.std.specs.Prelude.{◌||◌, ◌==◌, not, count_by, if◌then◌else◌}
 use Rattle.std.proofs.lemmas.Bool.{cond-true, cond-false, ltb-false, or_parts, or_from, or_left, or_right, eq-eqb, ne_eqb}
 use Rattle.std.proofs.lemmas.Grind.{common_steps}
 use Rattle.std.proofs.lemmas.List.Sums.{sum_by-cons}
@@ -9,8 +9,9 @@ use Rattle.httparse.specs.Grammar.{Field, print_version, RequestHead, ReadsReque
 use Rattle.httparse.specs.Spans.{span_bytes, header_bytes, name_and_value, AreFieldsAt}
 use Rattle.lab_records.specs.declared.refusal.Refusal.{Refusal}
 use Rattle.lab_records.specs.declared.refusal.Refusal.TheVariants.{BadHead, HeadTooLong}
-use Rattle.lab_wire.specs.Heads.{head_limit, head_text, head_lines, has_end, is_over_limits, is_host, is_version_1_1, Head, head_of, keeps_host_rule, checked_head, good_head}
-use Rattle.lab_wire.proofs.HeadLaws.{IsFront, front_of, head_shown, IsReadAs, reads_head, finds_head}
+use Rattle.lab_wire.specs.Heads.{head_limit, head_text, head_lines, is_over_limits, is_host, is_version_1_1, Head, head_of, keeps_host_rule, checked_head, good_head}
+use Rattle.lab_wire.specs.HeadGrammar.{head_shown}
+use Rattle.lab_wire.proofs.HeadLaws.{IsFront, front_of, reads_head, finds_head}
 
 -- ---- the hosts among the headers are those among the fields
 
@@ -66,9 +67,11 @@ no_head came text front under none None read = refl
 no_head came text front under none (Some head) read =
     let found = finds_head text head read in
     let shape = reads_head text found.0 found.1 front found.2 in
-    let few : length (head_lines text) ≤ 65 = ltb-false 65 (length (head_lines text)) (or_parts _ _ under).1 in
-    let lines : length (head_lines text) ≡ 1 + length found.0.fields = shape.lines in
-    absurd (none found.0 found.1 found.2 (omega arith))
+    let few = ltb-false 65 (length (head_lines text)) (or_parts _ _ under).1 in
+    absurd (none found.0 found.1 found.2 (fits (length (head_lines text)) (length found.0.fields) shape.lines few))
+  where
+    fits : (lines fields : ℕ) → lines ≡ 1 + fields → lines ≤ 65 → fields ≤ 64
+    fits lines fields same few = omega arith
 
 pub bad_head : (came : ℕ) (text : List ℕ) → IsFront text → is_over_limits came text ≡ false
     → ((h : RequestHead) (rest : List ℕ) → ReadsRequest text h rest → ¬ (length h.fields ≤ 64))
@@ -109,7 +112,7 @@ pub without_host : (came : ℕ) (text : List ℕ) (h : RequestHead) (rest : List
 without_host came text h rest front under reads new few =
     head_answer came text h rest front under reads
     ∙ cond-false (not (h.minor == 1) || (host_fields h == 1)) (Ok (head_shown h)) (Err BadHead)
-        (or_from _ _ (ap not (eq-eqb h.minor 1 new)) (ne_eqb (host_fields h) 1 few))
+    (or_from _ _ (ap not (eq-eqb h.minor 1 new)) (ne_eqb (host_fields h) 1 few))
 
 pub of_old_version : (came : ℕ) (text : List ℕ) (h : RequestHead) (rest : List ℕ) → IsFront text
     → is_over_limits came text ≡ false → ReadsRequest text h rest → h.minor ≢ 1
@@ -117,7 +120,7 @@ pub of_old_version : (came : ℕ) (text : List ℕ) (h : RequestHead) (rest : Li
 of_old_version came text h rest front under reads old =
     head_answer came text h rest front under reads
     ∙ cond-true (not (h.minor == 1) || (host_fields h == 1)) (Ok (head_shown h)) (Err BadHead)
-        (or_left _ _ (ap not (ne_eqb h.minor 1 old)))
+    (or_left _ _ (ap not (ne_eqb h.minor 1 old)))
 
 pub with_host : (came : ℕ) (text : List ℕ) (h : RequestHead) (rest : List ℕ) → IsFront text
     → is_over_limits came text ≡ false → ReadsRequest text h rest → host_fields h ≡ 1
@@ -125,4 +128,4 @@ pub with_host : (came : ℕ) (text : List ℕ) (h : RequestHead) (rest : List �
 with_host came text h rest front under reads one =
     head_answer came text h rest front under reads
     ∙ cond-true (not (h.minor == 1) || (host_fields h == 1)) (Ok (head_shown h)) (Err BadHead)
-        (or_right _ _ (eq-eqb (host_fields h) 1 one))
+    (or_right _ _ (eq-eqb (host_fields h) 1 one))

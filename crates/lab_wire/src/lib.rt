@@ -3,6 +3,7 @@
 #![tactic(auto)]
 
 mod founding;
+mod grammar;
 mod head;
 mod reading;
 mod replies;
@@ -11,7 +12,11 @@ mod send;
 mod status;
 
 pub use founding::founding_of;
+pub use grammar::grammar_of_heads;
 pub use reading::ask;
 pub use replies::{memory_reply, reply_bytes};
 pub use request::Ask;
 pub use send::{WriteFault, write_reply};
+
+#[cfg(test)]
+mod tests;

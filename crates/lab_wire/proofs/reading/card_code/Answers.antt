@@ -1,4 +1,4 @@
-use Rattle.std.proofs.Common.{◌≡◌, ℕ, List, Bool, true, false, Ok, Err, sym, ◌∙◌}
+use Rattle.std.proofs.Common.{true, false}
 use Rattle.std.proofs.lemmas.Result.{err_from_is_err_and}
 use Rattle.lab_wire.specs.Asked.{path_of, code_in, asked}
 use Rattle.lab_wire.proofs.AskLemmas.{asked_refused, is_other, other_method, asked_by_get, found_code, no_code}
@@ -17,13 +17,13 @@ returns-then-ne-clause-refused c =
 pub returns-clause-found : goal.returns-clause-found
 returns-clause-found c =
     let asks = asked_by_get c.args.bytes.now c.in_ok-line.line.method.now c.in_ok-line.line.target.now c.in_ok-line.ensures.good
-        (is_other c.in_ok-line.line.method.now c.as_slice.result.now c.ne.result false c.as_slice.ensures c.ne.ensures c.if-ne.false) in
+    (is_other c.in_ok-line.line.method.now c.as_slice.result.now c.ne.result false c.as_slice.ensures c.ne.ensures c.if-ne.false) in
     rw c.ok_or.ensures.value
     (found_code c.code_in.result (code_in (path_of c.in_ok-line.line.target.now)) (asked c.args.bytes.now) c.code_in.ensures asks)
 
 pub returns-clause-refused : goal.returns-clause-refused
 returns-clause-refused c =
     let asks = asked_by_get c.args.bytes.now c.in_ok-line.line.method.now c.in_ok-line.line.target.now c.in_ok-line.ensures.good
-        (is_other c.in_ok-line.line.method.now c.as_slice.result.now c.ne.result false c.as_slice.ensures c.ne.ensures c.if-ne.false) in
+    (is_other c.in_ok-line.line.method.now c.as_slice.result.now c.ne.result false c.as_slice.ensures c.ne.ensures c.if-ne.false) in
     rw c.ok_or.ensures.value
     (no_code c.code_in.result (code_in (path_of c.in_ok-line.line.target.now)) (asked c.args.bytes.now) c.code_in.ensures asks)
