@@ -1,16 +1,16 @@
 -- The stamp of a moment, and the moment of a stamp.
-use Rattle.std.proofs.Common.{◌≡◌, ℕ, ◌+◌, ◌-◌, ◌*◌, ◌/◌, ◌%◌, ◌<◌, ◌≤◌, List, [], ◌∷◌, refl, sym, ap, ◌∙◌, arith, IsTrue, pos, ℤ, ◌+ℤ◌, ◌*ℤ◌, ◌≢◌, Result, Ok, Err, IfOk, IfErr, MatchOption}
+use Rattle.std.proofs.Common.{◌≡◌, ℕ, ◌+◌, ◌*◌, ◌/◌, ◌%◌, ◌<◌, ◌≤◌, refl, sym, ◌∙◌, arith, IsTrue, pos, ℤ, ◌+ℤ◌, ◌*ℤ◌, ◌≢◌, Result, Ok, Err, IfOk, IfErr, MatchOption}
 use Rattle.std.specs.Result.{result_ok}
 use Rattle.lab_names.specs.declared.faults.MomentFault.{MomentFault}
 use Rattle.std.proofs.lemmas.Bool.Decides.{nat_tests}
 use Rattle.jiff_core.specs.Calendar.{IsCivilDate, IsDate, days_from_civil}
 use Rattle.jiff_core.proofs.SignedLemmas.{signed_arith}
-use Rattle.lab_names.specs.Calendar.{day_of, days_in_month, year_of, month_of, day_of_month, hour_of, minute_of, second_of, two_digits}
+use Rattle.lab_names.specs.Calendar.{days_in_month, year_of, month_of, day_of_month, hour_of, minute_of, second_of, two_digits}
 use Rattle.lab_names.specs.Moment.{is_moment, moment_text}
 use Rattle.lab_names.specs.Stamp.{stamp_text, stamp_of, IsInWidth}
 use Rattle.lab_names.specs.declared.stamp.Stamp.{Stamp}
 use Rattle.lab_names.proofs.CalendarLemmas.{HasDate, has_date, IsYmdOf, is_ymd_of}
-use Rattle.lab_names.proofs.StampLemmas.{ShowsNumbers, shows_numbers}
+use Rattle.lab_names.proofs.StampLemmas.{shows_numbers}
 
 -- the stamp shows the date and the time of the moment
 pub record IsStampOf (n : ℕ) (s : Stamp) : Type 0 where
