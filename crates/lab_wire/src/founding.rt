@@ -78,12 +78,20 @@ mod tests {
     fn a_body_names_the_laboratory(rt: HostRuntime) {
         founds(&rt, b"{\"name\":\"Aqua Lab\"}", "Aqua Lab");
         founds(&rt, b" {\t\"name\" :\r\n\"Brick Lab\" } \n", "Brick Lab");
-        founds(&rt, b"{\"n\\u0061me\":\"\\u0041qua \\\"\\u00e9\\\" \\\\ \\ud83d\\ude00\"}", "Aqua \"\u{e9}\" \\ \u{1f600}");
+        founds(
+            &rt,
+            b"{\"n\\u0061me\":\"\\u0041qua \\\"\\u00e9\\\" \\\\ \\ud83d\\ude00\"}",
+            "Aqua \"\u{e9}\" \\ \u{1f600}",
+        );
     }
 
     #[test]
     fn of_a_member_given_twice_the_last_counts(rt: HostRuntime) {
-        founds(&rt, b"{\"name\":\"Brick Lab\",\"name\":\"Aqua Lab\"}", "Aqua Lab");
+        founds(
+            &rt,
+            b"{\"name\":\"Brick Lab\",\"name\":\"Aqua Lab\"}",
+            "Aqua Lab",
+        );
         founds(&rt, b"{\"name\":1,\"n\\u0061me\":\"Aqua Lab\"}", "Aqua Lab");
         refuses(&rt, b"{\"name\":\"Aqua Lab\",\"name\":null}", BAD_BODY);
     }
@@ -123,8 +131,16 @@ mod tests {
     #[test]
     fn a_name_has_at_most_120_bytes(rt: HostRuntime) -> Result<(), Fail> {
         let longest = "a".repeat(rt.alloc(), 120)?;
-        founds(&rt, format!(in rt.alloc(); "{{\"name\":\"{longest}\"}}")?.as_bytes(), &longest);
-        refuses(&rt, format!(in rt.alloc(); "{{\"name\":\"{longest}a\"}}")?.as_bytes(), BAD_NAME);
+        founds(
+            &rt,
+            format!(in rt.alloc(); "{{\"name\":\"{longest}\"}}")?.as_bytes(),
+            &longest,
+        );
+        refuses(
+            &rt,
+            format!(in rt.alloc(); "{{\"name\":\"{longest}a\"}}")?.as_bytes(),
+            BAD_NAME,
+        );
         Ok(())
     }
 
@@ -132,9 +148,13 @@ mod tests {
     fn values_nest_up_to_127_deep(rt: HostRuntime) -> Result<(), Fail> {
         let opened = "[".repeat(rt.alloc(), 126)?;
         let closed = "]".repeat(rt.alloc(), 126)?;
-        let deepest = format!(in rt.alloc(); "{{\"name\":{opened}{closed},\"name\":\"Aqua Lab\"}}")?;
+        let deepest = format!(in rt.alloc();
+            "{{\"name\":{opened}{closed},\"name\":\"Aqua Lab\"}}"
+        )?;
         founds(&rt, deepest.as_bytes(), "Aqua Lab");
-        let deeper = format!(in rt.alloc(); "{{\"name\":[{opened}{closed}],\"name\":\"Aqua Lab\"}}")?;
+        let deeper = format!(in rt.alloc();
+            "{{\"name\":[{opened}{closed}],\"name\":\"Aqua Lab\"}}"
+        )?;
         refuses(&rt, deeper.as_bytes(), BAD_BODY);
         Ok(())
     }

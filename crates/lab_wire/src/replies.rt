@@ -82,7 +82,9 @@ fn message(
 {
     let date = date_line(alloc, moment)?;
     let length = body.len();
-    let head = format!(in alloc; "HTTP/1.1 {status}\r\n{date}Content-Type: application/json\r\nContent-Length: {length}\r\nConnection: close\r\n\r\n{body}")?;
+    let head = format!(in alloc;
+        "HTTP/1.1 {status}\r\n{date}Content-Type: application/json\r\nContent-Length: {length}\r\nConnection: close\r\n\r\n{body}"
+    )?;
     Ok(head.into_bytes())
 }
 
@@ -175,7 +177,10 @@ mod tests {
             (Refusal::BadName, "HTTP/1.1 400 Bad Request\r\n"),
             (Refusal::NoRoute, "HTTP/1.1 404 Not Found\r\n"),
             (Refusal::NoSuchLab, "HTTP/1.1 404 Not Found\r\n"),
-            (Refusal::HeadTooLong, "HTTP/1.1 431 Request Header Fields Too Large\r\n"),
+            (
+                Refusal::HeadTooLong,
+                "HTTP/1.1 431 Request Header Fields Too Large\r\n",
+            ),
             (Refusal::ClockBehind, "HTTP/1.1 503 Service Unavailable\r\n"),
             (Refusal::Storage, "HTTP/1.1 503 Service Unavailable\r\n"),
         ];

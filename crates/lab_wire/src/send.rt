@@ -83,7 +83,9 @@ mod tests {
     }
 
     #[test]
-    fn the_whole_reply_goes_out_however_little_is_taken_at_once(rt: HostRuntime) -> Result<(), Fail> {
+    fn the_whole_reply_goes_out_however_little_is_taken_at_once(
+        rt: HostRuntime,
+    ) -> Result<(), Fail> {
         for at_once in 1..9 {
             let mut pipe = Pipe::new(rt.alloc(), at_once, 0, false);
             write_reply(&mut pipe, REPLY)?;

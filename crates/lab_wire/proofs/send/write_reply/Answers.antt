@@ -13,5 +13,5 @@ loop-sent-preserved g c =
     record {
       within = omega (arith, c.in-Ok.ensures.bound);
       prefix = subst (Appends _ _) (sym (take-add sent c.in-Ok.taken bytes))
-          (Appends-trans _ _ _ _ _ c.loop-sent.invariant.prefix taken)
+          (Appends-trans _ _ _ _ _ c.loop-sent.invariant.prefix taken);
     }

@@ -7,7 +7,7 @@ abbrev pub invariant-loop-sent : goal.invariant-loop-sent
 invariant-loop-sent g l =
     record {
       within : l.sent ≤ length l.bytes;
-      prefix : Appends (g.W.Write.contents l.initial.writer) (g.W.Write.contents l.writer) (take l.sent l.bytes)
+      prefix : Appends (g.W.Write.contents l.initial.writer) (g.W.Write.contents l.writer) (take l.sent l.bytes);
     }
 
 abbrev pub decreases-loop-sent : goal.decreases-loop-sent
