@@ -1,6 +1,5 @@
 use Rattle.std.proofs.Common.{sym}
 use Rattle.std.proofs.lemmas.Result.{err_from_is_err_and}
-use Rattle.lab_names.specs.Faults.{NameFaultFits}
 use Rattle.lab_wire.proofs.FoundingLemmas.{founding_named-refused, founding_named-no_name, founding_named-name, founding_named-bad_name}
 use Rattle.lab_wire.proofs.founding.founding_of.Goals as goal
 
