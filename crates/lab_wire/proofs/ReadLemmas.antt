@@ -1,7 +1,7 @@
 -- From what `httparse` answers to the reading of a head.
-use Rattle.std.proofs.Common.{◌≡◌, ◌≢◌, ℕ, ◌+◌, ◌≤◌, Bool, true, false, cond, List, [], ◌∷◌, length, take, map, refl, sym, ap, ◌∙◌, subst, arith, Option, Some, None, Result, Ok, Err, suc, zero, min}
+use Rattle.std.proofs.Common.{◌≡◌, ℕ, ◌+◌, ◌≤◌, Bool, true, false, cond, List, [], ◌∷◌, length, take, map, refl, sym, ap, ◌∙◌, subst, arith, Option, Some, None, Result, Ok, Err, suc, zero, min}
 use Rattle.std.specs.Prelude.{◌||◌, ◌==◌, not, count_by, if◌then◌else◌}
-use Rattle.std.proofs.lemmas.Bool.{cond-true, cond-false, ltb-false, or_parts, or_from, or_left, or_right, eq-eqb, ne_eqb}
+use Rattle.std.proofs.lemmas.Bool.{cond-true, cond-false, ltb-false, or_parts}
 use Rattle.std.proofs.lemmas.Grind.{common_steps}
 use Rattle.std.proofs.lemmas.List.Sums.{sum_by-cons}
 use Rattle.httparse.specs.declared.spans.HeaderSpan.{HeaderSpan}
@@ -99,33 +99,14 @@ rule_is : (h : RequestHead) → h.minor ≤ 1 → keeps_host_rule (head_shown h)
 unfolding keeps_host_rule
 rule_is h le = ap (λ b. not b || (host_fields h == 1)) (version_one h.minor le)
 
-pub head_answer : (came : ℕ) (text : List ℕ) (h : RequestHead) (rest : List ℕ) → IsFront text
-    → is_over_limits came text ≡ false → ReadsRequest text h rest
-    → answer_of came text ≡ (if not (h.minor == 1) || (host_fields h == 1) then Ok (head_shown h) else Err BadHead)
-head_answer came text h rest front under reads =
+-- the answer by what the code found of the rule
+pub checked_answer : (came : ℕ) (text : List ℕ) (h : RequestHead) (rest : List ℕ) (version hosts : ℕ) (keeps answer : Bool)
+    → IsFront text → is_over_limits came text ≡ false → ReadsRequest text h rest
+    → version ≡ h.minor → hosts ≡ host_fields h → keeps ≡ (not (version == 1) || (hosts == 1)) → keeps ≡ answer
+    → answer_of came text ≡ (if answer then Ok (head_shown h) else Err BadHead)
+checked_answer came text h rest version hosts keeps answer front under reads version_is hosts_are keeps_is told =
     head_is came text h rest front under reads
-    ∙ ap (λ b. if b then Ok (head_shown h) else Err BadHead) (rule_is h reads.0.minor)
-
-pub without_host : (came : ℕ) (text : List ℕ) (h : RequestHead) (rest : List ℕ) → IsFront text
-    → is_over_limits came text ≡ false → ReadsRequest text h rest → h.minor ≡ 1 → host_fields h ≢ 1
-    → answer_of came text ≡ Err BadHead
-without_host came text h rest front under reads new few =
-    head_answer came text h rest front under reads
-    ∙ cond-false (not (h.minor == 1) || (host_fields h == 1)) (Ok (head_shown h)) (Err BadHead)
-    (or_from _ _ (ap not (eq-eqb h.minor 1 new)) (ne_eqb (host_fields h) 1 few))
-
-pub of_old_version : (came : ℕ) (text : List ℕ) (h : RequestHead) (rest : List ℕ) → IsFront text
-    → is_over_limits came text ≡ false → ReadsRequest text h rest → h.minor ≢ 1
-    → answer_of came text ≡ Ok (head_shown h)
-of_old_version came text h rest front under reads old =
-    head_answer came text h rest front under reads
-    ∙ cond-true (not (h.minor == 1) || (host_fields h == 1)) (Ok (head_shown h)) (Err BadHead)
-    (or_left _ _ (ap not (ne_eqb h.minor 1 old)))
-
-pub with_host : (came : ℕ) (text : List ℕ) (h : RequestHead) (rest : List ℕ) → IsFront text
-    → is_over_limits came text ≡ false → ReadsRequest text h rest → host_fields h ≡ 1
-    → answer_of came text ≡ Ok (head_shown h)
-with_host came text h rest front under reads one =
-    head_answer came text h rest front under reads
-    ∙ cond-true (not (h.minor == 1) || (host_fields h == 1)) (Ok (head_shown h)) (Err BadHead)
-    (or_right _ _ (eq-eqb (host_fields h) 1 one))
+    ∙ ap (λ b. if b then Ok (head_shown h) else Err BadHead)
+    (rule_is h reads.0.minor
+    ∙ (λ i. not (sym version_is i == 1) || (sym hosts_are i == 1))
+    ∙ sym keeps_is ∙ told)

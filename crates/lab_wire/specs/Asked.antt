@@ -1,8 +1,7 @@
 -- What the bytes of a request ask of which laboratory (RFC 9110, sections 4.2, 9.3.1 and 17, and
 -- RFC 9112, sections 2 to 5), or why they are refused: read from the head alone.
-use Rattle.std.specs.Prelude.{◌≡◌, ℕ, List, ◌==◌, if◌then◌else◌, drop, Option, Some, None, Result, Ok, Err, IsOk, codes}
+use Rattle.std.specs.Prelude.{◌≡◌, ℕ, List, ◌==◌, if◌then◌else◌, length, drop, nat_eq, Option, Some, None, Result, Ok, Err, IsOk, codes}
 use Rattle.std.specs.List.{before_first, starts_with}
-use Rattle.std.specs.Prelude.{nat_eq}
 use Rattle.std.specs.Str.{bytes_eq}
 use Rattle.lab_names.specs.Names.{is_lab_code}
 use Rattle.lab_records.specs.declared.command.Command.TheVariants.{Card}
@@ -13,13 +12,22 @@ use Rattle.lab_records.specs.declared.refusal.Refusal.TheVariants.{NoRoute}
 use Rattle.lab_wire.specs.declared.request.Ask.{Ask}
 use Rattle.lab_wire.specs.Heads.{Head, good_head}
 
--- the path of a target: what stands before the first question mark, which begins a query
+-- b'?', which begins a query
+abbrev pub question_mark : ℕ
+question_mark = 63
+
+-- the path of a target: what stands before the query
 abbrev pub path_of : List ℕ → List ℕ
-path_of target = before_first (λ b. b == 63) target
+path_of target = before_first (λ b. b == question_mark) target
+
+-- what the paths of laboratories begin with
+abbrev pub labs_prefix : List ℕ
+labs_prefix = codes "/labs/"
 
 -- what stands behind /labs/ in a path that begins so
 abbrev pub code_in : List ℕ → Option (List ℕ)
-code_in path = if starts_with nat_eq path (codes "/labs/") then Some (drop 6 path) else None
+code_in path =
+    if starts_with nat_eq path labs_prefix then Some (drop (length labs_prefix) path) else None
 
 -- the card of the laboratory of this code
 abbrev pub card_of : Option (List ℕ) → Result Ask Refusal

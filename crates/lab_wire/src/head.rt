@@ -1,5 +1,5 @@
 //! The head of a request: its limits, its grammar, its Host and the words of its request line (RFC 9112).
-ghost use Rattle.std.specs.Prelude.{◌≡◌, ◌+◌, ◌≤◌, ℕ, List, length, All, IsTrue, IfOk, IfErr, IfSome, IfNone, Ok, Err, position, count_by};
+ghost use Rattle.std.specs.Prelude.{◌≡◌, ◌+◌, ◌≤◌, ◌==◌, ◌||◌, not, ℕ, List, length, All, IsTrue, IfOk, IfErr, IfSome, IfNone, Ok, Err, position, count_by};
 ghost use Rattle.httparse.specs.Grammar.{ReadsRequest, RequestHead};
 ghost use Rattle.httparse.specs.Spans.{IsHeaderWithin, IsRequestWithin, IsRequestOf, span_bytes};
 ghost use Rattle.lab_wire.specs.Heads.{is_line_feed, is_empty_line, without_front, head_text, head_lines, has_end, is_over_limits, is_host, Head, good_head};
@@ -122,6 +122,13 @@ fn host_count(text: &[u8], headers: &[HeaderSpan]) -> usize
     hosts
 }
 
+// HTTP/1.1 wants exactly one Host.
+fn keeps_host_rule(minor_version: u8, hosts: usize) -> bool
+    ensures { result ≡ (not (minor_version == 1) || (hosts == 1)) }
+{
+    minor_version != 1 || hosts == 1
+}
+
 /// Reads the request line of a head, once its limits, its grammar and its Host are found good.
 pub fn read_head(bytes: &[u8]) -> Result<RequestLine<'_>, Refusal>
     ensures good { IfOk result (λ line. (head : Head) × (good_head bytes.now ≡ Ok head)
@@ -139,7 +146,8 @@ pub fn read_head(bytes: &[u8]) -> Result<RequestLine<'_>, Refusal>
     let Ok(target) = str::from_utf8(head.path.of(text)) else {
         return Err(Refusal::BadHead);
     };
-    if head.version == 1 && host_count(text, &headers[..head.headers]) != 1 {
+    let hosts = host_count(text, &headers[..head.headers]);
+    if !keeps_host_rule(head.version, hosts) {
         return Err(Refusal::BadHead);
     }
     Ok(RequestLine {
