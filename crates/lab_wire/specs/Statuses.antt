@@ -3,6 +3,7 @@ use Rattle.std.specs.Prelude.{ℕ}
 use Rattle.lab_records.specs.declared.refusal.Refusal.{Refusal}
 use Rattle.lab_records.specs.declared.refusal.Refusal.TheVariants.{BadName, NoSuchLab, ClockBehind, Storage, LabExists, BadHead, HeadTooLong, NoRoute, BadBody}
 
+-- `LabExists` is told to a founding alone, and no reply bears its status
 abbrev pub status_of : Refusal → ℕ
 status_of BadName = 400
 status_of NoSuchLab = 404

@@ -1,9 +1,8 @@
-//! The body of a founding.
+//! The body of a founding, which is JSON (RFC 8259).
 
-ghost use Rattle.std.specs.Prelude.{◌≡◌, Ok, Err, Some, None, IfOk, IfErr, option_map};
+ghost use Rattle.std.specs.Prelude.{◌≡◌, IfOk, IfErr, option_map};
 ghost use Rattle.serde_json.specs.View.{view};
 ghost use Rattle.lab_records.specs.Refusals.{MayFail};
-ghost use Rattle.lab_records.specs.declared.refusal.Refusal.TheVariants.{BadBody};
 ghost use Rattle.lab_wire.specs.Foundings.{founding_named, json_of, only_name};
 
 use lab_names::{Name, NameFault, OutOfMemory};
@@ -31,7 +30,8 @@ pub fn founding_of(alloc: Global, body: &[u8]) -> Result<Founding, Fault>
 /// The JSON value that a body is.
 fn value_of(alloc: Global, body: &[u8]) -> Result<Value, Fault>
     ensures read { IfOk result (λ value. json_of body.now ≡ Some (view value)) }
-    ensures refused { IfErr result (MayFail (λ refusal. (refusal ≡ BadBody) × (json_of body.now ≡ None))) }
+    ensures refused { IfErr result (MayFail (λ refusal. (refusal ≡ Refusal.BadBody)
+        × (json_of body.now ≡ None))) }
 {
     match Value::from_slice(alloc, body) {
         Ok(value) => Ok(value),

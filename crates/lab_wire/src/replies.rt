@@ -1,6 +1,6 @@
-//! Replies as bytes.
+//! Replies as bytes: HTTP/1.1 messages (RFC 9112) with JSON bodies (RFC 8259).
 
-ghost use Rattle.std.specs.Prelude.{◌≡◌, ◌++◌, Some, None, OnOk, IfOk, codes, string_bytes};
+ghost use Rattle.std.specs.Prelude.{◌≡◌, IfOk, codes, string_bytes};
 ghost use Rattle.serde_json.specs.Data.{object, member, no_members, string, number, unsigned};
 ghost use Rattle.serde_json.specs.View.{view};
 ghost use Rattle.httpdate.specs.Date.{date_text};
@@ -14,7 +14,6 @@ use lab_names::{LabCode, Moment, Name, OutOfMemory, Tick};
 use lab_records::Reply;
 use serde_json::{Value, json};
 use std::alloc::{AllocError, Global};
-use std::fmt::Write;
 
 /// The bytes of a laboratory's reply at a tick.
 pub fn reply_bytes(alloc: Global, tick: &Tick, reply: &Reply) -> Result<Vec<u8>, OutOfMemory>
@@ -83,7 +82,8 @@ fn message(
     let date = date_line(alloc, moment)?;
     let length = body.len();
     let head = format!(in alloc;
-        "HTTP/1.1 {status}\r\n{date}Content-Type: application/json\r\nContent-Length: {length}\r\nConnection: close\r\n\r\n{body}"
+        "HTTP/1.1 {status}\r\n{date}Content-Type: application/json\r\n\
+        Content-Length: {length}\r\nConnection: close\r\n\r\n{body}"
     )?;
     Ok(head.into_bytes())
 }
