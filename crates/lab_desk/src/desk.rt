@@ -65,9 +65,9 @@ impl<S: Keeper + Drop> Desk<S> {
     pub fn handle(&mut self, tick: &Tick, bytes: &[u8])
         ensures handled { S.is_honest self.new.keeper → S.is_reached self.old.keeper →
             TakesRequest (S.rests self.old.keeper self.new.keeper) (S.moves self.old.keeper self.new.keeper)
-                (S.meaning self.old.keeper) (S.meaning self.new.keeper) tick.now (asked bytes.now) self.new.reply
+            (S.meaning self.old.keeper) (S.meaning self.new.keeper) tick.now (asked bytes.now) self.new.reply
             ⊎ RefusesRequest (S.may_refuse self.old.keeper) (S.rests self.old.keeper self.new.keeper)
-                (S.meaning self.old.keeper) (S.meaning self.new.keeper) tick.now self.new.reply }
+            (S.meaning self.old.keeper) (S.meaning self.new.keeper) tick.now self.new.reply }
         ensures honest { S.is_honest self.new.keeper → S.is_honest self.old.keeper }
         ensures reached { S.is_honest self.new.keeper → S.is_reached self.old.keeper → S.is_reached self.new.keeper }
         ensures refusing { S.may_refuse self.new.keeper → S.may_refuse self.old.keeper }
@@ -79,10 +79,10 @@ impl<S: Keeper + Drop> Desk<S> {
     pub(crate) fn serve(&mut self, tick: &Tick, bytes: &[u8]) -> bool
         ensures taken { S.is_honest self.new.keeper → S.is_reached self.old.keeper → result ≡ true →
             TakesRequest (S.rests self.old.keeper self.new.keeper) (S.moves self.old.keeper self.new.keeper)
-                (S.meaning self.old.keeper) (S.meaning self.new.keeper) tick.now (asked bytes.now) self.new.reply }
+            (S.meaning self.old.keeper) (S.meaning self.new.keeper) tick.now (asked bytes.now) self.new.reply }
         ensures refused { S.is_honest self.new.keeper → S.is_reached self.old.keeper → result ≡ false →
             RefusesRequest (S.may_refuse self.old.keeper) (S.rests self.old.keeper self.new.keeper)
-                (S.meaning self.old.keeper) (S.meaning self.new.keeper) tick.now self.new.reply }
+            (S.meaning self.old.keeper) (S.meaning self.new.keeper) tick.now self.new.reply }
         ensures honest { S.is_honest self.new.keeper → S.is_honest self.old.keeper }
         ensures reached { S.is_honest self.new.keeper → S.is_reached self.old.keeper → S.is_reached self.new.keeper }
         ensures refusing { S.may_refuse self.new.keeper → S.may_refuse self.old.keeper }
