@@ -1,0 +1,79 @@
+//! Why a replay stops.
+ghost use Rattle.std.specs.Prelude.{◌≡◌};
+
+use lab_names::NameFault;
+use std::alloc::AllocError;
+use std::io;
+use thiserror::Error;
+
+/// Why a replay stopped before the end of its input.
+#[derive(Clone, Copy, Debug, PartialEq, Eq, Error)]
+pub enum ReplayFault {
+    /// What comes next in the input is no event.
+    #[error("bad_event")]
+    BadEvent,
+    /// The input could not be read.
+    #[error("read_fault")]
+    ReadFault,
+    /// An answer could not be written.
+    #[error("write_fault")]
+    WriteFault,
+    /// There was no memory to go on.
+    #[error("memory")]
+    Memory,
+}
+
+impl ReplayFault {
+    ghost use Rattle.lab_program.specs.Fault.{fault_word};
+
+    /// The word by which the program tells the fault.
+    pub fn word(&self) -> &'static str
+        ensures { result.now ≡ fault_word self.now }
+    {
+        match self {
+            ReplayFault::BadEvent => "bad_event",
+            ReplayFault::ReadFault => "read_fault",
+            ReplayFault::WriteFault => "write_fault",
+            ReplayFault::Memory => "memory",
+        }
+    }
+}
+
+/// A text was refused as a laboratory's code.
+impl From<NameFault> for ReplayFault {
+    ghost use Rattle.lab_program.specs.Fault.{fault_of_name};
+
+    ghost from_gives = { λ fault gives. gives ≡ fault_of_name fault };
+
+    fn from(fault: NameFault) -> ReplayFault {
+        match fault {
+            NameFault::BadName => ReplayFault::BadEvent,
+            NameFault::Memory(_) => ReplayFault::Memory,
+        }
+    }
+}
+
+impl From<AllocError> for ReplayFault {
+    ghost use Rattle.lab_program.specs.declared.fault.ReplayFault.TheVariants.{Memory};
+
+    ghost from_gives = { λ _ fault. fault ≡ Memory };
+
+    fn from(_error: AllocError) -> ReplayFault {
+        ReplayFault::Memory
+    }
+}
+
+/// A reader failed.
+impl From<io::Error> for ReplayFault {
+    ghost use Rattle.lab_program.specs.Fault.{IsReaderFault};
+
+    ghost from_gives = { λ _ fault. IsReaderFault fault };
+
+    fn from(error: io::Error) -> ReplayFault {
+        if error.kind() == io::ErrorKind::OutOfMemory {
+            ReplayFault::Memory
+        } else {
+            ReplayFault::ReadFault
+        }
+    }
+}

@@ -1,0 +1,8 @@
+//! `labdesk`: signed laboratory records, told by events.
+#![tactic(auto)]
+
+mod event;
+mod fault;
+mod limited;
+
+fn main() {}
