@@ -1,0 +1,7 @@
+use Rattle.std.proofs.Common.{◌∙◌, sym, ap}
+use Rattle.lab_names.specs.Stamp.{stamp_text}
+use Rattle.lab_names.proofs.MomentLemmas.{moment_text-stamp}
+use Rattle.lab_names.proofs.moment.Moment.print.Goals as goal
+
+pub returns : goal.returns
+returns c = c.text.ensures ∙ ap stamp_text c.stamp.ensures.value ∙ sym (moment_text-stamp c.args.self.now)

@@ -1,0 +1,5 @@
+pub mod Calendar
+pub mod Faults
+pub mod Moment
+pub mod Names
+pub mod Stamp

@@ -1,0 +1,13 @@
+//! The names, moments and ticks that every other part of the system speaks of, read exactly from their texts.
+#![tactic(auto)]
+
+mod faults;
+mod moment;
+mod names;
+mod stamp;
+mod tick;
+
+pub use faults::{MomentFault, NameFault, OutOfMemory};
+pub use moment::Moment;
+pub use names::{LabCode, Name};
+pub use tick::Tick;

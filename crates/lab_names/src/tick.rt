@@ -1,0 +1,10 @@
+use crate::Moment;
+
+/// What the outside world hands in with each request: the time, and words of chance.
+#[derive(Clone, Copy, Debug)]
+pub struct Tick {
+    /// When the request came.
+    pub moment: Moment,
+    /// Eight words that nobody can foretell, from which tokens and salts are made.
+    pub words: [u64; 8],
+}
