@@ -1,2 +1,4 @@
 pub mod EventLemmas
 pub mod NumberLemmas
+pub mod ReadLemmas
+pub mod NextLemmas

@@ -1,10 +1,10 @@
 //! The events of a replay, read from their text.
-ghost use Rattle.std.specs.Prelude.{◌≡◌, ℕ, ◌^◌, ◌<◌, ◌≤◌, ◌==◌, nat_le, Some, IfSome, IfOk, length, take, option_map, vec_items};
+ghost use Rattle.std.specs.Prelude.{◌≡◌, ℕ, ◌^◌, ◌<◌, ◌≤◌, ◌==◌, nat_le, Some, IfSome, IfOk, length, take, option_map};
 ghost use Rattle.std.specs.List.{position, range_with_len};
 ghost use Rattle.std.specs.Io.KnownBytes.{Consumes, IsAtEnd};
 ghost use Rattle.lab_names.specs.Moment.{is_moment};
-ghost use Rattle.lab_program.specs.Event.{cut_at, number_where, lab_code, numbered, founding_of, heading_of};
-ghost use Rattle.lab_program.specs.Reading.{Gives, heading_said};
+ghost use Rattle.lab_program.specs.Event.{cut_at, number_where, lab_code, numbered, founding_of, heading_of, next_event};
+ghost use Rattle.lab_program.specs.Reading.{Gives, TakesBytes, TakesLine, TakesNext, heading_said};
 
 use crate::fault::ReplayFault;
 use lab_desk::Event;
@@ -28,6 +28,25 @@ struct Heading {
     tick: Tick,
     /// How many bytes follow the line.
     length: usize,
+}
+
+impl Heading {
+    ghost use Rattle.lab_program.specs.Reading.{event_said};
+
+    /// The event, with its bytes.
+    fn event(self, bytes: Vec<u8>) -> Event
+        ensures { event_said result ≡ record { founded = self.founded; moment = self.tick.moment; words = self.tick.words; bytes = bytes.items } }
+    {
+        let tick = self.tick;
+        match self.founded {
+            Some(lab) => Event::Found {
+                lab,
+                tick,
+                body: bytes,
+            },
+            None => Event::Call { tick, bytes },
+        }
+    }
 }
 
 /// Where such a byte stands first.
@@ -141,4 +160,66 @@ fn heading_of_line(alloc: Global, line: &[u8]) -> Result<Heading, ReplayFault>
     } else {
         Err(ReplayFault::BadEvent)
     }
+}
+
+/// Reads until the buffer is full or the input ends, and gives how many bytes were read.
+fn fill<R: Read>(reader: &mut R, buffer: &mut [u8]) -> io::Result<usize>
+    ensures within { IfOk result (λ n. n ≤ length buffer.new) }
+    ensures taken { IfOk result (λ n. Consumes (R.remaining reader.old) (R.remaining reader.new) (take n buffer.new)) }
+    ensures end { IfOk result (λ n. n < length buffer.new → IsAtEnd (R.remaining reader.new)) }
+{
+    let mut filled = 0;
+    while filled < buffer.len() {
+        let read = reader.read(&mut buffer[filled..])?;
+        if read == 0 {
+            break;
+        }
+        filled += read;
+    }
+    Ok(filled)
+}
+
+/// So many bytes from the front of the input. Where there are fewer, that is no event.
+fn bytes<R: Read>(alloc: Global, reader: &mut R, count: usize) -> Result<Vec<u8>, ReplayFault>
+    ensures { IfSome (R.remaining reader.old)
+        (λ input. TakesBytes count input (R.remaining reader.new) result) }
+{
+    let mut bytes = vec![in alloc; 0u8; count]?;
+    let read = fill(reader, &mut bytes)?;
+    if read < count {
+        return Err(ReplayFault::BadEvent);
+    }
+    Ok(bytes)
+}
+
+/// Takes the next line from the input, its line feed left off, and `None` at the input's end. What has no line feed is
+/// no line.
+fn line<B: BufRead>(alloc: Global, reader: &mut B) -> Result<Option<Vec<u8>>, ReplayFault>
+    ensures { IfSome (B.remaining reader.old) (λ input. TakesLine input (B.remaining reader.new) result) }
+{
+    let mut line = Vec::new(alloc);
+    if reader.read_until(b'\n', &mut line)? == 0 {
+        return Ok(None);
+    }
+    if line.pop() == Some(b'\n') {
+        Ok(Some(line))
+    } else {
+        Err(ReplayFault::BadEvent)
+    }
+}
+
+/// Takes the next event from the input, and `None` at its end.
+pub fn next_event<B: BufRead>(
+    alloc: Global,
+    reader: &mut B,
+) -> Result<Option<Event>, ReplayFault>
+    ensures { IfSome (B.remaining reader.old)
+        (λ input. TakesNext (next_event input) (B.remaining reader.new) result) }
+{
+    let Some(line) = line(alloc, reader)? else {
+        return Ok(None);
+    };
+    let heading = heading_of_line(alloc, &line)?;
+    let bytes = bytes(alloc, reader, heading.length)?;
+    Ok(Some(heading.event(bytes)))
 }
