@@ -2,3 +2,5 @@ pub mod EventLemmas
 pub mod NumberLemmas
 pub mod ReadLemmas
 pub mod NextLemmas
+pub mod RunLemmas
+pub mod ReplayLemmas

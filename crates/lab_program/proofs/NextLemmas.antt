@@ -4,7 +4,7 @@ use Rattle.std.specs.Prelude.{IfSome, IsSome, Ok, Err, Vec}
 use Rattle.std.specs.Option.{option_eq, option_to_list}
 use Rattle.std.proofs.lemmas.Bool.Decides.{nat_tests}
 use Rattle.std.specs.Io.BufRead.{take_through, drop_through}
-use Rattle.lab_desk.specs.declared.Event.{Event as EventRead}
+use Rattle.lab_desk.specs.declared.event.Event.{Event as EventRead}
 use Rattle.lab_program.specs.declared.event.Heading.{Heading as HeadingRead}
 use Rattle.lab_program.specs.declared.fault.ReplayFault.{ReplayFault}
 use Rattle.lab_program.specs.declared.fault.ReplayFault.TheVariants.{BadEvent, ReadFault, WriteFault, Memory}

@@ -1,3 +1,4 @@
 pub mod Event
 pub mod Fault
 pub mod Reading
+pub mod Replay

@@ -4,8 +4,8 @@ use Rattle.std.specs.Prelude.{◌≡◌, ◌≢◌, ℕ, ◌<◌, ◌≤◌, Lis
 use Rattle.lab_program.specs.declared.fault.ReplayFault.{ReplayFault}
 use Rattle.lab_program.specs.declared.fault.ReplayFault.TheVariants.{BadEvent, ReadFault, WriteFault, Memory}
 use Rattle.lab_program.specs.declared.event.Heading.{Heading as HeadingRead}
-use Rattle.lab_desk.specs.declared.Event.{Event as EventRead}
-use Rattle.lab_desk.specs.declared.Event.TheVariants.{Found, Call}
+use Rattle.lab_desk.specs.declared.event.Event.{Event as EventRead}
+use Rattle.lab_desk.specs.declared.event.Event.TheVariants.{Found, Call}
 use Rattle.lab_program.specs.Event.{cut_at, Heading, Event, Next, End, Bad, Taken}
 
 -- a text was refused with this fault

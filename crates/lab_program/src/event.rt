@@ -1,9 +1,10 @@
 //! The events of a replay, read from their text.
-ghost use Rattle.std.specs.Prelude.{◌≡◌, ℕ, ◌^◌, ◌<◌, ◌≤◌, ◌==◌, nat_le, Some, IfSome, IfOk, length, take, option_map};
+ghost use Rattle.std.specs.Prelude.{◌≡◌, ℕ, ◌^◌, ◌<◌, ◌≤◌, ◌==◌, nat_le, Some, IfSome, IfOk, IfErr, length, take, option_map};
 ghost use Rattle.std.specs.List.{position, range_with_len};
 ghost use Rattle.std.specs.Io.KnownBytes.{Consumes, IsAtEnd};
 ghost use Rattle.lab_names.specs.Moment.{is_moment};
 ghost use Rattle.lab_program.specs.Event.{cut_at, number_where, lab_code, numbered, founding_of, heading_of, next_event};
+ghost use Rattle.lab_program.specs.Fault.{IsInputFault};
 ghost use Rattle.lab_program.specs.Reading.{Gives, TakesBytes, TakesLine, TakesNext, heading_said};
 
 use crate::fault::ReplayFault;
@@ -181,8 +182,9 @@ fn fill<R: Read>(reader: &mut R, buffer: &mut [u8]) -> io::Result<usize>
 
 /// So many bytes from the front of the input. Where there are fewer, that is no event.
 fn bytes<R: Read>(alloc: Global, reader: &mut R, count: usize) -> Result<Vec<u8>, ReplayFault>
-    ensures { IfSome (R.remaining reader.old)
+    ensures taken { IfSome (R.remaining reader.old)
         (λ input. TakesBytes count input (R.remaining reader.new) result) }
+    ensures fault { IfErr result IsInputFault }
 {
     let mut bytes = vec![in alloc; 0u8; count]?;
     let read = fill(reader, &mut bytes)?;
@@ -195,7 +197,8 @@ fn bytes<R: Read>(alloc: Global, reader: &mut R, count: usize) -> Result<Vec<u8>
 /// Takes the next line from the input, its line feed left off, and `None` at the input's end. What has no line feed is
 /// no line.
 fn line<B: BufRead>(alloc: Global, reader: &mut B) -> Result<Option<Vec<u8>>, ReplayFault>
-    ensures { IfSome (B.remaining reader.old) (λ input. TakesLine input (B.remaining reader.new) result) }
+    ensures taken { IfSome (B.remaining reader.old) (λ input. TakesLine input (B.remaining reader.new) result) }
+    ensures fault { IfErr result IsInputFault }
 {
     let mut line = Vec::new(alloc);
     if reader.read_until(b'\n', &mut line)? == 0 {
@@ -213,8 +216,9 @@ pub fn next_event<B: BufRead>(
     alloc: Global,
     reader: &mut B,
 ) -> Result<Option<Event>, ReplayFault>
-    ensures { IfSome (B.remaining reader.old)
+    ensures taken { IfSome (B.remaining reader.old)
         (λ input. TakesNext (next_event input) (B.remaining reader.new) result) }
+    ensures fault { IfErr result IsInputFault }
 {
     let Some(line) = line(alloc, reader)? else {
         return Ok(None);

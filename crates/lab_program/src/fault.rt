@@ -1,6 +1,7 @@
 //! Why a replay stops.
 ghost use Rattle.std.specs.Prelude.{◌≡◌};
 
+use lab_desk::RunFault;
 use lab_names::NameFault;
 use std::alloc::AllocError;
 use std::io;
@@ -49,6 +50,20 @@ impl From<NameFault> for ReplayFault {
         match fault {
             NameFault::BadName => ReplayFault::BadEvent,
             NameFault::Memory(_) => ReplayFault::Memory,
+        }
+    }
+}
+
+/// A run of events stopped.
+impl From<RunFault> for ReplayFault {
+    ghost use Rattle.lab_program.specs.Fault.{fault_of_run};
+
+    ghost from_gives = { λ fault gives. gives ≡ fault_of_run fault };
+
+    fn from(fault: RunFault) -> ReplayFault {
+        match fault {
+            RunFault::Memory(_) => ReplayFault::Memory,
+            RunFault::Write { .. } => ReplayFault::WriteFault,
         }
     }
 }

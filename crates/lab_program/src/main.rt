@@ -4,5 +4,6 @@
 mod event;
 mod fault;
 mod limited;
+mod replay;
 
 fn main() {}
