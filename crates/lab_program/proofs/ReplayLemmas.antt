@@ -1,9 +1,9 @@
 -- A replay, event by event.
-use Rattle.std.proofs.Common.{◌≡◌, ℕ, suc, zero, ◌<◌, List, [], ◌∷◌, ◌++◌, length, take, Option, Some, None, Bool, refl, sym, ap, subst, ◌∙◌, append_assoc}
+use Rattle.std.proofs.Common.{◌≡◌, ℕ, suc, zero, ◌<◌, List, [], ◌∷◌, ◌++◌, length, take, Option, Some, None, Bool, refl, sym, ap, subst, ◌∙◌, append_assoc, take_all, le_refl, if◌then◌else◌, ◌==◌}
 use Rattle.std.proofs.Math.Seq.{take-nil}
-use Rattle.std.specs.Prelude.{IfSome, Ok, Err, Result, unwrap_or}
+use Rattle.std.specs.Prelude.{IfSome, OnOk, IfErr, Ok, Err, Result, unwrap_or}
 use Rattle.std.specs.List.{concat}
-use Rattle.std.specs.Io.KnownBytes.{Appends, Keeps}
+use Rattle.std.specs.Io.KnownBytes.{Appends, Keeps, prepend_known}
 use Rattle.std.proofs.KnownBytes.{Appends-nil, Appends-trans, Appends-kept}
 use Rattle.std.proofs.lemmas.List.Folds.{concat-append}
 use Rattle.lab_records.specs.declared.lab.Lab.{Lab}
@@ -11,13 +11,17 @@ use Rattle.lab_desk.specs.declared.event.Event.{Event}
 use Rattle.lab_desk.specs.declared.event.RunFault.{RunFault}
 use Rattle.lab_desk.specs.declared.event.RunFault.TheVariants.{Memory as RunMemory, Write}
 use Rattle.lab_desk.specs.Runs.{IsRun}
+use Rattle.lab_desk.specs.Listed.{lab_of}
+use Rattle.lab_wire.specs.declared.send.WriteFault.{WriteFault as Unsent}
+use Rattle.std.specs.Io.Buffered.{reader_remaining, reader_inner, reader_buffer, reader_capacity}
+use Rattle.std.specs.declared.io.BufReader.{BufReader}
 use Rattle.lab_desk.specs.Faults.{IfWrite, IfMemory}
 use Rattle.lab_program.specs.declared.fault.ReplayFault.{ReplayFault}
 use Rattle.lab_program.specs.declared.fault.ReplayFault.TheVariants.{BadEvent, ReadFault, WriteFault, Memory}
 use Rattle.lab_program.specs.Event.{Next, End, Bad, Taken, next_event}
-use Rattle.lab_program.specs.Fault.{IsInputFault, fault_of_run}
+use Rattle.lab_program.specs.Fault.{IsInputFault, IsReaderFault, fault_of_run}
 use Rattle.lab_program.specs.Reading.{TakesNext, event_said}
-use Rattle.lab_program.specs.Replay.{BeginsWith, Stops, IsWritten, Replays}
+use Rattle.lab_program.specs.Replay.{nothing, BeginsWith, Stops, IsWritten, Replays}
 use Rattle.lab_program.proofs.RunLemmas.{IsRun-append, IsRun-none, IsRun-weaker}
 
 abbrev pub Meaning : Type 0
@@ -173,3 +177,51 @@ module _ (may_refuse : Type 0) (old : Meaning) (before : Option (List ℕ)) wher
   replays_stopped refuses weaker meaning mid new event (Write taken sent) input now left after last sofar next cut memory =
       replays_cut event (length taken.items) taken.items cut.0 cut.1 sent (meaning mid) (meaning new) input now left after last sofar next
           (IsRun-weaker refuses may_refuse weaker _ _ _ _ _ cut.2) cut.3 cut.4
+
+-- nothing was begun
+stops_none : (fault : ReplayFault) (input : Option (List ℕ)) → IsReaderFault fault
+    → IfSome input (λ bytes. BeginsWith [] bytes (unwrap_or input []) × Stops (Err fault) (next_event (unwrap_or input [])))
+stops_none fault None h = tt
+stops_none BadEvent (Some bytes) h = absurd h
+stops_none ReadFault (Some bytes) h = (refl, tt)
+stops_none WriteFault (Some bytes) h = absurd h
+stops_none Memory (Some bytes) h = (refl, tt)
+
+nothing_written : (fault : ReplayFault) → IsReaderFault fault → IsWritten (Err fault) [] []
+nothing_written BadEvent h = absurd h
+nothing_written ReadFault h = refl
+nothing_written WriteFault h = absurd h
+nothing_written Memory h = refl
+
+pub replays_none : (fault : ReplayFault) (may_refuse : Type 0) (old : Meaning) (input before : Option (List ℕ)) → IsReaderFault fault
+    → Replays may_refuse old old input before before (Err fault)
+replays_none fault may_refuse old input before h = record {
+    events = []; taken = []; answers = []; written = []; rest = unwrap_or input []; begins = stops_none fault input h;
+    run = IsRun-none may_refuse old; answered = nothing_written fault h; wrote = Appends-nil before
+  }
+
+-- a desk without laboratories, over a fresh reader
+pub from_nothing : (labs : Meaning) (kept : List Lab) (input now before after : Option (List ℕ)) (ending : Result (Unit {0}) ReplayFault)
+    → kept ≡ [] → now ≡ input → Replays ⊥ (lab_of kept) labs now before after ending → Replays ⊥ nothing labs input before after ending
+from_nothing labs kept input now before after ending none same replays =
+    let empty : Replays ⊥ (lab_of []) labs now before after ending = subst (λ k. Replays ⊥ (lab_of k) labs now before after ending) none replays in
+    subst (λ i. Replays ⊥ nothing labs i before after ending) same empty
+
+prepend_nothing : (known : Option (List ℕ)) → prepend_known [] known ≡ known
+prepend_nothing None = refl
+prepend_nothing (Some bytes) = refl
+
+known_fresh : (capacity : ℕ) (buffer : List ℕ) (known : Option (List ℕ)) → capacity ≡ 8192 → buffer ≡ []
+    → (if capacity == 0 then None else prepend_known buffer known) ≡ known
+known_fresh capacity buffer known large none = rw (large, none) (prepend_nothing known)
+
+pub fresh_reader : {T A : Type 0} (remaining : T → Option (List ℕ)) (reader : BufReader T A) (inner : T) → reader_inner reader ≡ inner → reader_buffer reader ≡ []
+    → reader_capacity reader ≡ 8192 → reader_remaining remaining reader ≡ remaining inner
+fresh_reader remaining reader inner same none large =
+    known_fresh (reader_capacity reader) (reader_buffer reader) (remaining (reader_inner reader)) large none ∙ ap remaining same
+
+-- a line that was told, whole or in part
+pub told : (old new : Option (List ℕ)) (line : List ℕ) (r : Result (Unit {0}) Unsent) → OnOk r (Appends old new line)
+    → IfErr r (λ unsent. Appends old new (take unsent.sent line)) → (sent : ℕ) × Appends old new (take sent line)
+told old new line (Ok _) whole cut = (length line, subst (Appends old new) (sym (take_all (length line) line (le_refl (length line)))) whole)
+told old new line (Err unsent) whole cut = (unsent.sent, cut)

@@ -2,7 +2,7 @@
 ghost use Rattle.std.specs.Prelude.{◌≡◌};
 
 use lab_desk::RunFault;
-use lab_names::NameFault;
+use lab_names::{NameFault, OutOfMemory};
 use std::alloc::AllocError;
 use std::io;
 use thiserror::Error;
@@ -25,7 +25,7 @@ pub enum ReplayFault {
 }
 
 impl ReplayFault {
-    ghost use Rattle.lab_program.specs.Fault.{fault_word};
+    ghost use Rattle.lab_program.specs.Fault.{fault_word, fault_line};
 
     /// The word by which the program tells the fault.
     pub fn word(&self) -> &'static str
@@ -36,6 +36,18 @@ impl ReplayFault {
             ReplayFault::ReadFault => "read_fault",
             ReplayFault::WriteFault => "write_fault",
             ReplayFault::Memory => "memory",
+        }
+    }
+
+    /// The line that tells the fault on standard error, with its line feed. No memory is taken for it.
+    pub fn line(&self) -> &'static str
+        ensures { result.now ≡ fault_line self.now }
+    {
+        match self {
+            ReplayFault::BadEvent => "labdesk: bad_event\n",
+            ReplayFault::ReadFault => "labdesk: read_fault\n",
+            ReplayFault::WriteFault => "labdesk: write_fault\n",
+            ReplayFault::Memory => "labdesk: memory\n",
         }
     }
 }
@@ -51,6 +63,17 @@ impl From<NameFault> for ReplayFault {
             NameFault::BadName => ReplayFault::BadEvent,
             NameFault::Memory(_) => ReplayFault::Memory,
         }
+    }
+}
+
+/// There was no memory for a desk.
+impl From<OutOfMemory> for ReplayFault {
+    ghost use Rattle.lab_program.specs.declared.fault.ReplayFault.TheVariants.{Memory};
+
+    ghost from_gives = { λ _ fault. fault ≡ Memory };
+
+    fn from(_want: OutOfMemory) -> ReplayFault {
+        ReplayFault::Memory
     }
 }
 
