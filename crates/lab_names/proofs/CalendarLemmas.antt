@@ -1,13 +1,13 @@
 -- The day of a date, in `jiff`'s calendar and in the calendar's rules counted from 1970.
-use Rattle.std.proofs.Common.{◌≡◌, ℕ, zero, suc, ◌+◌, ◌-◌, ◌*◌, ◌<◌, ◌≤◌, inl, inr, refl, sym, ap, ◌∙◌, arith, ℤ, pos, ◌+ℤ◌, ◌<ℤ◌}
+use Rattle.std.proofs.Common.{◌≡◌, ℕ, zero, suc, ◌+◌, ◌-◌, ◌<◌, ◌≤◌, inl, inr, refl, sym, ap, ◌∙◌, arith, ℤ, pos}
 use Rattle.std.proofs.lemmas.Bool.{cases_lt}
 use Rattle.std.proofs.lemmas.Bool.Decides.{nat_tests}
 use Rattle.std.proofs.lemmas.Int.{by_lt_z}
-use Rattle.jiff_core.specs.Calendar.{days_of_months, day_of_year, day_count, days_from_civil, IsCivilDate}
-use Rattle.jiff_core.proofs.CalendarLemmas.{day_count-epoch, days_from_civil-day_count, days_of_months-zero, days_of_months_more, days_of_months_all, day_of_year_bound, day_count-day_of_year, day_count-next_year, day_count-lt_year, day_count-end}
+use Rattle.jiff_core.specs.Calendar.{days_of_months, day_count, days_from_civil, IsCivilDate}
+use Rattle.jiff_core.proofs.CalendarLemmas.{day_count-epoch, days_from_civil-day_count, days_of_months-zero, days_of_months_more, days_of_months_all, day_count-day_of_year, day_count-next_year, day_count-lt_year, day_count-end}
 use Rattle.jiff_core.proofs.SignedLemmas.{signed_arith}
 use Rattle.lab_names.specs.Calendar.{days_in_year, days_in_month, year_of, place_in_year, month_of, day_of_month, span_of, place_of}
-use Rattle.lab_names.proofs.SpanLemmas.{total, total-zero, total-suc, total-last, total_mono, total_ge, span_of-total, place_of-total, Falls, falls}
+use Rattle.lab_names.proofs.SpanLemmas.{total, total-zero, total-last, total_mono, total_ge, span_of-total, place_of-total, Falls, falls}
 use borrow.Author.Differences.{up, down}
 
 -- a year from 1970 on begins so many days after 1970-01-01
@@ -27,12 +27,11 @@ days_of_months-total y (suc n) =
     let last = rw same at (total-last (days_in_month y) 1 n) in
     omega (arith, days_of_months-total y n, more, last)
 
--- a date is day r of its year, and its year is one from 1970 on, where the date's day is not before 1970-01-01
+-- how a date's day comes from its year, which is one from 1970 on, its month and its day of the month
 pub record DateOf (y : ℤ) (m d day : ℕ) : Type 0 where
   pub years : ℕ
   pub year : y ≡ pos (1970 + years)
   pub day_is : total days_in_year 1970 years + (total (days_in_month (1970 + years)) 1 (m - 1) + (d - 1)) ≡ day
-  pub in_year : total (days_in_month (1970 + years)) 1 (m - 1) + (d - 1) < days_in_year (1970 + years)
 
 pub date_of : (y : ℤ) (m d day : ℕ) → IsCivilDate y m d → days_from_civil y m d ≡ pos day → DateOf y m d day
 date_of y m d day h e =
@@ -40,17 +39,15 @@ date_of y m d day h e =
     by_lt_z y (pos 1970)
     (λ lt. absurd (omega (arith, count, day_count-epoch, day_count-lt_year y m d (pos 1970) 1 1 h (omega arith) lt)))
     (λ le.
-      let n = up y - (1970 + down y) in
-      let year : y ≡ pos (1970 + n) = omega (arith, signed_arith) in
-      let first = rw year at (day_count-day_of_year y m d h.2.0) in
-      let bound = rw year at (day_of_year_bound y m d h) in
-      let same = rw year at count in
-      record {
-        years = n;
-        year = year;
-        day_is = omega (arith, first, same, day_count-total n, days_of_months-total (1970 + n) (m - 1));
-        in_year = omega (arith, bound, days_of_months-total (1970 + n) (m - 1));
-      })
+    let n = up y - (1970 + down y) in
+    let year : y ≡ pos (1970 + n) = omega (arith, signed_arith) in
+    let first = rw year at (day_count-day_of_year y m d h.2.0) in
+    let same = rw year at count in
+    record {
+      years = n;
+      year = year;
+      day_is = omega (arith, first, same, day_count-total n, days_of_months-total (1970 + n) (m - 1));
+    })
 
 -- the year, the month and the day of the month of a date's day are the date's own
 pub record IsYmdOf (y : ℤ) (m d day : ℕ) : Type 0 where
@@ -77,25 +74,32 @@ day_of_month-parts : (day y k r : ℕ) → year_of day ≡ y → place_in_year d
 unfolding day_of_month
 day_of_month-parts day y k r year place few h = rw (year, place) (rw (place_of-total (days_in_month y) 11 1 k r few h))
 
-pub is_ymd_of : (y : ℤ) (m d day : ℕ) → IsCivilDate y m d → days_from_civil y m d ≡ pos day → IsYmdOf y m d day
-is_ymd_of y m d day h e =
-    let date = date_of y m d day h e in
-    let y₂ = 1970 + date.years in
-    let r = total (days_in_month y₂) 1 (m - 1) + (d - 1) in
-    let year : year_of day ≡ y₂ = rw date.day_is at (year_of-total date.years r date.in_year) in
-    let place : place_in_year day ≡ r = rw date.day_is at (place_in_year-total date.years r date.in_year) in
-    let month : 1 + (m - 1) ≡ m = omega (arith, h.1.0) in
-    let length = rw date.year at h.2.1 in
-    let in_month : d - 1 < days_in_month y₂ (1 + (m - 1)) = rw month (omega (arith, h.2.0)) in
-    record {
-      year = date.year ∙ ap pos (sym year);
-      month = sym (month_of-parts day y₂ (m - 1) (d - 1) year place (omega (arith, h.1.1)) in_month ∙ month);
-      day_of = omega (arith, h.2.0, day_of_month-parts day y₂ (m - 1) (d - 1) year place (omega (arith, h.1.1)) in_month);
-    }
-
 -- the days of a year's months together
 total-months : (y : ℕ) → total (days_in_month y) 1 12 ≡ days_in_year y
 total-months y = sym (days_of_months-total y 12) ∙ days_of_months_all (pos y)
+
+-- A date from 1970 on is that of the day that its year, its month and its day of the month add up to.
+pub ymd_of_total : (n m d day : ℕ) → 1 ≤ m → m ≤ 12 → 1 ≤ d → d ≤ days_in_month (1970 + n) m → total days_in_year 1970 n + (total (days_in_month (1970 + n)) 1 (m - 1) + (d - 1)) ≡ day → (year_of day ≡ 1970 + n) × (month_of day ≡ m) × (day_of_month day ≡ d)
+ymd_of_total n m d day low high first last day_is =
+    let y = 1970 + n in
+    let r = total (days_in_month y) 1 (m - 1) + (d - 1) in
+    let month : 1 + (m - 1) ≡ m = omega (arith, low) in
+    let in_month : d - 1 < days_in_month y (1 + (m - 1)) = rw month (omega (arith, first)) in
+    let in_year : r < days_in_year y = omega (arith, in_month, total-last (days_in_month y) 1 (m - 1), total_mono (days_in_month y) 1 (suc (m - 1)) 12 (omega arith), total-months y) in
+    let year : year_of day ≡ y = rw day_is at (year_of-total n r in_year) in
+    let place : place_in_year day ≡ r = rw day_is at (place_in_year-total n r in_year) in
+    let few : m - 1 ≤ 11 = omega arith in
+    (year, month_of-parts day y (m - 1) (d - 1) year place few in_month ∙ month, omega (arith, first, day_of_month-parts day y (m - 1) (d - 1) year place few in_month))
+
+pub is_ymd_of : (y : ℤ) (m d day : ℕ) → IsCivilDate y m d → days_from_civil y m d ≡ pos day → IsYmdOf y m d day
+is_ymd_of y m d day h e =
+    let date = date_of y m d day h e in
+    let parts = ymd_of_total date.years m d day h.1.0 h.1.1 h.2.0 (rw date.year at h.2.1) date.day_is in
+    record {
+      year = date.year ∙ ap pos (sym parts.0);
+      month = sym parts.1;
+      day_of = sym parts.2;
+    }
 
 -- the first day of the year 10000
 total-years : total days_in_year 1970 8030 ≡ 2_932_897
@@ -138,9 +142,9 @@ has_date_at : (day n k : ℕ) → day ≤ 2_932_896 → year_of day ≡ 1970 + n
 has_date_at day n k before year day_is month few first place in_month =
     let back : 1 + k - 1 ≡ k = omega arith in
     let early : n < 8030 = elim (cases_lt n 8030) [
-        inl lt ↦ lt
+      | inl lt ↦ lt
       | inr le ↦ absurd (omega (arith, total-years, total_mono days_in_year 1970 8030 n le))
-      ] in
+    ] in
     let of_year = rw back at (day_count-day_of_year (pos (1970 + n)) (1 + k) (day_of_month day) first) in
     let count : day_count (pos (1970 + n)) (1 + k) (day_of_month day) ≡ 4_371_953 + day = omega (arith, of_year, day_count-total n, days_of_months-total (1970 + n) k) in
     record {

@@ -1,16 +1,16 @@
 -- The stamp of a moment, and the moment of a stamp.
-use Rattle.std.proofs.Common.{◌≡◌, ℕ, ◌+◌, ◌-◌, ◌*◌, ◌/◌, ◌%◌, ◌<◌, ◌≤◌, List, [], ◌∷◌, refl, sym, ap, ◌∙◌, arith, IsTrue, pos, ℤ, ◌+ℤ◌, ◌*ℤ◌, ◌≢◌, Result, Ok, Err, IfOk, IfErr, MatchOption}
+use Rattle.std.proofs.Common.{◌≡◌, ℕ, ◌+◌, ◌*◌, ◌/◌, ◌%◌, ◌<◌, ◌≤◌, refl, sym, ◌∙◌, arith, IsTrue, pos, ℤ, ◌+ℤ◌, ◌*ℤ◌, ◌≢◌, Result, Ok, Err, IfOk, IfErr, MatchOption}
 use Rattle.std.specs.Result.{result_ok}
 use Rattle.lab_names.specs.declared.faults.MomentFault.{MomentFault}
 use Rattle.std.proofs.lemmas.Bool.Decides.{nat_tests}
 use Rattle.jiff_core.specs.Calendar.{IsCivilDate, IsDate, days_from_civil}
 use Rattle.jiff_core.proofs.SignedLemmas.{signed_arith}
-use Rattle.lab_names.specs.Calendar.{day_of, days_in_month, year_of, month_of, day_of_month, hour_of, minute_of, second_of, two_digits}
+use Rattle.lab_names.specs.Calendar.{days_in_month, year_of, month_of, day_of_month, hour_of, minute_of, second_of, two_digits}
 use Rattle.lab_names.specs.Moment.{is_moment, moment_text}
 use Rattle.lab_names.specs.Stamp.{stamp_text, stamp_of, IsInWidth}
 use Rattle.lab_names.specs.declared.stamp.Stamp.{Stamp}
 use Rattle.lab_names.proofs.CalendarLemmas.{HasDate, has_date, IsYmdOf, is_ymd_of}
-use Rattle.lab_names.proofs.StampLemmas.{ShowsNumbers, shows_numbers}
+use Rattle.lab_names.proofs.StampLemmas.{shows_numbers}
 
 -- the stamp shows the date and the time of the moment
 pub record IsStampOf (n : ℕ) (s : Stamp) : Type 0 where
@@ -124,13 +124,32 @@ names_stamp s z date hour minute second is =
     let small : t < 86400 = omega arith in
     record {
       found = λ n at. let parts = seconds_parts e z t n is small at in
-        stamp_of_date s (n / 86400) n (is_ymd_of (pos s.year) s.month s.day (n / 86400) date parts.0) hour minute second (omega (arith, parts.1));
+          stamp_of_date s (n / 86400) n (is_ymd_of (pos s.year) s.month s.day (n / 86400) date parts.0) hour minute second (omega (arith, parts.1));
       only = λ n h of. let day = (is_date_of_moment n s h of).1 in
-        let parts = stamp_parts n s of in
-        seconds_whole e z t n is day (omega (arith, parts.hour, parts.minute, parts.second));
+          let parts = stamp_parts n s of in
+          seconds_whole e z t n is day (omega (arith, parts.hour, parts.minute, parts.second));
     }
 
 -- what a moment made of those seconds is to the stamp
 pub moment_of_stamp : (s : Stamp) (z : ℤ) (r : Result ℕ MomentFault) → NamesStamp s z → IfOk r (λ m. IsTrue (is_moment m) × (z ≡ pos m)) → IfErr r (λ _. (n : ℕ) → IsTrue (is_moment n) → z ≢ pos n) → MatchOption (result_ok r) ((n : ℕ) → IsTrue (is_moment n) → s ≢ stamp_of n) (λ m. IsTrue (is_moment m) × (s ≡ stamp_of m))
 moment_of_stamp s z (Ok m) names ok err = (ok.0, names.found m ok.1)
 moment_of_stamp s z (Err _) names ok err = λ n h of. err n h (names.only n h of)
+
+-- no two moments share a stamp
+stamp_of_same : (m n : ℕ) → IsTrue (is_moment m) → IsTrue (is_moment n) → stamp_of m ≡ stamp_of n → m ≡ n
+stamp_of_same m n h k e =
+    let a = own_stamp m in
+    let b = stamp_parts n (stamp_of m) e in
+    let first = (is_date_of_moment m (stamp_of m) h refl).1 in
+    let second = (is_date_of_moment n (stamp_of m) k e).1 in
+    let both : pos (m / 86400) ≡ pos (n / 86400) = sym first ∙ second in
+    let day : m / 86400 ≡ n / 86400 = cc both in
+    let hour : m % 86400 / 3600 ≡ n % 86400 / 3600 = sym a.hour ∙ b.hour in
+    let minute : m % 3600 / 60 ≡ n % 3600 / 60 = sym a.minute ∙ b.minute in
+    let last : m % 60 ≡ n % 60 = sym a.second ∙ b.second in
+    omega arith
+
+-- nor a text
+pub moment_text_same : (m n : ℕ) → IsTrue (is_moment m) → IsTrue (is_moment n) → moment_text m ≡ moment_text n → m ≡ n
+moment_text_same m n h k e =
+    stamp_of_same m n h k (stamp_text_same (stamp_of m) (stamp_of n) (sym (moment_text-stamp m) ∙ e ∙ moment_text-stamp n))

@@ -5,7 +5,7 @@ use Rattle.lab_names.specs.Moment.{is_moment, moment_text, IsNoMoment}
 use Rattle.lab_names.specs.Stamp.{stamp_text, stamp_of, IsInWidth}
 use Rattle.lab_names.specs.declared.faults.MomentFault.{MomentFault}
 use Rattle.lab_names.specs.declared.stamp.Stamp.{Stamp}
-use Rattle.lab_names.proofs.MomentLemmas.{moment_text-stamp, in_width-stamp_of, stamp_text_same}
+use Rattle.lab_names.proofs.MomentLemmas.{moment_text-stamp, moment_text_same, in_width-stamp_of, stamp_text_same}
 
 -- what is claimed of every error
 pub every_err : {A E : Type 0} (P : Type 0) (r : Result A E) → P → IfErr r (λ _. P)
@@ -33,3 +33,8 @@ parsed_ok text s (Some m) f e h = (h.0, e ∙ ap stamp_text h.1 ∙ sym (moment_
 pub parsed_err : (text : List ℕ) (s : Stamp) (o : Option ℕ) (f : MomentFault) → text ≡ stamp_text s → MatchOption o ((n : ℕ) → IsTrue (is_moment n) → s ≢ stamp_of n) (λ m. IsTrue (is_moment m) × (s ≡ stamp_of m)) → IfErr (ok_or o f) (λ _. IsNoMoment text)
 parsed_err text s None f e h = λ n is at. h n is (stamp_text_same s (stamp_of n) (sym e ∙ at ∙ moment_text-stamp n))
 parsed_err text s (Some m) f e h = tt
+
+pub parsed_printed : (text : List ℕ) (s : Stamp) (o : Option ℕ) (f : MomentFault) → text ≡ stamp_text s → MatchOption o ((n : ℕ) → IsTrue (is_moment n) → s ≢ stamp_of n) (λ m. IsTrue (is_moment m) × (s ≡ stamp_of m)) → (n : ℕ) → IsTrue (is_moment n) → text ≡ moment_text n → ok_or o f ≡ Ok n
+parsed_printed text s None f e h n is at = absurd (parsed_err text s None f e h n is at)
+parsed_printed text s (Some m) f e h n is at =
+    ap Ok (moment_text_same m n h.0 is (moment_text-stamp m ∙ ap stamp_text (sym h.1) ∙ sym e ∙ at))

@@ -1,5 +1,5 @@
 -- How a day falls into spans that follow one another, as years and months do.
-use Rattle.std.proofs.Common.{◌≡◌, ℕ, zero, suc, ◌+◌, ◌-◌, ◌<◌, ◌≤◌, Bool, true, false, cond, nat_lt, refl, sym, inl, inr, ◌∙◌, arith}
+use Rattle.std.proofs.Common.{◌≡◌, ℕ, zero, suc, ◌+◌, ◌-◌, ◌<◌, ◌≤◌, refl, sym, inl, inr, ◌∙◌, arith}
 use Rattle.std.proofs.lemmas.Bool.{cases_lt}
 use Rattle.std.proofs.lemmas.Bool.Decides.{nat_tests}
 use Rattle.lab_names.specs.Calendar.{span_of, place_of}
@@ -109,9 +109,9 @@ falls days zero k day h =
     let lt : day < days k = omega (arith, total-suc days k 0, total-zero days (k + 1)) in
     falls_here days zero k day lt
 falls days (suc m) k day h = elim (cases_lt day (days k)) [
-    inl lt ↦ falls_here days (suc m) k day lt
+  | inl lt ↦ falls_here days (suc m) k day lt
   | inr le ↦ falls_later days m k day le (falls days m (k + 1) (day - days k) (omega (arith, total-suc days k (suc m))))
-  ]
+]
 
 -- later spans add days
 total-add : (days : ℕ → ℕ) (k n more : ℕ) → total days k n ≤ total days k (more + n)

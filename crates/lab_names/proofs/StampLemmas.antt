@@ -1,5 +1,5 @@
 -- What stands at each place of a stamp's text.
-use Rattle.std.proofs.Common.{◌≡◌, ℕ, ◌+◌, ◌*◌, ◌/◌, ◌%◌, List, [], ◌∷◌, length, get_or, refl, ap, arith, Option, Some}
+use Rattle.std.proofs.Common.{◌≡◌, ℕ, ◌+◌, ◌*◌, ◌/◌, ◌%◌, List, [], ◌∷◌, length, get_or, refl, arith}
 use Rattle.lab_names.specs.Calendar.{two_digits}
 use Rattle.lab_names.specs.Stamp.{stamp_text}
 use Rattle.lab_names.specs.declared.stamp.Stamp.{Stamp}

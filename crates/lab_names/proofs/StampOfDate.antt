@@ -1,11 +1,10 @@
 -- How a stamp's numbers go into `jiff`'s dates and times, and come back from them.
-use Rattle.std.proofs.Common.{◌≡◌, ℕ, ◌+◌, ◌*◌, ◌<◌, ◌≤◌, ◌^◌, refl, sym, ap, ◌∙◌, subst, arith, pos, ℤ, ◌+ℤ◌, ◌*ℤ◌, Option, Some, Result, Ok, Err, IfOk, IsTrue, to_z, w8, w16}
+use Rattle.std.proofs.Common.{◌≡◌, ℕ, ◌∙◌, subst, arith, pos, Some, Result, Ok, Err, IfOk, IsTrue, to_z, w8, w16}
 use Rattle.std.specs.Result.{result_ok}
 use Rattle.std.proofs.lemmas.Int.{to_z_pos}
 use Rattle.jiff_core.specs.declared.civil.date.Date.{Date}
 use Rattle.jiff_core.specs.declared.civil.time.Time.{Time}
-use Rattle.jiff_core.specs.declared.civil.datetime.DateTime.{DateTime}
-use Rattle.jiff_core.specs.Calendar.{IsCivilDate, IsDate, days_from_civil}
+use Rattle.jiff_core.specs.Calendar.{IsCivilDate, IsDate}
 use Rattle.jiff_core.specs.Date.{IsYmd}
 use Rattle.jiff_core.specs.Time.{IsTime, IsHms}
 use Rattle.jiff_core.specs.DateTime.{civil_seconds}
@@ -13,7 +12,7 @@ use Rattle.jiff_core.proofs.SignedLemmas.{signed_arith}
 use Rattle.lab_names.specs.Moment.{is_moment}
 use Rattle.lab_names.specs.Stamp.{stamp_of, IsInWidth}
 use Rattle.lab_names.specs.declared.stamp.Stamp.{Stamp}
-use Rattle.lab_names.proofs.MomentLemmas.{is_date_of_moment, stamp_parts, IsStampOf, NamesStamp, names_stamp}
+use Rattle.lab_names.proofs.MomentLemmas.{is_date_of_moment, stamp_parts, NamesStamp, names_stamp}
 
 -- the value in an `Ok`, once it is taken out
 pub at_ok : {A E : Type 0} (P : A → Type 0) (r : Result A E) (x : A) → Some x ≡ result_ok r → IfOk r P → P x

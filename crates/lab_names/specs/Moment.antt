@@ -1,6 +1,6 @@
 -- Moments: whole seconds from 1970-01-01T00:00:00Z to the end of the year 9999, and their one text each, in the form of
 -- RFC 3339, section 5.6, with T and Z in capitals, in UTC and without a fraction.
-use Rattle.std.specs.Prelude.{◌≡◌, ◌≢◌, ℕ, Bool, nat_le, List, ◌++◌, codes, IsTrue}
+use Rattle.std.specs.Prelude.{◌≢◌, ℕ, Bool, nat_le, List, ◌++◌, codes, IsTrue}
 use Rattle.lab_names.specs.Calendar.{day_of, year_of, month_of, day_of_month, hour_of, minute_of, second_of, two_digits, four_digits}
 
 -- a number of seconds that lies before the year 10000
@@ -22,7 +22,3 @@ moment_text second =
 -- no moment has this text
 abbrev pub IsNoMoment : List ℕ → Type 0
 IsNoMoment text = (second : ℕ) → IsTrue (is_moment second) → text ≢ moment_text second
-
--- no two moments share a text
-abbrev pub TextsDiffer : ℕ → ℕ → Type 0
-TextsDiffer first second = moment_text first ≡ moment_text second → first ≡ second

@@ -5,6 +5,8 @@ mod faults;
 mod moment;
 mod names;
 mod stamp;
+#[cfg(test)]
+mod tests;
 mod tick;
 
 pub use faults::{MomentFault, NameFault, OutOfMemory};

@@ -78,6 +78,7 @@ impl Moment {
     /// Reads the text that `print` writes, and no other text.
     pub fn parse(text: &str) -> Result<Moment, MomentFault>
         ensures value { IfOk result (λ moment. IsTrue (is_moment moment) × (text.now ≡ moment_text moment)) }
+        ensures printed { (n : ℕ) → IsTrue (is_moment n) → text.now ≡ moment_text n → result ≡ Ok n }
         ensures fault { IfErr result (λ _. IsNoMoment text.now) }
     {
         let stamp = Stamp::read(text.as_bytes()).ok_or(MomentFault::BadMoment)?;

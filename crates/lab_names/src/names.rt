@@ -23,7 +23,7 @@ const DELETE: u8 = 0x7f;
 /// A contract sees it as the list of its bytes.
 #[derive(Debug, Drop)]
 pub struct LabCode {
-    text: String,
+    code: String,
 }
 
 impl Model for LabCode {
@@ -32,9 +32,9 @@ impl Model for LabCode {
 
     ghost Value = { List ℕ };
 
-    ghost view = { λ code. string_bytes code.text };
+    ghost view = { λ lab. string_bytes lab.code };
 
-    ghost invariant = { λ code. IsTrue (is_lab_code (string_bytes code.text)) };
+    ghost invariant = { λ lab. IsTrue (is_lab_code (string_bytes lab.code)) };
 }
 
 fn is_code_character(byte: u8) -> bool
@@ -61,8 +61,8 @@ impl LabCode {
         if !LabCode::admits(text) {
             return Err(NameFault::BadName);
         }
-        let text = String::from_str(alloc, text)?;
-        Ok(LabCode { text })
+        let code = String::from_str(alloc, text)?;
+        Ok(LabCode { code })
     }
 
     #[tactic(auto, unfolding(crate::specs::Names::is_lab_code))]
@@ -73,9 +73,7 @@ impl LabCode {
         let Some(first) = bytes.first() else {
             return false;
         };
-        bytes.len() <= LAB_CODE_LIMIT
-            && first.is_ascii_lowercase()
-            && are_code_characters(bytes)
+        bytes.len() <= LAB_CODE_LIMIT && first.is_ascii_lowercase() && are_code_characters(bytes)
     }
 
     /// The code's text.
@@ -83,15 +81,15 @@ impl LabCode {
         ensures value { result.now ≡ self.now }
         ensures admitted { IsTrue (is_lab_code self.now) }
     {
-        self.text.as_str()
+        self.code.as_str()
     }
 
     /// The same code once more.
     pub fn copy(&self) -> Result<LabCode, OutOfMemory>
         ensures { IfOk result (λ code. code ≡ self.now) }
     {
-        let text = self.text.clone()?;
-        Ok(LabCode { text })
+        let code = self.code.clone()?;
+        Ok(LabCode { code })
     }
 }
 
@@ -101,7 +99,7 @@ impl PartialEq for LabCode {
     ghost laws = { partial_equiv_from_equiv nat_list_eq_equiv };
 
     fn eq(&self, other: &LabCode) -> bool {
-        self.text == other.text
+        self.code == other.code
     }
 }
 

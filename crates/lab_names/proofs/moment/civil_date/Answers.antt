@@ -1,7 +1,7 @@
 -- The date that `jiff` gives is the one of the calendar's rules.
-use Rattle.std.proofs.Common.{arith, ◌≡◌, pos, ◌+ℤ◌}
+use Rattle.std.proofs.Common.{arith}
 use Rattle.jiff_core.proofs.SignedLemmas.{signed_arith}
-use Rattle.lab_names.proofs.CalendarLemmas.{is_ymd_of, IsYmdOf, has_date}
+use Rattle.lab_names.proofs.CalendarLemmas.{is_ymd_of, IsYmdOf}
 use Rattle.lab_names.proofs.moment.civil_date.Goals as goal
 
 ymd : (c : goal.After-from_days_since_min) → IsYmdOf c.from_days_since_min.result.year c.from_days_since_min.result.month c.from_days_since_min.result.day c.args.day

@@ -1,5 +1,5 @@
 -- Each pair of digits of a stamp's text is read as the number that it shows.
-use Rattle.std.proofs.Common.{arith, ◌≡◌, ◌/◌, ◌%◌, Some, None, ap}
+use Rattle.std.proofs.Common.{arith, ◌/◌, ◌%◌, Some, ap}
 use Rattle.lab_names.proofs.StampLemmas.{shows_numbers, same_stamp}
 use Rattle.lab_names.proofs.stamp.Stamp.numbers.Goals as goal
 

@@ -1,0 +1,150 @@
+use crate::{LabCode, Moment, MomentFault, Name, NameFault, OutOfMemory, Tick};
+use std::test::Fail;
+
+// Seconds and texts that Python's `datetime` gives.
+const MOMENTS: [(i64, &str); 6] = [
+    (0, "1970-01-01T00:00:00Z"),
+    (784_111_777, "1994-11-06T08:49:37Z"),
+    (951_782_400, "2000-02-29T00:00:00Z"),
+    (1_078_012_799, "2004-02-28T23:59:59Z"),
+    (4_102_444_800, "2100-01-01T00:00:00Z"),
+    (253_402_300_799, "9999-12-31T23:59:59Z"),
+];
+
+#[test]
+fn moments_are_printed_and_read(rt: HostRuntime) -> Result<(), Fail> {
+    for (seconds, text) in MOMENTS {
+        let moment = Moment::from_seconds(seconds)?;
+        let mut printed = [0; 20];
+        moment.print(&mut printed);
+        assert_eq!(rt; printed.as_slice(), text.as_bytes());
+        assert_eq!(rt; Moment::parse(text)?, moment, "{text}");
+        assert_eq!(rt; moment.seconds(), seconds);
+    }
+    assert_eq!(rt; Moment::from_seconds(4_102_444_799)?.day(), 47_481);
+    Ok(())
+}
+
+#[test]
+fn no_other_second_is_a_moment(rt: HostRuntime) {
+    for seconds in [i64::MIN, -1, 253_402_300_800, i64::MAX] {
+        let refused = Moment::from_seconds(seconds);
+        assert_eq!(rt; refused, Err(MomentFault::BadMoment), "{seconds}");
+    }
+}
+
+#[test]
+fn no_other_text_is_a_moment(rt: HostRuntime) {
+    let texts = [
+        "",
+        "1600-02-29T00:00:00Z",
+        "1969-12-31T23:59:59Z",
+        "1900-02-29T00:00:00Z",
+        "2100-02-29T00:00:00Z",
+        "2001-00-01T00:00:00Z",
+        "2001-13-01T00:00:00Z",
+        "2001-04-31T00:00:00Z",
+        "2001-04-00T00:00:00Z",
+        "2001-04-01T24:00:00Z",
+        "2001-04-01T00:60:00Z",
+        "2001-04-01T23:59:60Z",
+        "2001-04-01 00:00:00Z",
+        "2001-04-01t00:00:00z",
+        "2001-04-01T00:00:00",
+        "2001-04-01T00:00:00ZZ",
+        "2001-04-01T00:00:00+0",
+        "2001-4-01T000:00:00Z",
+        " 001-04-01T00:00:00Z",
+        "10000-01-01T00:00:0Z",
+    ];
+    for text in texts {
+        assert_eq!(rt; Moment::parse(text), Err(MomentFault::BadMoment), "{text}");
+    }
+}
+
+#[test]
+fn laboratory_codes_are_read_exactly(rt: HostRuntime) -> Result<(), Fail> {
+    for text in ["a", "aqua", "lab-7", "z9-", "abcdefghijkl"] {
+        let code = LabCode::parse(rt.alloc(), text)?;
+        assert_eq!(rt; code.as_str(), text);
+        assert_eq!(rt; code.copy()?, code);
+    }
+    for text in [
+        "",
+        "7lab",
+        "-lab",
+        "Aqua",
+        "la b",
+        "la_b",
+        "läb",
+        "abcdefghijklm",
+    ] {
+        let refused = LabCode::parse(rt.alloc(), text);
+        assert_eq!(rt; refused, Err(NameFault::BadName), "{text}");
+    }
+    Ok(())
+}
+
+#[test]
+fn names_are_read_exactly(rt: HostRuntime) -> Result<(), Fail> {
+    for text in ["A", "Aqua North", "Wasser-Labor Süd", "水", "a\u{80}b", "🜄"] {
+        let name = Name::parse(rt.alloc(), text)?;
+        assert_eq!(rt; name.as_str(), text);
+        assert_eq!(rt; name.copy()?, name);
+    }
+    for text in [
+        "",
+        " ",
+        " Aqua",
+        "Aqua ",
+        "Aqua\tNorth",
+        "Aqua\nNorth",
+        "\u{7f}",
+        "a\0b",
+    ] {
+        let refused = Name::parse(rt.alloc(), text);
+        assert_eq!(rt; refused, Err(NameFault::BadName), "{text:?}");
+    }
+    Ok(())
+}
+
+// Names of 120 bytes and of 121, of characters of 1 to 4 bytes.
+#[test]
+fn names_have_120_bytes_at_most(rt: HostRuntime) -> Result<(), Fail> {
+    for (character, count) in [("a", 120), ("é", 60), ("水", 40), ("🜄", 30)] {
+        let mut text = String::new(rt.alloc());
+        for _ in 0..count {
+            text.push_str(character)?;
+        }
+        let name = Name::parse(rt.alloc(), text.as_str())?;
+        assert_eq!(rt; name.as_str().len(), 120);
+        text.push('b')?;
+        let refused = Name::parse(rt.alloc(), text.as_str());
+        assert_eq!(rt; refused, Err(NameFault::BadName), "{character}");
+    }
+    Ok(())
+}
+
+#[test]
+fn faults_have_numbers_and_words(rt: HostRuntime) {
+    assert_eq!(rt; NameFault::BadName.number(), Some(1));
+    assert_eq!(rt; NameFault::BadName.word(), "bad_name");
+    assert_eq!(rt; NameFault::Memory(OutOfMemory).number(), Some(90));
+    assert_eq!(rt; NameFault::Memory(OutOfMemory).word(), "memory");
+    assert_eq!(rt; MomentFault::BadMoment.number(), Some(2));
+    assert_eq!(rt; MomentFault::BadMoment.word(), "bad_moment");
+    assert_eq!(rt; OutOfMemory.number(), 90);
+    assert_eq!(rt; OutOfMemory.word(), "memory");
+}
+
+#[test]
+fn a_tick_is_plain(rt: HostRuntime) -> Result<(), Fail> {
+    let tick = Tick {
+        moment: Moment::parse("2026-11-22T12:00:00Z")?,
+        words: [1, 2, 3, 4, 5, 6, 7, 8],
+    };
+    let same = tick;
+    assert_eq!(rt; tick.moment, same.moment);
+    assert_eq!(rt; tick.words.as_slice(), same.words.as_slice());
+    Ok(())
+}

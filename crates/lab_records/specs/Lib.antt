@@ -1,0 +1,4 @@
+pub mod Refusals
+pub mod Machine
+pub mod Parts
+pub mod Changes

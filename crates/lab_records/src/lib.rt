@@ -1,0 +1,19 @@
+//! One laboratory as a small machine: what it holds, what it can be asked, what it replies, and what each
+//! command changes (ISO/IEC 17025:2017, 7.5 and 8.4). It knows no bytes and no tables: those who keep
+//! laboratories are a `Keeper`.
+#![tactic(auto)]
+
+mod command;
+mod decision;
+mod fault;
+mod keeper;
+mod lab;
+mod refusal;
+
+pub use crate::command::{Change, Command, Founding, Need, Outcome, Reply, Slice};
+pub use crate::decision::{decide, needs};
+pub use crate::fault::Fault;
+pub use crate::keeper::Keeper;
+pub use crate::lab::Lab;
+pub use crate::refusal::Refusal;
+pub use lab_names::{LabCode, Moment, Name, NameFault, OutOfMemory, Tick};
