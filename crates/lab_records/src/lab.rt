@@ -40,11 +40,12 @@ impl Lab {
     pub fn part(&self, need: &Need) -> Result<Slice, OutOfMemory>
         ensures { IfOk result (λ slice. slice ≡ part need.now self.now) }
     {
+        let Lab { code, name, last } = self;
         match need {
             Need::Heading => Ok(Slice {
-                code: self.code.copy()?,
-                name: self.name.copy()?,
-                last: self.last,
+                code: code.copy()?,
+                name: name.copy()?,
+                last: *last,
             }),
         }
     }

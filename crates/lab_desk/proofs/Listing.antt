@@ -1,0 +1,114 @@
+-- What a write in place and a push do to the look-ups of a list of laboratories.
+use Rattle.std.proofs.Common.{◌≡◌, ◌≢◌, ◌<◌, ℕ, Bool, true, false, cond, List, [], ◌∷◌, ◌++◌, Option, Some, None, refl, sym, ◌∙◌, ap, subst, length, get_or, arith}
+use Rattle.std.specs.Prelude.{find, position, slice_get, slice_set, MatchOption, nat_lt, ◌==◌}
+use borrow.Author.Tests.{ltb-false}
+use Rattle.std.specs.List.{position_or_len}
+use Rattle.std.specs.Option.{option_or}
+use Rattle.std.proofs.lemmas.List.Folds.{find_at, find-set, find_past, find-append}
+use Rattle.std.proofs.lemmas.Option.{slice_get-get_or, slice_get_past}
+use Rattle.std.proofs.lemmas.Bool.{false_from_ne_true}
+use Rattle.std.proofs.lemmas.Bool.Decides.{Decides-ltb, Decides-eqb}
+use Rattle.std.proofs.lemmas.Slice.Eq.{bytes_eq-Decides}
+use Rattle.lab_records.specs.declared.lab.Lab.{Lab}
+use Rattle.lab_records.specs.declared.command.Change.{Change}
+use Rattle.lab_records.specs.declared.command.Change.TheVariants.{Last}
+use Rattle.lab_records.specs.Changes.{changed, changed_in}
+use Rattle.lab_desk.specs.Listed.{has_code, lab_of, ChangesInPlace}
+
+-- no change gives a laboratory another code
+code_kept : (lab : Lab) (changes : List Change) → (changed lab changes).code ≡ lab.code
+code_kept lab [] = refl
+code_kept lab (Last moment ∷ others) = code_kept (record lab { last = moment }) others
+
+-- a laboratory has its own code
+has_own : (code : List ℕ) (lab : Lab) → lab.code ≡ code → has_code code lab ≡ true
+has_own code lab same = (bytes_eq-Decides lab.code code).1 same
+
+-- and no other
+lacks_other : (other : List ℕ) (lab : Lab) → lab.code ≢ other → has_code other lab ≡ false
+lacks_other other lab differs = false_from_ne_true (has_code other lab) (λ holds. differs ((bytes_eq-Decides lab.code other).0 holds))
+
+found_here : (p : Lab → Bool) (first lab : Lab) (b : Bool) (rest : Option Lab) → p first ≡ b → (rest ≡ Some lab → p lab ≡ true) → cond b (Some first) rest ≡ Some lab → p lab ≡ true
+found_here p first lab true rest holds later found =
+    let same : first ≡ lab = cc in subst (λ (one : Lab). p one ≡ true) same holds
+found_here p first lab false rest holds later found = later found
+
+-- what is found passes the test
+find_true : (p : Lab → Bool) (labs : List Lab) (lab : Lab) → find p labs ≡ Some lab → p lab ≡ true
+find_true p [] lab found = cc
+find_true p (first ∷ labs) lab found = found_here p first lab (p first) (find p labs) refl (find_true p labs lab) found
+
+placed : (b : Bool) (first place : ℕ) → cond b (Some first) None ≡ Some place → (b ≡ true) × (place ≡ first)
+placed true first place found = (refl, cc)
+placed false first place found = cc
+
+-- what is known of a laboratory that stands in a place
+pub record StandsAt (labs : List Lab) (code : List ℕ) (place : ℕ) (lab : Lab) : Type 0 where
+  pub first : place ≡ position_or_len (has_code code) labs
+  pub within : place < length labs
+  pub there : slice_get labs place ≡ Some lab
+  pub found : lab_of labs code ≡ Some lab
+  pub code_is : lab.code ≡ code
+
+-- the laboratory at the place where a search ended
+pub stands_at : (labs : List Lab) (code : List ℕ) (place : ℕ) (lab : Lab) → position (has_code code) labs ≡ Some place → lab ≡ get_or labs place lab → StandsAt labs code place lab
+stands_at labs code place lab ended here =
+    let p : Lab → Bool = has_code code in
+    let both : (nat_lt (position_or_len p labs) (length labs) ≡ true) × (place ≡ position_or_len p labs) = placed (nat_lt (position_or_len p labs) (length labs)) (position_or_len p labs) place ended in
+    let inside : place < length labs = subst (λ (k : ℕ). k < length labs) (sym both.1) ((Decides-ltb (position_or_len p labs) (length labs)).0 both.0) in
+    let there : slice_get labs place ≡ Some lab = slice_get-get_or labs place lab inside ∙ ap (λ (one : Lab). Some one) (sym here) in
+    let found : lab_of labs code ≡ Some lab = find_at p labs ∙ ap (λ (k : ℕ). slice_get labs k) (sym both.1) ∙ there in
+    record { first = both.1; within = inside; there = there; found = found; code_is = (bytes_eq-Decides lab.code code).0 (find_true p labs lab found) }
+
+-- the changed laboratory is found by its code
+pub changed_here : (labs : List Lab) (code : List ℕ) (place : ℕ) (lab : Lab) (changes : List Change) → StandsAt labs code place lab → lab_of (slice_set labs place (changed lab changes)) code ≡ changed_in (lab_of labs code) changes
+changed_here labs code place lab changes stands =
+    find-set (has_code code) labs place (changed lab changes) stands.first stands.within (has_own code (changed lab changes) (code_kept lab changes ∙ stands.code_is))
+    ∙ ap (λ (found : Option Lab). changed_in found changes) (sym stands.found)
+
+-- by every other code what was found before is found
+pub changed_elsewhere : (labs : List Lab) (code : List ℕ) (place : ℕ) (lab : Lab) (changes : List Change) → StandsAt labs code place lab → lab ≡ get_or labs place lab → (other : List ℕ) → other ≢ code → lab_of (slice_set labs place (changed lab changes)) other ≡ lab_of labs other
+changed_elsewhere labs code place lab changes stands here other differs =
+    find_past (has_code other) labs place (changed lab changes) lab
+    (subst (λ (one : Lab). has_code other one ≡ false) here (lacks_other other lab (λ same. differs (sym same ∙ stands.code_is))))
+    (lacks_other other (changed lab changes) (λ same. differs (sym same ∙ code_kept lab changes ∙ stands.code_is)))
+
+-- the list is changed in that place
+pub changed_in_place : (labs : List Lab) (code : List ℕ) (place : ℕ) (lab : Lab) (changes : List Change) → StandsAt labs code place lab → ChangesInPlace labs (slice_set labs place (changed lab changes)) code changes
+changed_in_place labs code place lab changes stands =
+    subst (λ (k : ℕ). MatchOption (slice_get labs k) (slice_set labs place (changed lab changes) ≡ labs) (λ one. slice_set labs place (changed lab changes) ≡ slice_set labs k (changed one changes))) stands.first
+    (rw stands.there refl)
+
+-- a laboratory that is added is found by its code, where none was
+pub added_here : (labs : List Lab) (lab : Lab) → lab_of labs lab.code ≡ None → lab_of (labs ++ lab ∷ []) lab.code ≡ Some lab
+added_here labs lab none =
+    find-append (has_code lab.code) labs (lab ∷ []) ∙ ap (λ (found : Option Lab). option_or found (find (has_code lab.code) (lab ∷ []))) none
+    ∙ ap (λ (b : Bool). cond b (Some lab) None) (has_own lab.code lab refl)
+
+or_none : (found : Option Lab) → option_or found None ≡ found
+or_none None = refl
+or_none (Some lab) = refl
+
+-- and by every other code what was found before is found
+pub added_elsewhere : (labs : List Lab) (lab : Lab) (other : List ℕ) → other ≢ lab.code → lab_of (labs ++ lab ∷ []) other ≡ lab_of labs other
+added_elsewhere labs lab other differs =
+    find-append (has_code other) labs (lab ∷ [])
+    ∙ ap (λ (b : Bool). option_or (lab_of labs other) (cond b (Some lab) None)) (lacks_other other lab (λ same. differs (sym same)))
+    ∙ or_none (lab_of labs other)
+
+-- an empty length is the empty list
+pub no_changes : (changes : List Change) → (length changes == 0) ≡ true → changes ≡ []
+no_changes [] empty = refl
+no_changes (one ∷ others) empty =
+    let none : length (one ∷ others) ≡ 0 = (Decides-eqb (length (one ∷ others)) 0).0 empty in absurd (omega arith)
+
+unfound : (b : Bool) (first : ℕ) → cond b (Some first) None ≡ None → b ≡ false
+unfound true first none = cc
+unfound false first none = refl
+
+-- where a search ended without a place there is no laboratory of the code
+pub not_placed : (labs : List Lab) (code : List ℕ) → position (has_code code) labs ≡ None → lab_of labs code ≡ None
+not_placed labs code none =
+    let p : Lab → Bool = has_code code in
+    let past : nat_lt (position_or_len p labs) (length labs) ≡ false = unfound (nat_lt (position_or_len p labs) (length labs)) (position_or_len p labs) none in
+    find_at p labs ∙ slice_get_past labs (position_or_len p labs) (ltb-false (position_or_len p labs) (length labs) past)

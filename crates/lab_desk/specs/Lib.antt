@@ -1,0 +1,7 @@
+pub mod Listed
+pub mod ListedLaws
+pub mod Answers
+pub mod Desks
+pub mod Alone
+pub mod Runs
+pub mod Faults

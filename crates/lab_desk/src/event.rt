@@ -1,0 +1,42 @@
+//! What happens to an installation: foundings and requests, in order.
+
+use lab_names::{LabCode, OutOfMemory, Tick};
+use thiserror::Error;
+
+/// One event of an installation.
+#[derive(Debug, Drop)]
+pub enum Event {
+    /// A laboratory is to be founded.
+    Found {
+        /// The laboratory's code.
+        lab: LabCode,
+        /// The moment, and random words.
+        tick: Tick,
+        /// The founding body, JSON.
+        body: Vec<u8>,
+    },
+    /// A request came in.
+    Call {
+        /// The moment, and random words.
+        tick: Tick,
+        /// The bytes of the request.
+        bytes: Vec<u8>,
+    },
+}
+
+/// Why a run ended before its last event.
+#[derive(Debug, Drop, Error)]
+pub enum RunFault {
+    /// There was no memory for the list that a run answers. Nothing was handled or written.
+    #[error("{0}")]
+    Memory(OutOfMemory),
+    /// A write failed, or took no byte. The event whose answer was being written stands, and those after it
+    /// were not handled.
+    #[error("write_fault")]
+    Write {
+        /// For each event up to and with the one whose answer was cut, whether it was taken.
+        taken: Vec<bool>,
+        /// How many bytes of that answer went out.
+        sent: usize,
+    },
+}

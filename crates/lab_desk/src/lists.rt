@@ -1,0 +1,125 @@
+//! The plain keeper: a list of laboratories in memory.
+
+ghost use Rattle.std.specs.Prelude.{◌≡◌, ◌≢◌, ℕ, List, [], ◌∷◌, ◌++◌, ◌<◌, IfOk, OnErr, length, position, slice_get, slice_set, IfSome};
+ghost use Rattle.lab_records.specs.Changes.{changed};
+ghost use Rattle.std.specs.Option.{option_copied};
+ghost use Rattle.lab_desk.specs.Listed.{has_code, lab_of};
+
+use lab_names::{LabCode, OutOfMemory, Tick};
+use lab_records::{Change, Fault, Founding, Keeper, Lab, Need, Refusal, Slice};
+use std::alloc::Global;
+use std::marker::Model;
+
+/// A list of laboratories in memory, no two of one code.
+#[derive(Drop)]
+pub struct Lists {
+    labs: Vec<Lab>,
+}
+
+impl Model for Lists {
+    ghost use Rattle.std.specs.Prelude.{List};
+    ghost use Rattle.lab_records.specs.declared.lab.Lab.{Lab as WholeLab};
+
+    ghost Value = { List WholeLab };
+
+    ghost view = { λ lists. lists.labs.items };
+}
+
+impl Lists {
+    /// No laboratories.
+    pub fn new(alloc: Global) -> Lists
+        ensures { result ≡ [] }
+    {
+        Lists {
+            labs: Vec::new(alloc),
+        }
+    }
+}
+
+impl Keeper for Lists {
+    ghost use Rattle.std.specs.Prelude.{◌≡◌, ◌++◌, ◌∷◌, [], refl};
+    ghost use Rattle.std.proofs.Common.{◌∙◌};
+    ghost use Rattle.lab_desk.specs.Listed.{lab_of, ChangesInPlace};
+    ghost use Rattle.lab_desk.specs.ListedLaws.{unchanged_in_place, changed_after_rest};
+
+    ghost meaning = { lab_of };
+
+    ghost is_honest = { λ _. Unit {0} };
+
+    ghost is_reached = { λ _. Unit {0} };
+
+    ghost may_refuse = { λ _. ⊥ };
+
+    ghost rests = { λ old new. new ≡ old };
+
+    ghost moves = { ChangesInPlace };
+
+    ghost places = { λ old new lab. new ≡ old ++ lab ∷ [] };
+
+    fn load(&mut self, code: &LabCode, need: &Need) -> Result<Option<Slice>, Fault> {
+        let Some(lab) = lab_named(&self.labs, code) else {
+            return Ok(None);
+        };
+        Ok(Some(lab.part(need)?))
+    }
+
+    fn apply(&mut self, code: &LabCode, changes: &[Change]) -> Result<(), Fault> {
+        if changes.is_empty() {
+            return Ok(());
+        }
+        let Some(place) = place_of(&self.labs, code) else {
+            return Ok(());
+        };
+        let lab = changed_copy(&self.labs[place], changes)?;
+        self.labs[place] = lab;
+        Ok(())
+    }
+
+    fn found(&mut self, code: &LabCode, founding: &Founding, tick: &Tick) -> Result<(), Fault> {
+        if lab_named(&self.labs, code).is_some() {
+            return Err(Fault::Refused(Refusal::LabExists));
+        }
+        let lab = Lab {
+            code: code.copy()?,
+            name: founding.name.copy()?,
+            last: tick.moment,
+        };
+        self.labs.push(lab)?;
+        Ok(())
+    }
+
+    ghost still = { λ _. refl };
+
+    ghost rests_on = { λ first next last same again. again ∙ same };
+
+    ghost rests_unchanged = { unchanged_in_place };
+
+    ghost moves_on = { changed_after_rest };
+}
+
+/// The laboratory of the code, if there is one.
+fn lab_named<'a>(labs: &'a [Lab], code: &LabCode) -> Option<&'a Lab>
+    ensures { option_copied result ≡ lab_of labs.now code.now }
+{
+    labs.iter()
+        .find(|lab| lab.code.as_str() == code.as_str())
+}
+
+/// Where the laboratory of the code stands, if there is one.
+fn place_of(labs: &[Lab], code: &LabCode) -> Option<usize>
+    ensures { result ≡ position (has_code code.now) labs.now }
+{
+    labs.iter()
+        .position(|lab| lab.code.as_str() == code.as_str())
+}
+
+/// A second laboratory beside the first, with the changes made.
+fn changed_copy(lab: &Lab, changes: &[Change]) -> Result<Lab, OutOfMemory>
+    ensures { IfOk result (λ copy. copy ≡ changed lab.now changes.now) }
+{
+    let mut copy = lab.copy()?;
+    for one in changes {
+        copy.change(one);
+    }
+    Ok(copy)
+}
