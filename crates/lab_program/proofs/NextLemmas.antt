@@ -23,7 +23,7 @@ module _ {A : Type 0} (line : Vec ℕ A) (left : Option (List ℕ)) where
   line_taken (Some xs) (Some b) start items read rest none popped same =
       let feed : b ≡ 10 = grind (arith, nat_tests) in
       let whole : take_through 10 xs ≡ line.items ++ 10 ∷ [] =
-          ap (λ s. s ++ take_through 10 xs) (sym none) ∙ sym read ∙ popped ∙ ap (λ x. line.items ++ x ∷ []) feed in
+      ap (λ s. s ++ take_through 10 xs) (sym none) ∙ sym read ∙ popped ∙ ap (λ x. line.items ++ x ∷ []) feed in
       (drop_through 10 xs, cut_at-ended 10 xs line.items whole, rest)
 
   some_input : (xs front : List ℕ) (b : ℕ) → take_through 10 xs ≡ front ++ b ∷ [] → 0 < length xs
@@ -128,9 +128,10 @@ module _ {A : Type 0} (line : Vec ℕ A) where
   next_taken None left after heading bytes event taken said got made = tt
   next_taken (Some input) left after heading bytes event taken said got made =
       let here : IfSome (Some taken.0) (λ input. TakesBytes heading.length input after (Ok bytes)) = rw taken.2 at got in
-      let same : event_said event ≡ record { founded = heading.founded; moment = heading.tick.moment; words = heading.tick.words; bytes = take heading.length taken.0 } = rw (here.1) at made in
-      (drop heading.length taken.0,
-          next_of_cut input (line.items, taken.0) taken.1 ∙ ap (λ o. with_bytes o taken.0) said
-          ∙ enough_bytes _ _ (drop heading.length taken.0) (long_enough heading.length taken.0 here.0)
-          ∙ ap (λ e. Taken e (drop heading.length taken.0)) (sym same),
-          here.2)
+      let same : event_said event ≡ record { founded = heading.founded; moment = heading.tick.moment; words = heading.tick.words; bytes = take heading.length taken.0 } = rw (here.1) at made in (
+        drop heading.length taken.0,
+        next_of_cut input (line.items, taken.0) taken.1 ∙ ap (λ o. with_bytes o taken.0) said
+            ∙ enough_bytes _ _ (drop heading.length taken.0) (long_enough heading.length taken.0 here.0)
+            ∙ ap (λ e. Taken e (drop heading.length taken.0)) (sym same),
+        here.2,
+      )

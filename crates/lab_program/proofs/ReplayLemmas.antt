@@ -48,9 +48,14 @@ begins_at (Some bytes) = (refl, refl)
 -- before the first event
 pub so_far_none : (may_refuse : Type 0) (old : Meaning) (input before : Option (List ℕ)) → SoFar may_refuse old old input input before before
 so_far_none may_refuse old input before = record {
-    events = []; taken = []; answers = []; rest = unwrap_or input [];
-    begins = begins_at input; run = IsRun-none may_refuse old; wrote = Appends-nil before
-  }
+  events = [];
+  taken = [];
+  answers = [];
+  rest = unwrap_or input [];
+  begins = begins_at input;
+  run = IsRun-none may_refuse old;
+  wrote = Appends-nil before;
+}
 
 module _ (may_refuse : Type 0) (old : Meaning) (before : Option (List ℕ)) where
   at_rest : (now left : Option (List ℕ)) (rest : List ℕ) (result : Result (Option Event) ReplayFault) → now ≡ Some rest
@@ -66,9 +71,16 @@ module _ (may_refuse : Type 0) (old : Meaning) (before : Option (List ℕ)) wher
   pub replays_whole : (new : Meaning) (input now left after : Option (List ℕ)) → SoFar may_refuse old new input now before after
       → IfSome now (λ input. TakesNext (next_event input) left (Ok None)) → Replays may_refuse old new input before after (Ok tt)
   replays_whole new input now left after sofar next = record {
-      events = sofar.events; taken = sofar.taken; answers = sofar.answers; written = concat sofar.answers; rest = sofar.rest;
-      begins = ends input now left sofar.events sofar.rest sofar.begins next; run = sofar.run; answered = refl; wrote = sofar.wrote
-    }
+    events = sofar.events;
+    taken = sofar.taken;
+    answers = sofar.answers;
+    written = concat sofar.answers;
+    rest = sofar.rest;
+    begins = ends input now left sofar.events sofar.rest sofar.begins next;
+    run = sofar.run;
+    answered = refl;
+    wrote = sofar.wrote;
+  }
 
   fails : (fault : ReplayFault) (input now left : Option (List ℕ)) (events : List Event) (rest : List ℕ) → IfSome input (λ bytes. BeginsWith events bytes rest × (now ≡ Some rest))
       → IfSome now (λ input. TakesNext (next_event input) left (Err fault)) → IfSome input (λ bytes. BeginsWith events bytes rest × Stops (Err fault) (next_event rest))
@@ -88,10 +100,16 @@ module _ (may_refuse : Type 0) (old : Meaning) (before : Option (List ℕ)) wher
   pub replays_up_to : (fault : ReplayFault) (new : Meaning) (input now left after : Option (List ℕ)) → SoFar may_refuse old new input now before after
       → IfSome now (λ input. TakesNext (next_event input) left (Err fault)) → IsInputFault fault → Replays may_refuse old new input before after (Err fault)
   replays_up_to fault new input now left after sofar next input_fault = record {
-      events = sofar.events; taken = sofar.taken; answers = sofar.answers; written = concat sofar.answers; rest = sofar.rest;
-      begins = fails fault input now left sofar.events sofar.rest sofar.begins next; run = sofar.run;
-      answered = answered_whole fault sofar.answers input_fault; wrote = sofar.wrote
-    }
+    events = sofar.events;
+    taken = sofar.taken;
+    answers = sofar.answers;
+    written = concat sofar.answers;
+    rest = sofar.rest;
+    begins = fails fault input now left sofar.events sofar.rest sofar.begins next;
+    run = sofar.run;
+    answered = answered_whole fault sofar.answers input_fault;
+    wrote = sofar.wrote;
+  }
 
   stopped : (input now : Option (List ℕ)) (events : List Event) (rest : List ℕ) → IfSome input (λ bytes. BeginsWith events bytes rest × (now ≡ Some rest))
       → IfSome input (λ bytes. BeginsWith events bytes rest × Unit {0})
@@ -102,18 +120,31 @@ module _ (may_refuse : Type 0) (old : Meaning) (before : Option (List ℕ)) wher
   pub replays_tired : (new : Meaning) (input now after : Option (List ℕ)) → SoFar may_refuse old new input now before after
       → Replays may_refuse old new input before after (Err ReadFault)
   replays_tired new input now after sofar = record {
-      events = sofar.events; taken = sofar.taken; answers = sofar.answers; written = concat sofar.answers; rest = sofar.rest;
-      begins = stopped input now sofar.events sofar.rest sofar.begins; run = sofar.run; answered = refl; wrote = sofar.wrote
-    }
+    events = sofar.events;
+    taken = sofar.taken;
+    answers = sofar.answers;
+    written = concat sofar.answers;
+    rest = sofar.rest;
+    begins = stopped input now sofar.events sofar.rest sofar.begins;
+    run = sofar.run;
+    answered = refl;
+    wrote = sofar.wrote;
+  }
 
   -- there was no memory to run the event
   no_memory : (new : Meaning) (input now mid after : Option (List ℕ)) → SoFar may_refuse old new input now before mid → Keeps mid after
       → Replays may_refuse old new input before after (Err Memory)
   no_memory new input now mid after sofar kept = record {
-      events = sofar.events; taken = sofar.taken; answers = sofar.answers; written = concat sofar.answers; rest = sofar.rest;
-      begins = stopped input now sofar.events sofar.rest sofar.begins; run = sofar.run; answered = refl;
-      wrote = Appends-kept before mid after (concat sofar.answers) sofar.wrote kept
-    }
+    events = sofar.events;
+    taken = sofar.taken;
+    answers = sofar.answers;
+    written = concat sofar.answers;
+    rest = sofar.rest;
+    begins = stopped input now sofar.events sofar.rest sofar.begins;
+    run = sofar.run;
+    answered = refl;
+    wrote = Appends-kept before mid after (concat sofar.answers) sofar.wrote kept;
+  }
 
   abbrev Rest : (input left : Option (List ℕ)) (events : List Event) → Type 0
   Rest input left events = (rest : List ℕ) × IfSome input (λ bytes. BeginsWith events bytes rest × (left ≡ Some rest))
@@ -131,10 +162,14 @@ module _ (may_refuse : Type 0) (old : Meaning) (before : Option (List ℕ)) wher
       → IsRun may_refuse (event ∷ []) ts ans mid new → Appends after last (concat ans) → SoFar may_refuse old new input left before last
   so_far_more event ts ans mid new input now left after last sofar next run wrote =
       let more = taken_on event input now left sofar.events sofar.rest sofar.begins next in record {
-      events = sofar.events ++ event ∷ []; taken = sofar.taken ++ ts; answers = sofar.answers ++ ans; rest = more.0;
-      begins = more.1; run = IsRun-append may_refuse old mid new sofar.events (event ∷ []) sofar.taken ts sofar.answers ans sofar.run run;
-      wrote = subst (Appends before last) (sym (concat-append sofar.answers ans)) (Appends-trans before after last (concat sofar.answers) (concat ans) sofar.wrote wrote)
-    }
+        events = sofar.events ++ event ∷ [];
+        taken = sofar.taken ++ ts;
+        answers = sofar.answers ++ ans;
+        rest = more.0;
+        begins = more.1;
+        run = IsRun-append may_refuse old mid new sofar.events (event ∷ []) sofar.taken ts sofar.answers ans sofar.run run;
+        wrote = subst (Appends before last) (sym (concat-append sofar.answers ans)) (Appends-trans before after last (concat sofar.answers) (concat ans) sofar.wrote wrote);
+      }
 
   abbrev Cut : (input : Option (List ℕ)) (events : List Event) → Type 0
   Cut input events = (rest : List ℕ) × IfSome input (λ bytes. BeginsWith events bytes rest × Unit {0})
@@ -155,28 +190,38 @@ module _ (may_refuse : Type 0) (old : Meaning) (before : Option (List ℕ)) wher
       → Replays may_refuse old new input before last (Err WriteFault)
   replays_cut event n ts ans cut sent mid new input now left after last sofar next run wrote short =
       let more = taken_some n event input now left sofar.events sofar.rest sofar.begins next in record {
-      events = sofar.events ++ take n (event ∷ []); taken = sofar.taken ++ ts; answers = sofar.answers ++ (ans ++ cut ∷ []);
-      written = concat sofar.answers ++ (concat ans ++ take sent cut); rest = more.0; begins = more.1;
-      run = IsRun-append may_refuse old mid new sofar.events (take n (event ∷ [])) sofar.taken ts sofar.answers (ans ++ cut ∷ []) sofar.run run;
-      answered = (sofar.answers ++ ans, cut, sent, sym (append_assoc sofar.answers ans (cut ∷ [])), short,
-          sym (append_assoc (concat sofar.answers) (concat ans) (take sent cut)) ∙ ap (λ l. l ++ take sent cut) (sym (concat-append sofar.answers ans)));
-      wrote = Appends-trans before after last (concat sofar.answers) (concat ans ++ take sent cut) sofar.wrote wrote
-    }
+        events = sofar.events ++ take n (event ∷ []);
+        taken = sofar.taken ++ ts;
+        answers = sofar.answers ++ (ans ++ cut ∷ []);
+        written = concat sofar.answers ++ (concat ans ++ take sent cut);
+        rest = more.0;
+        begins = more.1;
+        run = IsRun-append may_refuse old mid new sofar.events (take n (event ∷ [])) sofar.taken ts sofar.answers (ans ++ cut ∷ []) sofar.run run;
+        answered = (
+          sofar.answers ++ ans,
+          cut,
+          sent,
+          sym (append_assoc sofar.answers ans (cut ∷ [])),
+          short,
+          sym (append_assoc (concat sofar.answers) (concat ans) (take sent cut)) ∙ ap (λ l. l ++ take sent cut) (sym (concat-append sofar.answers ans)),
+        );
+        wrote = Appends-trans before after last (concat sofar.answers) (concat ans ++ take sent cut) sofar.wrote wrote;
+      }
 
   -- a run of the event that stopped: for memory before it was handled, or at its answer
   pub replays_stopped : (refuses : Type 0) → (refuses → may_refuse) → {D : Type 0} (meaning : D → Meaning) (mid new : D)
       → (event : Event) (fault : RunFault) (input now left after last : Option (List ℕ))
       → SoFar may_refuse old (meaning mid) input now before after → IfSome now (λ input. TakesNext (next_event input) left (Ok (Some event)))
       → IfWrite (λ taken sent. (answers : List (List ℕ)) × (cut : List ℕ)
-          × IsRun refuses (take (length taken) (event ∷ [])) taken (answers ++ cut ∷ []) (meaning mid) (meaning new)
-          × Appends after last (concat answers ++ take sent cut) × (sent < length cut)) fault
+      × IsRun refuses (take (length taken) (event ∷ [])) taken (answers ++ cut ∷ []) (meaning mid) (meaning new)
+      × Appends after last (concat answers ++ take sent cut) × (sent < length cut)) fault
       → IfMemory ((new ≡ mid) × Keeps after last) fault
       → Replays may_refuse old (meaning new) input before last (Err (fault_of_run fault))
   replays_stopped refuses weaker meaning mid new event (RunMemory want) input now left after last sofar next cut memory =
       no_memory (meaning new) input now after last (subst (λ d. SoFar may_refuse old (meaning d) input now before after) (sym memory.0) sofar) memory.1
   replays_stopped refuses weaker meaning mid new event (Write taken sent) input now left after last sofar next cut memory =
       replays_cut event (length taken.items) taken.items cut.0 cut.1 sent (meaning mid) (meaning new) input now left after last sofar next
-          (IsRun-weaker refuses may_refuse weaker _ _ _ _ _ cut.2) cut.3 cut.4
+      (IsRun-weaker refuses may_refuse weaker _ _ _ _ _ cut.2) cut.3 cut.4
 
 -- nothing was begun
 stops_none : (fault : ReplayFault) (input : Option (List ℕ)) → IsReaderFault fault
@@ -196,9 +241,16 @@ nothing_written Memory h = refl
 pub replays_none : (fault : ReplayFault) (may_refuse : Type 0) (old : Meaning) (input before : Option (List ℕ)) → IsReaderFault fault
     → Replays may_refuse old old input before before (Err fault)
 replays_none fault may_refuse old input before h = record {
-    events = []; taken = []; answers = []; written = []; rest = unwrap_or input []; begins = stops_none fault input h;
-    run = IsRun-none may_refuse old; answered = nothing_written fault h; wrote = Appends-nil before
-  }
+  events = [];
+  taken = [];
+  answers = [];
+  written = [];
+  rest = unwrap_or input [];
+  begins = stops_none fault input h;
+  run = IsRun-none may_refuse old;
+  answered = nothing_written fault h;
+  wrote = Appends-nil before;
+}
 
 -- a desk without laboratories, over a fresh reader
 pub from_nothing : (labs : Meaning) (kept : List Lab) (input now before after : Option (List ℕ)) (ending : Result (Unit {0}) ReplayFault)

@@ -60,21 +60,21 @@ module _ (may_refuse : Type 0) (fs : List Event) (us : List Bool) (bs : List (Li
       let joined = own_taken-append code es ts ans each in
       record {
         answered = own_answers-append code es ts ans each
-          ∙ ap (λ l. l ++ own_answers code fs us bs) first.answered
-          ∙ ap (λ l. alone_answers code old owns ++ l) (second.answered ∙ ap (λ lab. alone_answers code lab more) first.after)
-          ∙ sym (alone_answers-append code old owns more)
-          ∙ ap (alone_answers code old) (sym joined);
+            ∙ ap (λ l. l ++ own_answers code fs us bs) first.answered
+            ∙ ap (λ l. alone_answers code old owns ++ l) (second.answered ∙ ap (λ lab. alone_answers code lab more) first.after)
+            ∙ sym (alone_answers-append code old owns more)
+            ∙ ap (alone_answers code old) (sym joined);
         after = second.after ∙ ap (λ lab. alone_after code lab more) first.after ∙ sym (alone_after-append code old owns more)
-          ∙ ap (alone_after code old) (sym joined)
+            ∙ ap (alone_after code old) (sym joined);
       }
 
 -- a run of these events, and then of those
 pub IsRun-append : (may_refuse : Type 0) (old mid new : List ℕ → Option Lab) (es fs : List Event) (ts us : List Bool) (ans bs : List (List ℕ))
     → IsRun may_refuse es ts ans old mid → IsRun may_refuse fs us bs mid new → IsRun may_refuse (es ++ fs) (ts ++ us) (ans ++ bs) old new
 IsRun-append may_refuse old mid new es fs ts us ans bs first second = record {
-    each = AreAnswers-append may_refuse fs us bs es ts ans first.each second.each;
-    alone = λ code. IsAlone-append may_refuse fs us bs code (old code) (mid code) (new code) es ts ans first.each (first.alone code) (second.alone code)
-  }
+  each = AreAnswers-append may_refuse fs us bs es ts ans first.each second.each;
+  alone = λ code. IsAlone-append may_refuse fs us bs code (old code) (mid code) (new code) es ts ans first.each (first.alone code) (second.alone code);
+}
 
 -- A keeper that may refuse in more cases.
 

@@ -63,7 +63,7 @@ unfoldable pub heading_of : List ℕ → Option Heading
 heading_of line = do
   kind ← cut_at 32 line
   if pointwise nat_eq kind.0 (codes "found") then founding_of kind.1
-    else (if pointwise nat_eq kind.0 (codes "call") then numbered None kind.1 else None)
+      else (if pointwise nat_eq kind.0 (codes "call") then numbered None kind.1 else None)
 
 -- what the front of an input gives: nothing, as it has ended; no event; or an event, and what follows it
 pub data Next : Type 0 where

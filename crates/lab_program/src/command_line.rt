@@ -19,8 +19,9 @@ pub enum Task {
 /// # Errors
 /// The words name none, or ask for help, or memory ran out.
 pub fn task_of(alloc: Global, words: &[String]) -> Result<Task, Error> {
-    let replay = Command::new(alloc, "replay")
-        .about("Run the events of standard input, and write their answers to standard output");
+    let replay = Command::new(alloc, "replay").about(
+        "Run the events of standard input, and write their answers to standard output",
+    );
     let command = Command::new(alloc, "labdesk")
         .about("Signed laboratory records")
         .subcommand_required(true)

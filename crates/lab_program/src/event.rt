@@ -78,9 +78,7 @@ fn number(text: &[u8], most: u64) -> Option<u64>
         if !byte.is_ascii_digit() {
             return None;
         }
-        value = value
-            .checked_mul(10)?
-            .checked_add(u64::from(*byte - b'0'))?;
+        value = value.checked_mul(10)?.checked_add(u64::from(*byte - b'0'))?;
     }
     (value <= most).then_some(value)
 }
@@ -212,10 +210,7 @@ fn line<B: BufRead>(alloc: Global, reader: &mut B) -> Result<Option<Vec<u8>>, Re
 }
 
 /// Takes the next event from the input, and `None` at its end.
-pub fn next_event<B: BufRead>(
-    alloc: Global,
-    reader: &mut B,
-) -> Result<Option<Event>, ReplayFault>
+pub fn next_event<B: BufRead>(alloc: Global, reader: &mut B) -> Result<Option<Event>, ReplayFault>
     ensures taken { IfSome (B.remaining reader.old)
         (λ input. TakesNext (next_event input) (B.remaining reader.new) result) }
     ensures fault { IfErr result IsInputFault }

@@ -25,19 +25,7 @@ pub enum ReplayFault {
 }
 
 impl ReplayFault {
-    ghost use Rattle.lab_program.specs.Fault.{fault_word, fault_line};
-
-    /// The word by which the program tells the fault.
-    pub fn word(&self) -> &'static str
-        ensures { result.now ≡ fault_word self.now }
-    {
-        match self {
-            ReplayFault::BadEvent => "bad_event",
-            ReplayFault::ReadFault => "read_fault",
-            ReplayFault::WriteFault => "write_fault",
-            ReplayFault::Memory => "memory",
-        }
-    }
+    ghost use Rattle.lab_program.specs.Fault.{fault_line};
 
     /// The line that tells the fault on standard error, with its line feed. No memory is taken for it.
     pub fn line(&self) -> &'static str

@@ -16,3 +16,6 @@ fn main(rt: HostRuntime) -> io::Result<ExitCode> {
     let status = command_line::labdesk(rt.alloc(), &words, rt.stdin(), &mut output, &mut errors);
     Ok(ExitCode::from(status))
 }
+
+#[cfg(test)]
+mod tests;

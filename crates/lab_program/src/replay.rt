@@ -30,7 +30,7 @@ fn run_events<S: Keeper + Drop, B: BufRead, W: Write>(
 ) -> Result<(), ReplayFault>
     ensures replayed { S.is_honest desk.new.keeper → S.is_reached desk.old.keeper →
         Replays (S.may_refuse desk.old.keeper) (S.meaning desk.old.keeper) (S.meaning desk.new.keeper)
-            (B.remaining reader.old) (W.contents output.old) (W.contents output.new) result }
+        (B.remaining reader.old) (W.contents output.old) (W.contents output.new) result }
 {
     for _ in 0..u64::MAX {
         let Some(event) = next_event(alloc, reader)? else {

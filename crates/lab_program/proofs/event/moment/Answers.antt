@@ -8,7 +8,7 @@ use Rattle.lab_program.proofs.event.moment.Goals as goal
 pub returns-in_err-seconds : goal.returns-in_err-seconds
 returns-in_err-seconds c =
     c.from_residual.ensures ∙ sym (number_where-stricter (λ n. nat_le n 9223372036854775807) is_moment c.args.text.now
-        (λ n h. grind (arith, nat_tests)) (sym c.number.ensures.value ∙ c.in_err-seconds.was))
+    (λ n h. grind (arith, nat_tests)) (sym c.number.ensures.value ∙ c.in_err-seconds.was))
 
 pub returns : goal.returns
 returns c =

@@ -12,14 +12,14 @@ loop-byte-init c = number_where-on _ c.args.text.now (sym c.is_empty.ensures ∙
 pub returns-then-not-is_ascii_digit-clause-value : goal.returns-then-not-is_ascii_digit-clause-value
 returns-then-not-is_ascii_digit-clause-value c =
     sym (read_other _ c.loop-byte.value c.loop-byte.byte-index c.args.text.now c.loop-byte-test.true
-        (sym c.is_ascii_digit.ensures.value ∙ c.if-not-is_ascii_digit.true) c.loop-byte.invariant)
+    (sym c.is_ascii_digit.ensures.value ∙ c.if-not-is_ascii_digit.true) c.loop-byte.invariant)
 
 pub returns-in_err-checked_mul-clause-value : goal.returns-in_err-checked_mul-clause-value
 returns-in_err-checked_mul-clause-value c =
     let large = c.in_err-checked_mul.ensures in
     let over : c.args.most < c.loop-byte.value * 10 + (get_or c.args.text.now c.loop-byte.byte-index 0 - 48) = omega (arith, large) in
     c.from_residual.ensures ∙ sym (read_over c.args.most c.loop-byte.value c.loop-byte.byte-index c.args.text.now c.loop-byte-test.true
-        (sym c.is_ascii_digit.ensures.value ∙ c.if-not-is_ascii_digit.false) over c.loop-byte.invariant)
+    (sym c.is_ascii_digit.ensures.value ∙ c.if-not-is_ascii_digit.false) over c.loop-byte.invariant)
 
 pub returns-in_err-value-clause-value : goal.returns-in_err-value-clause-value
 returns-in_err-value-clause-value c =
@@ -27,7 +27,7 @@ returns-in_err-value-clause-value c =
     let scaled = c.in_ok-checked_mul.ensures in
     let over : c.args.most < c.loop-byte.value * 10 + (get_or c.args.text.now c.loop-byte.byte-index 0 - 48) = omega (arith, large, scaled, c.from.ensures) in
     c.from_residual-in_err-value.ensures ∙ sym (read_over c.args.most c.loop-byte.value c.loop-byte.byte-index c.args.text.now c.loop-byte-test.true
-        (sym c.is_ascii_digit.ensures.value ∙ c.if-not-is_ascii_digit.false) over c.loop-byte.invariant)
+    (sym c.is_ascii_digit.ensures.value ∙ c.if-not-is_ascii_digit.false) over c.loop-byte.invariant)
 
 pub loop-byte-preserved : goal.loop-byte-preserved
 loop-byte-preserved c =
@@ -35,7 +35,7 @@ loop-byte-preserved c =
     let summed = c.in_ok-value.ensures in
     let value : c.in_ok-value.value ≡ c.loop-byte.value * 10 + (get_or c.args.text.now c.loop-byte.byte-index 0 - 48) = omega (arith, scaled, summed, c.from.ensures) in
     rw value (read_digit (λ n. nat_le n c.args.most) c.loop-byte.value c.loop-byte.byte-index c.args.text.now c.loop-byte-test.true
-        (sym c.is_ascii_digit.ensures.value ∙ c.if-not-is_ascii_digit.false) c.loop-byte.invariant)
+    (sym c.is_ascii_digit.ensures.value ∙ c.if-not-is_ascii_digit.false) c.loop-byte.invariant)
 
 pub returns-clause-value : goal.returns-clause-value
 returns-clause-value c =

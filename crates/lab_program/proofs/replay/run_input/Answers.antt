@@ -20,7 +20,11 @@ pub returns : goal.returns
 returns g c =
     let none = c.in_ok-desk.ensures.keeper ∙ c.new.ensures in
     let fresh = fresh_reader (λ limited. g.R.Read.remaining limited.reader) c.in_ok-reader.reader c.new-3.result
-        c.in_ok-reader.ensures.inner c.in_ok-reader.ensures.empty c.in_ok-reader.ensures.capacity in
+    c.in_ok-reader.ensures.inner c.in_ok-reader.ensures.empty c.in_ok-reader.ensures.capacity in
     let input = ap (λ limited. g.R.Read.remaining limited.reader) c.new-3.ensures in
-    record { replayed = (lab_of c.run_events.new.desk.keeper,
-        from_nothing _ c.in_ok-desk.desk.keeper _ _ _ _ _ none (fresh ∙ input) (c.run_events.ensures.replayed tt tt)) }
+    record {
+      replayed = (
+        lab_of c.run_events.new.desk.keeper,
+        from_nothing _ c.in_ok-desk.desk.keeper _ _ _ _ _ none (fresh ∙ input) (c.run_events.ensures.replayed tt tt),
+      );
+    }
