@@ -12,7 +12,7 @@ ghost use Rattle.lab_desk.specs.Answers.{reply_to, after_request, MovesFor};
 
 use lab_names::Tick;
 use lab_records::{Fault, Keeper, Refusal, Reply, decide, needs};
-use lab_wire::{Ask, ask_of, reply_bytes};
+use lab_wire::{Ask, ask, reply_bytes};
 use std::alloc::Global;
 
 /// Answers the bytes of a request. After an error every laboratory means what it meant.
@@ -36,7 +36,7 @@ pub(crate) fn answer_request<S: Keeper>(
     ensures reached { S.is_honest keeper.new → S.is_reached keeper.old → S.is_reached keeper.new }
     ensures refusing { S.may_refuse keeper.new → S.may_refuse keeper.old }
 {
-    match ask_of(alloc, bytes) {
+    match ask(alloc, bytes) {
         Ok(ask) => answer_ask(alloc, keeper, tick, &ask),
         Err(Fault::Refused(refusal)) => Ok(reply_bytes(alloc, tick, &Reply::Refused(refusal))?),
         Err(Fault::Memory(want)) => Err(Fault::Memory(want)),

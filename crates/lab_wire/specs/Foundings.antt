@@ -8,7 +8,7 @@ use Rattle.serde_json.specs.Read.{read}
 use Rattle.lab_names.specs.Names.{is_name}
 use Rattle.lab_records.specs.declared.command.Founding.{Founding}
 use Rattle.lab_records.specs.declared.refusal.Refusal.{Refusal}
-use Rattle.lab_records.specs.declared.refusal.Refusal.TheVariants.{BadBody, BadName}
+use Rattle.lab_records.specs.declared.refusal.Refusal.TheVariants.{BadName, NoSuchLab, ClockBehind, Storage, LabExists, BadHead, HeadTooLong, NoRoute, BadBody}
 
 -- how many members an object has: `serde_json` keeps one for each name, the last
 abbrev pub member_count : Members → ℕ
@@ -36,3 +36,15 @@ founding_by (Some text) = if is_name text then Ok (record { name = text }) else 
 -- the founding that a body names
 unfoldable pub founding_named : List ℕ → Result Founding Refusal
 founding_named body = founding_by (option_and_then only_name (json_of body))
+
+-- the refusals that a body may get
+abbrev pub IsBodyRefusal : Refusal → Type 0
+IsBodyRefusal BadBody = Unit {0}
+IsBodyRefusal BadName = Unit {0}
+IsBodyRefusal NoSuchLab = ⊥
+IsBodyRefusal ClockBehind = ⊥
+IsBodyRefusal Storage = ⊥
+IsBodyRefusal LabExists = ⊥
+IsBodyRefusal BadHead = ⊥
+IsBodyRefusal HeadTooLong = ⊥
+IsBodyRefusal NoRoute = ⊥

@@ -3,7 +3,7 @@
 ghost use Rattle.std.specs.Prelude.{◌≡◌, IfOk, IfErr, option_map};
 ghost use Rattle.serde_json.specs.View.{view};
 ghost use Rattle.lab_records.specs.Refusals.{MayFail};
-ghost use Rattle.lab_wire.specs.Foundings.{founding_named, json_of, only_name};
+ghost use Rattle.lab_wire.specs.Foundings.{founding_named, json_of, only_name, IsBodyRefusal};
 
 use lab_names::{Name, NameFault, OutOfMemory};
 use lab_records::{Fault, Founding, Refusal};
@@ -15,6 +15,7 @@ use std::alloc::Global;
 pub fn founding_of(alloc: Global, body: &[u8]) -> Result<Founding, Fault>
     ensures read { IfOk result (λ founding. founding_named body.now ≡ Ok founding) }
     ensures refused { IfErr result (MayFail (λ refusal. founding_named body.now ≡ Err refusal)) }
+    ensures kind { IfErr result (MayFail IsBodyRefusal) }
 {
     let value = value_of(alloc, body)?;
     let Some(name) = only_string(&value) else {
