@@ -1,5 +1,5 @@
 -- The next line and the next event, from what the readers gave.
-use Rattle.std.proofs.Common.{◌≡◌, ◌≢◌, ℕ, ◌+◌, ◌<◌, ◌≤◌, List, [], ◌∷◌, ◌++◌, length, take, drop, Option, Some, None, Bool, true, false, cond, nat_eq, nat_le, refl, arith, sym, ap, ◌∙◌, length-append, append-nil}
+use Rattle.std.proofs.Common.{◌≡◌, ◌≢◌, ℕ, ◌<◌, ◌≤◌, List, [], ◌∷◌, ◌++◌, length, take, drop, Option, Some, None, Bool, true, false, cond, nat_eq, nat_le, refl, arith, sym, ap, ◌∙◌, length-append}
 use Rattle.std.specs.Prelude.{IfSome, IsSome, Ok, Err, Vec}
 use Rattle.std.specs.Option.{option_eq, option_to_list}
 use Rattle.std.proofs.lemmas.Bool.Decides.{nat_tests}
@@ -8,8 +8,8 @@ use Rattle.lab_desk.specs.declared.event.Event.{Event as EventRead}
 use Rattle.lab_program.specs.declared.event.Heading.{Heading as HeadingRead}
 use Rattle.lab_program.specs.declared.fault.ReplayFault.{ReplayFault}
 use Rattle.lab_program.specs.declared.fault.ReplayFault.TheVariants.{BadEvent, ReadFault, WriteFault, Memory}
-use Rattle.lab_program.specs.Event.{cut_at, heading_of, next_event, next_of, with_bytes, Heading, Event, Next, End, Bad, Taken}
-use Rattle.lab_program.specs.Reading.{Gives, IsRefused, TakesLine, TakesBytes, TakesNext, heading_said, event_said}
+use Rattle.lab_program.specs.Event.{cut_at, heading_of, next_event, next_of, with_bytes, Event, End, Bad, Taken}
+use Rattle.lab_program.specs.Reading.{IsRefused, TakesLine, TakesBytes, TakesNext, heading_said, event_said}
 use Rattle.lab_program.proofs.ReadLemmas.{cut_at-ended, cut_at-short}
 
 module _ {A : Type 0} (line : Vec ℕ A) (left : Option (List ℕ)) where

@@ -1,5 +1,5 @@
 -- Facts on numbers in decimal digits.
-use Rattle.std.proofs.Common.{◌≡◌, ℕ, ◌+◌, ◌-◌, ◌*◌, ◌^◌, ◌<◌, ◌≤◌, List, [], ◌∷◌, length, drop, get_or, Option, Some, None, refl, arith, nat_lt, nat_le, Bool, true, false, cond, ◌&&◌, ap, ◌∙◌, sym, ◌==◌}
+use Rattle.std.proofs.Common.{◌≡◌, ℕ, ◌+◌, ◌-◌, ◌*◌, ◌<◌, ◌≤◌, List, [], ◌∷◌, length, drop, get_or, Option, Some, None, refl, arith, nat_le, Bool, true, false, cond, ◌&&◌, ap, ◌∙◌, ◌==◌}
 use Rattle.std.specs.Char.{digit_value, is_ascii_digit}
 use Rattle.std.specs.Str.{all_ascii_digits}
 use Rattle.std.specs.Str.Parse.{digits_value_after}
@@ -8,7 +8,6 @@ use Rattle.std.specs.Prelude.{Result, Ok, Err, IfOk, IfErr, pos, ℤ, ◌≢◌}
 use Rattle.std.specs.Result.{result_ok}
 use Rattle.lab_names.specs.Moment.{is_moment}
 use Rattle.std.proofs.lemmas.List.{at_drop_more, at_drop_all}
-use Rattle.std.proofs.lemmas.Grind.{common_steps}
 use Rattle.std.proofs.lemmas.Bool.Decides.{nat_tests}
 use Rattle.lab_program.specs.Event.{number_where}
 

@@ -1,16 +1,15 @@
 -- Facts on what a reader gave.
-use Rattle.std.proofs.Common.{◌≡◌, ◌≢◌, ℕ, ◌+◌, ◌-◌, ◌<◌, ◌≤◌, List, [], ◌∷◌, ◌++◌, length, take, drop, get_or, Option, Some, None, Bool, true, false, cond, ◌==◌, refl, arith, sym, ap, subst, ◌∙◌, zero, suc, drop_at, length-take-le, length-append}
-use Rattle.std.specs.Prelude.{IfSome, MatchOption, Ok, Err, option_map}
+use Rattle.std.proofs.Common.{◌≡◌, ◌≢◌, ℕ, ◌+◌, ◌<◌, ◌≤◌, List, [], ◌∷◌, ◌++◌, length, take, drop, get_or, Option, Some, None, Bool, true, false, cond, ◌==◌, refl, arith, sym, ap, subst, ◌∙◌, zero, suc, drop_at, length-take-le, length-append}
+use Rattle.std.specs.Prelude.{option_map}
 use Rattle.std.proofs.lemmas.List.{append_cancel_right, take_at}
 use lib.Seq.{take-take, take-add}
-use Rattle.std.proofs.lemmas.Grind.{common_steps}
 use Rattle.std.proofs.lemmas.Bool.Decides.{nat_tests}
 use Rattle.std.proofs.lemmas.Slice.{take-put_mid}
 use Rattle.std.proofs.KnownBytes.{Consumes-trans}
 use Rattle.std.specs.Io.KnownBytes.{Consumes}
 use Rattle.std.specs.Io.BufRead.{take_through, drop_through}
 use borrow.Rule.Slice.PartMut.{put_mid}
-use Rattle.lab_program.specs.Event.{cut_at, heading_of, next_event, with_bytes, Heading, Next, End, Bad, Taken}
+use Rattle.lab_program.specs.Event.{cut_at}
 
 -- a part that was read into stands after what was there
 put_more : (a k n : ℕ) (xs ys : List ℕ) → a ≤ length xs → n ≤ length ys → take (a + n) (put_mid a k xs ys) ≡ take a xs ++ take n ys

@@ -18,9 +18,9 @@ use Rattle.std.specs.declared.io.BufReader.{BufReader}
 use Rattle.lab_desk.specs.Faults.{IfWrite, IfMemory}
 use Rattle.lab_program.specs.declared.fault.ReplayFault.{ReplayFault}
 use Rattle.lab_program.specs.declared.fault.ReplayFault.TheVariants.{BadEvent, ReadFault, WriteFault, Memory}
-use Rattle.lab_program.specs.Event.{Next, End, Bad, Taken, next_event}
+use Rattle.lab_program.specs.Event.{next_event}
 use Rattle.lab_program.specs.Fault.{IsInputFault, IsReaderFault, fault_of_run}
-use Rattle.lab_program.specs.Reading.{TakesNext, event_said}
+use Rattle.lab_program.specs.Reading.{TakesNext}
 use Rattle.lab_program.specs.Replay.{nothing, BeginsWith, Stops, IsWritten, Replays}
 use Rattle.lab_program.proofs.RunLemmas.{IsRun-append, IsRun-none, IsRun-weaker}
 

@@ -1,7 +1,7 @@
 -- The events that `labdesk replay` reads. Each is a line and as many bytes after it as the line's last number says:
 -- `found <lab> <seconds> <word> <length>` or `call <seconds> <word> <length>`, with numbers in decimal digits, one space
 -- between, and a line feed at the end. Digits, space and line feed are those of ASCII, RFC 20.
-use Rattle.std.specs.Prelude.{◌≡◌, ℕ, ◌-◌, ◌^◌, Bool, if◌then◌else◌, ◌==◌, ◌&&◌, nat_le, nat_eq, codes, List, [], ◌∷◌, length, take, drop, Option, Some, None, option_map, option_and_then}
+use Rattle.std.specs.Prelude.{ℕ, Bool, if◌then◌else◌, ◌==◌, ◌&&◌, nat_le, nat_eq, codes, List, [], ◌∷◌, length, take, drop, Option, Some, None, option_map, option_and_then}
 use Rattle.std.specs.List.{range_with_len}
 use Rattle.std.specs.Str.{all_ascii_digits}
 use Rattle.std.specs.Str.Parse.{digits_value}

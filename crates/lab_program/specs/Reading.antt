@@ -1,8 +1,8 @@
 -- What the readers of events answer, in terms of what the text says: a reader gives what is there, and a bad event where
 -- nothing is, unless memory runs out or the input fails.
-use Rattle.std.specs.Prelude.{◌≡◌, ◌≢◌, ℕ, ◌<◌, ◌≤◌, List, [], length, take, drop, Option, Some, None, Ok, Err, Result, Vec}
+use Rattle.std.specs.Prelude.{◌≡◌, ℕ, ◌<◌, ◌≤◌, List, [], length, take, drop, Option, Some, None, Ok, Err, Result, Vec}
 use Rattle.lab_program.specs.declared.fault.ReplayFault.{ReplayFault}
-use Rattle.lab_program.specs.declared.fault.ReplayFault.TheVariants.{BadEvent, ReadFault, WriteFault, Memory}
+use Rattle.lab_program.specs.declared.fault.ReplayFault.TheVariants.{BadEvent, WriteFault, Memory}
 use Rattle.lab_program.specs.declared.event.Heading.{Heading as HeadingRead}
 use Rattle.lab_desk.specs.declared.event.Event.{Event as EventRead}
 use Rattle.lab_desk.specs.declared.event.Event.TheVariants.{Found, Call}

@@ -1,4 +1,4 @@
-use Rattle.std.proofs.Common.{◌≡◌, ◌+◌, refl, sym, ◌∙◌, ap}
+use Rattle.std.proofs.Common.{◌+◌, refl, sym, ◌∙◌}
 use Rattle.lab_program.proofs.EventLemmas.{cut_at_none, cut_at_some, take_rest}
 use Rattle.lab_program.proofs.event.cut.Goals as goal
 

@@ -1,4 +1,4 @@
-use Rattle.std.proofs.Common.{◌≤◌, ◌+◌, ◌-◌, length, rules, arith}
+use Rattle.std.proofs.Common.{rules}
 use Rattle.lab_program.proofs.ReadLemmas.{Consumes-put_more}
 use Rattle.lab_program.proofs.event.fill.Goals as goal
 

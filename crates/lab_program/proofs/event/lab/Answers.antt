@@ -1,4 +1,3 @@
-use Rattle.std.proofs.Common.{◌≡◌}
 use Rattle.lab_program.proofs.EventLemmas.{lab_code-not_text}
 use Rattle.lab_program.proofs.event.lab.Goals as goal
 

@@ -1,4 +1,4 @@
-use Rattle.std.proofs.Common.{◌≡◌, ℕ, sym, ◌∙◌, arith}
+use Rattle.std.proofs.Common.{sym, ◌∙◌, arith}
 use Rattle.std.specs.Prelude.{IsSome}
 use Rattle.lab_program.proofs.NextLemmas.{line_taken, line_short}
 use Rattle.lab_program.proofs.event.line.Goals as goal

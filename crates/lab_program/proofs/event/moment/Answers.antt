@@ -1,4 +1,4 @@
-use Rattle.std.proofs.Common.{◌≡◌, ℕ, pos, nat_le, w64, sym, ◌∙◌, rules, arith}
+use Rattle.std.proofs.Common.{nat_le, w64, sym, ◌∙◌, arith}
 use Rattle.std.proofs.lemmas.Bool.Decides.{nat_tests}
 use Rattle.std.proofs.lemmas.Int.{to_z_pos}
 use Rattle.lab_names.specs.Moment.{is_moment}

@@ -1,4 +1,4 @@
-use Rattle.std.proofs.Common.{◌≡◌, ℕ, sym, ◌∙◌, arith, rules, ap, Global}
+use Rattle.std.proofs.Common.{sym, ◌∙◌, ap, Global}
 use Rattle.std.proofs.lemmas.Result.{err_from_is_err_and}
 use Rattle.lab_program.specs.Reading.{IsRefused}
 use Rattle.lab_program.specs.Event.{heading_of}

@@ -1,5 +1,4 @@
-use Rattle.std.proofs.Common.{◌≡◌, ℕ, ◌*◌, ◌+◌, ◌-◌, ◌<◌, nat_le, get_or, sym, ◌∙◌, rules, arith}
-use Rattle.std.specs.Char.{is_ascii_digit}
+use Rattle.std.proofs.Common.{◌≡◌, ◌*◌, ◌+◌, ◌-◌, ◌<◌, nat_le, get_or, sym, ◌∙◌, arith}
 use Rattle.lab_program.proofs.NumberLemmas.{number_where-empty, number_where-on, read_other, read_digit, read_over, read_end}
 use Rattle.lab_program.proofs.event.number.Goals as goal
 

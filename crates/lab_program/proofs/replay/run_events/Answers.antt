@@ -1,5 +1,3 @@
-use Rattle.std.proofs.Common.{◌≡◌, ℕ, List, [], ◌∷◌, Some, Ok, sym}
-use Rattle.std.specs.Prelude.{IfSome}
 use Rattle.std.proofs.lemmas.Result.{err_from_is_err_and}
 use Rattle.lab_program.proofs.RunLemmas.{IsRun-weaker}
 use Rattle.lab_program.proofs.ReplayLemmas.{so_far_none, so_far_more, replays_stopped}

@@ -1,4 +1,3 @@
-use Rattle.std.proofs.Common.{◌≡◌}
 use Rattle.lab_program.proofs.ReplayLemmas.{SoFar}
 use Rattle.lab_program.proofs.replay.run_events.Given as goal
 

@@ -1,5 +1,4 @@
-use Rattle.std.proofs.Common.{◌≡◌, ◌∙◌}
-use Rattle.std.specs.Prelude.{OnOk, IfErr}
+use Rattle.std.proofs.Common.{◌∙◌}
 use Rattle.lab_program.proofs.ReplayLemmas.{told}
 use Rattle.lab_program.proofs.replay.tell.Goals as goal
 
