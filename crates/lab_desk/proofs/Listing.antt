@@ -14,6 +14,7 @@ use Rattle.lab_records.specs.declared.command.Change.{Change}
 use Rattle.lab_records.specs.declared.command.Change.TheVariants.{Last}
 use Rattle.lab_records.specs.Changes.{changed, changed_in}
 use Rattle.lab_desk.specs.Listed.{has_code, lab_of, ChangesInPlace}
+use Rattle.lab_desk.specs.ListedLaws.{find_true}
 
 -- no change gives a laboratory another code
 code_kept : (lab : Lab) (changes : List Change) → (changed lab changes).code ≡ lab.code
@@ -27,16 +28,6 @@ has_own code lab same = (bytes_eq-Decides lab.code code).1 same
 -- and no other
 lacks_other : (other : List ℕ) (lab : Lab) → lab.code ≢ other → has_code other lab ≡ false
 lacks_other other lab differs = false_from_ne_true (has_code other lab) (λ holds. differs ((bytes_eq-Decides lab.code other).0 holds))
-
-found_here : (p : Lab → Bool) (first lab : Lab) (b : Bool) (rest : Option Lab) → p first ≡ b → (rest ≡ Some lab → p lab ≡ true) → cond b (Some first) rest ≡ Some lab → p lab ≡ true
-found_here p first lab true rest holds later found =
-    let same : first ≡ lab = cc in subst (λ (one : Lab). p one ≡ true) same holds
-found_here p first lab false rest holds later found = later found
-
--- what is found passes the test
-find_true : (p : Lab → Bool) (labs : List Lab) (lab : Lab) → find p labs ≡ Some lab → p lab ≡ true
-find_true p [] lab found = cc
-find_true p (first ∷ labs) lab found = found_here p first lab (p first) (find p labs) refl (find_true p labs lab) found
 
 placed : (b : Bool) (first place : ℕ) → cond b (Some first) None ≡ Some place → (b ≡ true) × (place ≡ first)
 placed true first place found = (refl, cc)

@@ -1,5 +1,5 @@
--- What the desk answers: to a request its reply text, to a founding a line.
-use Rattle.std.specs.Prelude.{◌≡◌, ◌⊎◌, bytes_eq, if◌then◌else◌, ℕ, List, ◌++◌, Option, Some, None, Result, Ok, Err, codes, decimal}
+-- What the desk answers: to a request its reply text, to a founding a line (docs/FORMATS.md has the lines).
+use Rattle.std.specs.Prelude.{◌≡◌, ◌⊎◌, bytes_eq, if◌then◌else◌, ℕ, List, ◌++◌, Option, Some, None, Result, Ok, Err, IsOk, codes, decimal}
 use Rattle.lab_names.specs.declared.Tick.{Tick}
 use Rattle.lab_records.specs.declared.lab.Lab.{Lab}
 use Rattle.lab_records.specs.declared.command.Founding.{Founding}
@@ -8,9 +8,9 @@ use Rattle.lab_records.specs.declared.command.Reply.TheVariants.{Refused as Refu
 use Rattle.lab_records.specs.declared.refusal.Refusal.{Refusal}
 use Rattle.lab_records.specs.declared.fault.Fault.{Fault}
 use Rattle.lab_records.specs.declared.fault.Fault.TheVariants.{Refused as RefusedFault, Memory}
-use Rattle.lab_records.specs.declared.refusal.Refusal.TheVariants.{BadName, NoSuchLab, ClockBehind, Storage, LabExists, BadHead, HeadTooLong, NoRoute, BadBody}
+use Rattle.lab_records.specs.declared.refusal.Refusal.TheVariants.{Storage, LabExists}
 use Rattle.lab_records.specs.Machine.{step, born, after_birth}
-use Rattle.lab_records.specs.Changes.{changed_in}
+use Rattle.lab_records.specs.Changes.{changed_in, ChangesFit}
 use Rattle.lab_records.specs.declared.command.Change.{Change}
 use Rattle.lab_records.specs.Refusals.{number_of, word_of}
 use Rattle.lab_wire.specs.declared.Ask.{Ask}
@@ -38,27 +38,23 @@ abbrev pub after_request : List ℕ → Option Lab → Tick → Result Ask Refus
 after_request code lab tick (Err refusal) = lab
 after_request code lab tick (Ok ask) = if bytes_eq ask.lab code then (step lab tick ask.command).after else lab
 
--- the rows after what bytes ask: at rest for a wire fault, and else moved by changes that make the step
+-- the rows after what bytes ask: at rest for a wire fault, and else moved by changes that fit and make the step
 abbrev pub MovesFor : Type 0 → (List ℕ → List Change → Type 0) → (List ℕ → Option Lab) → Tick → Result Ask Refusal → Type 0
 MovesFor rests moves meaning tick (Err refusal) = rests
 MovesFor rests moves meaning tick (Ok ask) =
-    (changes : List Change) × (changed_in (meaning ask.lab) changes ≡ (step (meaning ask.lab) tick ask.command).after) × moves ask.lab changes
+    (changes : List Change) × ChangesFit (meaning ask.lab) changes
+    × (changed_in (meaning ask.lab) changes ≡ (step (meaning ask.lab) tick ask.command).after) × moves ask.lab changes
 
 -- a laboratory of a code after a founding: it is born where it is named and there was none
 abbrev pub after_founding : List ℕ → Option Lab → List ℕ → Tick → Result Founding Refusal → Option Lab
 after_founding code lab named tick founding = if bytes_eq named code then after_birth lab (born_of lab named tick founding) else lab
 
--- the refusals of a founding: that of the store where it may refuse, and else what the birth says
-abbrev pub FoundingMay : Type 0 → (Refusal → Type 0) → Refusal → Type 0
-FoundingMay may_refuse is_said Storage = may_refuse
-FoundingMay may_refuse is_said BadName = is_said BadName
-FoundingMay may_refuse is_said NoSuchLab = is_said NoSuchLab
-FoundingMay may_refuse is_said ClockBehind = is_said ClockBehind
-FoundingMay may_refuse is_said LabExists = is_said LabExists
-FoundingMay may_refuse is_said BadHead = is_said BadHead
-FoundingMay may_refuse is_said HeadTooLong = is_said HeadTooLong
-FoundingMay may_refuse is_said NoRoute = is_said NoRoute
-FoundingMay may_refuse is_said BadBody = is_said BadBody
+-- the refusals of a founding: that of the store where it may refuse, that the laboratory is there where it
+-- is and the body reads, and else the body's
+abbrev pub FoundingMay : Type 0 → Type 0 → Result Founding Refusal → Refusal → Type 0
+FoundingMay may_refuse exists founding Storage = may_refuse
+FoundingMay may_refuse exists founding LabExists = IsOk founding × exists
+FoundingMay may_refuse exists founding refusal = founding ≡ Err refusal
 
 -- the line that answers a founding
 abbrev pub line_of : List ℕ → Result Lab Refusal → List ℕ
@@ -81,7 +77,7 @@ shown (Some line) = line
 abbrev pub IsRefusedLine : Type 0 → List ℕ → Type 0
 IsRefusedLine may_refuse line = (line ≡ memory_line) ⊎ (may_refuse × (line ≡ storage_line))
 
--- a fact on the refusal of a fault; want of memory is none
-abbrev pub IfRefused : Fault → (Refusal → Type 0) → Type 0
-IfRefused (RefusedFault refusal) P = P refusal
-IfRefused (Memory want) P = ⊥
+-- a fault is a refusal of which this holds
+abbrev pub IsRefusedWith : Fault → (Refusal → Type 0) → Type 0
+IsRefusedWith (RefusedFault refusal) P = P refusal
+IsRefusedWith (Memory want) P = ⊥

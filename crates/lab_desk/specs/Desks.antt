@@ -20,6 +20,10 @@ pub record Served (S : Type 0) : Type 0 where
 abbrev pub storage_text : Tick → List ℕ
 storage_text tick = reply_text tick (Refused Storage)
 
+-- a reply tells of want of memory, or of a store that may refuse
+abbrev pub IsRefusedReply : Type 0 → Tick → List ℕ → Type 0
+IsRefusedReply may_refuse tick reply = (reply ≡ memory_text) ⊎ (may_refuse × (reply ≡ storage_text tick))
+
 -- a request that was taken: its reply is that of the machine of the laboratory that it names, every
 -- laboratory means what the machine makes of it, and the rows moved by the changes of that step
 pub record TakesRequest (rests : Type 0) (moves : List ℕ → List Change → Type 0) (old new : List ℕ → Option Lab) (tick : Tick) (asks : Result Ask Refusal) (reply : List ℕ) : Type 0 where
@@ -30,6 +34,6 @@ pub record TakesRequest (rests : Type 0) (moves : List ℕ → List Change → T
 -- a request that was refused for memory, or by a store that may refuse: the reply says which, and every
 -- laboratory and the rows are as they were
 pub record RefusesRequest (may_refuse rests : Type 0) (old new : List ℕ → Option Lab) (tick : Tick) (reply : List ℕ) : Type 0 where
-  pub replied : (reply ≡ memory_text) ⊎ (may_refuse × (reply ≡ storage_text tick))
+  pub replied : IsRefusedReply may_refuse tick reply
   pub same : SameMeaning old new
   pub rows : rests

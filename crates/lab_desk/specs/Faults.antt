@@ -1,5 +1,6 @@
 -- Why a run ended before its last event.
-use Rattle.std.specs.Prelude.{ℕ, List, Bool}
+use Rattle.std.specs.Prelude.{ℕ, List, Bool, Option, Some, None, codes}
+use Rattle.lab_names.specs.Faults.{memory_number, memory_word}
 use Rattle.lab_desk.specs.declared.event.RunFault.{RunFault}
 use Rattle.lab_desk.specs.declared.event.RunFault.TheVariants.{Memory, Write}
 
@@ -17,3 +18,13 @@ IfMemory P (Memory want) = P
 abbrev pub IsMemoryFault : RunFault → Type 0
 IsMemoryFault (Write taken sent) = ⊥
 IsMemoryFault (Memory want) = Unit {0}
+
+-- the number of a run's fault, where it has one
+abbrev pub run_fault_number : RunFault → Option ℕ
+run_fault_number (Write taken sent) = None
+run_fault_number (Memory want) = Some memory_number
+
+-- and its word
+abbrev pub run_fault_word : RunFault → List ℕ
+run_fault_word (Write taken sent) = codes "write_fault"
+run_fault_word (Memory want) = memory_word

@@ -1,24 +1,24 @@
 //! The desk: one body for every keeper.
 
-ghost use Rattle.std.specs.Prelude.{◌≡◌, ◌⊎◌, ◌≤◌, length, vec_capacity, ℕ, List, [], IfOk, IfErr, OnOk, OnErr, IsOk, Ok, Err, Bool, true, false, IfSome};
+ghost use Rattle.std.specs.Prelude.{◌≡◌, ◌⊎◌, ◌≤◌, length, vec_capacity, ℕ, List, [], IfOk, IfErr, OnOk, OnErr, Ok, Err, None, true, false, IfSome, IsSome};
 ghost use Rattle.lab_records.specs.declared.command.Reply.TheVariants.{Refused as RefusedReply};
 ghost use Rattle.lab_records.specs.Changes.{SameMeaning};
 ghost use Rattle.lab_records.specs.Refusals.{MayFail};
-ghost use Rattle.lab_records.specs.declared.lab.Lab.{Lab as WholeLab};
+ghost use Rattle.lab_records.specs.declared.command.Founding.{Founding as OneFounding};
+ghost use Rattle.lab_records.specs.Machine.{newborn};
 ghost use Rattle.lab_wire.specs.Asked.{asked};
 ghost use Rattle.lab_wire.specs.Replies.{reply_text, memory_text};
 ghost use Rattle.lab_wire.specs.Foundings.{founding_named};
-ghost use Rattle.lab_desk.specs.Answers.{reply_to, after_request, MovesFor, born_of, after_founding, FoundingMay, line_of, shown, IsRefusedLine, IfRefused};
+ghost use Rattle.lab_desk.specs.Answers.{reply_to, after_request, MovesFor, born_of, after_founding, FoundingMay, line_of, shown, IsRefusedLine, IsRefusedWith};
 ghost use Rattle.lab_desk.specs.Faults.{IsMemoryFault};
 ghost use Rattle.std.specs.Option.{option_map};
 ghost use Rattle.lab_desk.specs.Desks.{TakesRequest, RefusesRequest};
 
 use crate::event::{Event, RunFault};
-use crate::founding::{Line, answer_founding, found_from};
+use crate::founding::{Line, answer_refusal, founded};
 use crate::handling::answer_request;
-use lab_names::{LabCode, OutOfMemory, Tick};
-use lab_records::{Fault, Keeper, Reply};
-use lab_wire::{memory_reply, reply_bytes};
+use lab_records::{Fault, Keeper, LabCode, OutOfMemory, Reply, Tick};
+use lab_wire::{founding_of, memory_reply, reply_bytes};
 use std::alloc::Global;
 use std::marker::Model;
 
@@ -115,25 +115,27 @@ impl<S: Keeper + Drop> Desk<S> {
     /// The body's refusals, that the laboratory is there, the store's refusal, want of memory. After each of
     /// them every laboratory means what it meant.
     pub fn found(&mut self, lab: &LabCode, tick: &Tick, body: &[u8]) -> Result<(), Fault>
-        ensures founded { S.is_honest self.new.keeper → S.is_reached self.old.keeper → OnOk result ((born : WholeLab)
-            × (born_of (S.meaning self.old.keeper lab.now) lab.now tick.now (founding_named body.now) ≡ Ok born)
-            × S.places self.old.keeper self.new.keeper born) }
+        ensures founded { S.is_honest self.new.keeper → S.is_reached self.old.keeper → OnOk result ((founding : OneFounding)
+            × (founding_named body.now ≡ Ok founding)
+            × (S.meaning self.old.keeper lab.now ≡ None)
+            × S.places self.old.keeper self.new.keeper (newborn lab.now tick.now founding)) }
         ensures after { S.is_honest self.new.keeper → S.is_reached self.old.keeper → OnOk result ((code : List ℕ) →
             S.meaning self.new.keeper code ≡ after_founding code (S.meaning self.old.keeper code) lab.now tick.now (founding_named body.now)) }
         ensures err { S.is_honest self.new.keeper → S.is_reached self.old.keeper →
             OnErr result (SameMeaning (S.meaning self.old.keeper) (S.meaning self.new.keeper)) }
-        ensures fault { IfErr result (MayFail (FoundingMay (S.may_refuse self.old.keeper) (λ refusal. S.is_honest self.new.keeper → S.is_reached self.old.keeper →
-            born_of (S.meaning self.old.keeper lab.now) lab.now tick.now (founding_named body.now) ≡ Err refusal))) }
-        ensures rows_err { OnErr result (S.rests self.old.keeper self.new.keeper) }
+        ensures fault { IfErr result (MayFail (FoundingMay (S.may_refuse self.old.keeper)
+            (S.is_honest self.new.keeper → S.is_reached self.old.keeper → IsSome (S.meaning self.old.keeper lab.now)) (founding_named body.now))) }
+        ensures rows_err { S.is_honest self.new.keeper → S.is_reached self.old.keeper → OnErr result (S.rests self.old.keeper self.new.keeper) }
         ensures reply { self.new.reply ≡ self.old.reply }
         ensures honest { S.is_honest self.new.keeper → S.is_honest self.old.keeper }
         ensures reached { S.is_honest self.new.keeper → S.is_reached self.old.keeper → S.is_reached self.new.keeper }
         ensures refusing { S.may_refuse self.new.keeper → S.may_refuse self.old.keeper }
     {
-        found_from(self.alloc, &mut self.keeper, lab, tick, body)
+        let founding = founding_of(self.alloc, body)?;
+        self.keeper.found(lab, &founding, tick)
     }
 
-    /// Founds a laboratory, and says so in a line.
+    /// Founds a laboratory, and says so in a line, which is built before anything is changed.
     pub(crate) fn answer_founding(&mut self, lab: &LabCode, tick: &Tick, body: &[u8]) -> Line
         ensures taken { S.is_honest self.new.keeper → S.is_reached self.old.keeper → result.taken ≡ true →
             shown (option_map (λ line. line.items) result.text) ≡ line_of lab.now (born_of (S.meaning self.old.keeper lab.now) lab.now tick.now (founding_named body.now)) }
@@ -143,11 +145,24 @@ impl<S: Keeper + Drop> Desk<S> {
             IsRefusedLine (S.may_refuse self.old.keeper) (shown (option_map (λ line. line.items) result.text)) }
         ensures same { S.is_honest self.new.keeper → S.is_reached self.old.keeper → result.taken ≡ false →
             SameMeaning (S.meaning self.old.keeper) (S.meaning self.new.keeper) }
+        ensures reply { self.new.reply ≡ self.old.reply }
         ensures honest { S.is_honest self.new.keeper → S.is_honest self.old.keeper }
         ensures reached { S.is_honest self.new.keeper → S.is_reached self.old.keeper → S.is_reached self.new.keeper }
         ensures refusing { S.may_refuse self.new.keeper → S.may_refuse self.old.keeper }
     {
-        answer_founding(self.alloc, &mut self.keeper, lab, tick, body)
+        let Ok(line) = founded(self.alloc, lab) else {
+            return Line {
+                taken: false,
+                text: None,
+            };
+        };
+        match self.found(lab, tick, body) {
+            Ok(()) => Line {
+                taken: true,
+                text: Some(line),
+            },
+            Err(fault) => answer_refusal(self.alloc, &fault),
+        }
     }
 
     /// Room for one word an event.
@@ -172,7 +187,7 @@ impl<S: Keeper + Drop> Desk<S> {
 
 /// The reply for a request that was refused for memory or storage; none where memory doesn't serve for it.
 fn refusal_bytes(alloc: Global, tick: &Tick, fault: Fault) -> Option<Vec<u8>>
-    ensures { IfSome result (λ reply. IfRefused fault (λ refusal. reply.items ≡ reply_text tick.now (RefusedReply refusal))) }
+    ensures { IfSome result (λ reply. IsRefusedWith fault (λ refusal. reply.items ≡ reply_text tick.now (RefusedReply refusal))) }
 {
     match fault {
         Fault::Memory(_) => None,

@@ -1,6 +1,9 @@
 //! What happens to an installation: foundings and requests, in order.
 
-use lab_names::{LabCode, OutOfMemory, Tick};
+ghost use Rattle.std.specs.Prelude.{◌≡◌};
+ghost use Rattle.lab_desk.specs.Faults.{run_fault_number, run_fault_word};
+
+use lab_records::{LabCode, OutOfMemory, Tick};
 use thiserror::Error;
 
 /// One event of an installation.
@@ -39,4 +42,26 @@ pub enum RunFault {
         /// How many bytes of that answer went out.
         sent: usize,
     },
+}
+
+impl RunFault {
+    /// The number by which the fault is known: 90 for want of memory, none for a write fault.
+    pub fn number(&self) -> Option<u32>
+        ensures { result ≡ run_fault_number self.now }
+    {
+        match self {
+            RunFault::Memory(want) => Some(want.number()),
+            RunFault::Write { .. } => None,
+        }
+    }
+
+    /// The word by which the fault is known.
+    pub fn word(&self) -> &'static str
+        ensures { result.now ≡ run_fault_word self.now }
+    {
+        match self {
+            RunFault::Memory(want) => want.word(),
+            RunFault::Write { .. } => "write_fault",
+        }
+    }
 }

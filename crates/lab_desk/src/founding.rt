@@ -1,45 +1,13 @@
-//! How a laboratory is founded over any keeper, and the line that tells of it.
+//! The line that answers a founding.
 
-ghost use Rattle.std.specs.Prelude.{◌≡◌, ◌≢◌, ℕ, List, Ok, Err, true, false, IsOk, IfOk, IfErr, OnOk, OnErr};
-ghost use Rattle.lab_records.specs.declared.lab.Lab.{Lab as WholeLab};
-ghost use Rattle.lab_records.specs.Changes.{SameMeaning};
-ghost use Rattle.lab_records.specs.Refusals.{MayFail};
-ghost use Rattle.lab_wire.specs.Foundings.{founding_named};
-ghost use Rattle.lab_desk.specs.Answers.{born_of, after_founding, FoundingMay, founded_line, refused_line, line_of, shown, IsRefusedLine, IfRefused};
+ghost use Rattle.std.specs.Prelude.{◌≡◌, ◌≢◌, true, false, IfOk};
 ghost use Rattle.std.specs.Option.{option_map};
 ghost use Rattle.lab_records.specs.declared.fault.Fault.TheVariants.{Refused as RefusedFault};
 ghost use Rattle.lab_records.specs.declared.refusal.Refusal.TheVariants.{Storage};
+ghost use Rattle.lab_desk.specs.Answers.{founded_line, refused_line, shown, IsRefusedLine, IsRefusedWith};
 
-use lab_names::{LabCode, OutOfMemory, Tick};
-use lab_records::{Fault, Keeper, Refusal};
-use lab_wire::founding_of;
+use lab_records::{Fault, LabCode, OutOfMemory, Refusal};
 use std::alloc::Global;
-
-/// Founds a laboratory from its body. After an error every laboratory means what it meant.
-pub(crate) fn found_from<S: Keeper>(
-    alloc: Global,
-    keeper: &mut S,
-    lab: &LabCode,
-    tick: &Tick,
-    body: &[u8],
-) -> Result<(), Fault>
-    ensures founded { S.is_honest keeper.new → S.is_reached keeper.old → OnOk result ((born : WholeLab)
-        × (born_of (S.meaning keeper.old lab.now) lab.now tick.now (founding_named body.now) ≡ Ok born)
-        × S.places keeper.old keeper.new born) }
-    ensures after { S.is_honest keeper.new → S.is_reached keeper.old → OnOk result ((code : List ℕ) →
-        S.meaning keeper.new code ≡ after_founding code (S.meaning keeper.old code) lab.now tick.now (founding_named body.now)) }
-    ensures err { S.is_honest keeper.new → S.is_reached keeper.old →
-        OnErr result (SameMeaning (S.meaning keeper.old) (S.meaning keeper.new)) }
-    ensures fault { IfErr result (MayFail (FoundingMay (S.may_refuse keeper.old) (λ refusal. S.is_honest keeper.new → S.is_reached keeper.old →
-        born_of (S.meaning keeper.old lab.now) lab.now tick.now (founding_named body.now) ≡ Err refusal))) }
-    ensures rows_err { OnErr result (S.rests keeper.old keeper.new) }
-    ensures honest { S.is_honest keeper.new → S.is_honest keeper.old }
-    ensures reached { S.is_honest keeper.new → S.is_reached keeper.old → S.is_reached keeper.new }
-    ensures refusing { S.may_refuse keeper.new → S.may_refuse keeper.old }
-{
-    let founding = founding_of(alloc, body)?;
-    keeper.found(lab, &founding, tick)
-}
 
 /// The line that tells of a founding.
 pub(crate) fn founded(alloc: Global, lab: &LabCode) -> Result<Vec<u8>, OutOfMemory>
@@ -82,44 +50,9 @@ impl Line {
     }
 }
 
-/// Answers a founding with a line, which is built before anything is changed.
-pub(crate) fn answer_founding<S: Keeper>(
-    alloc: Global,
-    keeper: &mut S,
-    lab: &LabCode,
-    tick: &Tick,
-    body: &[u8],
-) -> Line
-    ensures taken { S.is_honest keeper.new → S.is_reached keeper.old → result.taken ≡ true →
-        shown (option_map (λ line. line.items) result.text) ≡ line_of lab.now (born_of (S.meaning keeper.old lab.now) lab.now tick.now (founding_named body.now)) }
-    ensures after { S.is_honest keeper.new → S.is_reached keeper.old → result.taken ≡ true → (code : List ℕ) →
-        S.meaning keeper.new code ≡ after_founding code (S.meaning keeper.old code) lab.now tick.now (founding_named body.now) }
-    ensures refused { result.taken ≡ false →
-        IsRefusedLine (S.may_refuse keeper.old) (shown (option_map (λ line. line.items) result.text)) }
-    ensures same { S.is_honest keeper.new → S.is_reached keeper.old → result.taken ≡ false →
-        SameMeaning (S.meaning keeper.old) (S.meaning keeper.new) }
-    ensures honest { S.is_honest keeper.new → S.is_honest keeper.old }
-    ensures reached { S.is_honest keeper.new → S.is_reached keeper.old → S.is_reached keeper.new }
-    ensures refusing { S.may_refuse keeper.new → S.may_refuse keeper.old }
-{
-    let Ok(line) = founded(alloc, lab) else {
-        return Line {
-            taken: false,
-            text: None,
-        };
-    };
-    match found_from(alloc, keeper, lab, tick, body) {
-        Ok(()) => Line {
-            taken: true,
-            text: Some(line),
-        },
-        Err(fault) => answer_refusal(alloc, &fault),
-    }
-}
-
 /// The line for a founding that was refused, which is taken unless memory ran out or the store refused.
-fn answer_refusal(alloc: Global, fault: &Fault) -> Line
-    ensures taken { result.taken ≡ true → IfRefused fault.now (λ refusal.
+pub(crate) fn answer_refusal(alloc: Global, fault: &Fault) -> Line
+    ensures taken { result.taken ≡ true → IsRefusedWith fault.now (λ refusal.
         (refusal ≢ Storage) × (shown (option_map (λ line. line.items) result.text) ≡ refused_line refusal)) }
     ensures refused { result.taken ≡ false →
         IsRefusedLine (fault.now ≡ RefusedFault Storage) (shown (option_map (λ line. line.items) result.text)) }

@@ -4,14 +4,13 @@
 ghost use Rattle.std.specs.Prelude.{◌≡◌, ℕ, List, Some, Ok, IfOk, IfErr, OnOk, OnErr};
 ghost use Rattle.lab_records.specs.declared.command.Change.{Change as OneChange};
 ghost use Rattle.lab_records.specs.Machine.{step};
-ghost use Rattle.lab_records.specs.Changes.{SameMeaning, SameElsewhere, changed_in};
+ghost use Rattle.lab_records.specs.Changes.{SameMeaning, SameElsewhere, changed_in, ChangesFit};
 ghost use Rattle.lab_records.specs.Refusals.{MayFail, StoreOnly};
 ghost use Rattle.lab_wire.specs.Asked.{asked};
 ghost use Rattle.lab_wire.specs.Replies.{reply_text};
 ghost use Rattle.lab_desk.specs.Answers.{reply_to, after_request, MovesFor};
 
-use lab_names::Tick;
-use lab_records::{Fault, Keeper, Refusal, Reply, decide, needs};
+use lab_records::{Fault, Keeper, Refusal, Reply, Tick, decide, needs};
 use lab_wire::{Ask, ask, reply_bytes};
 use std::alloc::Global;
 
@@ -31,7 +30,7 @@ pub(crate) fn answer_request<S: Keeper>(
     ensures fault { IfErr result (MayFail (StoreOnly (S.may_refuse keeper.old))) }
     ensures rows { S.is_honest keeper.new → S.is_reached keeper.old →
         OnOk result (MovesFor (S.rests keeper.old keeper.new) (S.moves keeper.old keeper.new) (S.meaning keeper.old) tick.now (asked bytes.now)) }
-    ensures rows_err { OnErr result (S.rests keeper.old keeper.new) }
+    ensures rows_err { S.is_honest keeper.new → S.is_reached keeper.old → OnErr result (S.rests keeper.old keeper.new) }
     ensures honest { S.is_honest keeper.new → S.is_honest keeper.old }
     ensures reached { S.is_honest keeper.new → S.is_reached keeper.old → S.is_reached keeper.new }
     ensures refusing { S.may_refuse keeper.new → S.may_refuse keeper.old }
@@ -59,15 +58,15 @@ fn answer_ask<S: Keeper>(
     ensures err { S.is_honest keeper.new → S.is_reached keeper.old →
         OnErr result (SameMeaning (S.meaning keeper.old) (S.meaning keeper.new)) }
     ensures fault { IfErr result (MayFail (StoreOnly (S.may_refuse keeper.old))) }
-    ensures rows { S.is_honest keeper.new → S.is_reached keeper.old → OnOk result ((changes : List OneChange)
+    ensures rows { S.is_honest keeper.new → S.is_reached keeper.old → OnOk result ((changes : List OneChange) × ChangesFit (S.meaning keeper.old ask.now.lab) changes
         × (changed_in (S.meaning keeper.old ask.now.lab) changes ≡ (step (S.meaning keeper.old ask.now.lab) tick.now ask.now.command).after)
         × S.moves keeper.old keeper.new ask.now.lab changes) }
-    ensures rows_err { OnErr result (S.rests keeper.old keeper.new) }
+    ensures rows_err { S.is_honest keeper.new → S.is_reached keeper.old → OnErr result (S.rests keeper.old keeper.new) }
     ensures honest { S.is_honest keeper.new → S.is_honest keeper.old }
     ensures reached { S.is_honest keeper.new → S.is_reached keeper.old → S.is_reached keeper.new }
     ensures refusing { S.may_refuse keeper.new → S.may_refuse keeper.old }
 {
-    let need = needs(&ask.command);
+    let need = needs(tick, &ask.command);
     let Some(slice) = keeper.load(&ask.lab, &need)? else {
         return Ok(reply_bytes(alloc, tick, &Reply::Refused(Refusal::NoSuchLab))?);
     };

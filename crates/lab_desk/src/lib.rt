@@ -14,3 +14,4 @@ mod tests;
 pub use crate::desk::Desk;
 pub use crate::event::{Event, RunFault};
 pub use crate::lists::Lists;
+pub use lab_records::{Fault, Keeper, LabCode, OutOfMemory, Refusal, Tick};

@@ -5,12 +5,13 @@ ghost use Rattle.lab_records.specs.Changes.{changed};
 ghost use Rattle.std.specs.Option.{option_copied};
 ghost use Rattle.lab_desk.specs.Listed.{has_code, lab_of};
 
-use lab_names::{LabCode, OutOfMemory, Tick};
-use lab_records::{Change, Fault, Founding, Keeper, Lab, Need, Refusal, Slice};
+use lab_records::{
+    Change, Fault, Founding, Keeper, Lab, LabCode, Need, OutOfMemory, Refusal, Slice, Tick,
+};
 use std::alloc::Global;
 use std::marker::Model;
 
-/// A list of laboratories in memory, no two of one code.
+/// A list of laboratories in memory.
 #[derive(Drop)]
 pub struct Lists {
     labs: Vec<Lab>,
@@ -40,7 +41,7 @@ impl Keeper for Lists {
     ghost use Rattle.std.specs.Prelude.{◌≡◌, ◌++◌, ◌∷◌, [], refl};
     ghost use Rattle.std.proofs.Common.{◌∙◌};
     ghost use Rattle.lab_desk.specs.Listed.{lab_of, ChangesInPlace};
-    ghost use Rattle.lab_desk.specs.ListedLaws.{unchanged_in_place, changed_after_rest};
+    ghost use Rattle.lab_desk.specs.ListedLaws.{own_code, unchanged_in_place, changed_after_rest};
 
     ghost meaning = { lab_of };
 
@@ -87,6 +88,8 @@ impl Keeper for Lists {
         self.labs.push(lab)?;
         Ok(())
     }
+
+    ghost kept = { λ labs code lab honest reached. own_code labs code lab };
 
     ghost still = { λ _. refl };
 

@@ -47,6 +47,7 @@ struct Refusing;
 
 impl Keeper for Refusing {
     ghost use Rattle.std.specs.Prelude.{None};
+    ghost use Rattle.lab_desk.specs.ListedLaws.{none_kept};
 
     ghost meaning = { λ _ _. None };
 
@@ -73,6 +74,8 @@ impl Keeper for Refusing {
     fn found(&mut self, _code: &LabCode, _founding: &Founding, _tick: &Tick) -> Result<(), Fault> {
         Err(Fault::Refused(Refusal::Storage))
     }
+
+    ghost kept = { λ keeper code lab honest reached. none_kept code lab };
 
     ghost still = { λ _. tt };
 

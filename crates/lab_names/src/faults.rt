@@ -6,20 +6,22 @@ use thiserror::Error;
 
 /// The allocator had no memory for a value.
 #[derive(Clone, Copy, Debug, PartialEq, Eq, Error)]
-#[error("out of memory")]
+#[error("memory")]
 pub struct OutOfMemory;
 
 impl OutOfMemory {
+    ghost use Rattle.lab_names.specs.Faults.{memory_number, memory_word};
+
     /// The fault's number.
     pub fn number(&self) -> u32
-        ensures { result ≡ 90 }
+        ensures { result ≡ memory_number }
     {
         90
     }
 
     /// The fault's word.
     pub fn word(&self) -> &'static str
-        ensures { result.now ≡ codes "memory" }
+        ensures { result.now ≡ memory_word }
     {
         "memory"
     }
@@ -45,10 +47,10 @@ impl<T: Drop> From<AllocFailed<T>> for OutOfMemory {
 #[derive(Clone, Copy, Debug, PartialEq, Eq, Error)]
 pub enum NameFault {
     /// The text is none that the name's rules admit.
-    #[error("bad name")]
+    #[error("bad_name")]
     BadName,
     /// The text is admitted, and there was no memory for it.
-    #[error("out of memory")]
+    #[error("{0}")]
     Memory(OutOfMemory),
 }
 
@@ -90,7 +92,7 @@ impl From<AllocError> for NameFault {
 #[derive(Clone, Copy, Debug, PartialEq, Eq, Error)]
 pub enum MomentFault {
     /// The number or the text is that of no moment.
-    #[error("bad moment")]
+    #[error("bad_moment")]
     BadMoment,
 }
 

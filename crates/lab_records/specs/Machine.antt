@@ -1,6 +1,6 @@
 -- The small machine: one laboratory by itself, what it replies to a command and what it is afterwards, and
 -- how it is born. It knows no other laboratory, no bytes and no tables (ISO/IEC 17025:2017, 7.5.1 and 8.4.2).
-use Rattle.std.specs.Prelude.{ℕ, List, Option, Some, None, Result, Ok, Err, Bool, true, false, nat_lt}
+use Rattle.std.specs.Prelude.{ℕ, List, Option, Some, None, Result, Ok, Err, nat_lt, if◌then◌else◌}
 use Rattle.lab_names.specs.declared.Tick.{Tick}
 use Rattle.lab_records.specs.declared.lab.Lab.{Lab}
 use Rattle.lab_records.specs.declared.command.Command.{Command}
@@ -20,15 +20,11 @@ pub record Stepped : Type 0 where
 abbrev pub answered : Lab → Command → Stepped
 answered lab AsksCard = record { reply = Card lab.code lab.name; after = Some lab }
 
--- a laboratory at a moment: before its last moment nothing is answered but that the clock is behind
-abbrev pub at_moment : Bool → Lab → Command → Stepped
-at_moment true lab command = record { reply = Refused ClockBehind; after = Some lab }
-at_moment false lab command = answered lab command
-
 -- one step: no laboratory, a moment before the last one, and then the command; a refusal changes nothing
 abbrev pub step : Option Lab → Tick → Command → Stepped
 step None tick command = record { reply = Refused NoSuchLab; after = None }
-step (Some lab) tick command = at_moment (nat_lt tick.moment lab.last) lab command
+step (Some lab) tick command =
+    if nat_lt tick.moment lab.last then record { reply = Refused ClockBehind; after = Some lab } else answered lab command
 
 -- a laboratory as it is born
 abbrev pub newborn : List ℕ → Tick → Founding → Lab

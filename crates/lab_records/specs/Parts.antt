@@ -1,5 +1,6 @@
 -- The part of a laboratory that a command needs, and what a part holds.
 use Rattle.std.specs.Prelude.{Option, Some, None}
+use Rattle.lab_names.specs.declared.tick.Tick.{Tick}
 use Rattle.lab_records.specs.declared.lab.Lab.{Lab}
 use Rattle.lab_records.specs.declared.command.Slice.{Slice}
 use Rattle.lab_records.specs.declared.command.Need.{Need}
@@ -8,8 +9,8 @@ use Rattle.lab_records.specs.declared.command.Command.{Command}
 use Rattle.lab_records.specs.declared.command.Command.TheVariants.{Card}
 
 -- what a command needs to be decided
-abbrev pub need_of : Command → Need
-need_of Card = Heading
+abbrev pub need_of : Tick → Command → Need
+need_of tick Card = Heading
 
 -- the part of a laboratory
 abbrev pub part : Need → Lab → Slice

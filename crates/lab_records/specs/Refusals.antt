@@ -1,5 +1,7 @@
--- The numbers and words of refusals: one table, which every reply and every line of the program follows.
+-- The numbers and words of refusals: one table, which every reply and every line on a founding follows
+-- (docs/RECORDS.md lists them; a reply's status is RFC 9110's, section 15).
 use Rattle.std.specs.Prelude.{ℕ, List, codes}
+use Rattle.lab_names.specs.Faults.{memory_number, memory_word}
 use Rattle.lab_records.specs.declared.refusal.Refusal.{Refusal}
 use Rattle.lab_records.specs.declared.fault.Fault.{Fault}
 use Rattle.lab_records.specs.declared.fault.Fault.TheVariants.{Refused, Memory}
@@ -32,12 +34,12 @@ word_of BadBody = codes "bad_body"
 -- the number of a fault: its refusal's, or that of want of memory
 abbrev pub fault_number : Fault → ℕ
 fault_number (Refused refusal) = number_of refusal
-fault_number (Memory want) = 90
+fault_number (Memory want) = memory_number
 
 -- the word of a fault
 abbrev pub fault_word : Fault → List ℕ
 fault_word (Refused refusal) = word_of refusal
-fault_word (Memory want) = codes "memory"
+fault_word (Memory want) = memory_word
 
 -- a fault is want of memory, or a refusal that is allowed there
 abbrev pub MayFail : (Refusal → Type 0) → Fault → Type 0
@@ -47,23 +49,10 @@ MayFail allowed (Memory want) = Unit {0}
 -- the store's refusal alone, where the store may refuse
 abbrev pub StoreOnly : Type 0 → Refusal → Type 0
 StoreOnly may_refuse Storage = may_refuse
-StoreOnly may_refuse BadName = ⊥
-StoreOnly may_refuse NoSuchLab = ⊥
-StoreOnly may_refuse ClockBehind = ⊥
-StoreOnly may_refuse LabExists = ⊥
-StoreOnly may_refuse BadHead = ⊥
-StoreOnly may_refuse HeadTooLong = ⊥
-StoreOnly may_refuse NoRoute = ⊥
-StoreOnly may_refuse BadBody = ⊥
+StoreOnly may_refuse _ = ⊥
 
 -- the store's refusal, where it may refuse, or that the laboratory is there, where it is
 abbrev pub StoreOrExists : Type 0 → Type 0 → Refusal → Type 0
 StoreOrExists may_refuse exists Storage = may_refuse
 StoreOrExists may_refuse exists LabExists = exists
-StoreOrExists may_refuse exists BadName = ⊥
-StoreOrExists may_refuse exists NoSuchLab = ⊥
-StoreOrExists may_refuse exists ClockBehind = ⊥
-StoreOrExists may_refuse exists BadHead = ⊥
-StoreOrExists may_refuse exists HeadTooLong = ⊥
-StoreOrExists may_refuse exists NoRoute = ⊥
-StoreOrExists may_refuse exists BadBody = ⊥
+StoreOrExists may_refuse exists _ = ⊥

@@ -3,7 +3,7 @@
 ghost use Rattle.std.specs.Prelude.{◌≡◌, IfOk};
 
 use crate::refusal::Refusal;
-use lab_names::{LabCode, Moment, Name};
+use lab_names::{LabCode, Moment, Name, OutOfMemory};
 
 /// What is asked of a laboratory.
 #[derive(Clone, Copy, Debug, PartialEq, Eq, Drop)]
@@ -65,4 +65,54 @@ pub struct Outcome {
     pub reply: Reply,
     /// The changes, in the order in which they are made.
     pub changes: Vec<Change>,
+}
+
+impl Founding {
+    /// A second founding that equals this one.
+    ///
+    /// # Errors
+    /// Only want of memory.
+    pub fn copy(&self) -> Result<Founding, OutOfMemory>
+        ensures { IfOk result (λ copy. copy ≡ self.now) }
+    {
+        let name = self.name.copy()?;
+        Ok(Founding { name })
+    }
+}
+
+impl Reply {
+    /// A second reply that equals this one.
+    ///
+    /// # Errors
+    /// Only want of memory.
+    pub fn copy(&self) -> Result<Reply, OutOfMemory>
+        ensures { IfOk result (λ copy. copy ≡ self.now) }
+    {
+        match self {
+            Reply::Card { lab, name } => Ok(Reply::Card {
+                lab: lab.copy()?,
+                name: name.copy()?,
+            }),
+            Reply::Refused(refusal) => Ok(Reply::Refused(*refusal)),
+        }
+    }
+}
+
+impl Slice {
+    /// A second slice that equals this one.
+    ///
+    /// # Errors
+    /// Only want of memory.
+    pub fn copy(&self) -> Result<Slice, OutOfMemory>
+        ensures { IfOk result (λ copy. copy ≡ self.now) }
+    {
+        let Slice { code, name, last } = self;
+        let code = code.copy()?;
+        let name = name.copy()?;
+        Ok(Slice {
+            code,
+            name,
+            last: *last,
+        })
+    }
 }

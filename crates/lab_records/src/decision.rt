@@ -12,8 +12,8 @@ use lab_names::{OutOfMemory, Tick};
 use std::alloc::Global;
 
 /// Which part of a laboratory is needed to decide a command.
-pub fn needs(command: &Command) -> Need
-    ensures { result ≡ need_of command.now }
+pub fn needs(_tick: &Tick, command: &Command) -> Need
+    ensures { result ≡ need_of _tick.now command.now }
 {
     match command {
         Command::Card => Need::Heading,
@@ -32,11 +32,11 @@ pub fn decide(
     command: &Command,
 ) -> Result<Outcome, OutOfMemory>
     // For any laboratory of which the slice is the part that the command needs:
-    ensures reply { (lab : Option WholeLab) → part_of (need_of command.now) lab ≡ Some slice.now →
+    ensures reply { (lab : Option WholeLab) → part_of (need_of tick.now command.now) lab ≡ Some slice.now →
         IfOk result (λ outcome. outcome.reply ≡ (step lab tick.now command.now).reply) }
-    ensures fit { (lab : Option WholeLab) → part_of (need_of command.now) lab ≡ Some slice.now →
+    ensures fit { (lab : Option WholeLab) → part_of (need_of tick.now command.now) lab ≡ Some slice.now →
         IfOk result (λ outcome. ChangesFit lab outcome.changes.items) }
-    ensures after { (lab : Option WholeLab) → part_of (need_of command.now) lab ≡ Some slice.now →
+    ensures after { (lab : Option WholeLab) → part_of (need_of tick.now command.now) lab ≡ Some slice.now →
         IfOk result (λ outcome. changed_in lab outcome.changes.items ≡ (step lab tick.now command.now).after) }
 {
     let reply = if tick.moment.seconds() < slice.last.seconds() {

@@ -1,6 +1,6 @@
 //! Why a call gave no answer of its kind.
 
-ghost use Rattle.std.specs.Prelude.{◌≡◌};
+ghost use Rattle.std.specs.Prelude.{◌≡◌, Some};
 ghost use Rattle.lab_records.specs.declared.fault.Fault.TheVariants.{Memory};
 ghost use Rattle.lab_records.specs.Refusals.{fault_number, fault_word};
 
@@ -23,12 +23,12 @@ pub enum Fault {
 
 impl Fault {
     /// The number by which the fault is known: its refusal's, or 90 for want of memory.
-    pub fn number(&self) -> u32
-        ensures { result ≡ fault_number self.now }
+    pub fn number(&self) -> Option<u32>
+        ensures { result ≡ Some (fault_number self.now) }
     {
         match self {
-            Fault::Refused(refusal) => refusal.number(),
-            Fault::Memory(want) => want.number(),
+            Fault::Refused(refusal) => Some(refusal.number()),
+            Fault::Memory(want) => Some(want.number()),
         }
     }
 

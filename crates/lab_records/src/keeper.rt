@@ -20,7 +20,8 @@ pub trait Keeper {
     ghost meaning: { Self → List ℕ → Option WholeLab };
 
     /// The premise on the world below: what was read is what was written, up to this state. For a list in
-    /// memory it always holds; for a file it says that the disk returned what was written to it.
+    /// memory it always holds; for a file it says that the disk returned what was written to it, and that the
+    /// file is still open.
     ghost is_honest: { Self → Type 0 };
 
     /// The rows are such as foundings and requests make.
@@ -43,7 +44,7 @@ pub trait Keeper {
         ensures part { is_honest self.new → is_reached self.old →
             IfOk result (λ found. found ≡ part_of need.now (meaning self.old code.now)) }
         ensures fault { IfErr result (MayFail (StoreOnly (may_refuse self.old))) }
-        ensures rows { rests self.old self.new }
+        ensures rows { is_honest self.new → is_reached self.old → rests self.old self.new }
         ensures same { is_honest self.new → is_reached self.old → SameMeaning (meaning self.old) (meaning self.new) }
         ensures honest { is_honest self.new → is_honest self.old }
         ensures reached { is_honest self.new → is_reached self.old → is_reached self.new }
@@ -57,8 +58,9 @@ pub trait Keeper {
             OnOk result (SameElsewhere code.now (meaning self.old) (meaning self.new)) }
         ensures err { is_honest self.new → is_reached self.old → OnErr result (SameMeaning (meaning self.old) (meaning self.new)) }
         ensures fault { IfErr result (MayFail (StoreOnly (may_refuse self.old))) }
-        ensures rows { OnOk result (moves self.old self.new code.now changes.now) }
-        ensures rows_err { OnErr result (rests self.old self.new) }
+        ensures rows { is_honest self.new → is_reached self.old → ChangesFit (meaning self.old code.now) changes.now →
+            OnOk result (moves self.old self.new code.now changes.now) }
+        ensures rows_err { is_honest self.new → is_reached self.old → OnErr result (rests self.old self.new) }
         ensures honest { is_honest self.new → is_honest self.old }
         ensures reached { is_honest self.new → is_reached self.old → ChangesFit (meaning self.old code.now) changes.now →
             is_reached self.new }
@@ -75,11 +77,16 @@ pub trait Keeper {
         ensures err { is_honest self.new → is_reached self.old → OnErr result (SameMeaning (meaning self.old) (meaning self.new)) }
         ensures fault { IfErr result (MayFail (StoreOrExists (may_refuse self.old)
             (is_honest self.new → is_reached self.old → IsSome (meaning self.old code.now)))) }
-        ensures rows { OnOk result (places self.old self.new (newborn code.now tick.now founding.now)) }
-        ensures rows_err { OnErr result (rests self.old self.new) }
+        ensures rows { is_honest self.new → is_reached self.old →
+            OnOk result (places self.old self.new (newborn code.now tick.now founding.now)) }
+        ensures rows_err { is_honest self.new → is_reached self.old → OnErr result (rests self.old self.new) }
         ensures honest { is_honest self.new → is_honest self.old }
         ensures reached { is_honest self.new → is_reached self.old → is_reached self.new }
         ensures refusing { may_refuse self.new → may_refuse self.old };
+
+    /// A laboratory is kept under its own code.
+    ghost kept: { (keeper : Self) (code : List ℕ) (lab : WholeLab) → is_honest keeper → is_reached keeper →
+        meaning keeper code ≡ Some lab → lab.code ≡ code };
 
     /// Rows that nobody touched are as they were.
     ghost still: { (keeper : Self) → rests keeper keeper };

@@ -48,18 +48,18 @@ fn refusals_have_their_numbers_and_words(rt: HostRuntime) {
         (Refusal::BadBody, 88, "bad_body"),
     ] {
         let fault = Fault::Refused(refusal);
-        assert_eq!(rt; fault.number(), number, "at {word}");
+        assert_eq!(rt; fault.number(), Some(number), "at {word}");
         assert_eq!(rt; fault.word(), word);
     }
     let want = Fault::Memory(OutOfMemory);
-    assert_eq!(rt; want.number(), 90);
+    assert_eq!(rt; want.number(), Some(90));
     assert_eq!(rt; want.word(), "memory");
 }
 
 #[test]
 fn a_card_is_refused_before_the_last_moment_alone(rt: HostRuntime) -> Result<(), Fail> {
     let lab = aqua(rt.alloc())?;
-    assert_eq!(rt; needs(&Command::Card), Need::Heading);
+    assert_eq!(rt; needs(&tick(1100)?, &Command::Card), Need::Heading);
     let slice = lab.copy()?.part(&Need::Heading)?;
     for (seconds, answered) in [(1099, false), (1100, true), (1101, true)] {
         let outcome = decide(rt.alloc(), &slice, &tick(seconds)?, &Command::Card)?;

@@ -1,5 +1,6 @@
--- What the bytes of a request ask of which laboratory (RFC 9110, sections 4.2, 9.3.1 and 17, and
--- RFC 9112, sections 2 to 5), or why they are refused: read from the head alone.
+-- What the bytes of a request ask of which laboratory, or why they are refused: read from the head alone
+-- (RFC 9112, sections 2 to 5, with 3.2.1 on targets; RFC 3986, sections 3.3 and 3.4, on path and query;
+-- RFC 9110, section 9.3.1, on GET).
 use Rattle.std.specs.Prelude.{◌≡◌, ℕ, List, ◌==◌, if◌then◌else◌, length, drop, nat_eq, Option, Some, None, Result, Ok, Err, IsOk, codes}
 use Rattle.std.specs.List.{before_first, starts_with}
 use Rattle.std.specs.Str.{bytes_eq}

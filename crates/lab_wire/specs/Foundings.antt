@@ -8,7 +8,7 @@ use Rattle.serde_json.specs.Read.{read}
 use Rattle.lab_names.specs.Names.{is_name}
 use Rattle.lab_records.specs.declared.command.Founding.{Founding}
 use Rattle.lab_records.specs.declared.refusal.Refusal.{Refusal}
-use Rattle.lab_records.specs.declared.refusal.Refusal.TheVariants.{BadName, NoSuchLab, ClockBehind, Storage, LabExists, BadHead, HeadTooLong, NoRoute, BadBody}
+use Rattle.lab_records.specs.declared.refusal.Refusal.TheVariants.{BadBody, BadName}
 
 -- how many members an object has: `serde_json` keeps one for each name, the last
 abbrev pub member_count : Members → ℕ
@@ -41,10 +41,4 @@ founding_named body = founding_by (option_and_then only_name (json_of body))
 abbrev pub IsBodyRefusal : Refusal → Type 0
 IsBodyRefusal BadBody = Unit {0}
 IsBodyRefusal BadName = Unit {0}
-IsBodyRefusal NoSuchLab = ⊥
-IsBodyRefusal ClockBehind = ⊥
-IsBodyRefusal Storage = ⊥
-IsBodyRefusal LabExists = ⊥
-IsBodyRefusal BadHead = ⊥
-IsBodyRefusal HeadTooLong = ⊥
-IsBodyRefusal NoRoute = ⊥
+IsBodyRefusal _ = ⊥

@@ -7,6 +7,7 @@ use Rattle.lab_names.specs.declared.tick.Tick.{Tick}
 use Rattle.lab_records.specs.declared.command.Reply.{Reply}
 use Rattle.lab_records.specs.declared.command.Reply.TheVariants.{Card, Refused}
 use Rattle.lab_records.specs.Refusals.{number_of, word_of}
+use Rattle.lab_names.specs.Faults.{memory_number, memory_word}
 use Rattle.lab_wire.specs.Dates.{imf_fixdate}
 use Rattle.lab_wire.specs.Statuses.{status_of}
 
@@ -46,4 +47,4 @@ reply_text tick (Refused refusal) =
 
 -- the reply where memory ran out, which is made beforehand and bears no date
 unfoldable pub memory_text : List ℕ
-memory_text = message_text 503 None (refusal_body (codes "memory") 90)
+memory_text = message_text 503 None (refusal_body memory_word memory_number)

@@ -13,6 +13,7 @@ mod status;
 
 pub use founding::founding_of;
 pub use grammar::grammar_of_heads;
+pub use lab_records::{Command, Fault, Founding, LabCode, Name, OutOfMemory, Refusal, Reply, Tick};
 pub use reading::ask;
 pub use replies::{memory_reply, reply_bytes};
 pub use request::Ask;

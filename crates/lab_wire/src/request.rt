@@ -1,6 +1,8 @@
 //! What a request asks.
 
-use lab_names::LabCode;
+ghost use Rattle.std.specs.Prelude.{◌≡◌, IfOk};
+
+use lab_names::{LabCode, OutOfMemory};
 use lab_records::Command;
 
 /// A laboratory, and what is asked of it.
@@ -10,4 +12,19 @@ pub struct Ask {
     pub lab: LabCode,
     /// What is asked of it.
     pub command: Command,
+}
+
+impl Ask {
+    /// A second ask that equals this one.
+    ///
+    /// # Errors
+    /// Only want of memory.
+    pub fn copy(&self) -> Result<Ask, OutOfMemory>
+        ensures { IfOk result (λ copy. copy ≡ self.now) }
+    {
+        Ok(Ask {
+            lab: self.lab.copy()?,
+            command: self.command,
+        })
+    }
 }

@@ -1,6 +1,6 @@
 //! Sending a reply: every byte goes out, or the fault says how many did.
 
-ghost use Rattle.std.specs.Prelude.{◌<◌, length, take, OnOk, IfErr};
+ghost use Rattle.std.specs.Prelude.{◌≡◌, None, codes, ◌<◌, length, take, OnOk, IfErr};
 ghost use Rattle.std.specs.Io.KnownBytes.{Appends};
 
 use std::io::Write;
@@ -8,10 +8,26 @@ use thiserror::Error;
 
 /// A write failed, or took no byte, while a reply was being sent.
 #[derive(Clone, Copy, Debug, Error, PartialEq, Eq)]
-#[error("write fault after {sent} bytes")]
+#[error("write_fault")]
 pub struct WriteFault {
     /// How many of the reply's bytes went out before.
     pub sent: usize,
+}
+
+impl WriteFault {
+    /// The fault's number: none, since no reply can tell of it.
+    pub fn number(&self) -> Option<u32>
+        ensures { result ≡ None }
+    {
+        None
+    }
+
+    /// The fault's word.
+    pub fn word(&self) -> &'static str
+        ensures { result.now ≡ codes "write_fault" }
+    {
+        "write_fault"
+    }
 }
 
 /// Writes all the bytes of a reply. The writer is asked until it has taken them all; the first

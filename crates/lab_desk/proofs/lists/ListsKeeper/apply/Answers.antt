@@ -6,7 +6,7 @@ use Rattle.lab_desk.proofs.Listing.{StandsAt, stands_at, changed_here, changed_e
 use Rattle.lab_desk.proofs.lists.ListsKeeper.apply.Goals as goal
 
 pub returns-then-is_empty-clause-rows : goal.returns-then-is_empty-clause-rows
-returns-then-is_empty-clause-rows c =
+returns-then-is_empty-clause-rows c = λ honest reached fits.
     rw (no_changes c.args.changes.now (sym c.is_empty.ensures ∙ c.if-is_empty.true)) (unchanged_in_place c.args.self.now c.args.self.now c.args.code.now refl)
 
 pub returns-in_default-clause-changed : goal.returns-in_default-clause-changed
@@ -28,5 +28,5 @@ returns-clause-others c = λ honest reached fits other differs.
     rw (c.in_ok-lab.ensures, ← c.self.view_is) (changed_elsewhere c.self.inside.labs.items c.args.code.now c.in-Some.place c.index.result.now c.args.changes.now (stood c) c.index.ensures other differs)
 
 pub returns-clause-rows : goal.returns-clause-rows
-returns-clause-rows c =
+returns-clause-rows c = λ honest reached fits.
     rw (c.in_ok-lab.ensures, ← c.self.view_is) (changed_in_place c.self.inside.labs.items c.args.code.now c.in-Some.place c.index.result.now c.args.changes.now (stood c))
