@@ -28,9 +28,10 @@ least() {
 }
 
 "$root/labdesk" --help >"$room/out"
+program=$root/crates/lab_program/out/lab_program
 for calls in 1000 100000; do
     stream "$calls" >"$room/in"
-    for command in "$root/labdesk replay" cat; do
+    for command in "$program replay" cat; do
         # shellcheck disable=SC2086
         seconds=$(least "$room/in" $command)
         awk -v name="${command##*/}" -v calls="$calls" -v seconds="$seconds" -v bytes="$(wc -c <"$room/in")" 'BEGIN {

@@ -21,7 +21,7 @@ use Rattle.lab_program.specs.declared.fault.ReplayFault.TheVariants.{BadEvent, R
 use Rattle.lab_program.specs.Event.{next_event}
 use Rattle.lab_program.specs.Fault.{IsInputFault, IsReaderFault, fault_of_run}
 use Rattle.lab_program.specs.Reading.{TakesNext}
-use Rattle.lab_program.specs.Replay.{nothing, BeginsWith, Stops, IsWritten, Replays}
+use Rattle.lab_program.specs.Replay.{nothing, BeginsWith, Stops, IsTold, IsWritten, IsReplay, Replays}
 use Rattle.lab_program.proofs.RunLemmas.{IsRun-append, IsRun-none, IsRun-weaker}
 
 abbrev pub Meaning : Type 0
@@ -277,3 +277,23 @@ pub told : (old new : Option (List ℕ)) (line : List ℕ) (r : Result (Unit {0}
     → IfErr r (λ unsent. Appends old new (take unsent.sent line)) → (sent : ℕ) × Appends old new (take sent line)
 told old new line (Ok _) whole cut = (length line, subst (Appends old new) (sym (take_all (length line) line (le_refl (length line)))) whole)
 told old new line (Err unsent) whole cut = (unsent.sent, cut)
+
+-- there was no memory to read the words
+pub no_replay : (input before after told_before told_after : Option (List ℕ)) (status : ℕ) → status ≡ 1 → Keeps before after → IsTold Memory told_before told_after
+    → IsReplay input before after told_before told_after status
+no_replay input before after told_before told_after status failed kept tells = record {
+  ending = Err Memory;
+  labs = nothing;
+  replays = record {
+    events = [];
+    taken = [];
+    answers = [];
+    written = [];
+    rest = unwrap_or input [];
+    begins = stops_none Memory input tt;
+    run = IsRun-none ⊥ nothing;
+    answered = refl;
+    wrote = Appends-kept before before after [] (Appends-nil before) kept;
+  };
+  tells = (failed, tells);
+}

@@ -2,3 +2,4 @@ pub mod Event
 pub mod Fault
 pub mod Reading
 pub mod Replay
+pub mod CommandLine

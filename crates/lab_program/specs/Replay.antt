@@ -51,11 +51,14 @@ pub record Replays (may_refuse : Type 0) (old new : List ℕ → Option Lab) (in
   pub answered : IsWritten ending answers written
   pub wrote : Appends before after written
 
--- the status, and what standard error was told: nothing after a whole replay, and else the fault's line, or its first
--- bytes where it could not be written whole
+-- a fault's line was told, or its first bytes where it could not be written whole
+abbrev pub IsTold : ReplayFault → Option (List ℕ) → Option (List ℕ) → Type 0
+IsTold fault before after = (sent : ℕ) × Appends before after (take sent (fault_line fault))
+
+-- the status, and what standard error was told: nothing after a whole replay, and else the fault
 abbrev pub Tells : Result (Unit {0}) ReplayFault → ℕ → Option (List ℕ) → Option (List ℕ) → Type 0
 Tells (Ok _) status before after = (status ≡ 0) × Keeps before after
-Tells (Err fault) status before after = (status ≡ 1) × (sent : ℕ) × Appends before after (take sent (fault_line fault))
+Tells (Err fault) status before after = (status ≡ 1) × IsTold fault before after
 
 -- no laboratory
 abbrev pub nothing : List ℕ → Option Lab

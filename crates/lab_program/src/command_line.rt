@@ -1,4 +1,9 @@
 //! The command line: which words ask for what.
+ghost use Rattle.std.specs.Prelude.{◌≡◌, ◌≢◌, ◌≤◌, map, string_bytes};
+ghost use Rattle.std.specs.Io.KnownBytes.{Keeps};
+ghost use Rattle.clap.specs.Words.{fault_of, FailsBy, kind_of};
+ghost use Rattle.lab_program.specs.CommandLine.{labdesk_app, AsksReplay};
+ghost use Rattle.lab_program.specs.Replay.{IsReplay, IsTold};
 
 use crate::fault::ReplayFault;
 use crate::replay::{replay, tell};
@@ -18,7 +23,9 @@ pub enum Task {
 ///
 /// # Errors
 /// The words name none, or ask for help, or memory ran out.
-pub fn task_of(alloc: Global, words: &[String]) -> Result<Task, Error> {
+pub fn task_of(alloc: Global, words: &[String]) -> Result<Task, Error>
+    ensures { FailsBy (fault_of labdesk_app (map string_bytes words.now)) result }
+{
     let replay = Command::new(alloc, "replay").about(
         "Run the events of standard input, and write their answers to standard output",
     );
@@ -32,7 +39,13 @@ pub fn task_of(alloc: Global, words: &[String]) -> Result<Task, Error> {
 
 /// Tells why the words name no task, and answers the status: 0 for help that was asked for, which goes to the output, 2
 /// for a fault in the words, and 1 where memory ran out or the text could not be written.
-fn explain<W: Write, E: Write>(error: &Error, output: &mut W, errors: &mut E) -> u8 {
+fn explain<W: Write, E: Write>(error: &Error, output: &mut W, errors: &mut E) -> u8
+    ensures memory { kind_of error.now ≡ ErrorKind.OutOfMemory → (result ≡ 1) × Keeps (W.contents output.old) (W.contents output.new)
+        × IsTold ReplayFault.Memory (E.contents errors.old) (E.contents errors.new) }
+    ensures fault { kind_of error.now ≢ ErrorKind.OutOfMemory → kind_of error.now ≢ ErrorKind.DisplayHelp
+        → kind_of error.now ≢ ErrorKind.DisplayVersion → result ≡ 2 }
+    ensures help { kind_of error.now ≡ ErrorKind.DisplayHelp → result ≤ 1 }
+{
     if error.kind() == ErrorKind::OutOfMemory {
         tell(errors, ReplayFault::Memory);
         return 1;
@@ -57,7 +70,10 @@ pub fn labdesk<R: Read + Drop, W: Write, E: Write>(
     input: R,
     output: &mut W,
     errors: &mut E,
-) -> u8 {
+) -> u8
+    ensures { AsksReplay (map string_bytes words.now) → IsReplay (R.remaining input) (W.contents output.old) (W.contents output.new)
+        (E.contents errors.old) (E.contents errors.new) result }
+{
     match task_of(alloc, words) {
         Ok(Task::Replay) => replay(alloc, input, output, errors),
         Err(error) => explain(&error, output, errors),

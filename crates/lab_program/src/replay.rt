@@ -1,9 +1,7 @@
 //! `labdesk replay`: the events of an input, run one after the other.
-ghost use Rattle.std.specs.Prelude.{◌≡◌, ℕ, List, Option, Ok, Err, take};
-ghost use Rattle.std.specs.Io.KnownBytes.{Appends};
+ghost use Rattle.std.specs.Prelude.{◌≡◌, ℕ, List, Option};
 ghost use Rattle.lab_records.specs.declared.lab.Lab.{Lab as WholeLab};
-ghost use Rattle.lab_program.specs.Fault.{fault_line};
-ghost use Rattle.lab_program.specs.Replay.{IsReplay, Replays, nothing};
+ghost use Rattle.lab_program.specs.Replay.{IsReplay, IsTold, Replays, nothing};
 
 use crate::event::next_event;
 use crate::fault::ReplayFault;
@@ -60,7 +58,7 @@ fn run_input<R: Read + Drop, W: Write>(
 
 /// Tells a fault on standard error. Where that fails too, nobody is left to be told.
 pub fn tell<E: Write>(errors: &mut E, fault: ReplayFault)
-    ensures { (sent : ℕ) × Appends (E.contents errors.old) (E.contents errors.new) (take sent (fault_line fault)) }
+    ensures { IsTold fault (E.contents errors.old) (E.contents errors.new) }
 {
     let _ = write_reply(errors, fault.line().as_bytes());
 }

@@ -1,0 +1,20 @@
+use Rattle.std.proofs.Common.{◌≡◌, ℕ, List, [], ◌∷◌, ◌∙◌, ap, refl, codes, inl, inr}
+use Rattle.clap.specs.Words.{fault_of}
+use Rattle.clap.proofs.OnLiterals.{clap_on_literals}
+use Rattle.lab_program.specs.CommandLine.{labdesk_app}
+use Rattle.lab_program.proofs.ReplayLemmas.{no_replay}
+use Rattle.lab_program.proofs.command_line.labdesk.Goals as goal
+
+-- a replay is asked for without a fault, whatever the program is called
+unfaulted : (program : List ℕ) → fault_of labdesk_app (program ∷ codes "replay" ∷ []) ≡ []
+unfolding clap_on_literals
+unfaulted program = refl
+
+pub returns-in-Err : goal.returns-in-Err
+returns-in-Err g c = λ asks.
+    let none = ap (fault_of labdesk_app) asks.1 ∙ unfaulted asks.0 in
+    let kind = rw none at c.in-Err.ensures in
+    elim kind [
+      | inl memory ↦ let told = c.explain.ensures.memory memory in no_replay _ _ _ _ _ _ told.0 told.1 told.2
+      | inr other ↦ absurd other
+    ]
