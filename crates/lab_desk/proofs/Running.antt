@@ -76,22 +76,24 @@ alone_answers_then code lab (own ∷ owns) more = ap (λ (told : List (List ℕ)
 pub run_then : (may_refuse : Type 0) (events : List Event) (taken : List Bool) (answers : List (List ℕ)) (more : List Event) (taken_next : List Bool) (answers_next : List (List ℕ)) (old mid new : List ℕ → Option Lab) →
     IsRun may_refuse events taken answers old mid → IsRun may_refuse more taken_next answers_next mid new → IsRun may_refuse (events ++ more) (taken ++ taken_next) (answers ++ answers_next) old new
 run_then may_refuse events taken answers more taken_next answers_next old mid new first next = record {
-    each = answers_then may_refuse events taken answers more taken_next answers_next first.each next.each;
-    alone = λ code.
-        let both : own_taken code (events ++ more) (taken ++ taken_next) ≡ own_taken code events taken ++ own_taken code more taken_next = own_taken_then may_refuse code events taken answers more taken_next first.each in
-        let middle : mid code ≡ alone_after code (old code) (own_taken code events taken) = (first.alone code).after in
-        record {
-            answered =
-                own_answers_then may_refuse code events taken answers more taken_next answers_next first.each
-                ∙ ap (λ (told : List (List ℕ)). told ++ own_answers code more taken_next answers_next) (first.alone code).answered
-                ∙ ap (λ (told : List (List ℕ)). alone_answers code (old code) (own_taken code events taken) ++ told)
-                    ((next.alone code).answered ∙ ap (λ (lab : Option Lab). alone_answers code lab (own_taken code more taken_next)) middle)
-                ∙ sym (alone_answers_then code (old code) (own_taken code events taken) (own_taken code more taken_next))
-                ∙ ap (λ (owns : List Own). alone_answers code (old code) owns) (sym both);
-            after =
-                (next.alone code).after ∙ ap (λ (lab : Option Lab). alone_after code lab (own_taken code more taken_next)) middle
-                ∙ sym (alone_after_then code (old code) (own_taken code events taken) (own_taken code more taken_next))
-                ∙ ap (λ (owns : List Own). alone_after code (old code) owns) (sym both) } }
+  each = answers_then may_refuse events taken answers more taken_next answers_next first.each next.each;
+  alone = λ code.
+      let both : own_taken code (events ++ more) (taken ++ taken_next) ≡ own_taken code events taken ++ own_taken code more taken_next = own_taken_then may_refuse code events taken answers more taken_next first.each in
+      let middle : mid code ≡ alone_after code (old code) (own_taken code events taken) = (first.alone code).after in
+      record {
+        answered =
+            own_answers_then may_refuse code events taken answers more taken_next answers_next first.each
+            ∙ ap (λ (told : List (List ℕ)). told ++ own_answers code more taken_next answers_next) (first.alone code).answered
+            ∙ ap (λ (told : List (List ℕ)). alone_answers code (old code) (own_taken code events taken) ++ told)
+            ((next.alone code).answered ∙ ap (λ (lab : Option Lab). alone_answers code lab (own_taken code more taken_next)) middle)
+            ∙ sym (alone_answers_then code (old code) (own_taken code events taken) (own_taken code more taken_next))
+            ∙ ap (λ (owns : List Own). alone_answers code (old code) owns) (sym both);
+        after =
+            (next.alone code).after ∙ ap (λ (lab : Option Lab). alone_after code lab (own_taken code more taken_next)) middle
+            ∙ sym (alone_after_then code (old code) (own_taken code events taken) (own_taken code more taken_next))
+            ∙ ap (λ (owns : List Own). alone_after code (old code) owns) (sym both);
+      };
+}
 
 -- ---- one event is a run
 
@@ -101,9 +103,10 @@ found_alone : (lab code : List ℕ) (tick : Tick) (body : List ℕ) (answer : Li
     after ≡ cond b (after_birth (old code) (born_of (old code) lab tick (founding_named body))) (old code) →
     (answers_for (cond b (Founds tick body ∷ []) []) answer ++ [] ≡ alone_answers code (old code) (cond b (Founds tick body ∷ []) [] ++ []))
     × (after ≡ alone_after code (old code) (cond b (Founds tick body ∷ []) [] ++ []))
-found_alone lab code tick body answer old after true names answered changed =
-    (ap (λ (told : List ℕ). told ∷ []) (subst (λ (named : List ℕ). answer ≡ line_of named (born_of (old named) named tick (founding_named body))) (names refl) answered),
-     subst (λ (named : List ℕ). after ≡ after_birth (old code) (born_of (old code) named tick (founding_named body))) (names refl) changed)
+found_alone lab code tick body answer old after true names answered changed = (
+  ap (λ (told : List ℕ). told ∷ []) (subst (λ (named : List ℕ). answer ≡ line_of named (born_of (old named) named tick (founding_named body))) (names refl) answered),
+  subst (λ (named : List ℕ). after ≡ after_birth (old code) (born_of (old code) named tick (founding_named body))) (names refl) changed,
+)
 found_alone lab code tick body answer old after false names answered changed = (refl, changed)
 
 -- a founding is a run
@@ -113,13 +116,15 @@ founding_run : (may_refuse : Type 0) (lab : List ℕ) (tick : Tick) (body : Vec 
     (taken ≡ false → IsRefusedLine may_refuse answer) → (taken ≡ false → SameMeaning old new) →
     IsRun may_refuse (Found lab tick body ∷ []) (taken ∷ []) (answer ∷ []) old new
 founding_run may_refuse lab tick body true answer old new answered changed refused same = record {
-    each = (tt, tt);
-    alone = λ code.
-        let both = found_alone lab code tick body.items answer old (new code) (bytes_eq lab code) (bytes_eq-Decides lab code).0 (answered refl) (changed refl code) in
-        record { answered = both.0; after = both.1 } }
+  each = (tt, tt);
+  alone = λ code.
+      let both = found_alone lab code tick body.items answer old (new code) (bytes_eq lab code) (bytes_eq-Decides lab code).0 (answered refl) (changed refl code) in
+      record { answered = both.0; after = both.1 };
+}
 founding_run may_refuse lab tick body false answer old new answered changed refused same = record {
-    each = (refused refl, tt);
-    alone = λ code. record { answered = refl; after = same refl code } }
+  each = (refused refl, tt);
+  alone = λ code. record { answered = refl; after = same refl code };
+}
 
 -- a founding, taken or refused
 pub one_founding : (may_refuse : Type 0) (event : Event) (lab : List ℕ) (tick : Tick) (body : Vec ℕ Global) (read : List ℕ) (taken : Bool) (answer line : List ℕ) (old new : List ℕ → Option Lab) →
@@ -131,9 +136,9 @@ pub one_founding : (may_refuse : Type 0) (event : Event) (lab : List ℕ) (tick 
 one_founding may_refuse event lab tick body read taken answer line old new is reads lines answered changed refused same =
     subst (λ (one : Event). IsRun may_refuse (one ∷ []) (taken ∷ []) (answer ∷ []) old new) (sym is)
     (founding_run may_refuse lab tick body taken answer old new
-        (λ holds. subst (λ (bytes : List ℕ). answer ≡ line_of lab (born_of (old lab) lab tick (founding_named bytes))) reads (lines ∙ answered holds))
-        (λ holds code. subst (λ (bytes : List ℕ). new code ≡ after_founding code (old code) lab tick (founding_named bytes)) reads (changed holds code))
-        (λ fails. subst (λ (told : List ℕ). IsRefusedLine may_refuse told) (sym lines) (refused fails)) same)
+    (λ holds. subst (λ (bytes : List ℕ). answer ≡ line_of lab (born_of (old lab) lab tick (founding_named bytes))) reads (lines ∙ answered holds))
+    (λ holds code. subst (λ (bytes : List ℕ). new code ≡ after_founding code (old code) lab tick (founding_named bytes)) reads (changed holds code))
+    (λ fails. subst (λ (told : List ℕ). IsRefusedLine may_refuse told) (sym lines) (refused fails)) same)
 
 -- a call of the laboratory, or of another
 ask_alone : (ask : Ask) (code : List ℕ) (tick : Tick) (answer : List ℕ) (old : List ℕ → Option Lab) (after : Option Lab) (b : Bool) → (b ≡ true → ask.lab ≡ code) →
@@ -164,13 +169,15 @@ call_run : (may_refuse : Type 0) (tick : Tick) (bytes : Vec ℕ Global) (taken :
     (taken ≡ false → (answer ≡ memory_text) ⊎ (may_refuse × (answer ≡ storage_text tick))) → (taken ≡ false → SameMeaning old new) →
     IsRun may_refuse (Call tick bytes ∷ []) (taken ∷ []) (answer ∷ []) old new
 call_run may_refuse tick bytes true answer old new answered changed refused same = record {
-    each = (nobodys tick (asked bytes.items) answer old (answered refl), tt);
-    alone = λ code.
-        let both = call_alone code tick (asked bytes.items) answer old (new code) (answered refl) (changed refl code) in
-        record { answered = both.0; after = both.1 } }
+  each = (nobodys tick (asked bytes.items) answer old (answered refl), tt);
+  alone = λ code.
+      let both = call_alone code tick (asked bytes.items) answer old (new code) (answered refl) (changed refl code) in
+      record { answered = both.0; after = both.1 };
+}
 call_run may_refuse tick bytes false answer old new answered changed refused same = record {
-    each = (refused refl, tt);
-    alone = λ code. record { answered = refl; after = same refl code } }
+  each = (refused refl, tt);
+  alone = λ code. record { answered = refl; after = same refl code };
+}
 
 -- a call, taken or refused
 pub one_call : (may_refuse rests : Type 0) (moves : List ℕ → List Change → Type 0) (event : Event) (tick : Tick) (bytes : Vec ℕ Global) (read : List ℕ) (taken : Bool) (answer reply : List ℕ) (old new : List ℕ → Option Lab) →
@@ -181,10 +188,10 @@ pub one_call : (may_refuse rests : Type 0) (moves : List ℕ → List Change →
 one_call may_refuse rests moves event tick bytes read taken answer reply old new is reads replies takes refuses =
     subst (λ (one : Event). IsRun may_refuse (one ∷ []) (taken ∷ []) (answer ∷ []) old new) (sym is)
     (call_run may_refuse tick bytes taken answer old new
-        (λ holds. subst (λ (asks : List ℕ). answer ≡ reply_text tick (reply_to old tick (asked asks))) reads (replies ∙ (takes holds).replied))
-        (λ holds code. subst (λ (asks : List ℕ). new code ≡ after_request code (old code) tick (asked asks)) reads ((takes holds).after code))
-        (λ fails. subst (λ (told : List ℕ). (told ≡ memory_text) ⊎ (may_refuse × (told ≡ storage_text tick))) (sym replies) (refuses fails).replied)
-        (λ fails. (refuses fails).same))
+    (λ holds. subst (λ (asks : List ℕ). answer ≡ reply_text tick (reply_to old tick (asked asks))) reads (replies ∙ (takes holds).replied))
+    (λ holds code. subst (λ (asks : List ℕ). new code ≡ after_request code (old code) tick (asked asks)) reads ((takes holds).after code))
+    (λ fails. subst (λ (told : List ℕ). (told ≡ memory_text) ⊎ (may_refuse × (told ≡ storage_text tick))) (sym replies) (refuses fails).replied)
+    (λ fails. (refuses fails).same))
 
 -- what went out, from the clauses of sending
 pub sent_as : (sent : Result (Unit {0}) WriteFault) (whole : Type 0) (cut short : WriteFault → Type 0) → OnOk sent whole → IfErr sent cut → IfErr sent short →

@@ -17,11 +17,12 @@ set_same labs place lab found =
 pub unchanged_in_place : (old new : List Lab) (code : List ℕ) → new ≡ old → ChangesInPlace old new code []
 unchanged_in_place old new code same = in_place (slice_get old place) refl
   where
-  place : ℕ
-  place = position_or_len (has_code code) old
-  in_place : (found : Option Lab) → slice_get old place ≡ found → MatchOption found (new ≡ old) (λ lab. new ≡ slice_set old place lab)
-  in_place None none = same
-  in_place (Some lab) there = same ∙ sym (set_same old place lab there)
+    place : ℕ
+    place = position_or_len (has_code code) old
+
+    in_place : (found : Option Lab) → slice_get old place ≡ found → MatchOption found (new ≡ old) (λ lab. new ≡ slice_set old place lab)
+    in_place None none = same
+    in_place (Some lab) there = same ∙ sym (set_same old place lab there)
 
 -- changes after a rest are changes of the list before it
 pub changed_after_rest : (first next last : List Lab) (code : List ℕ) (changes : List Change) → next ≡ first → ChangesInPlace next last code changes → ChangesInPlace first last code changes

@@ -65,9 +65,9 @@ impl<S: Keeper + Drop> Desk<S> {
     pub fn handle(&mut self, tick: &Tick, bytes: &[u8])
         ensures handled { S.is_honest self.new.keeper → S.is_reached self.old.keeper →
             TakesRequest (S.rests self.old.keeper self.new.keeper) (S.moves self.old.keeper self.new.keeper)
-                (S.meaning self.old.keeper) (S.meaning self.new.keeper) tick.now (asked bytes.now) self.new.reply
+            (S.meaning self.old.keeper) (S.meaning self.new.keeper) tick.now (asked bytes.now) self.new.reply
             ⊎ RefusesRequest (S.may_refuse self.old.keeper) (S.rests self.old.keeper self.new.keeper)
-                (S.meaning self.old.keeper) (S.meaning self.new.keeper) tick.now self.new.reply }
+            (S.meaning self.old.keeper) (S.meaning self.new.keeper) tick.now self.new.reply }
         ensures honest { S.is_honest self.new.keeper → S.is_honest self.old.keeper }
         ensures reached { S.is_honest self.new.keeper → S.is_reached self.old.keeper → S.is_reached self.new.keeper }
         ensures refusing { S.may_refuse self.new.keeper → S.may_refuse self.old.keeper }
@@ -79,10 +79,10 @@ impl<S: Keeper + Drop> Desk<S> {
     pub(crate) fn serve(&mut self, tick: &Tick, bytes: &[u8]) -> bool
         ensures taken { S.is_honest self.new.keeper → S.is_reached self.old.keeper → result ≡ true →
             TakesRequest (S.rests self.old.keeper self.new.keeper) (S.moves self.old.keeper self.new.keeper)
-                (S.meaning self.old.keeper) (S.meaning self.new.keeper) tick.now (asked bytes.now) self.new.reply }
+            (S.meaning self.old.keeper) (S.meaning self.new.keeper) tick.now (asked bytes.now) self.new.reply }
         ensures refused { S.is_honest self.new.keeper → S.is_reached self.old.keeper → result ≡ false →
             RefusesRequest (S.may_refuse self.old.keeper) (S.rests self.old.keeper self.new.keeper)
-                (S.meaning self.old.keeper) (S.meaning self.new.keeper) tick.now self.new.reply }
+            (S.meaning self.old.keeper) (S.meaning self.new.keeper) tick.now self.new.reply }
         ensures honest { S.is_honest self.new.keeper → S.is_honest self.old.keeper }
         ensures reached { S.is_honest self.new.keeper → S.is_reached self.old.keeper → S.is_reached self.new.keeper }
         ensures refusing { S.may_refuse self.new.keeper → S.may_refuse self.old.keeper }
@@ -115,15 +115,15 @@ impl<S: Keeper + Drop> Desk<S> {
     /// The body's refusals, that the laboratory is there, the store's refusal, want of memory. After each of
     /// them every laboratory means what it meant.
     pub fn found(&mut self, lab: &LabCode, tick: &Tick, body: &[u8]) -> Result<(), Fault>
-        ensures ok { S.is_honest self.new.keeper → S.is_reached self.old.keeper →
-            OnOk result (IsOk (born_of (S.meaning self.old.keeper lab.now) lab.now tick.now (founding_named body.now))) }
+        ensures founded { S.is_honest self.new.keeper → S.is_reached self.old.keeper → OnOk result ((born : WholeLab)
+            × (born_of (S.meaning self.old.keeper lab.now) lab.now tick.now (founding_named body.now) ≡ Ok born)
+            × S.places self.old.keeper self.new.keeper born) }
         ensures after { S.is_honest self.new.keeper → S.is_reached self.old.keeper → OnOk result ((code : List ℕ) →
             S.meaning self.new.keeper code ≡ after_founding code (S.meaning self.old.keeper code) lab.now tick.now (founding_named body.now)) }
         ensures err { S.is_honest self.new.keeper → S.is_reached self.old.keeper →
             OnErr result (SameMeaning (S.meaning self.old.keeper) (S.meaning self.new.keeper)) }
         ensures fault { IfErr result (MayFail (FoundingMay (S.may_refuse self.old.keeper) (λ refusal. S.is_honest self.new.keeper → S.is_reached self.old.keeper →
             born_of (S.meaning self.old.keeper lab.now) lab.now tick.now (founding_named body.now) ≡ Err refusal))) }
-        ensures rows { OnOk result ((born : WholeLab) × S.places self.old.keeper self.new.keeper born) }
         ensures rows_err { OnErr result (S.rests self.old.keeper self.new.keeper) }
         ensures reply { self.new.reply ≡ self.old.reply }
         ensures honest { S.is_honest self.new.keeper → S.is_honest self.old.keeper }

@@ -23,15 +23,15 @@ pub(crate) fn found_from<S: Keeper>(
     tick: &Tick,
     body: &[u8],
 ) -> Result<(), Fault>
-    ensures ok { S.is_honest keeper.new → S.is_reached keeper.old →
-        OnOk result (IsOk (born_of (S.meaning keeper.old lab.now) lab.now tick.now (founding_named body.now))) }
+    ensures founded { S.is_honest keeper.new → S.is_reached keeper.old → OnOk result ((born : WholeLab)
+        × (born_of (S.meaning keeper.old lab.now) lab.now tick.now (founding_named body.now) ≡ Ok born)
+        × S.places keeper.old keeper.new born) }
     ensures after { S.is_honest keeper.new → S.is_reached keeper.old → OnOk result ((code : List ℕ) →
         S.meaning keeper.new code ≡ after_founding code (S.meaning keeper.old code) lab.now tick.now (founding_named body.now)) }
     ensures err { S.is_honest keeper.new → S.is_reached keeper.old →
         OnErr result (SameMeaning (S.meaning keeper.old) (S.meaning keeper.new)) }
     ensures fault { IfErr result (MayFail (FoundingMay (S.may_refuse keeper.old) (λ refusal. S.is_honest keeper.new → S.is_reached keeper.old →
         born_of (S.meaning keeper.old lab.now) lab.now tick.now (founding_named body.now) ≡ Err refusal))) }
-    ensures rows { OnOk result ((born : WholeLab) × S.places keeper.old keeper.new born) }
     ensures rows_err { OnErr result (S.rests keeper.old keeper.new) }
     ensures honest { S.is_honest keeper.new → S.is_honest keeper.old }
     ensures reached { S.is_honest keeper.new → S.is_reached keeper.old → S.is_reached keeper.new }

@@ -8,6 +8,8 @@ mod founding;
 mod handling;
 mod lists;
 mod run;
+#[cfg(test)]
+mod tests;
 
 pub use crate::desk::Desk;
 pub use crate::event::{Event, RunFault};

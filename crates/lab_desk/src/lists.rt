@@ -101,8 +101,7 @@ impl Keeper for Lists {
 fn lab_named<'a>(labs: &'a [Lab], code: &LabCode) -> Option<&'a Lab>
     ensures { option_copied result ≡ lab_of labs.now code.now }
 {
-    labs.iter()
-        .find(|lab| lab.code.as_str() == code.as_str())
+    labs.iter().find(|lab| lab.code.as_str() == code.as_str())
 }
 
 /// Where the laboratory of the code stands, if there is one.

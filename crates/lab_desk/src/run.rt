@@ -30,11 +30,7 @@ impl<S: Keeper + Drop> Desk<S> {
     /// # Errors
     /// Want of memory for the list that is told, made first: nothing is handled or written. A write fault:
     /// the events up to it stand, their answers went out, the last of them cut to its first bytes.
-    pub fn run<W: Write>(
-        &mut self,
-        events: &[Event],
-        writer: &mut W,
-    ) -> Result<Vec<bool>, RunFault>
+    pub fn run<W: Write>(&mut self, events: &[Event], writer: &mut W) -> Result<Vec<bool>, RunFault>
         ensures alone { S.is_honest self.new.keeper → S.is_reached self.old.keeper → IfOk result (λ taken. (answers : List (List ℕ))
             × IsRun (S.may_refuse self.old.keeper) events.now taken.items answers (S.meaning self.old.keeper) (S.meaning self.new.keeper)
             × Appends (W.contents writer.old) (W.contents writer.new) (concat answers)) }
@@ -66,8 +62,8 @@ impl<S: Keeper + Drop> Desk<S> {
         ensures answered { S.is_honest self.new.keeper → S.is_reached self.old.keeper → (answer : List ℕ)
             × IsRun (S.may_refuse self.old.keeper) (event.now ∷ []) (result.taken ∷ []) (answer ∷ []) (S.meaning self.old.keeper) (S.meaning self.new.keeper)
             × MatchResult result.sent
-                (λ _. Appends (W.contents writer.old) (W.contents writer.new) answer)
-                (λ fault. Appends (W.contents writer.old) (W.contents writer.new) (take fault.sent answer) × (fault.sent < length answer)) }
+            (λ _. Appends (W.contents writer.old) (W.contents writer.new) answer)
+            (λ fault. Appends (W.contents writer.old) (W.contents writer.new) (take fault.sent answer) × (fault.sent < length answer)) }
         ensures honest { S.is_honest self.new.keeper → S.is_honest self.old.keeper }
         ensures reached { S.is_honest self.new.keeper → S.is_reached self.old.keeper → S.is_reached self.new.keeper }
         ensures refusing { S.may_refuse self.new.keeper → S.may_refuse self.old.keeper }

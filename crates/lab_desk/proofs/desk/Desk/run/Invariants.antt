@@ -13,6 +13,6 @@ invariant-loop-event g l = record {
   counted : length l.taken.items ≡ l.event-index;
   room : length l.events ≤ vec_capacity l.taken;
   run : g.S.Keeper.is_honest l.self.keeper → g.S.Keeper.is_reached l.fn.self.keeper → (answers : List (List ℕ))
-    × IsRun (g.S.Keeper.may_refuse l.fn.self.keeper) (take l.event-index l.events) l.taken.items answers (g.S.Keeper.meaning l.fn.self.keeper) (g.S.Keeper.meaning l.self.keeper)
-    × Appends (g.W.Write.contents l.fn.writer) (g.W.Write.contents l.writer) (concat answers);
+      × IsRun (g.S.Keeper.may_refuse l.fn.self.keeper) (take l.event-index l.events) l.taken.items answers (g.S.Keeper.meaning l.fn.self.keeper) (g.S.Keeper.meaning l.self.keeper)
+      × Appends (g.W.Write.contents l.fn.writer) (g.W.Write.contents l.writer) (concat answers);
 }

@@ -1,0 +1,4 @@
+pub mod Event
+pub mod Fault
+pub mod Reading
+pub mod Replay

@@ -1,0 +1,69 @@
+-- What a replay does with its input: it runs the events that the input begins with, each by itself and in order, and
+-- stops at the end of the input, at what is no event, or at a fault.
+use Rattle.std.specs.Prelude.{◌≡◌, ◌<◌, ℕ, List, [], ◌∷◌, ◌++◌, length, take, Bool, Option, None, Ok, Err, Result, IfSome}
+use Rattle.std.specs.List.{concat}
+use Rattle.std.specs.Io.KnownBytes.{Keeps, Appends}
+use Rattle.lab_records.specs.declared.lab.Lab.{Lab}
+use Rattle.lab_desk.specs.declared.event.Event.{Event as EventRead}
+use Rattle.lab_desk.specs.Runs.{IsRun}
+use Rattle.lab_program.specs.declared.fault.ReplayFault.{ReplayFault}
+use Rattle.lab_program.specs.declared.fault.ReplayFault.TheVariants.{BadEvent, ReadFault, WriteFault, Memory}
+use Rattle.lab_program.specs.Event.{Next, End, Bad, Taken, next_event}
+use Rattle.lab_program.specs.Fault.{fault_line}
+use Rattle.lab_program.specs.Reading.{event_said}
+
+-- the input begins with these events, and the rest follows them
+abbrev pub BeginsWith : List EventRead → List ℕ → List ℕ → Type 0
+BeginsWith [] input rest = input ≡ rest
+BeginsWith (event ∷ events) input rest =
+    (after : List ℕ) × (next_event input ≡ Taken (event_said event) after) × BeginsWith events after rest
+
+-- what may follow the events where the replay stopped: nothing after a whole replay, no event after a bad one, and
+-- anything after another fault
+abbrev pub Stops : Result (Unit {0}) ReplayFault → Next → Type 0
+Stops (Ok _) next = next ≡ End
+Stops (Err BadEvent) next = next ≡ Bad
+Stops (Err ReadFault) next = Unit {0}
+Stops (Err WriteFault) next = Unit {0}
+Stops (Err Memory) next = Unit {0}
+
+-- the answers were written in order and whole, and nothing else; after a write fault the last of them is cut to its
+-- first bytes
+abbrev pub IsWritten : Result (Unit {0}) ReplayFault → List (List ℕ) → List ℕ → Type 0
+IsWritten (Ok _) answers written = written ≡ concat answers
+IsWritten (Err WriteFault) answers written =
+    (before : List (List ℕ)) × (last : List ℕ) × (sent : ℕ) × (answers ≡ before ++ last ∷ []) × (sent < length last)
+    × (written ≡ concat before ++ take sent last)
+IsWritten (Err BadEvent) answers written = written ≡ concat answers
+IsWritten (Err ReadFault) answers written = written ≡ concat answers
+IsWritten (Err Memory) answers written = written ≡ concat answers
+
+-- a replay over laboratories that mean this before and after: the events that the input begins with were run, and their
+-- answers were written
+pub record Replays (may_refuse : Type 0) (old new : List ℕ → Option Lab) (input before after : Option (List ℕ)) (ending : Result (Unit {0}) ReplayFault) : Type 0 where
+  pub events : List EventRead
+  pub taken : List Bool
+  pub answers : List (List ℕ)
+  pub written : List ℕ
+  pub rest : List ℕ
+  pub begins : IfSome input (λ bytes. BeginsWith events bytes rest × Stops ending (next_event rest))
+  pub run : IsRun may_refuse events taken answers old new
+  pub answered : IsWritten ending answers written
+  pub wrote : Appends before after written
+
+-- the status, and what standard error was told: nothing after a whole replay, and else the fault's line, or its first
+-- bytes where it could not be written whole
+abbrev pub Tells : Result (Unit {0}) ReplayFault → ℕ → Option (List ℕ) → Option (List ℕ) → Type 0
+Tells (Ok _) status before after = (status ≡ 0) × Keeps before after
+Tells (Err fault) status before after = (status ≡ 1) × (sent : ℕ) × Appends before after (take sent (fault_line fault))
+
+-- no laboratory
+abbrev pub nothing : List ℕ → Option Lab
+nothing code = None
+
+-- a replay over no laboratories, by its status
+pub record IsReplay (input before after told_before told_after : Option (List ℕ)) (status : ℕ) : Type 0 where
+  pub ending : Result (Unit {0}) ReplayFault
+  pub labs : List ℕ → Option Lab
+  pub replays : Replays ⊥ nothing labs input before after ending
+  pub tells : Tells ending status told_before told_after

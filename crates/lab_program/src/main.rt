@@ -1,0 +1,21 @@
+//! `labdesk`: signed laboratory records, run from events on standard input.
+#![tactic(auto)]
+
+mod command_line;
+mod event;
+mod fault;
+mod limited;
+mod replay;
+
+use std::io;
+use std::process::ExitCode;
+
+fn main(rt: HostRuntime) -> io::Result<ExitCode> {
+    let words: Vec<String> = std::env::args(&rt)?.collect(rt.alloc())?;
+    let (mut output, mut errors) = (rt.stdout(), rt.stderr());
+    let status = command_line::labdesk(rt.alloc(), &words, rt.stdin(), &mut output, &mut errors);
+    Ok(ExitCode::from(status))
+}
+
+#[cfg(test)]
+mod tests;

@@ -1,0 +1,316 @@
+use crate::command_line::labdesk;
+use crate::event::next_event;
+use crate::limited::LimitedReader;
+use crate::replay::replay;
+use lab_desk::{Desk, Lists};
+use std::alloc::{AllocError, Global};
+use std::io;
+use std::io::{ErrorKind, Read, Write};
+use std::process::Abort;
+use std::test::Fail;
+
+const AQUA: &str = "found aqua 0 1 19\n{\"name\":\"Aqua Lab\"}";
+
+const BRICK: &str = "found brick 0 1 20\n{\"name\":\"Brick Lab\"}";
+
+const AQUA_CARD: &str = "call 100 9 36\nGET /labs/aqua HTTP/1.1\r\nHost: d\r\n\r\n";
+
+const ZINC_CARD: &str = "call 100 17 36\nGET /labs/zinc HTTP/1.1\r\nHost: d\r\n\r\n";
+
+const AQUA_REPLY: &str =
+    "HTTP/1.1 200 OK\r\nDate: Thu, 01 Jan 1970 00:01:40 GMT\r\nContent-Type: application/json\r\nContent-Length: 32\r\nConnection: close\r\n\r\n{\"lab\":\"aqua\",\"name\":\"Aqua Lab\"}";
+
+const ZINC_REPLY: &str =
+    "HTTP/1.1 404 Not Found\r\nDate: Thu, 01 Jan 1970 00:01:40 GMT\r\nContent-Type: application/json\r\nContent-Length: 35\r\nConnection: close\r\n\r\n{\"error\":\"no_such_lab\",\"number\":40}";
+
+fn joined(alloc: Global, parts: &[&str]) -> Result<String, AllocError> {
+    let mut text = String::new(alloc);
+    for part in parts {
+        text.push_str(part)?;
+    }
+    Ok(text)
+}
+
+/// Replays the parts, and asserts what was answered, what was told and the status.
+fn check<R: Abort + AllocGlobal>(
+    rt: &R,
+    input: &[&str],
+    answers: &[&str],
+    told: &str,
+    status: u8,
+) -> Result<(), AllocError> {
+    let input = joined(rt.alloc(), input)?;
+    let answers = joined(rt.alloc(), answers)?;
+    let (mut output, mut errors) = (Vec::new(rt.alloc()), Vec::new(rt.alloc()));
+    let answered = replay(rt.alloc(), input.as_bytes(), &mut output, &mut errors);
+    assert!(rt;
+        output.as_slice() == answers.as_bytes(),
+        "{output:?} to {input}"
+    );
+    assert!(rt;
+        errors.as_slice() == told.as_bytes(),
+        "{errors:?} to {input}"
+    );
+    assert!(rt; answered == status, "{answered} to {input}");
+    Ok(())
+}
+
+#[test]
+fn one_card_and_one_missing_laboratory(rt: HostRuntime) -> Result<(), Fail> {
+    let founded = "founded aqua\nfounded brick\n";
+    let answers = [founded, AQUA_REPLY, ZINC_REPLY];
+    check(&rt, &[AQUA, BRICK, AQUA_CARD, ZINC_CARD], &answers, "", 0)?;
+    let further = "refused 64 lab_exists\n";
+    let answers = ["founded aqua\n", further, AQUA_REPLY];
+    check(&rt, &[AQUA, AQUA, AQUA_CARD], &answers, "", 0)?;
+    check(&rt, &[], &[], "", 0)?;
+    Ok(())
+}
+
+#[test]
+fn each_event_of_the_first_run_is_taken(rt: HostRuntime) -> Result<(), Fail> {
+    let alloc = rt.alloc();
+    let input = joined(alloc, &[AQUA, BRICK, AQUA_CARD, ZINC_CARD])?;
+    let mut reader = input.as_bytes();
+    let mut events = Vec::new(alloc);
+    for _ in 0..5 {
+        let event = next_event(alloc, &mut reader).map_err(|_| "an event")?;
+        let Some(event) = event else {
+            break;
+        };
+        events.push(event)?;
+    }
+    assert_eq!(rt; events.len(), 4);
+    let mut output = Vec::new(alloc);
+    let mut desk = Desk::new(alloc, Lists::new(alloc)).map_err(|_| "a desk")?;
+    let taken = desk.run(&events, &mut output).map_err(|_| "a run")?;
+    assert_eq!(rt; taken.as_slice(), [true, true, true, true].as_slice());
+    Ok(())
+}
+
+#[test]
+fn a_clock_that_is_behind(rt: HostRuntime) -> Result<(), Fail> {
+    let later = "found aqua 101 1 19\n{\"name\":\"Aqua Lab\"}";
+    let reply =
+        "HTTP/1.1 503 Service Unavailable\r\nDate: Thu, 01 Jan 1970 00:01:40 GMT\r\nContent-Type: application/json\r\nContent-Length: 36\r\nConnection: close\r\n\r\n{\"error\":\"clock_behind\",\"number\":41}";
+    check(&rt, &[later, AQUA_CARD], &["founded aqua\n", reply], "", 0)?;
+    Ok(())
+}
+
+#[test]
+fn what_is_no_event(rt: HostRuntime) -> Result<(), Fail> {
+    let bad = [
+        "\n",
+        "found",
+        "call 100 9 0",
+        "lost 100 9 0\n",
+        "Call 100 9 0\n",
+        " call 100 9 0\n",
+        "call  100 9 0\n",
+        "call 100 9 0 \n",
+        "call 100 9 0\r\n",
+        "call 100 9\n",
+        "call 100 9 0 0\n",
+        "call 100 9 -1\n",
+        "call +100 9 0\n",
+        "call 100 0x9 0\n",
+        "call 253402300800 9 0\n",
+        "call 9223372036854775808 9 0\n",
+        "call 18446744073709551617 9 0\n",
+        "call 100 18446744073709551609 0\n",
+        "call 100 9 1000001\n",
+        "call 100 9 3\nab",
+        "found 0 1 19\n{\"name\":\"Aqua Lab\"}",
+        "found Aqua 0 1 19\n{\"name\":\"Aqua Lab\"}",
+        "found aquamarine-12 0 1 19\n{\"name\":\"Aqua Lab\"}",
+        "found \u{e9}gide 0 1 19\n{\"name\":\"Aqua Lab\"}",
+        "found  0 1 19\n{\"name\":\"Aqua Lab\"}",
+    ];
+    for event in bad {
+        let input = [AQUA, event, BRICK];
+        let last = [AQUA, event];
+        let told = "labdesk: bad_event\n";
+        if !event.ends_with("ab") {
+            check(&rt, &input, &["founded aqua\n"], told, 1)?;
+        }
+        check(&rt, &last, &["founded aqua\n"], told, 1)?;
+    }
+    Ok(())
+}
+
+#[test]
+fn numbers_at_their_limits(rt: HostRuntime) -> Result<(), Fail> {
+    let zeros =
+        "found aqua 00000000000000000000000000 000000000000000000000001 019\n{\"name\":\"Aqua Lab\"}";
+    let last =
+        "found brick 253402300799 18446744073709551608 00000000000020\n{\"name\":\"Brick Lab\"}";
+    check(
+        &rt,
+        &[zeros, last],
+        &["founded aqua\nfounded brick\n"],
+        "",
+        0,
+    )?;
+    let mut long = joined(
+        rt.alloc(),
+        &["found aqua 0 1 1000000\n{\"name\":\"Aqua Lab\"}"],
+    )?;
+    for _ in 19..1_000_000 {
+        long.push(' ')?;
+    }
+    check(
+        &rt,
+        &[long.as_str(), BRICK],
+        &["founded aqua\nfounded brick\n"],
+        "",
+        0,
+    )?;
+    Ok(())
+}
+
+/// A reader that gives a few bytes at a time, is interrupted at each other call, and fails after so many calls.
+#[derive(Drop)]
+struct Halting<'a> {
+    bytes: &'a [u8],
+    calls_left: u8,
+}
+
+impl Read for Halting<'_> {
+    fn read(&mut self, buffer: &mut [u8]) -> io::Result<usize> {
+        if self.calls_left == 0 {
+            return Err(io::Error::new(ErrorKind::Other, "halted"));
+        }
+        self.calls_left -= 1;
+        if self.calls_left % 2 == 0 {
+            return Err(io::Error::new(ErrorKind::Interrupted, "again"));
+        }
+        let most = buffer.len().min(30);
+        self.bytes.read(&mut buffer[..most])
+    }
+}
+
+#[test]
+fn an_input_that_fails(rt: HostRuntime) -> Result<(), Fail> {
+    let input = joined(rt.alloc(), &[AQUA, BRICK])?;
+    for (calls, answers, told, status) in [
+        (0, "", "labdesk: read_fault\n", 1),
+        (3, "", "labdesk: read_fault\n", 1),
+        (5, "founded aqua\n", "labdesk: read_fault\n", 1),
+        (
+            7,
+            "founded aqua\nfounded brick\n",
+            "labdesk: read_fault\n",
+            1,
+        ),
+        (40, "founded aqua\nfounded brick\n", "", 0),
+    ] {
+        let (mut output, mut errors) = (Vec::new(rt.alloc()), Vec::new(rt.alloc()));
+        let halting = Halting {
+            bytes: input.as_bytes(),
+            calls_left: calls,
+        };
+        let answered = replay(rt.alloc(), halting, &mut output, &mut errors);
+        assert!(rt;
+            output.as_slice() == answers.as_bytes(),
+            "{output:?} after {calls}"
+        );
+        assert!(rt;
+            errors.as_slice() == told.as_bytes(),
+            "{errors:?} after {calls}"
+        );
+        assert_eq!(rt; answered, status, "after {calls}");
+    }
+    Ok(())
+}
+
+#[test]
+fn a_reader_is_asked_no_more_than_it_may_be(rt: HostRuntime) -> Result<(), Fail> {
+    let mut reader = LimitedReader::new(io::repeat(b'a'), 3);
+    let mut buffer = [0u8; 4];
+    for _ in 0..3 {
+        assert_eq!(rt; reader.read(&mut buffer)?, 4);
+    }
+    assert!(rt; reader.read(&mut buffer).is_err());
+    assert!(rt; reader.read(&mut buffer).is_err());
+    Ok(())
+}
+
+/// A writer with room for so many bytes, that then takes none, or fails.
+#[derive(Drop)]
+struct Narrow {
+    bytes: Vec<u8>,
+    room: usize,
+    fails: bool,
+}
+
+impl Write for Narrow {
+    fn write(&mut self, buffer: &[u8]) -> io::Result<usize> {
+        let count = buffer.len().min(self.room);
+        if count == 0 && self.fails {
+            return Err(io::Error::new(ErrorKind::Other, "full"));
+        }
+        self.bytes.extend_from_slice(&buffer[..count])?;
+        self.room -= count;
+        Ok(count)
+    }
+
+    fn flush(&mut self) -> io::Result<()> {
+        Ok(())
+    }
+}
+
+#[test]
+fn an_output_that_fails(rt: HostRuntime) -> Result<(), Fail> {
+    let input = joined(rt.alloc(), &[AQUA, BRICK])?;
+    for (room, fails, told_room, told, status) in [
+        (0, true, 99, "labdesk: write_fault\n", 1),
+        (0, false, 99, "labdesk: write_fault\n", 1),
+        (15, true, 99, "labdesk: write_fault\n", 1),
+        (15, false, 99, "labdesk: write_fault\n", 1),
+        (15, true, 9, "labdesk: ", 1),
+        (27, true, 0, "", 0),
+    ] {
+        let mut output = Narrow {
+            bytes: Vec::new(rt.alloc()),
+            room,
+            fails,
+        };
+        let mut errors = Narrow {
+            bytes: Vec::new(rt.alloc()),
+            room: told_room,
+            fails,
+        };
+        let answered = replay(rt.alloc(), input.as_bytes(), &mut output, &mut errors);
+        let answers = "founded aqua\nfounded brick\n".as_bytes();
+        let written = answers.get(..room).ok_or("room")?;
+        assert!(rt; output.bytes.as_slice() == written, "{room}");
+        assert!(rt; errors.bytes.as_slice() == told.as_bytes(), "{room}");
+        assert_eq!(rt; answered, status, "{room}");
+    }
+    Ok(())
+}
+
+#[test]
+fn words_of_the_command_line(rt: HostRuntime) -> Result<(), Fail> {
+    let alloc = rt.alloc();
+    for (words, status, has_output, has_errors) in [
+        ("labdesk replay", 0, true, false),
+        ("labdesk", 2, false, true),
+        ("labdesk relay", 2, false, true),
+        ("labdesk replay twice", 2, false, true),
+        ("labdesk --file", 2, false, true),
+        ("labdesk --help", 0, true, false),
+        ("labdesk help replay", 0, true, false),
+    ] {
+        let mut list = Vec::new(alloc);
+        for word in words.split(' ') {
+            list.push(String::from_str(alloc, word)?)?;
+        }
+        let (mut output, mut errors) = (Vec::new(alloc), Vec::new(alloc));
+        let answered = labdesk(alloc, &list, AQUA.as_bytes(), &mut output, &mut errors);
+        assert_eq!(rt; answered, status, "{words}");
+        assert_eq!(rt; !output.is_empty(), has_output, "{words}");
+        assert_eq!(rt; !errors.is_empty(), has_errors, "{words}");
+    }
+    Ok(())
+}
