@@ -5,12 +5,12 @@ use std::test::Fail;
 
 const HEAD: &[u8] = b"GET /labs/aqua HTTP/1.1\r\nHost: d\r\n";
 
-// 0 where the card of aqua is asked for, 1000 where another laboratory's, and else the fault's number.
+// 0 where the card of aqua is asked for, 1000 where another laboratory's, and else the fault's number (2000 for none).
 fn number(alloc: Global, bytes: &[u8]) -> u32 {
     match ask(alloc, bytes) {
         Ok(asked) if asked.lab.as_str() == "aqua" => 0,
         Ok(_) => 1000,
-        Err(fault) => fault.number(),
+        Err(fault) => fault.number().unwrap_or(2000),
     }
 }
 
