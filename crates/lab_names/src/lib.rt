@@ -11,5 +11,5 @@ mod tick;
 
 pub use faults::{MomentFault, NameFault, OutOfMemory};
 pub use moment::Moment;
-pub use names::{LabCode, Name};
+pub use names::{Key, LabCode, Name, Note, PersonCode, Unit};
 pub use tick::Tick;

@@ -1,4 +1,6 @@
-use crate::{LabCode, Moment, MomentFault, Name, NameFault, OutOfMemory, Tick};
+use crate::{
+    Key, LabCode, Moment, MomentFault, Name, NameFault, Note, OutOfMemory, PersonCode, Tick, Unit,
+};
 use std::test::Fail;
 
 // Seconds and texts that Python's `datetime` gives.
@@ -120,6 +122,114 @@ fn names_have_120_bytes_at_most(rt: HostRuntime) -> Result<(), Fail> {
         assert_eq!(rt; name.as_str().len(), 120);
         text.push('b')?;
         let refused = Name::parse(rt.alloc(), text.as_str());
+        assert_eq!(rt; refused, Err(NameFault::BadName), "{character}");
+    }
+    Ok(())
+}
+
+#[test]
+fn person_codes_are_read_exactly(rt: HostRuntime) -> Result<(), Fail> {
+    for text in ["jo", "ann", "dan-2", "abcdefghijklmnop"] {
+        let code = PersonCode::parse(rt.alloc(), text)?;
+        assert_eq!(rt; code.as_str(), text);
+        assert_eq!(rt; code.copy()?, code);
+    }
+    for text in [
+        "",
+        "a",
+        "2jo",
+        "-jo",
+        "Jo",
+        "jo_2",
+        "jö",
+        "jo ",
+        "abcdefghijklmnopq",
+    ] {
+        let refused = PersonCode::parse(rt.alloc(), text);
+        assert_eq!(rt; refused, Err(NameFault::BadName), "{text:?}");
+    }
+    Ok(())
+}
+
+#[test]
+fn keys_are_read_exactly(rt: HostRuntime) -> Result<(), Fail> {
+    for text in ["k", "lead", "lead_2", "abcdefghijklmnopqrstuvwx"] {
+        let key = Key::parse(rt.alloc(), text)?;
+        assert_eq!(rt; key.as_str(), text);
+        assert_eq!(rt; key.copy()?, key);
+    }
+    for text in [
+        "",
+        "_lead",
+        "2nd",
+        "Lead",
+        "lead-2",
+        "lead\n",
+        "abcdefghijklmnopqrstuvwxy",
+    ] {
+        let refused = Key::parse(rt.alloc(), text);
+        assert_eq!(rt; refused, Err(NameFault::BadName), "{text:?}");
+    }
+    Ok(())
+}
+
+#[test]
+fn notes_are_read_exactly(rt: HostRuntime) -> Result<(), Fail> {
+    for text in [
+        " ",
+        "one decimal is meant",
+        "two\nlines\n",
+        "Probe ist trüb",
+        "水",
+    ] {
+        let note = Note::parse(rt.alloc(), text)?;
+        assert_eq!(rt; note.as_str(), text);
+        assert_eq!(rt; note.copy()?, note);
+    }
+    for text in ["", "a\tb", "a\r\nb", "a\0b", "\u{1f}", "\u{7f}"] {
+        let refused = Note::parse(rt.alloc(), text);
+        assert_eq!(rt; refused, Err(NameFault::BadName), "{text:?}");
+    }
+    Ok(())
+}
+
+#[test]
+fn units_are_read_exactly(rt: HostRuntime) -> Result<(), Fail> {
+    for text in ["", "mg/L", "µg/L", "abcdefghijklmnopqrst", "°C"] {
+        let unit = Unit::parse(rt.alloc(), text)?;
+        assert_eq!(rt; unit.as_str(), text);
+        assert_eq!(rt; unit.copy()?, unit);
+    }
+    for text in [
+        " ",
+        "mg/L ",
+        "mg\nL",
+        "abcdefghijklmnopqrstu",
+        "abcdefghijklmnopqrsµ",
+    ] {
+        let refused = Unit::parse(rt.alloc(), text);
+        assert_eq!(rt; refused, Err(NameFault::BadName), "{text:?}");
+    }
+    Ok(())
+}
+
+// Notes of 1,000 bytes and of 1,001, of characters of 1 to 4 bytes.
+#[test]
+fn notes_have_1000_bytes_at_most(rt: HostRuntime) -> Result<(), Fail> {
+    for (character, count, rest) in [
+        ("a", 1000, ""),
+        ("é", 500, ""),
+        ("水", 333, "b"),
+        ("🜄", 250, ""),
+    ] {
+        let mut text = String::from_str(rt.alloc(), rest)?;
+        for _ in 0..count {
+            text.push_str(character)?;
+        }
+        let note = Note::parse(rt.alloc(), text.as_str())?;
+        assert_eq!(rt; note.as_str().len(), 1000);
+        text.push('b')?;
+        let refused = Note::parse(rt.alloc(), text.as_str());
         assert_eq!(rt; refused, Err(NameFault::BadName), "{character}");
     }
     Ok(())

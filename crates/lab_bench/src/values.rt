@@ -1,0 +1,52 @@
+//! Values of a form, read.
+
+use anyhow::Result;
+use lab_forms::{Bound, Field, Form, Kind};
+use lab_names::{Key, Name, Unit};
+use std::alloc::Global;
+
+// Texts of values, one that is out of range, and one that is no number.
+const TEXTS: [&str; 8] = [
+    "7.5",
+    "7.50",
+    "<0.05",
+    "-0",
+    "+7",
+    "999999999999999.99",
+    "-1",
+    "7,5",
+];
+
+// A form of one field, which takes numbers of two decimals in mg/L, from 0.
+fn form_of_lead(alloc: Global) -> Result<Form> {
+    let kind = Kind::Number {
+        unit: Unit::parse(alloc, "mg/L")?,
+        decimals: 2,
+        min: Some(Bound::new(String::from_str(alloc, "0")?)),
+        max: None,
+    };
+    let lead = Field {
+        key: Key::parse(alloc, "lead")?,
+        label: Name::parse(alloc, "Lead")?,
+        required: true,
+        kind,
+    };
+    let mut fields = Vec::new(alloc);
+    fields.push(lead)?;
+    Ok(Form::make(fields)?)
+}
+
+/// Reads the texts in turn, and answers the sum of the lengths of those that are values.
+pub(crate) fn read_values(alloc: Global, calls: u32) -> Result<u64> {
+    let form = form_of_lead(alloc)?;
+    let key = Key::parse(alloc, "lead")?;
+    let unit = Unit::parse(alloc, "mg/L")?;
+    let mut sum = 0u64;
+    for call in 0..calls {
+        let text = TEXTS[call as usize % TEXTS.len()];
+        if let Ok(value) = form.read_value(alloc, &key, text, &unit) {
+            sum = sum.wrapping_add(value.print().len() as u64);
+        }
+    }
+    Ok(sum)
+}

@@ -1,0 +1,5 @@
+pub mod DateLemmas
+pub mod FormLemmas
+pub mod KnownValues
+pub mod NumberLemmas
+pub mod WordLemmas

@@ -1,0 +1,33 @@
+-- Dates as texts: YYYY-MM-DD (ISO 8601-1:2019, 5.2.2.1, as RFC 3339 has it in section 5.6), of the proleptic Gregorian
+-- calendar, from the year 0001 to the year 9999.
+use Rattle.std.specs.Prelude.{ℕ, Bool, ◌&&◌, ◌==◌, nat_le, List, length, slice_index, slice_range}
+use Rattle.lab_names.specs.Calendar.{days_in_month}
+use Rattle.lab_forms.specs.Numbers.{is_digits, number_of}
+
+-- the year, the month and the day of the month as the text writes them
+abbrev pub year_part : List ℕ → List ℕ
+year_part text = slice_range text 0 4
+
+abbrev pub month_part : List ℕ → List ℕ
+month_part text = slice_range text 5 7
+
+abbrev pub day_part : List ℕ → List ℕ
+day_part text = slice_range text 8 10
+
+-- ten bytes, with hyphens between the year, the month and the day
+abbrev pub has_hyphens : List ℕ → Bool
+has_hyphens text =
+    (length text == 10) && (slice_index text 4 == 45) && (slice_index text 7 == 45)
+
+-- the calendar has this day in a year from 1 to 9999
+unfoldable pub is_calendar_day : ℕ → ℕ → ℕ → Bool
+is_calendar_day year month day =
+    nat_le 1 year && nat_le year 9999 && nat_le 1 month && nat_le month 12 && nat_le 1 day
+    && nat_le day (days_in_month year month)
+
+-- a date's text
+unfoldable pub is_date : List ℕ → Bool
+is_date text =
+    has_hyphens text && is_digits 4 (year_part text) && is_digits 2 (month_part text)
+    && is_digits 2 (day_part text)
+    && is_calendar_day (number_of (year_part text)) (number_of (month_part text)) (number_of (day_part text))

@@ -1,0 +1,70 @@
+-- What a field of each kind takes as a value, and which kinds a form may ask for. The rules are this system's own; a date
+-- is one of the proleptic Gregorian calendar (ISO 8601-1:2019).
+use Rattle.std.specs.Prelude.{ℕ, Bool, true, ◌&&◌, ◌||◌, not, nat_le, List, [], length, Option, Some, None, is_some, ℤ, int_le, bytes_eq, codes, option_and_then}
+use Rattle.lab_names.specs.Names.{is_note}
+use Rattle.lab_forms.specs.declared.field.Kind.{Kind}
+use Rattle.lab_forms.specs.declared.field.Kind.TheVariants.{Number, Text, Choice, Date, YesNo}
+use Rattle.lab_forms.specs.Numbers.{is_number, amount_read, without_comparison}
+use Rattle.lab_forms.specs.Dates.{is_date}
+use Rattle.lab_forms.specs.Words.{has_text, has_text_twice}
+
+-- the form of a value's text: a number may have a `<` or a `>` in front
+abbrev pub has_form : Kind → List ℕ → Bool
+has_form (Number unit decimals min max) text = is_number decimals (without_comparison text)
+has_form (Text size) text = nat_le (length text) size
+has_form (Choice choices) text = has_text choices text
+has_form Date text = is_date text
+has_form YesNo text = bytes_eq text (codes "yes") || bytes_eq text (codes "no")
+
+-- whatever its kind, a value is a note
+abbrev pub is_value : Kind → List ℕ → Bool
+is_value kind text = is_note text && has_form kind text
+
+-- the unit of the values: only numbers have one
+abbrev pub unit_of : Kind → List ℕ
+unit_of (Number unit decimals min max) = unit
+unit_of (Text size) = []
+unit_of (Choice choices) = []
+unit_of Date = []
+unit_of YesNo = []
+
+-- the amount of a bound, if there is one
+abbrev pub bound_amount : ℕ → Option (List ℕ) → Option ℤ
+bound_amount decimals bound = option_and_then (amount_read decimals) bound
+
+-- where both amounts are there, the second is not below the first
+abbrev pub is_at_most : Option ℤ → Option ℤ → Bool
+is_at_most (Some low) (Some high) = int_le low high
+is_at_most (Some low) None = true
+is_at_most None high = true
+
+-- an amount lies from the least to the greatest that the field takes; a `<` or `>` is left out of account
+abbrev pub is_in_range : Kind → List ℕ → Bool
+is_in_range (Number unit decimals min max) text =
+    is_at_most (bound_amount decimals min) (amount_read decimals (without_comparison text))
+    && is_at_most (amount_read decimals (without_comparison text)) (bound_amount decimals max)
+is_in_range (Text size) text = true
+is_in_range (Choice choices) text = true
+is_in_range Date text = true
+is_in_range YesNo text = true
+
+-- A text and a unit fit a field of the kind: the text has its form, the unit is the kind's byte for byte, and the amount is
+-- in range.
+abbrev pub fits : Kind → List ℕ → List ℕ → Bool
+fits kind text unit = is_value kind text && bytes_eq unit (unit_of kind) && is_in_range kind text
+
+-- a bound is a number as the field's values are, but never with `<` or `>`
+abbrev pub is_bound : ℕ → Option (List ℕ) → Bool
+is_bound decimals None = true
+is_bound decimals (Some text) = is_number decimals text
+
+-- a kind that a form may ask for: the least amount is not above the greatest, and no choice stands twice
+abbrev pub is_kind : Kind → Bool
+is_kind (Number unit decimals min max) =
+    nat_le decimals 6 && is_bound decimals min && is_bound decimals max
+    && is_at_most (bound_amount decimals min) (bound_amount decimals max)
+is_kind (Text size) = nat_le 1 size && nat_le size 1000
+is_kind (Choice choices) =
+    nat_le 1 (length choices) && nat_le (length choices) 20 && not (has_text_twice choices)
+is_kind Date = true
+is_kind YesNo = true

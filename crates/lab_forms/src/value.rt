@@ -1,0 +1,45 @@
+//! Values, as they were written.
+ghost use Rattle.std.specs.Prelude.{◌≡◌, IfOk};
+
+use lab_names::{Note, OutOfMemory};
+use std::marker::Model;
+
+/// A value that a form has read, as it was written: `7.5` and `7.50` are two values.
+///
+/// A contract sees it as the list of its text's bytes.
+#[derive(Debug, Drop)]
+pub struct Value {
+    text: Note,
+}
+
+impl Model for Value {
+    ghost use Rattle.std.specs.Prelude.{List, ℕ};
+
+    ghost Value = { List ℕ };
+
+    ghost view = { λ value. value.text };
+}
+
+impl Value {
+    /// A value of this text, which its form has read.
+    pub(crate) fn of_note(text: Note) -> Value
+        ensures { result ≡ text }
+    {
+        Value { text }
+    }
+
+    /// The text as it was written.
+    pub fn print(&self) -> &str
+        ensures { result.now ≡ self.now }
+    {
+        self.text.as_str()
+    }
+
+    /// The same value once more.
+    pub fn copy(&self) -> Result<Value, OutOfMemory>
+        ensures { IfOk result (λ value. value ≡ self.now) }
+    {
+        let text = self.text.copy()?;
+        Ok(Value { text })
+    }
+}
