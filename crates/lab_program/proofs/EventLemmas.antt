@@ -61,19 +61,24 @@ and_true : (a b : Bool) → (a && b) ≡ true → (a ≡ true) × (b ≡ true)
 and_true true b h = (refl, h)
 and_true false b h = absurd (cc)
 
-code_byte_ascii : (b : ℕ) → is_code_byte b ≡ true → b < 128
+-- a to z, 0 to 9, or the hyphen
+abbrev is_lab_code_byte : ℕ → Bool
+is_lab_code_byte b = is_code_byte 45 b
+
+code_byte_ascii : (b : ℕ) → is_lab_code_byte b ≡ true → b < 128
 code_byte_ascii b h = grind (arith, nat_tests)
 
-code_bytes_ascii : (bs : List ℕ) → list_all is_code_byte bs ≡ true → IsAscii bs
+code_bytes_ascii : (bs : List ℕ) → list_all is_lab_code_byte bs ≡ true → IsAscii bs
 code_bytes_ascii [] h = IsAscii-nil
 code_bytes_ascii (b ∷ bs) h =
-    let parts = and_true (is_code_byte b) (list_all is_code_byte bs) h in
+    let parts = and_true (is_lab_code_byte b) (list_all is_lab_code_byte bs) h in
     IsAscii-cons b bs (code_byte_ascii b parts.0) (code_bytes_ascii bs parts.1)
 
 is_lab_code-text : (text : List ℕ) → is_lab_code text ≡ true → IsUtf8 text
 unfolding is_lab_code
 is_lab_code-text text h =
-    IsUtf8-from_ascii text (code_bytes_ascii text (and_true (nat_le (length text) 12 && is_ascii_lowercase (slice_index text 0)) (list_all is_code_byte text) h).1)
+    let length_and_first = nat_le 1 (length text) && nat_le (length text) 12 && is_ascii_lowercase (slice_index text 0) in
+    IsUtf8-from_ascii text (code_bytes_ascii text (and_true length_and_first (list_all is_lab_code_byte text) h).1)
 
 unless : (b : Bool) (text : List ℕ) → (b ≡ true → ⊥) → cond b (Some text) None ≡ None
 unless true text h = absurd (h refl)
