@@ -9,7 +9,7 @@ use Rattle.lab_records.specs.declared.command.Command.TheVariants.{Card}
 use Rattle.lab_records.specs.declared.fault.Fault.{Fault}
 use Rattle.lab_records.specs.declared.fault.Fault.TheVariants.{Refused, Memory}
 use Rattle.lab_records.specs.declared.refusal.Refusal.{Refusal}
-use Rattle.lab_records.specs.declared.refusal.Refusal.TheVariants.{NoRoute}
+use Rattle.lab_records.specs.declared.refusal.Refusal.TheVariants.{BadHead, HeadTooLong, NoRoute}
 use Rattle.lab_wire.specs.declared.request.Ask.{Ask}
 use Rattle.lab_wire.specs.Heads.{Head, good_head}
 
@@ -54,3 +54,10 @@ asked bytes = asked_by (good_head bytes)
 abbrev pub AskFaultFits : Result Ask Refusal → Fault → Type 0
 AskFaultFits asks (Refused refusal) = asks ≡ Err refusal
 AskFaultFits asks (Memory want) = IsOk asks
+
+-- the refusals that the bytes of a request may get
+abbrev pub IsAskRefusal : Refusal → Type 0
+IsAskRefusal BadHead = Unit {0}
+IsAskRefusal HeadTooLong = Unit {0}
+IsAskRefusal NoRoute = Unit {0}
+IsAskRefusal _ = ⊥

@@ -2,6 +2,7 @@
 ghost use Rattle.std.specs.Prelude.{◌≡◌, ◌+◌, ◌≤◌, ◌==◌, ◌||◌, not, ℕ, List, length, All, IsTrue, IfOk, IfErr, IfSome, IfNone, Ok, Err, position, count_by};
 ghost use Rattle.httparse.specs.Grammar.{ReadsRequest, RequestHead};
 ghost use Rattle.httparse.specs.Spans.{IsHeaderWithin, IsRequestWithin, IsRequestOf, span_bytes};
+ghost use Rattle.lab_wire.specs.Asked.{IsAskRefusal};
 ghost use Rattle.lab_wire.specs.Heads.{is_line_feed, is_empty_line, without_front, head_text, head_lines, has_end, is_over_limits, is_host, Head, good_head};
 
 use httparse::Status;
@@ -134,6 +135,7 @@ pub fn read_head(bytes: &[u8]) -> Result<RequestLine<'_>, Refusal>
     ensures good { IfOk result (λ line. (head : Head) × (good_head bytes.now ≡ Ok head)
         × (line.method.now ≡ head.method) × (line.target.now ≡ head.target)) }
     ensures refused { IfErr result (λ refusal. good_head bytes.now ≡ Err refusal) }
+    ensures kind { IfErr result IsAskRefusal }
 {
     let text = head_text(bytes);
     if is_over_limits(bytes.len(), text) {

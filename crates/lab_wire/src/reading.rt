@@ -1,6 +1,7 @@
 //! What a request asks: the laboratory and the command that its head names.
 ghost use Rattle.std.specs.Prelude.{◌≡◌, Ok, Err, Some, None, IfOk, IfErr, MatchOption};
-ghost use Rattle.lab_wire.specs.Asked.{path_of, code_in, card_of, asked, AskFaultFits};
+ghost use Rattle.lab_wire.specs.Asked.{path_of, code_in, card_of, asked, AskFaultFits, IsAskRefusal};
+ghost use Rattle.lab_records.specs.Refusals.{MayFail};
 
 use crate::head::read_head;
 use crate::request::Ask;
@@ -20,6 +21,7 @@ fn code_in(target: &str) -> Option<&str>
 fn card_code(bytes: &[u8]) -> Result<&str, Refusal>
     ensures found { IfOk result (λ code. asked bytes.now ≡ card_of (Some code.now)) }
     ensures refused { IfErr result (λ refusal. asked bytes.now ≡ Err refusal) }
+    ensures kind { IfErr result IsAskRefusal }
 {
     let line = read_head(bytes)?;
     if line.method != b"GET".as_slice() {
@@ -31,6 +33,7 @@ fn card_code(bytes: &[u8]) -> Result<&str, Refusal>
 fn card(alloc: Global, code: &str) -> Result<Ask, Fault>
     ensures asks { IfOk result (λ asks. card_of (Some code.now) ≡ Ok asks) }
     ensures fault { IfErr result (AskFaultFits (card_of (Some code.now))) }
+    ensures kind { IfErr result (MayFail IsAskRefusal) }
 {
     match LabCode::parse(alloc, code) {
         Ok(lab) => Ok(Ask {
@@ -58,6 +61,7 @@ fn card(alloc: Global, code: &str) -> Result<Ask, Fault>
 pub fn ask(alloc: Global, bytes: &[u8]) -> Result<Ask, Fault>
     ensures asks { IfOk result (λ asks. asked bytes.now ≡ Ok asks) }
     ensures fault { IfErr result (AskFaultFits (asked bytes.now)) }
+    ensures kind { IfErr result (MayFail IsAskRefusal) }
 {
     match card_code(bytes) {
         Ok(code) => card(alloc, code),
