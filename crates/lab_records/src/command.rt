@@ -116,3 +116,19 @@ impl Slice {
         })
     }
 }
+
+impl Outcome {
+    /// A second outcome that equals this one.
+    ///
+    /// # Errors
+    /// Only want of memory.
+    pub fn copy(&self) -> Result<Outcome, OutOfMemory>
+        ensures reply { IfOk result (λ copy. copy.reply ≡ self.now.reply) }
+        ensures changes { IfOk result (λ copy. copy.changes.items ≡ self.now.changes.items) }
+    {
+        Ok(Outcome {
+            reply: self.reply.copy()?,
+            changes: self.changes.clone()?,
+        })
+    }
+}

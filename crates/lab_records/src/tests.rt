@@ -1,8 +1,8 @@
 //! The table of refusals, and a card at, before and after the last moment.
 
 use crate::{
-    Change, Command, Fault, Founding, Lab, LabCode, Moment, Name, Need, OutOfMemory, Refusal,
-    Reply, Tick, decide, needs,
+    Change, Command, Fault, Founding, Lab, LabCode, Moment, Name, Need, OutOfMemory, Outcome,
+    Refusal, Reply, Tick, decide, needs,
 };
 use std::alloc::Global;
 use std::test::Fail;
@@ -74,5 +74,23 @@ fn a_change_sets_the_last_moment(rt: HostRuntime) -> Result<(), Fail> {
     let mut lab = aqua(rt.alloc())?;
     lab.change(&Change::Last(Moment::from_seconds(2000)?));
     assert_eq!(rt; lab.last.seconds(), 2000);
+    Ok(())
+}
+
+#[test]
+fn an_outcome_is_copied_whole(rt: HostRuntime) -> Result<(), Fail> {
+    let mut changes = Vec::new(rt.alloc());
+    changes.push(Change::Last(Moment::from_seconds(2000)?))?;
+    let outcome = Outcome {
+        reply: Reply::Refused(Refusal::NoSuchLab),
+        changes,
+    };
+    let copy = outcome.copy()?;
+    let mut lab = aqua(rt.alloc())?;
+    for change in &copy.changes {
+        lab.change(change);
+    }
+    assert_eq!(rt; lab.last.seconds(), 2000);
+    assert!(rt; matches!(copy.reply, Reply::Refused(Refusal::NoSuchLab)));
     Ok(())
 }
