@@ -1,2 +1,3 @@
 mod Listing
-mod Running
+mod ReplyKinds
+pub mod Running

@@ -14,7 +14,8 @@ use Rattle.lab_records.specs.declared.refusal.Refusal.{Refusal}
 use Rattle.lab_records.specs.Machine.{step, after_birth}
 use Rattle.lab_records.specs.Changes.{SameMeaning}
 use Rattle.lab_wire.specs.declared.Ask.{Ask}
-use Rattle.lab_wire.specs.Asked.{asked}
+use Rattle.lab_wire.specs.Asked.{asked, IsAskRefusal}
+use Rattle.lab_wire.proofs.AskLemmas.{asked-kind}
 use Rattle.lab_wire.specs.Foundings.{founding_named}
 use Rattle.lab_wire.specs.Replies.{reply_text, memory_text}
 use Rattle.lab_desk.specs.declared.event.Event.{Event}
@@ -158,9 +159,9 @@ call_alone code tick (Err refusal) answer old after answered changed = (refl, ch
 call_alone code tick (Ok ask) answer old after answered changed = ask_alone ask code tick answer old after (bytes_eq ask.lab code) (bytes_eq-Decides ask.lab code).0 answered changed
 
 -- a wire fault is answered from bytes and tick alone
-nobodys : (tick : Tick) (asks : Result Ask Refusal) (answer : List ℕ) (old : List ℕ → Option Lab) → answer ≡ reply_text tick (reply_to old tick asks) → ForWireFault tick asks answer
-nobodys tick (Err refusal) answer old answered = answered
-nobodys tick (Ok ask) answer old answered = tt
+nobodys : (tick : Tick) (asks : Result Ask Refusal) (answer : List ℕ) (old : List ℕ → Option Lab) → IfErr asks IsAskRefusal → answer ≡ reply_text tick (reply_to old tick asks) → ForWireFault tick asks answer
+nobodys tick (Err refusal) answer old kind answered = (kind, answered)
+nobodys tick (Ok ask) answer old kind answered = tt
 
 -- a call is a run
 call_run : (may_refuse : Type 0) (tick : Tick) (bytes : Vec ℕ Global) (taken : Bool) (answer : List ℕ) (old new : List ℕ → Option Lab) →
@@ -169,7 +170,7 @@ call_run : (may_refuse : Type 0) (tick : Tick) (bytes : Vec ℕ Global) (taken :
     (taken ≡ false → (answer ≡ memory_text) ⊎ (may_refuse × (answer ≡ storage_text tick))) → (taken ≡ false → SameMeaning old new) →
     IsRun may_refuse (Call tick bytes ∷ []) (taken ∷ []) (answer ∷ []) old new
 call_run may_refuse tick bytes true answer old new answered changed refused same = record {
-  each = (nobodys tick (asked bytes.items) answer old (answered refl), tt);
+  each = (nobodys tick (asked bytes.items) answer old (asked-kind bytes.items) (answered refl), tt);
   alone = λ code.
       let both = call_alone code tick (asked bytes.items) answer old (new code) (answered refl) (changed refl code) in
       record { answered = both.0; after = both.1 };

@@ -4,16 +4,17 @@ use Rattle.lab_names.specs.declared.Tick.{Tick}
 use Rattle.lab_records.specs.declared.lab.Lab.{Lab}
 use Rattle.lab_records.specs.declared.command.Founding.{Founding}
 use Rattle.lab_records.specs.declared.command.Reply.{Reply}
-use Rattle.lab_records.specs.declared.command.Reply.TheVariants.{Refused as RefusedReply}
+use Rattle.lab_records.specs.declared.command.Reply.TheVariants.{Card, Refused as RefusedReply}
 use Rattle.lab_records.specs.declared.refusal.Refusal.{Refusal}
 use Rattle.lab_records.specs.declared.fault.Fault.{Fault}
 use Rattle.lab_records.specs.declared.fault.Fault.TheVariants.{Refused as RefusedFault, Memory}
-use Rattle.lab_records.specs.declared.refusal.Refusal.TheVariants.{Storage, LabExists}
+use Rattle.lab_records.specs.declared.refusal.Refusal.TheVariants.{NoSuchLab, ClockBehind, Storage, LabExists}
 use Rattle.lab_records.specs.Machine.{step, born, after_birth}
 use Rattle.lab_records.specs.Changes.{changed_in, ChangesFit}
 use Rattle.lab_records.specs.declared.command.Change.{Change}
 use Rattle.lab_records.specs.Refusals.{number_of, word_of}
 use Rattle.lab_wire.specs.declared.Ask.{Ask}
+use Rattle.lab_wire.specs.Asked.{IsAskRefusal}
 
 -- a founding from its body: the body's refusal first, and then the machine's
 abbrev pub born_of : Option Lab → List ℕ → Tick → Result Founding Refusal → Result Lab Refusal
@@ -32,6 +33,17 @@ founded_line code = codes "founded " ++ code ++ codes "\n"
 abbrev pub reply_to : (List ℕ → Option Lab) → Tick → Result Ask Refusal → Reply
 reply_to meaning tick (Err refusal) = RefusedReply refusal
 reply_to meaning tick (Ok ask) = (step (meaning ask.lab) tick ask.command).reply
+
+-- the refusals that the reply to a taken request may tell: no such laboratory, its clock's, and those of the bytes
+abbrev pub IsTakenRefusal : Refusal → Type 0
+IsTakenRefusal NoSuchLab = Unit {0}
+IsTakenRefusal ClockBehind = Unit {0}
+IsTakenRefusal refusal = IsAskRefusal refusal
+
+-- the replies to taken requests: a card, or one of these refusals
+abbrev pub IsTakenReply : Reply → Type 0
+IsTakenReply (Card lab name) = Unit {0}
+IsTakenReply (RefusedReply refusal) = IsTakenRefusal refusal
 
 -- a laboratory of a code after what bytes ask: it steps where it is named, and else stays as it was
 abbrev pub after_request : List ℕ → Option Lab → Tick → Result Ask Refusal → Option Lab

@@ -9,7 +9,7 @@ use Rattle.lab_records.specs.declared.refusal.Refusal.{Refusal}
 use Rattle.lab_records.specs.Changes.{SameMeaning}
 use Rattle.lab_wire.specs.declared.Ask.{Ask}
 use Rattle.lab_wire.specs.Replies.{reply_text, memory_text}
-use Rattle.lab_desk.specs.Answers.{reply_to, after_request, MovesFor}
+use Rattle.lab_desk.specs.Answers.{reply_to, IsTakenReply, after_request, MovesFor}
 
 -- a desk as its callers see it
 pub record Served (S : Type 0) : Type 0 where
@@ -24,10 +24,12 @@ storage_text tick = reply_text tick (Refused Storage)
 abbrev pub IsRefusedReply : Type 0 → Tick → List ℕ → Type 0
 IsRefusedReply may_refuse tick reply = (reply ≡ memory_text) ⊎ (may_refuse × (reply ≡ storage_text tick))
 
--- a request that was taken: its reply is that of the machine of the laboratory that it names, every
--- laboratory means what the machine makes of it, and the rows moved by the changes of that step
+-- a request that was taken: its reply is that of the machine of the laboratory that it names, and never the
+-- store's refusal, every laboratory means what the machine makes of it, and the rows moved by the changes of
+-- that step
 pub record TakesRequest (rests : Type 0) (moves : List ℕ → List Change → Type 0) (old new : List ℕ → Option Lab) (tick : Tick) (asks : Result Ask Refusal) (reply : List ℕ) : Type 0 where
   pub replied : reply ≡ reply_text tick (reply_to old tick asks)
+  pub kind : IsTakenReply (reply_to old tick asks)
   pub after : (code : List ℕ) → new code ≡ after_request code (old code) tick asks
   pub rows : MovesFor rests moves old tick asks
 

@@ -6,7 +6,7 @@ use Rattle.lab_records.specs.declared.lab.Lab.{Lab}
 use Rattle.lab_records.specs.declared.refusal.Refusal.{Refusal}
 use Rattle.lab_records.specs.declared.command.Reply.TheVariants.{Refused}
 use Rattle.lab_wire.specs.declared.Ask.{Ask}
-use Rattle.lab_wire.specs.Asked.{asked}
+use Rattle.lab_wire.specs.Asked.{asked, IsAskRefusal}
 use Rattle.lab_wire.specs.Replies.{reply_text}
 use Rattle.lab_desk.specs.declared.event.Event.{Event}
 use Rattle.lab_desk.specs.declared.event.Event.TheVariants.{Found, Call}
@@ -14,9 +14,10 @@ use Rattle.lab_desk.specs.Answers.{IsRefusedLine}
 use Rattle.lab_desk.specs.Desks.{IsRefusedReply}
 use Rattle.lab_desk.specs.Alone.{own_taken, own_answers, alone_after, alone_answers}
 
--- an event that names no laboratory, being no request, is answered from its bytes and tick alone
+-- an event that names no laboratory, being no request, is answered from its bytes and tick alone, by one of the
+-- refusals of such bytes
 abbrev pub ForWireFault : Tick → Result Ask Refusal → List ℕ → Type 0
-ForWireFault tick (Err refusal) answer = answer ≡ reply_text tick (Refused refusal)
+ForWireFault tick (Err refusal) answer = IsAskRefusal refusal × (answer ≡ reply_text tick (Refused refusal))
 ForWireFault tick (Ok ask) answer = Unit {0}
 
 -- what is written to a taken event that belongs to no laboratory
