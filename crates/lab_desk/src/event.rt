@@ -1,6 +1,7 @@
 //! What happens to an installation: foundings and requests, in order.
 
-ghost use Rattle.std.specs.Prelude.{◌≡◌};
+ghost use Rattle.std.specs.Prelude.{◌≡◌, IfOk};
+ghost use Rattle.lab_desk.specs.Events.{SameEvent};
 ghost use Rattle.lab_desk.specs.Faults.{run_fault_number, run_fault_word};
 
 use lab_records::{LabCode, OutOfMemory, Tick};
@@ -42,6 +43,28 @@ pub enum RunFault {
         /// How many bytes of that answer went out.
         sent: usize,
     },
+}
+
+impl Event {
+    /// A second event that equals this one.
+    ///
+    /// # Errors
+    /// Only want of memory.
+    pub fn copy(&self) -> Result<Event, OutOfMemory>
+        ensures { IfOk result (λ copy. SameEvent copy self.now) }
+    {
+        match self {
+            Event::Found { lab, tick, body } => Ok(Event::Found {
+                lab: lab.copy()?,
+                tick: *tick,
+                body: body.clone()?,
+            }),
+            Event::Call { tick, bytes } => Ok(Event::Call {
+                tick: *tick,
+                bytes: bytes.clone()?,
+            }),
+        }
+    }
 }
 
 impl RunFault {

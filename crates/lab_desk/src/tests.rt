@@ -155,6 +155,18 @@ fn a_run_answers_in_order_and_tells_what_was_taken(rt: HostRuntime) -> Result<()
 }
 
 #[test]
+fn a_copied_event_is_answered_like_the_first(rt: HostRuntime) -> Result<(), Fail> {
+    let mut desk = Desk::new(rt.alloc(), Lists::new(rt.alloc()))?;
+    let founding = founding(rt.alloc(), "aqua", 0, b"{\"name\":\"Aqua Lab\"}")?;
+    let call = call(rt.alloc(), 100, CARD)?;
+    let mut out = Vec::new(rt.alloc());
+    desk.run(&[founding.copy()?, call.copy()?], &mut out)?;
+    assert!(rt; out.starts_with(b"founded aqua\n"));
+    assert!(rt; out.ends_with(CARD_REPLY));
+    Ok(())
+}
+
+#[test]
 fn a_refusing_store_takes_nothing(rt: HostRuntime) -> Result<(), Fail> {
     let mut desk = Desk::new(rt.alloc(), Refusing)?;
     let events = [
