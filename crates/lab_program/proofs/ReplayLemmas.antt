@@ -1,7 +1,7 @@
 -- A replay, event by event.
-use Rattle.std.proofs.Common.{◌≡◌, ℕ, suc, zero, ◌<◌, List, [], ◌∷◌, ◌++◌, length, take, Option, Some, None, Bool, refl, sym, ap, subst, ◌∙◌, append_assoc, take_all, le_refl, if◌then◌else◌, ◌==◌}
+use Rattle.std.proofs.Common.{◌≡◌, ℕ, suc, zero, ◌<◌, List, [], ◌∷◌, ◌++◌, length, take, Option, Some, None, Bool, refl, sym, ap, subst, ◌∙◌, append_assoc, if◌then◌else◌, ◌==◌}
 use Rattle.std.proofs.Math.Seq.{take-nil}
-use Rattle.std.specs.Prelude.{IfSome, OnOk, IfErr, Ok, Err, Result, unwrap_or}
+use Rattle.std.specs.Prelude.{IfSome, IfOk, OnOk, IfErr, Ok, Err, Result, unwrap_or}
 use Rattle.std.specs.List.{concat}
 use Rattle.std.specs.Io.KnownBytes.{Appends, Keeps, prepend_known}
 use Rattle.std.proofs.KnownBytes.{Appends-nil, Appends-trans, Appends-kept}
@@ -12,14 +12,14 @@ use Rattle.lab_desk.specs.declared.event.RunFault.{RunFault}
 use Rattle.lab_desk.specs.declared.event.RunFault.TheVariants.{Memory as RunMemory, Write}
 use Rattle.lab_desk.specs.Runs.{IsRun}
 use Rattle.lab_desk.specs.Listed.{lab_of}
-use Rattle.lab_wire.specs.declared.send.WriteFault.{WriteFault as Unsent}
+use Rattle.lab_wire.specs.declared.send.WriteFault.{WriteFault as Untold}
 use Rattle.std.specs.Io.Buffered.{reader_remaining, reader_inner, reader_buffer, reader_capacity}
 use Rattle.std.specs.declared.io.BufReader.{BufReader}
 use Rattle.lab_desk.specs.Faults.{IfWrite, IfMemory}
 use Rattle.lab_program.specs.declared.fault.ReplayFault.{ReplayFault}
 use Rattle.lab_program.specs.declared.fault.ReplayFault.TheVariants.{BadEvent, ReadFault, WriteFault, Memory}
 use Rattle.lab_program.specs.Event.{next_event}
-use Rattle.lab_program.specs.Fault.{IsInputFault, IsReaderFault, fault_of_run}
+use Rattle.lab_program.specs.Fault.{IsInputFault, IsReaderFault, fault_of_run, fault_line}
 use Rattle.lab_program.specs.Reading.{TakesNext}
 use Rattle.lab_program.specs.Replay.{nothing, BeginsWith, Stops, IsTold, IsWritten, IsReplay, Replays}
 use Rattle.lab_program.proofs.RunLemmas.{IsRun-append, IsRun-none, IsRun-weaker}
@@ -273,13 +273,13 @@ fresh_reader remaining reader inner same none large =
     known_fresh (reader_capacity reader) (reader_buffer reader) (remaining (reader_inner reader)) large none ∙ ap remaining same
 
 -- a line that was told, whole or in part
-pub told : (old new : Option (List ℕ)) (line : List ℕ) (r : Result (Unit {0}) Unsent) → OnOk r (Appends old new line)
-    → IfErr r (λ unsent. Appends old new (take unsent.sent line)) → (sent : ℕ) × Appends old new (take sent line)
-told old new line (Ok _) whole cut = (length line, subst (Appends old new) (sym (take_all (length line) line (le_refl (length line)))) whole)
-told old new line (Err unsent) whole cut = (unsent.sent, cut)
+pub told : (fault : ReplayFault) (old new : Option (List ℕ)) (r : Result (Unit {0}) Untold) → OnOk r (Appends old new (fault_line fault))
+    → IfErr r (λ untold. Appends old new (take untold.sent (fault_line fault))) → IfErr r (λ untold. untold.sent < length (fault_line fault)) → IsTold fault r old new
+told fault old new (Ok _) whole cut short = whole
+told fault old new (Err untold) whole cut short = (cut, short)
 
 -- there was no memory to read the words
-pub no_replay : (input before after told_before told_after : Option (List ℕ)) (status : ℕ) → status ≡ 1 → Keeps before after → IsTold Memory told_before told_after
+pub no_replay : (input before after told_before told_after : Option (List ℕ)) (status : Result ℕ Untold) → IfOk status (λ number. number ≡ 1) → Keeps before after → IsTold Memory status told_before told_after
     → IsReplay input before after told_before told_after status
 no_replay input before after told_before told_after status failed kept tells = record {
   ending = Err Memory;

@@ -1,11 +1,12 @@
 -- What a replay does with its input: it runs the events that the input begins with, each by itself and in order, and
 -- stops at the end of the input, at what is no event, or at a fault.
-use Rattle.std.specs.Prelude.{◌≡◌, ◌<◌, ℕ, List, [], ◌∷◌, ◌++◌, length, take, Bool, Option, None, Ok, Err, Result, IfSome}
+use Rattle.std.specs.Prelude.{◌≡◌, ◌<◌, ℕ, List, [], ◌∷◌, ◌++◌, length, take, Bool, Option, None, Ok, Err, Result, IfSome, IfOk}
 use Rattle.std.specs.List.{concat}
 use Rattle.std.specs.Io.KnownBytes.{Keeps, Appends}
 use Rattle.lab_records.specs.declared.lab.Lab.{Lab}
 use Rattle.lab_desk.specs.declared.event.Event.{Event as EventRead}
 use Rattle.lab_desk.specs.Runs.{IsRun}
+use Rattle.lab_wire.specs.declared.send.WriteFault.{WriteFault as Untold}
 use Rattle.lab_program.specs.declared.fault.ReplayFault.{ReplayFault}
 use Rattle.lab_program.specs.declared.fault.ReplayFault.TheVariants.{BadEvent, ReadFault, WriteFault, Memory}
 use Rattle.lab_program.specs.Event.{Next, End, Bad, Taken, next_event}
@@ -51,21 +52,23 @@ pub record Replays (may_refuse : Type 0) (old new : List ℕ → Option Lab) (in
   pub answered : IsWritten ending answers written
   pub wrote : Appends before after written
 
--- a fault's line was told, or its first bytes where it could not be written whole
-abbrev pub IsTold : ReplayFault → Option (List ℕ) → Option (List ℕ) → Type 0
-IsTold fault before after = (sent : ℕ) × Appends before after (take sent (fault_line fault))
+-- a fault's line was told whole; where standard error failed, its first bytes were, and not all
+abbrev pub IsTold : {X : Type 0} → ReplayFault → Result X Untold → Option (List ℕ) → Option (List ℕ) → Type 0
+IsTold fault (Ok _) before after = Appends before after (fault_line fault)
+IsTold fault (Err untold) before after =
+    Appends before after (take untold.sent (fault_line fault)) × (untold.sent < length (fault_line fault))
 
 -- the status, and what standard error was told: nothing after a whole replay, and else the fault
-abbrev pub Tells : Result (Unit {0}) ReplayFault → ℕ → Option (List ℕ) → Option (List ℕ) → Type 0
-Tells (Ok _) status before after = (status ≡ 0) × Keeps before after
-Tells (Err fault) status before after = (status ≡ 1) × IsTold fault before after
+abbrev pub Tells : Result (Unit {0}) ReplayFault → Result ℕ Untold → Option (List ℕ) → Option (List ℕ) → Type 0
+Tells (Ok _) status before after = (status ≡ Ok 0) × Keeps before after
+Tells (Err fault) status before after = IfOk status (λ number. number ≡ 1) × IsTold fault status before after
 
 -- no laboratory
 abbrev pub nothing : List ℕ → Option Lab
 nothing code = None
 
 -- a replay over no laboratories, by its status
-pub record IsReplay (input before after told_before told_after : Option (List ℕ)) (status : ℕ) : Type 0 where
+pub record IsReplay (input before after told_before told_after : Option (List ℕ)) (status : Result ℕ Untold) : Type 0 where
   pub ending : Result (Unit {0}) ReplayFault
   pub labs : List ℕ → Option Lab
   pub replays : Replays ⊥ nothing labs input before after ending

@@ -1,5 +1,5 @@
 //! The command line: which words ask for what.
-ghost use Rattle.std.specs.Prelude.{◌≡◌, ◌≢◌, ◌≤◌, map, string_bytes};
+ghost use Rattle.std.specs.Prelude.{◌≡◌, ◌≢◌, ◌≤◌, map, string_bytes, Ok, IfOk};
 ghost use Rattle.std.specs.Io.KnownBytes.{Keeps};
 ghost use Rattle.clap.specs.Words.{fault_of, FailsBy, kind_of};
 ghost use Rattle.lab_program.specs.CommandLine.{labdesk_app, AsksReplay};
@@ -9,6 +9,7 @@ use crate::fault::ReplayFault;
 use crate::replay::{replay, tell};
 use clap::error::ErrorKind;
 use clap::{Command, Error};
+use lab_wire::WriteFault;
 use std::alloc::Global;
 use std::io::{Read, Write};
 
@@ -39,38 +40,46 @@ pub fn task_of(alloc: Global, words: &[String]) -> Result<Task, Error>
 
 /// Tells why the words name no task, and answers the status: 0 for help that was asked for, which goes to the output, 2
 /// for a fault in the words, and 1 where memory ran out or the text could not be written.
-fn explain<W: Write, E: Write>(error: &Error, output: &mut W, errors: &mut E) -> u8
-    ensures memory { kind_of error.now ≡ ErrorKind.OutOfMemory → (result ≡ 1) × Keeps (W.contents output.old) (W.contents output.new)
-        × IsTold ReplayFault.Memory (E.contents errors.old) (E.contents errors.new) }
+///
+/// # Errors
+/// What gives the status 1 could not be told, as standard error failed.
+fn explain<W: Write, E: Write>(
+    error: &Error,
+    output: &mut W,
+    errors: &mut E,
+) -> Result<u8, WriteFault>
+    ensures memory { kind_of error.now ≡ ErrorKind.OutOfMemory → IfOk result (λ status. status ≡ 1) × Keeps (W.contents output.old) (W.contents output.new)
+        × IsTold ReplayFault.Memory result (E.contents errors.old) (E.contents errors.new) }
     ensures fault { kind_of error.now ≢ ErrorKind.OutOfMemory → kind_of error.now ≢ ErrorKind.DisplayHelp
-        → kind_of error.now ≢ ErrorKind.DisplayVersion → result ≡ 2 }
-    ensures help { kind_of error.now ≡ ErrorKind.DisplayHelp → result ≤ 1 }
+        → kind_of error.now ≢ ErrorKind.DisplayVersion → result ≡ Ok 2 }
+    ensures help { kind_of error.now ≡ ErrorKind.DisplayHelp → IfOk result (λ status. status ≤ 1) }
 {
     if error.kind() == ErrorKind::OutOfMemory {
-        tell(errors, ReplayFault::Memory);
-        return 1;
+        tell(errors, ReplayFault::Memory)?;
+        return Ok(1);
     }
     if error.use_stderr() {
         let _ = write!(errors, "{error}");
-        return 2;
+        return Ok(2);
     }
-    match write!(output, "{error}") {
-        Ok(()) => 0,
-        Err(_) => {
-            tell(errors, ReplayFault::WriteFault);
-            1
-        }
+    if write!(output, "{error}").is_err() {
+        tell(errors, ReplayFault::WriteFault)?;
+        return Ok(1);
     }
+    Ok(0)
 }
 
 /// `labdesk`: does what the words ask for, and answers the status.
+///
+/// # Errors
+/// A fault of status 1 could not be told whole, as standard error failed.
 pub fn labdesk<R: Read + Drop, W: Write, E: Write>(
     alloc: Global,
     words: &[String],
     input: R,
     output: &mut W,
     errors: &mut E,
-) -> u8
+) -> Result<u8, WriteFault>
     ensures { AsksReplay (map string_bytes words.now) → IsReplay (R.remaining input) (W.contents output.old) (W.contents output.new)
         (E.contents errors.old) (E.contents errors.new) result }
 {

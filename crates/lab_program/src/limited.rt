@@ -1,17 +1,26 @@
 //! A reader that is not asked forever.
-ghost use Rattle.std.specs.Prelude.{◌≡◌, ◌<◌, ◌≤◌, IsOk, IsErr, OnOk, OnErr};
+ghost use Rattle.std.specs.Prelude.{◌≡◌, ◌<◌, IsErr};
 ghost use Rattle.std.specs.Io.{ReadsAtMost};
 ghost use Rattle.std.specs.Io.KnownBytes.{ReadConsumes};
 
 use std::io;
 use std::io::{ErrorKind, Read};
+use std::marker::Model;
 
 /// A reader that is asked for bytes a limited number of times, and then counts as failed. It is asked again where a
 /// signal interrupted it.
 #[derive(Drop)]
 pub struct LimitedReader<R> {
-    pub reader: R,
-    pub asks_left: u64,
+    reader: R,
+    asks_left: u64,
+}
+
+impl<R> Model for LimitedReader<R> {
+    ghost use Rattle.lab_program.specs.Limited.{Limited};
+
+    ghost Value = { Limited R };
+
+    ghost view = { λ limited. record { reader = limited.reader; asks_left = limited.asks_left } };
 }
 
 impl<R> LimitedReader<R> {
@@ -33,8 +42,8 @@ impl<R: Read> Read for LimitedReader<R> {
         ensures bound { ReadsAtMost result buffer.new }
         ensures bytes { ReadConsumes (R.remaining self.old.reader) (R.remaining self.new.reader) result buffer.new }
 
-        // No ask without one that is left, and none is given back.
-        ensures asked { OnOk result (self.new.asks_left < self.old.asks_left) }
+        // Each answer costs an ask while one is left, a failed one too, and none is given back.
+        ensures asked { 0 < self.old.asks_left → self.new.asks_left < self.old.asks_left }
         ensures exhausted { self.old.asks_left ≡ 0 → IsErr result × (self.new ≡ self.old) }
     {
         while self.asks_left > 0 {

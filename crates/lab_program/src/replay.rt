@@ -8,7 +8,7 @@ use crate::fault::ReplayFault;
 use crate::limited::LimitedReader;
 use lab_desk::{Desk, Lists};
 use lab_records::Keeper;
-use lab_wire::write_reply;
+use lab_wire::{WriteFault, write_reply};
 use std::alloc::Global;
 use std::io::{BufRead, BufReader, Read, Write};
 
@@ -56,29 +56,35 @@ fn run_input<R: Read + Drop, W: Write>(
     run_events(alloc, &mut desk, &mut reader, output)
 }
 
-/// Tells a fault on standard error. Where that fails too, nobody is left to be told.
-pub fn tell<E: Write>(errors: &mut E, fault: ReplayFault)
-    ensures { IsTold fault (E.contents errors.old) (E.contents errors.new) }
+/// Tells a fault on standard error by its whole line.
+///
+/// # Errors
+/// Standard error failed, and has the first bytes of the line.
+pub fn tell<E: Write>(errors: &mut E, fault: ReplayFault) -> Result<(), WriteFault>
+    ensures { IsTold fault result (E.contents errors.old) (E.contents errors.new) }
 {
-    let _ = write_reply(errors, fault.line().as_bytes());
+    write_reply(errors, fault.line().as_bytes())
 }
 
 /// `labdesk replay`: runs the events of the input over no laboratories, writes their answers to the output, and tells on
 /// standard error why it stopped before the input's end. Answers the status: 0 for a whole replay, and else 1.
+///
+/// # Errors
+/// The replay stopped, and standard error failed before the whole line was told.
 pub fn replay<R: Read + Drop, W: Write, E: Write>(
     alloc: Global,
     input: R,
     output: &mut W,
     errors: &mut E,
-) -> u8
+) -> Result<u8, WriteFault>
     ensures { IsReplay (R.remaining input) (W.contents output.old) (W.contents output.new)
         (E.contents errors.old) (E.contents errors.new) result }
 {
     match run_input(alloc, input, output) {
-        Ok(()) => 0,
+        Ok(()) => Ok(0),
         Err(fault) => {
-            tell(errors, fault);
-            1
+            tell(errors, fault)?;
+            Ok(1)
         }
     }
 }

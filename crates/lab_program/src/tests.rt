@@ -3,6 +3,7 @@ use crate::event::next_event;
 use crate::limited::LimitedReader;
 use crate::replay::replay;
 use lab_desk::{Desk, Lists};
+use lab_wire::WriteFault;
 use std::alloc::{AllocError, Global};
 use std::io;
 use std::io::{ErrorKind, Read, Write};
@@ -51,7 +52,7 @@ fn check<R: Abort + AllocGlobal>(
         errors.as_slice() == told.as_bytes(),
         "{errors:?} to {input}"
     );
-    assert!(rt; answered == status, "{answered} to {input}");
+    assert_eq!(rt; answered, Ok(status), "to {input}");
     Ok(())
 }
 
@@ -218,7 +219,7 @@ fn an_input_that_fails(rt: HostRuntime) -> Result<(), Fail> {
             errors.as_slice() == told.as_bytes(),
             "{errors:?} after {calls}"
         );
-        assert_eq!(rt; answered, status, "after {calls}");
+        assert_eq!(rt; answered, Ok(status), "after {calls}");
     }
     Ok(())
 }
@@ -263,12 +264,13 @@ impl Write for Narrow {
 fn an_output_that_fails(rt: HostRuntime) -> Result<(), Fail> {
     let input = joined(rt.alloc(), &[AQUA, BRICK])?;
     for (room, fails, told_room, told, status) in [
-        (0, true, 99, "labdesk: write_fault\n", 1),
-        (0, false, 99, "labdesk: write_fault\n", 1),
-        (15, true, 99, "labdesk: write_fault\n", 1),
-        (15, false, 99, "labdesk: write_fault\n", 1),
-        (15, true, 9, "labdesk: ", 1),
-        (27, true, 0, "", 0),
+        (0, true, 99, "labdesk: write_fault\n", Ok(1)),
+        (0, false, 99, "labdesk: write_fault\n", Ok(1)),
+        (15, true, 99, "labdesk: write_fault\n", Ok(1)),
+        (15, false, 99, "labdesk: write_fault\n", Ok(1)),
+        (15, true, 9, "labdesk: ", Err(WriteFault { sent: 9 })),
+        (15, false, 0, "", Err(WriteFault { sent: 0 })),
+        (27, true, 0, "", Ok(0)),
     ] {
         let mut output = Narrow {
             bytes: Vec::new(rt.alloc()),
@@ -308,7 +310,7 @@ fn words_of_the_command_line(rt: HostRuntime) -> Result<(), Fail> {
         }
         let (mut output, mut errors) = (Vec::new(alloc), Vec::new(alloc));
         let answered = labdesk(alloc, &list, AQUA.as_bytes(), &mut output, &mut errors);
-        assert_eq!(rt; answered, status, "{words}");
+        assert_eq!(rt; answered, Ok(status), "{words}");
         assert_eq!(rt; !output.is_empty(), has_output, "{words}");
         assert_eq!(rt; !errors.is_empty(), has_errors, "{words}");
     }
