@@ -7,7 +7,7 @@ use Rattle.jiff_core.specs.Calendar.{days_of_months, day_count, days_from_civil,
 use Rattle.jiff_core.proofs.CalendarLemmas.{day_count-epoch, days_from_civil-day_count, days_of_months-zero, days_of_months_more, days_of_months_all, day_count-day_of_year, day_count-next_year, day_count-lt_year, day_count-end}
 use Rattle.jiff_core.proofs.SignedLemmas.{signed_arith}
 use Rattle.lab_names.specs.Calendar.{days_in_year, days_in_month, year_of, place_in_year, month_of, day_of_month, span_of, place_of}
-use Rattle.lab_names.proofs.SpanLemmas.{total, total-zero, total-last, total_mono, total_ge, span_of-total, place_of-total, Falls, falls}
+use Rattle.lab_names.proofs.SpanLemmas.{total, total-zero, total-last, total_mono, total_ge, walk-total, Falls, falls}
 use borrow.Author.Differences.{up, down}
 
 -- a year from 1970 on begins so many days after 1970-01-01
@@ -60,19 +60,19 @@ days_in_year_ge y = grind (arith, nat_tests)
 
 year_of-total : (n r : ℕ) → r < days_in_year (1970 + n) → year_of (total days_in_year 1970 n + r) ≡ 1970 + n
 unfolding year_of
-year_of-total n r h = span_of-total days_in_year (total days_in_year 1970 n + r) 1970 n r (omega (arith, total_ge days_in_year 1970 n days_in_year_ge)) h
+year_of-total n r h = (walk-total days_in_year (total days_in_year 1970 n + r) 1970 n r (omega (arith, total_ge days_in_year 1970 n days_in_year_ge)) h).0
 
 place_in_year-total : (n r : ℕ) → r < days_in_year (1970 + n) → place_in_year (total days_in_year 1970 n + r) ≡ r
 unfolding place_in_year
-place_in_year-total n r h = place_of-total days_in_year (total days_in_year 1970 n + r) 1970 n r (omega (arith, total_ge days_in_year 1970 n days_in_year_ge)) h
+place_in_year-total n r h = (walk-total days_in_year (total days_in_year 1970 n + r) 1970 n r (omega (arith, total_ge days_in_year 1970 n days_in_year_ge)) h).1
 
 month_of-parts : (day y k r : ℕ) → year_of day ≡ y → place_in_year day ≡ total (days_in_month y) 1 k + r → k ≤ 11 → r < days_in_month y (1 + k) → month_of day ≡ 1 + k
 unfolding month_of
-month_of-parts day y k r year place few h = rw (year, place) (span_of-total (days_in_month y) 11 1 k r few h)
+month_of-parts day y k r year place few h = rw (year, place) (walk-total (days_in_month y) 11 1 k r few h).0
 
 day_of_month-parts : (day y k r : ℕ) → year_of day ≡ y → place_in_year day ≡ total (days_in_month y) 1 k + r → k ≤ 11 → r < days_in_month y (1 + k) → day_of_month day ≡ r + 1
 unfolding day_of_month
-day_of_month-parts day y k r year place few h = rw (year, place) (rw (place_of-total (days_in_month y) 11 1 k r few h))
+day_of_month-parts day y k r year place few h = rw (year, place) (rw (walk-total (days_in_month y) 11 1 k r few h).1)
 
 -- the days of a year's months together
 total-months : (y : ℕ) → total (days_in_month y) 1 12 ≡ days_in_year y

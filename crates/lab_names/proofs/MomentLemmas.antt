@@ -1,5 +1,5 @@
 -- The stamp of a moment, and the moment of a stamp.
-use Rattle.std.proofs.Common.{◌≡◌, ℕ, ◌+◌, ◌*◌, ◌/◌, ◌%◌, ◌<◌, ◌≤◌, refl, sym, ◌∙◌, arith, IsTrue, pos, ℤ, ◌+ℤ◌, ◌*ℤ◌, ◌≢◌, Result, Ok, Err, IfOk, IfErr, MatchOption}
+use Rattle.std.proofs.Common.{◌≡◌, ℕ, ◌+◌, ◌*◌, ◌/◌, ◌%◌, ◌<◌, ◌≤◌, refl, sym, ◌∙◌, arith, IsTrue, pos, ℤ, ◌+ℤ◌, ◌*ℤ◌, ◌≢◌, Result, Ok, Err, IfOk, IfErr, MatchOption, rules}
 use Rattle.std.specs.Result.{result_ok}
 use Rattle.lab_names.specs.declared.faults.MomentFault.{MomentFault}
 use Rattle.std.proofs.lemmas.Bool.Decides.{nat_tests}
@@ -23,14 +23,7 @@ pub record IsStampOf (n : ℕ) (s : Stamp) : Type 0 where
 
 own_stamp : (n : ℕ) → IsStampOf n (stamp_of n)
 unfolding stamp_of hour_of minute_of second_of
-own_stamp n = record {
-  year = refl;
-  month = refl;
-  day = refl;
-  hour = refl;
-  minute = refl;
-  second = refl;
-}
+own_stamp n = search rules
 
 pub stamp_parts : (n : ℕ) (s : Stamp) → s ≡ stamp_of n → IsStampOf n s
 stamp_parts n s e = rw e (own_stamp n)

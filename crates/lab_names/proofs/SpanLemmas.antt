@@ -27,50 +27,30 @@ total-last days k (suc n) =
     omega (arith, rw next at step)
 
 -- the first step of a walk, where the day falls into the first span and where it does not
-span_of-here : (days : ℕ → ℕ) (n k day : ℕ) → day < days k → span_of days n k day ≡ k
-unfolding span_of
-span_of-here days zero k day h = refl
-span_of-here days (suc n) k day h = grind (arith, nat_tests)
+walk-here : (days : ℕ → ℕ) (n k day : ℕ) → day < days k → (span_of days n k day ≡ k) × (place_of days n k day ≡ day)
+unfolding span_of place_of
+walk-here days zero k day h = (refl, refl)
+walk-here days (suc n) k day h = (grind (arith, nat_tests), grind (arith, nat_tests))
 
-span_of-later : (days : ℕ → ℕ) (n k day : ℕ) → days k ≤ day → span_of days (suc n) k day ≡ span_of days n (k + 1) (day - days k)
-unfolding span_of
-span_of-later days n k day h = grind (arith, nat_tests)
-
-place_of-here : (days : ℕ → ℕ) (n k day : ℕ) → day < days k → place_of days n k day ≡ day
-unfolding place_of
-place_of-here days zero k day h = refl
-place_of-here days (suc n) k day h = grind (arith, nat_tests)
-
-place_of-later : (days : ℕ → ℕ) (n k day : ℕ) → days k ≤ day → place_of days (suc n) k day ≡ place_of days n (k + 1) (day - days k)
-unfolding place_of
-place_of-later days n k day h = grind (arith, nat_tests)
+walk-later : (days : ℕ → ℕ) (n k day : ℕ) → days k ≤ day →
+    (span_of days (suc n) k day ≡ span_of days n (k + 1) (day - days k)) × (place_of days (suc n) k day ≡ place_of days n (k + 1) (day - days k))
+unfolding span_of place_of
+walk-later days n k day h = (grind (arith, nat_tests), grind (arith, nat_tests))
 
 -- the day at place r of the span that comes n spans later
-pub span_of-total : (days : ℕ → ℕ) (m k n r : ℕ) → n ≤ m → r < days (k + n) → span_of days m k (total days k n + r) ≡ k + n
-span_of-total days m k zero r h lt =
+pub walk-total : (days : ℕ → ℕ) (m k n r : ℕ) → n ≤ m → r < days (k + n) →
+    (span_of days m k (total days k n + r) ≡ k + n) × (place_of days m k (total days k n + r) ≡ r)
+walk-total days m k zero r h lt =
     let same : k + 0 ≡ k = omega arith in
     let day : total days k 0 + r ≡ r = omega (arith, total-zero days k) in
-    rw (same, day) (span_of-here days m k r (rw same at lt))
-span_of-total days zero k (suc n) r h lt = absurd (omega arith)
-span_of-total days (suc m) k (suc n) r h lt =
+    rw (same, day) (walk-here days m k r (rw same at lt))
+walk-total days zero k (suc n) r h lt = absurd (omega arith)
+walk-total days (suc m) k (suc n) r h lt =
     let next : k + 1 + n ≡ k + suc n = omega arith in
     let back : total days k (suc n) + r - days k ≡ total days (k + 1) n + r = omega (arith, total-suc days k n) in
-    let step = span_of-later days m k (total days k (suc n) + r) (omega (arith, total-suc days k n)) in
-    let rest = span_of-total days m (k + 1) n r (omega arith) (rw next lt) in
-    step ∙ rw back (rest ∙ next)
-
-pub place_of-total : (days : ℕ → ℕ) (m k n r : ℕ) → n ≤ m → r < days (k + n) → place_of days m k (total days k n + r) ≡ r
-place_of-total days m k zero r h lt =
-    let same : k + 0 ≡ k = omega arith in
-    let day : total days k 0 + r ≡ r = omega (arith, total-zero days k) in
-    rw day (place_of-here days m k r (rw same at lt))
-place_of-total days zero k (suc n) r h lt = absurd (omega arith)
-place_of-total days (suc m) k (suc n) r h lt =
-    let next : k + 1 + n ≡ k + suc n = omega arith in
-    let back : total days k (suc n) + r - days k ≡ total days (k + 1) n + r = omega (arith, total-suc days k n) in
-    let step = place_of-later days m k (total days k (suc n) + r) (omega (arith, total-suc days k n)) in
-    let rest = place_of-total days m (k + 1) n r (omega arith) (rw next lt) in
-    step ∙ rw back rest
+    let step = walk-later days m k (total days k (suc n) + r) (omega (arith, total-suc days k n)) in
+    let rest = walk-total days m (k + 1) n r (omega arith) (rw next lt) in
+    (step.0 ∙ rw back (rest.0 ∙ next), step.1 ∙ rw back rest.1)
 
 -- Where a day falls: n spans after span k, at place r.
 pub record Falls (days : ℕ → ℕ) (m k day : ℕ) : Type 0 where
@@ -83,23 +63,24 @@ pub record Falls (days : ℕ → ℕ) (m k day : ℕ) : Type 0 where
 falls_here : (days : ℕ → ℕ) (m k day : ℕ) → day < days k → Falls days m k day
 falls_here days m k day lt =
     let same : k + 0 ≡ k = omega arith in
+    let here = walk-here days m k day lt in
     record {
       passed = 0;
-      span = span_of-here days m k day lt ∙ sym same;
-      day_is = omega (arith, total-zero days k, place_of-here days m k day lt);
-      in_span = rw same (omega (arith, place_of-here days m k day lt));
+      span = here.0 ∙ sym same;
+      day_is = omega (arith, total-zero days k, here.1);
+      in_span = rw same (omega (arith, here.1));
       enough = omega arith;
     }
 
 falls_later : (days : ℕ → ℕ) (m k day : ℕ) → days k ≤ day → Falls days m (k + 1) (day - days k) → Falls days (suc m) k day
 falls_later days m k day le rest =
     let next : k + 1 + rest.passed ≡ k + suc rest.passed = omega arith in
-    let place = place_of-later days m k day le in
+    let later = walk-later days m k day le in
     record {
       passed = suc rest.passed;
-      span = span_of-later days m k day le ∙ (rest.span ∙ next);
-      day_is = omega (arith, place, rest.day_is, total-suc days k rest.passed);
-      in_span = rw (place, ← next) rest.in_span;
+      span = later.0 ∙ (rest.span ∙ next);
+      day_is = omega (arith, later.1, rest.day_is, total-suc days k rest.passed);
+      in_span = rw (later.1, ← next) rest.in_span;
       enough = omega (arith, rest.enough);
     }
 

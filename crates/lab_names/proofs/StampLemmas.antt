@@ -1,5 +1,5 @@
 -- What stands at each place of a stamp's text.
-use Rattle.std.proofs.Common.{◌≡◌, ℕ, ◌+◌, ◌*◌, ◌/◌, ◌%◌, List, [], ◌∷◌, length, get_or, refl, arith}
+use Rattle.std.proofs.Common.{◌≡◌, ℕ, ◌+◌, ◌*◌, ◌/◌, ◌%◌, List, [], ◌∷◌, length, get_or, arith, rules}
 use Rattle.lab_names.specs.Calendar.{two_digits}
 use Rattle.lab_names.specs.Stamp.{stamp_text}
 use Rattle.lab_names.specs.declared.stamp.Stamp.{Stamp}
@@ -21,16 +21,7 @@ pub record ShowsNumbers (text : List ℕ) (s : Stamp) : Type 0 where
 
 own_numbers : (s : Stamp) → ShowsNumbers (stamp_text s) s
 unfolding stamp_text
-own_numbers s = record {
-  long = refl;
-  century = refl;
-  year = refl;
-  month = refl;
-  day = refl;
-  hour = refl;
-  minute = refl;
-  second = refl;
-}
+own_numbers s = search rules
 
 pub shows_numbers : (text : List ℕ) (s : Stamp) → text ≡ stamp_text s → ShowsNumbers text s
 shows_numbers text s e = rw e (own_numbers s)

@@ -1,12 +1,11 @@
 -- The date that `httpdate` gives a moment is the date that the calendar gives it.
 use Rattle.std.proofs.Common.{◌≡◌, ℕ, zero, suc, ◌+◌, ◌-◌, ◌*◌, ◌%◌, ◌<◌, ◌≤◌, refl, sym, ◌∙◌, arith}
 use Rattle.httpdate.specs.Calendar.{days_of_years, days_of_months, days_from_civil, IsCivilDate}
-use Rattle.httpdate.proofs.CalendarLemmas.{days_of_months_all}
 use Rattle.httpdate.specs.Date.{date_text, unix_secs}
 use Rattle.httpdate.specs.declared.date.HttpDate.{HttpDate}
-use Rattle.lab_names.specs.Calendar.{day_of, days_in_year, days_in_month, year_of, place_in_year, month_of, day_of_month, weekday_of, hour_of, minute_of, second_of}
-use Rattle.lab_names.proofs.CalendarLemmas.{days_in_year_ge}
-use Rattle.lab_names.proofs.SpanLemmas.{total, total-zero, total-last, total_mono, total_ge, span_of-total, place_of-total}
+use Rattle.lab_names.specs.Calendar.{day_of, days_in_year, days_in_month, year_of, month_of, day_of_month, weekday_of, hour_of, minute_of, second_of}
+use Rattle.lab_names.proofs.CalendarLemmas.{ymd_of_total}
+use Rattle.lab_names.proofs.SpanLemmas.{total, total-zero, total-last}
 use Rattle.lab_wire.specs.Dates.{imf_fixdate}
 
 years-total : (n : ℕ) → days_of_years n ≡ total days_in_year 1970 n
@@ -21,59 +20,20 @@ months-total y (suc n) =
     let same : 1 + n ≡ suc n = omega arith in
     omega (arith, months-total y n, rw same at (total-last (days_in_month y) 1 n))
 
--- the day in place p of year 1970 + n, and in place r of the month k months after January
-year_at : (n p : ℕ) → p < days_in_year (1970 + n) → year_of (total days_in_year 1970 n + p) ≡ 1970 + n
-unfolding year_of
-year_at n p h =
-    span_of-total days_in_year (total days_in_year 1970 n + p) 1970 n p (omega (arith, total_ge days_in_year 1970 n days_in_year_ge)) h
-
-place_at : (n p : ℕ) → p < days_in_year (1970 + n) → place_in_year (total days_in_year 1970 n + p) ≡ p
-unfolding place_in_year
-place_at n p h =
-    place_of-total days_in_year (total days_in_year 1970 n + p) 1970 n p (omega (arith, total_ge days_in_year 1970 n days_in_year_ge)) h
-
-month_at : (day y k r : ℕ) → year_of day ≡ y → place_in_year day ≡ total (days_in_month y) 1 k + r → k ≤ 11 → r < days_in_month y (1 + k) → month_of day ≡ 1 + k
-unfolding month_of
-month_at day y k r year place few h = rw (year, place) (span_of-total (days_in_month y) 11 1 k r few h)
-
-day_at : (day y k r : ℕ) → year_of day ≡ y → place_in_year day ≡ total (days_in_month y) 1 k + r → k ≤ 11 → r < days_in_month y (1 + k) → day_of_month day ≡ r + 1
-unfolding day_of_month
-day_at day y k r year place few h = rw (year, place) (rw (place_of-total (days_in_month y) 11 1 k r few h))
-
 -- the year, the month and the day of the month of a date are those of its day
 pub record IsDateOf (y m d day : ℕ) : Type 0 where
   pub year : year_of day ≡ y
   pub month : month_of day ≡ m
   pub day_in_month : day_of_month day ≡ d
 
-date_at : (n k r : ℕ) → k ≤ 11 → r < days_in_month (1970 + n) (1 + k) → IsDateOf (1970 + n) (1 + k) (r + 1) (total days_in_year 1970 n + (total (days_in_month (1970 + n)) 1 k + r))
-date_at n k r few h =
-    let y = 1970 + n in
-    let p = total (days_in_month y) 1 k + r in
-    let day = total days_in_year 1970 n + p in
-    let last = total-last (days_in_month y) 1 k in
-    let all : total (days_in_month y) 1 12 ≡ days_in_year y = sym (months-total y 12) ∙ days_of_months_all y in
-    let inside : p < days_in_year y = omega (arith, last, all, total_mono (days_in_month y) 1 (suc k) 12 (omega arith)) in
-    let year = year_at n p inside in
-    let place = place_at n p inside in
-    record {
-      year = year;
-      month = month_at day y k r year place few h;
-      day_in_month = day_at day y k r year place few h;
-    }
-
 pub date_of_civil : (y m d : ℕ) → IsCivilDate y m d → IsDateOf y m d (days_from_civil y m d)
 date_of_civil y m d h =
     let n = y - 1970 in
-    let k = m - 1 in
-    let r = d - 1 in
     let year : 1970 + n ≡ y = omega (arith, h.0.0) in
-    let month : 1 + k ≡ m = omega (arith, h.1.0) in
-    let first : r + 1 ≡ d = omega (arith, h.2.0) in
-    let short : r < days_in_month (1970 + n) (1 + k) = rw (year, month) (omega (arith, h.2.0, h.2.1)) in
-    let found = date_at n k r (omega (arith, h.1.1)) short in
-    let day : total days_in_year 1970 n + (total (days_in_month y) 1 k + r) ≡ days_from_civil y m d = omega (arith, years-total n, months-total y k) in
-    rw day at (rw (year, month, first) at found)
+    let last : d ≤ days_in_month (1970 + n) m = rw year (omega (arith, h.2.1)) in
+    let day : total days_in_year 1970 n + (total (days_in_month (1970 + n)) 1 (m - 1) + (d - 1)) ≡ days_from_civil y m d = rw year (omega (arith, years-total n, months-total y (m - 1))) in
+    let date = ymd_of_total n m d (days_from_civil y m d) h.1.0 h.1.1 h.2.0 last day in
+    record { year = date.0 ∙ year; month = date.1; day_in_month = date.2 }
 
 -- day, hour, minute and second of a moment that is made of them
 pub record IsTimeOf (day hour minute second moment : ℕ) : Type 0 where
