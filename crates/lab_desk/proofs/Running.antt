@@ -1,8 +1,7 @@
 -- Runs join: a run, and a run from where it ended, are one run; and one event is a run.
-use Rattle.std.proofs.Common.{◌≡◌, ℕ, Bool, true, false, cond, List, [], ◌∷◌, ◌++◌, Option, Some, None, Result, Ok, Err, refl, sym, ◌∙◌, ap, subst, append_assoc, append-nil, Vec, Global, inl, inr, ◌+◌, ◌<◌, length, take, get_or}
+use Rattle.std.proofs.Common.{◌≡◌, ℕ, Bool, true, false, cond, List, [], ◌∷◌, ◌++◌, Option, Result, Ok, Err, refl, sym, ◌∙◌, ap, subst, append_assoc, append-nil, Vec, Global, inl, inr, ◌+◌, ◌<◌, length, take, get_or}
 use Rattle.std.specs.Prelude.{bytes_eq, ◌⊎◌, OnOk, IfErr, MatchResult}
 use Rattle.std.specs.List.{concat}
-use Rattle.std.specs.Io.KnownBytes.{Appends}
 use Rattle.std.proofs.lemmas.List.{take_more}
 use Rattle.std.proofs.lemmas.List.Folds.{concat-append}
 use Rattle.std.proofs.lemmas.Slice.Eq.{bytes_eq-Decides}
@@ -95,6 +94,10 @@ run_then may_refuse events taken answers more taken_next answers_next old mid ne
             ∙ ap (λ (owns : List Own). alone_after code (old code) owns) (sym both);
       };
 }
+
+-- no event is a run
+pub no_run : (may_refuse : Type 0) (old : List ℕ → Option Lab) → IsRun may_refuse [] [] [] old old
+no_run may_refuse old = record { each = tt; alone = λ code. record { answered = refl; after = refl } }
 
 -- ---- one event is a run
 
@@ -211,17 +214,18 @@ answer_wider narrow wide wider event true answer is = is
 answer_wider narrow wide wider (Found lab tick body) false answer is = refusal_wider narrow wide wider (answer ≡ memory_line) (answer ≡ storage_line) is
 answer_wider narrow wide wider (Call tick bytes) false answer is = refusal_wider narrow wide wider (answer ≡ memory_text) (answer ≡ storage_text tick) is
 
--- a run over a store that may refuse less is one over a store that may refuse more
-one_wider : (narrow wide : Type 0) → (narrow → wide) → (event : Event) (taken : Bool) (answer : List ℕ) (old new : List ℕ → Option Lab) → IsRun narrow (event ∷ []) (taken ∷ []) (answer ∷ []) old new → IsRun wide (event ∷ []) (taken ∷ []) (answer ∷ []) old new
-one_wider narrow wide wider event taken answer old new run = record { each = (answer_wider narrow wide wider event taken answer run.each.0, tt); alone = run.alone }
+answers_wider : (narrow wide : Type 0) → (narrow → wide) → (events : List Event) (taken : List Bool) (answers : List (List ℕ)) → AreAnswers narrow events taken answers → AreAnswers wide events taken answers
+answers_wider narrow wide wider [] [] [] are = are
+answers_wider narrow wide wider (event ∷ events) (one ∷ taken) (answer ∷ answers) are =
+    (answer_wider narrow wide wider event one answer are.0, answers_wider narrow wide wider events taken answers are.1)
+answers_wider narrow wide wider [] [] (answer ∷ answers) are = absurd are
+answers_wider narrow wide wider [] (one ∷ taken) answers are = absurd are
+answers_wider narrow wide wider (event ∷ events) [] answers are = absurd are
+answers_wider narrow wide wider (event ∷ events) (one ∷ taken) [] are = absurd are
 
--- what is appended in two steps is appended
-pub appends_then : (first next last : Option (List ℕ)) (one other : List ℕ) → Appends first next one → Appends next last other → Appends first last (one ++ other)
-appends_then None next last one other before after = tt
-appends_then (Some xs) None last one other before after = absurd before
-appends_then (Some xs) (Some ys) None one other before after = absurd after
-appends_then (Some xs) (Some ys) (Some zs) one other before after =
-    after ∙ ap (λ (bytes : List ℕ). bytes ++ other) before ∙ append_assoc xs one other
+-- a run over a store that may refuse less is one over a store that may refuse more
+pub run_wider : (narrow wide : Type 0) → (narrow → wide) → (events : List Event) (taken : List Bool) (answers : List (List ℕ)) (old new : List ℕ → Option Lab) → IsRun narrow events taken answers old new → IsRun wide events taken answers old new
+run_wider narrow wide wider events taken answers old new run = record { each = answers_wider narrow wide wider events taken answers run.each; alone = run.alone }
 
 -- the answers so far, and one more
 pub concat_more : (answers : List (List ℕ)) (answer : List ℕ) → concat answers ++ answer ≡ concat (answers ++ answer ∷ [])
@@ -234,4 +238,4 @@ pub run_more : (narrow wide : Type 0) → (narrow → wide) → (events : List E
     IsRun wide (take (at + 1) events) taken_more (answers ++ answer ∷ []) old new
 run_more narrow wide wider events event at taken one taken_more answers answer old mid new is within pushed first next =
     let more : take (at + 1) events ≡ take at events ++ event ∷ [] = take_more events at event within ∙ ap (λ (last : Event). take at events ++ last ∷ []) (sym is) in
-    rw (more, pushed) (run_then wide (take at events) taken answers (event ∷ []) (one ∷ []) (answer ∷ []) old mid new first (one_wider narrow wide wider event one answer mid new next))
+    rw (more, pushed) (run_then wide (take at events) taken answers (event ∷ []) (one ∷ []) (answer ∷ []) old mid new first (run_wider narrow wide wider (event ∷ []) (one ∷ []) (answer ∷ []) mid new next))

@@ -2,5 +2,4 @@ pub mod EventLemmas
 pub mod NumberLemmas
 pub mod ReadLemmas
 pub mod NextLemmas
-pub mod RunLemmas
 pub mod ReplayLemmas

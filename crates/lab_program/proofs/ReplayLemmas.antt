@@ -4,7 +4,7 @@ use Rattle.std.proofs.Math.Seq.{take-nil}
 use Rattle.std.specs.Prelude.{IfSome, IfOk, OnOk, IfErr, Ok, Err, Result, unwrap_or}
 use Rattle.std.specs.List.{concat}
 use Rattle.std.specs.Io.KnownBytes.{Appends, Keeps, prepend_known}
-use Rattle.std.proofs.KnownBytes.{Appends-nil, Appends-trans, Appends-kept}
+use Rattle.std.proofs.KnownBytes.{Appends-nil, Appends-trans, Appends-kept, Keeps-refl}
 use Rattle.std.proofs.lemmas.List.Folds.{concat-append}
 use Rattle.lab_records.specs.declared.lab.Lab.{Lab}
 use Rattle.lab_desk.specs.declared.event.Event.{Event}
@@ -22,7 +22,7 @@ use Rattle.lab_program.specs.Event.{next_event}
 use Rattle.lab_program.specs.Fault.{IsInputFault, IsReaderFault, fault_of_run, fault_line}
 use Rattle.lab_program.specs.Reading.{TakesNext}
 use Rattle.lab_program.specs.Replay.{nothing, BeginsWith, Stops, IsTold, IsWritten, IsReplay, Replays}
-use Rattle.lab_program.proofs.RunLemmas.{IsRun-append, IsRun-none, IsRun-weaker}
+use Rattle.lab_desk.proofs.Running.{run_then, no_run, run_wider}
 
 abbrev pub Meaning : Type 0
 Meaning = List ℕ → Option Lab
@@ -53,7 +53,7 @@ so_far_none may_refuse old input before = record {
   answers = [];
   rest = unwrap_or input [];
   begins = begins_at input;
-  run = IsRun-none may_refuse old;
+  run = no_run may_refuse old;
   wrote = Appends-nil before;
 }
 
@@ -61,6 +61,22 @@ module _ (may_refuse : Type 0) (old : Meaning) (before : Option (List ℕ)) wher
   at_rest : (now left : Option (List ℕ)) (rest : List ℕ) (result : Result (Option Event) ReplayFault) → now ≡ Some rest
       → IfSome now (λ input. TakesNext (next_event input) left result) → TakesNext (next_event rest) left result
   at_rest now left rest result e next = let here : IfSome (Some rest) (λ input. TakesNext (next_event input) left result) = subst (λ n. IfSome n (λ input. TakesNext (next_event input) left result)) e next in here
+
+  -- the replay ended where the events so far end
+  ended : (ending : Result (Unit {0}) ReplayFault) (new : Meaning) (input now mid after : Option (List ℕ)) (sofar : SoFar may_refuse old new input now before mid)
+      → IfSome input (λ bytes. BeginsWith sofar.events bytes sofar.rest × Stops ending (next_event sofar.rest)) → IsWritten ending sofar.answers (concat sofar.answers)
+      → Keeps mid after → Replays may_refuse old new input before after ending
+  ended ending new input now mid after sofar stops answered kept = record {
+    events = sofar.events;
+    taken = sofar.taken;
+    answers = sofar.answers;
+    written = concat sofar.answers;
+    rest = sofar.rest;
+    begins = stops;
+    run = sofar.run;
+    answered = answered;
+    wrote = Appends-kept before mid after (concat sofar.answers) sofar.wrote kept;
+  }
 
   ends : (input now left : Option (List ℕ)) (events : List Event) (rest : List ℕ) → IfSome input (λ bytes. BeginsWith events bytes rest × (now ≡ Some rest))
       → IfSome now (λ input. TakesNext (next_event input) left (Ok None)) → IfSome input (λ bytes. BeginsWith events bytes rest × Stops (Ok tt) (next_event rest))
@@ -70,17 +86,8 @@ module _ (may_refuse : Type 0) (old : Meaning) (before : Option (List ℕ)) wher
   -- the input ended
   pub replays_whole : (new : Meaning) (input now left after : Option (List ℕ)) → SoFar may_refuse old new input now before after
       → IfSome now (λ input. TakesNext (next_event input) left (Ok None)) → Replays may_refuse old new input before after (Ok tt)
-  replays_whole new input now left after sofar next = record {
-    events = sofar.events;
-    taken = sofar.taken;
-    answers = sofar.answers;
-    written = concat sofar.answers;
-    rest = sofar.rest;
-    begins = ends input now left sofar.events sofar.rest sofar.begins next;
-    run = sofar.run;
-    answered = refl;
-    wrote = sofar.wrote;
-  }
+  replays_whole new input now left after sofar next =
+      ended (Ok tt) new input now after after sofar (ends input now left sofar.events sofar.rest sofar.begins next) refl (Keeps-refl after)
 
   fails : (fault : ReplayFault) (input now left : Option (List ℕ)) (events : List Event) (rest : List ℕ) → IfSome input (λ bytes. BeginsWith events bytes rest × (now ≡ Some rest))
       → IfSome now (λ input. TakesNext (next_event input) left (Err fault)) → IfSome input (λ bytes. BeginsWith events bytes rest × Stops (Err fault) (next_event rest))
@@ -99,17 +106,9 @@ module _ (may_refuse : Type 0) (old : Meaning) (before : Option (List ℕ)) wher
   -- there was no next event
   pub replays_up_to : (fault : ReplayFault) (new : Meaning) (input now left after : Option (List ℕ)) → SoFar may_refuse old new input now before after
       → IfSome now (λ input. TakesNext (next_event input) left (Err fault)) → IsInputFault fault → Replays may_refuse old new input before after (Err fault)
-  replays_up_to fault new input now left after sofar next input_fault = record {
-    events = sofar.events;
-    taken = sofar.taken;
-    answers = sofar.answers;
-    written = concat sofar.answers;
-    rest = sofar.rest;
-    begins = fails fault input now left sofar.events sofar.rest sofar.begins next;
-    run = sofar.run;
-    answered = answered_whole fault sofar.answers input_fault;
-    wrote = sofar.wrote;
-  }
+  replays_up_to fault new input now left after sofar next input_fault =
+      ended (Err fault) new input now after after sofar (fails fault input now left sofar.events sofar.rest sofar.begins next)
+      (answered_whole fault sofar.answers input_fault) (Keeps-refl after)
 
   stopped : (input now : Option (List ℕ)) (events : List Event) (rest : List ℕ) → IfSome input (λ bytes. BeginsWith events bytes rest × (now ≡ Some rest))
       → IfSome input (λ bytes. BeginsWith events bytes rest × Unit {0})
@@ -119,32 +118,12 @@ module _ (may_refuse : Type 0) (old : Meaning) (before : Option (List ℕ)) wher
   -- the input was asked too often
   pub replays_tired : (new : Meaning) (input now after : Option (List ℕ)) → SoFar may_refuse old new input now before after
       → Replays may_refuse old new input before after (Err ReadFault)
-  replays_tired new input now after sofar = record {
-    events = sofar.events;
-    taken = sofar.taken;
-    answers = sofar.answers;
-    written = concat sofar.answers;
-    rest = sofar.rest;
-    begins = stopped input now sofar.events sofar.rest sofar.begins;
-    run = sofar.run;
-    answered = refl;
-    wrote = sofar.wrote;
-  }
+  replays_tired new input now after sofar = ended (Err ReadFault) new input now after after sofar (stopped input now sofar.events sofar.rest sofar.begins) refl (Keeps-refl after)
 
   -- there was no memory to run the event
   no_memory : (new : Meaning) (input now mid after : Option (List ℕ)) → SoFar may_refuse old new input now before mid → Keeps mid after
       → Replays may_refuse old new input before after (Err Memory)
-  no_memory new input now mid after sofar kept = record {
-    events = sofar.events;
-    taken = sofar.taken;
-    answers = sofar.answers;
-    written = concat sofar.answers;
-    rest = sofar.rest;
-    begins = stopped input now sofar.events sofar.rest sofar.begins;
-    run = sofar.run;
-    answered = refl;
-    wrote = Appends-kept before mid after (concat sofar.answers) sofar.wrote kept;
-  }
+  no_memory new input now mid after sofar kept = ended (Err Memory) new input now mid after sofar (stopped input now sofar.events sofar.rest sofar.begins) refl kept
 
   abbrev Rest : (input left : Option (List ℕ)) (events : List Event) → Type 0
   Rest input left events = (rest : List ℕ) × IfSome input (λ bytes. BeginsWith events bytes rest × (left ≡ Some rest))
@@ -167,7 +146,7 @@ module _ (may_refuse : Type 0) (old : Meaning) (before : Option (List ℕ)) wher
         answers = sofar.answers ++ ans;
         rest = more.0;
         begins = more.1;
-        run = IsRun-append may_refuse old mid new sofar.events (event ∷ []) sofar.taken ts sofar.answers ans sofar.run run;
+        run = run_then may_refuse sofar.events sofar.taken sofar.answers (event ∷ []) ts ans old mid new sofar.run run;
         wrote = subst (Appends before last) (sym (concat-append sofar.answers ans)) (Appends-trans before after last (concat sofar.answers) (concat ans) sofar.wrote wrote);
       }
 
@@ -196,7 +175,7 @@ module _ (may_refuse : Type 0) (old : Meaning) (before : Option (List ℕ)) wher
         written = concat sofar.answers ++ (concat ans ++ take sent cut);
         rest = more.0;
         begins = more.1;
-        run = IsRun-append may_refuse old mid new sofar.events (take n (event ∷ [])) sofar.taken ts sofar.answers (ans ++ cut ∷ []) sofar.run run;
+        run = run_then may_refuse sofar.events sofar.taken sofar.answers (take n (event ∷ [])) ts (ans ++ cut ∷ []) old mid new sofar.run run;
         answered = (
           sofar.answers ++ ans,
           cut,
@@ -221,7 +200,7 @@ module _ (may_refuse : Type 0) (old : Meaning) (before : Option (List ℕ)) wher
       no_memory (meaning new) input now after last (subst (λ d. SoFar may_refuse old (meaning d) input now before after) (sym memory.0) sofar) memory.1
   replays_stopped refuses weaker meaning mid new event (Write taken sent) input now left after last sofar next cut memory =
       replays_cut event (length taken.items) taken.items cut.0 cut.1 sent (meaning mid) (meaning new) input now left after last sofar next
-      (IsRun-weaker refuses may_refuse weaker _ _ _ _ _ cut.2) cut.3 cut.4
+      (run_wider refuses may_refuse weaker _ _ _ _ _ cut.2) cut.3 cut.4
 
 -- nothing was begun
 stops_none : (fault : ReplayFault) (input : Option (List ℕ)) → IsReaderFault fault
@@ -238,18 +217,18 @@ nothing_written ReadFault h = refl
 nothing_written WriteFault h = absurd h
 nothing_written Memory h = refl
 
-pub replays_none : (fault : ReplayFault) (may_refuse : Type 0) (old : Meaning) (input before : Option (List ℕ)) → IsReaderFault fault
-    → Replays may_refuse old old input before before (Err fault)
-replays_none fault may_refuse old input before h = record {
+pub replays_none : (fault : ReplayFault) (may_refuse : Type 0) (old : Meaning) (input before after : Option (List ℕ)) → IsReaderFault fault → Keeps before after
+    → Replays may_refuse old old input before after (Err fault)
+replays_none fault may_refuse old input before after h kept = record {
   events = [];
   taken = [];
   answers = [];
   written = [];
   rest = unwrap_or input [];
   begins = stops_none fault input h;
-  run = IsRun-none may_refuse old;
+  run = no_run may_refuse old;
   answered = nothing_written fault h;
-  wrote = Appends-nil before;
+  wrote = Appends-kept before before after [] (Appends-nil before) kept;
 }
 
 -- a desk without laboratories, over a fresh reader
@@ -284,16 +263,6 @@ pub no_replay : (input before after told_before told_after : Option (List ℕ)) 
 no_replay input before after told_before told_after status failed kept tells = record {
   ending = Err Memory;
   labs = nothing;
-  replays = record {
-    events = [];
-    taken = [];
-    answers = [];
-    written = [];
-    rest = unwrap_or input [];
-    begins = stops_none Memory input tt;
-    run = IsRun-none ⊥ nothing;
-    answered = refl;
-    wrote = Appends-kept before before after [] (Appends-nil before) kept;
-  };
+  replays = replays_none Memory ⊥ nothing input before after tt kept;
   tells = (failed, tells);
 }

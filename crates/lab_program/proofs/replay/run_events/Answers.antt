@@ -1,5 +1,5 @@
 use Rattle.std.proofs.lemmas.Result.{err_from_is_err_and}
-use Rattle.lab_program.proofs.RunLemmas.{IsRun-weaker}
+use Rattle.lab_desk.proofs.Running.{run_wider}
 use Rattle.lab_program.proofs.ReplayLemmas.{so_far_none, so_far_more, replays_stopped}
 use Rattle.lab_program.proofs.replay.run_events.Goals as goal
 
@@ -12,7 +12,7 @@ loop-preserved g c =
       sofar = λ h r.
           let kept = c.run.ensures.honest h in
           let ran = c.in_ok-run.ensures.alone h (c.loop.invariant.reached kept r) in
-          so_far_more _ _ _ c.in-Some.event _ ran.0 _ _ _ _ _ _ _ (c.loop.invariant.sofar kept r) next (IsRun-weaker _ _ c.loop.invariant.refusing _ _ _ _ _ ran.1) ran.2;
+          so_far_more _ _ _ c.in-Some.event _ ran.0 _ _ _ _ _ _ _ (c.loop.invariant.sofar kept r) next (run_wider _ _ c.loop.invariant.refusing _ _ _ _ _ ran.1) ran.2;
       reached = λ h r. c.run.ensures.reached h (c.loop.invariant.reached (c.run.ensures.honest h) r);
       refusing = λ m. c.loop.invariant.refusing (c.run.ensures.refusing m);
     }

@@ -1,4 +1,5 @@
 use Rattle.std.proofs.Common.{◌∙◌, ap}
+use Rattle.std.proofs.KnownBytes.{Keeps-refl}
 use Rattle.std.proofs.lemmas.Result.{err_from_is_err_and}
 use Rattle.lab_desk.specs.Listed.{lab_of}
 use Rattle.lab_program.specs.Replay.{nothing}
@@ -9,12 +10,12 @@ use Rattle.lab_program.proofs.replay.run_input.Goals as goal
 pub returns-in_err-desk : goal.returns-in_err-desk
 returns-in_err-desk g c =
     let p = err_from_is_err_and c.from_residual.result c.from_residual.ensures.1 in
-    record { replayed = (nothing, rw (p.1, p.2) (replays_none Memory ⊥ nothing _ _ tt)) }
+    record { replayed = (nothing, rw (p.1, p.2) (replays_none Memory ⊥ nothing _ _ _ tt (Keeps-refl _))) }
 
 pub returns-in_err-reader : goal.returns-in_err-reader
 returns-in_err-reader g c =
     let p = err_from_is_err_and c.from_residual-in_err-reader.result c.from_residual-in_err-reader.ensures.1 in
-    record { replayed = (nothing, rw p.1 (replays_none p.0 ⊥ nothing _ _ p.2)) }
+    record { replayed = (nothing, rw p.1 (replays_none p.0 ⊥ nothing _ _ _ p.2 (Keeps-refl _))) }
 
 pub returns : goal.returns
 returns g c =

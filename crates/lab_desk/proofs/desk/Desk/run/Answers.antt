@@ -1,6 +1,7 @@
 -- The run goes on by each event; a write fault ends it within the answer of its last event.
 use Rattle.std.proofs.Common.{rules, ◌≡◌, ◌+◌, [], ◌∷◌, ◌++◌, length}
-use Rattle.lab_desk.proofs.Running.{run_more, appends_then, concat_more}
+use Rattle.std.proofs.KnownBytes.{Appends-trans}
+use Rattle.lab_desk.proofs.Running.{run_more, concat_more}
 use Rattle.lab_desk.proofs.desk.Desk.run.Goals as goal
 
 pub returns-in-Err-clause-cut : goal.returns-in-Err-clause-cut
@@ -13,7 +14,7 @@ returns-in-Err-clause-cut g c = λ honest reached.
       before.0,
       here.0,
       rw counted (run_more _ _ c.loop-event.invariant.refusing c.args.events.now c.event-item.result c.loop-event.event-index c.loop-event.taken.items c.answer-answered.result.taken c.push.new.self.items before.0 here.0 _ _ _ c.event-item.is c.loop-event-test.true pushed before.1 here.1),
-      appends_then _ _ _ _ _ before.2 out.0,
+      Appends-trans _ _ _ _ _ before.2 out.0,
       out.1,
     )
 
@@ -31,6 +32,6 @@ loop-event-preserved g c = record {
       let pushed : c.push.new.self.items ≡ c.loop-event.taken.items ++ c.answer-answered.result.taken ∷ [] = search rules in (
         before.0 ++ here.0 ∷ [],
         run_more _ _ c.loop-event.invariant.refusing c.args.events.now c.event-item.result c.loop-event.event-index c.loop-event.taken.items c.answer-answered.result.taken c.push.new.self.items before.0 here.0 _ _ _ c.event-item.is c.loop-event-test.true pushed before.1 here.1,
-        rw (← concat_more before.0 here.0) (appends_then _ _ _ _ _ before.2 out),
+        rw (← concat_more before.0 here.0) (Appends-trans _ _ _ _ _ before.2 out),
       );
 }
