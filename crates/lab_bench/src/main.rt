@@ -1,25 +1,37 @@
-//! `lab_bench WORKLOAD CALLS`: makes so many calls of one function of the laboratories' records, for a script to time.
-//! It prints what the calls computed, and never a time.
+//! `lab_bench WORKLOAD CALLS [ROWS]`: makes so many calls of one function of the laboratories' records, for a script to time;
+//! a version has so many rows, and else 200. It prints what the calls computed, and never a time.
 #![tactic(auto)]
 
+mod growths;
 mod moments;
+mod record_growths;
+mod samples;
 mod values;
+mod versions;
 mod workload;
 
 use crate::workload::Workload;
 use anyhow::{Context, Result, bail};
 
+/// The rows of a version where none are named: the most that a laboratory's versions have.
+const ROWS: u32 = 200;
+
 fn main(rt: HostRuntime) -> Result<()> {
     let words: Vec<String> = std::env::args(&rt)?.collect(rt.alloc())?;
-    let [_, name, calls] = words.as_slice() else {
-        bail!("lab_bench takes a workload and a number of calls");
+    let (name, calls, rows) = match words.as_slice() {
+        [_, name, calls] => (name, calls, None),
+        [_, name, calls, rows] => (name, calls, Some(rows)),
+        _ => bail!("lab_bench takes a workload, a number of calls and perhaps a number of rows"),
     };
     let workload = Workload::of_word(name.as_str()).context("no such workload")?;
-    let calls = calls
-        .as_str()
-        .parse::<u32>()
-        .context("reading the number of calls")?;
-    let sum = workload.run(rt.alloc(), calls)?;
-    println!(rt; "{sum}")?;
-    Ok(())
+    let calls = number(calls.as_str())?;
+    let rows = match rows {
+        Some(rows) => number(rows.as_str())?,
+        None => ROWS,
+    };
+    workload.run(&rt, rt.alloc(), calls, rows)
+}
+
+fn number(word: &str) -> Result<u32> {
+    word.parse::<u32>().context("reading a number")
 }

@@ -1,8 +1,8 @@
 //! Values of a form, read.
 
+use crate::samples::form;
 use anyhow::Result;
-use lab_forms::{Bound, Field, Form, Kind};
-use lab_names::{Key, Name, Unit};
+use lab_names::{Key, Unit};
 use std::alloc::Global;
 
 // Texts of values, one that is out of range, and one that is no number.
@@ -17,28 +17,9 @@ const TEXTS: [&str; 8] = [
     "7,5",
 ];
 
-// A form of one field, which takes numbers of two decimals in mg/L, from 0.
-fn form_of_lead(alloc: Global) -> Result<Form> {
-    let kind = Kind::Number {
-        unit: Unit::parse(alloc, "mg/L")?,
-        decimals: 2,
-        min: Some(Bound::new(String::from_str(alloc, "0")?)),
-        max: None,
-    };
-    let lead = Field {
-        key: Key::parse(alloc, "lead")?,
-        label: Name::parse(alloc, "Lead")?,
-        required: true,
-        kind,
-    };
-    let mut fields = Vec::new(alloc);
-    fields.push(lead)?;
-    Ok(Form::make(fields)?)
-}
-
 /// Reads the texts in turn, and answers the sum of the lengths of those that are values.
 pub(crate) fn read_values(alloc: Global, calls: u32) -> Result<u64> {
-    let form = form_of_lead(alloc)?;
+    let form = form(alloc, &["lead"])?;
     let key = Key::parse(alloc, "lead")?;
     let unit = Unit::parse(alloc, "mg/L")?;
     let mut sum = 0u64;

@@ -1,7 +1,10 @@
+use crate::growths::print_growths;
 use crate::moments::{parse_moments, print_moments};
 use crate::values::read_values;
+use crate::versions::{digest_versions, read_versions, stretch, version_text, write_versions};
 use anyhow::Result;
 use std::alloc::Global;
+use std::io::Print;
 
 /// The calls that are made.
 #[derive(Clone, Copy)]
@@ -12,6 +15,18 @@ pub enum Workload {
     PrintMoments,
     /// `Form::read_value`.
     ReadValues,
+    /// `write_version`.
+    WriteVersions,
+    /// `read_version`.
+    ReadVersions,
+    /// `digest`, of the text of a version.
+    DigestVersions,
+    /// Rounds of `pbkdf2`, instead of calls.
+    Rounds,
+    /// Each call that takes memory.
+    Growths,
+    /// The text of a version, whatever the number.
+    VersionText,
 }
 
 impl Workload {
@@ -21,16 +36,36 @@ impl Workload {
             "parse-moments" => Some(Workload::ParseMoments),
             "print-moments" => Some(Workload::PrintMoments),
             "read-values" => Some(Workload::ReadValues),
+            "write-versions" => Some(Workload::WriteVersions),
+            "read-versions" => Some(Workload::ReadVersions),
+            "digest-versions" => Some(Workload::DigestVersions),
+            "rounds" => Some(Workload::Rounds),
+            "version-text" => Some(Workload::VersionText),
+            "growths" => Some(Workload::Growths),
             _ => None,
         }
     }
 
-    /// Makes so many calls, and answers a sum of what they computed.
-    pub(crate) fn run(self, alloc: Global, calls: u32) -> Result<u64> {
-        match self {
-            Workload::ParseMoments => Ok(parse_moments(calls)),
-            Workload::PrintMoments => Ok(print_moments(calls)),
-            Workload::ReadValues => read_values(alloc, calls),
-        }
+    /// Makes so many calls, and prints a sum of what they computed, or what each gave.
+    pub(crate) fn run(self, rt: &impl Print, alloc: Global, calls: u32, rows: u32) -> Result<()> {
+        let sum = match self {
+            Workload::ParseMoments => parse_moments(calls),
+            Workload::PrintMoments => print_moments(calls),
+            Workload::ReadValues => read_values(alloc, calls)?,
+            Workload::WriteVersions => write_versions(alloc, calls, rows)?,
+            Workload::ReadVersions => read_versions(alloc, calls, rows)?,
+            Workload::DigestVersions => digest_versions(alloc, calls, rows)?,
+            Workload::Rounds => {
+                println!(rt; "{}", hex::encode(alloc, stretch(calls)?)?)?;
+                return Ok(());
+            }
+            Workload::VersionText => {
+                print!(rt; "{}", String::from_utf8(version_text(alloc, rows)?)?)?;
+                return Ok(());
+            }
+            Workload::Growths => return Ok(print_growths(rt, alloc, calls)?),
+        };
+        println!(rt; "{sum}")?;
+        Ok(())
     }
 }

@@ -1,0 +1,54 @@
+//! The calls on versions and seals that take memory. Each has its arguments made for it alone, so that want of memory
+//! stops one call and no other.
+
+use crate::versions::{version, version_text};
+use anyhow::{Error, Result};
+use lab_names::{LabCode, Moment, Name, Note, PersonCode};
+use lab_seal::{Meaning, SealParts, VersionParts, digest, read_version};
+use std::alloc::Global;
+use std::io::{self, Print};
+
+/// Makes each call once, and prints for each a text of what it gave, or the word of its fault.
+pub(crate) fn print_record_growths(rt: &impl Print, alloc: Global) -> io::Result<()> {
+    print_line(rt, version_text(alloc, 2).as_ref().map(|_| "text"))?;
+    print_line(rt, read(alloc).as_ref().map(|parts| parts.sample.as_str()))?;
+    print_line(
+        rt,
+        copied_version(alloc)
+            .as_ref()
+            .map(|parts| parts.sample.as_str()),
+    )?;
+    print_line(
+        rt,
+        copied_seal(alloc).as_ref().map(|parts| parts.name.as_str()),
+    )
+}
+
+// The line of a call.
+fn print_line(rt: &impl Print, text: Result<&str, &Error>) -> io::Result<()> {
+    match text {
+        Ok(text) => println!(rt; "{text}"),
+        Err(fault) => println!(rt; "{fault}"),
+    }
+}
+
+fn read(alloc: Global) -> Result<VersionParts> {
+    let text = version_text(alloc, 2)?;
+    Ok(read_version(alloc, text.as_slice())?)
+}
+
+fn copied_version(alloc: Global) -> Result<VersionParts> {
+    Ok(version(alloc, 2)?.copy(alloc)?)
+}
+
+fn copied_seal(alloc: Global) -> Result<SealParts> {
+    let parts = SealParts {
+        version: digest(b"abc"),
+        lab: LabCode::parse(alloc, "aqua")?,
+        person: PersonCode::parse(alloc, "eve")?,
+        name: Name::parse(alloc, "Eve Ems")?,
+        meaning: Meaning::Rejection(Note::parse(alloc, "misread scale")?),
+        moment: Moment::from_seconds(1300)?,
+    };
+    Ok(parts.copy()?)
+}

@@ -1,0 +1,8 @@
+use Rattle.std.proofs.Common.{rules, append_assoc}
+use Rattle.std.proofs.lemmas.Result.{IfOk-equal}
+use Rattle.lab_seal.specs.Versions.{item, heading_text}
+use Rattle.lab_seal.proofs.versions.push_heading.Goals as goal
+
+pub returns : goal.returns
+unfolding heading_text item
+returns c = search (rules, IfOk-equal, append_assoc)

@@ -1,0 +1,2 @@
+pub mod StretchingLemmas
+pub mod WordsLemmas

@@ -1,0 +1,5 @@
+pub mod Hmac
+pub mod Keyed
+pub mod Pbkdf2
+pub mod Verifiers
+pub mod Words

@@ -1,0 +1,20 @@
+-- What the eight random words of a tick are used as. A word has 64 bits, and its bytes go most significant first.
+use Rattle.std.specs.Prelude.{ℕ, List, [], ◌∷◌, ◌++◌, take, drop}
+use Rattle.std.specs.Int.{w64, to_be_bytes}
+
+-- the bytes of words, one after the other
+unfoldable pub big_endian : List ℕ → List ℕ
+big_endian [] = []
+big_endian (word ∷ words) = to_be_bytes w64 word ++ big_endian words
+
+-- a token is words 0 to 3
+abbrev pub token_of : List ℕ → List ℕ
+token_of words = big_endian (take 4 words)
+
+-- a half of a one-time word is words 0 and 1
+abbrev pub half_of : List ℕ → List ℕ
+half_of words = big_endian (take 2 words)
+
+-- a salt is words 4 and 5
+abbrev pub salt_of : List ℕ → List ℕ
+salt_of words = big_endian (take 2 (drop 4 words))

@@ -1,0 +1,50 @@
+//! The digests of SHA-256.
+ghost use Rattle.std.specs.Prelude.{◌≡◌};
+ghost use Rattle.hex.specs.Hex.{encode_lower};
+
+use std::marker::Model;
+
+/// A digest of SHA-256 (FIPS 180-4), 32 bytes.
+///
+/// A contract sees it as the list of its bytes.
+#[derive(Clone, Copy, Debug, PartialEq, Eq)]
+pub struct Digest {
+    sum: [u8; 32],
+}
+
+impl Model for Digest {
+    ghost use Rattle.std.specs.Prelude.{List, ℕ};
+
+    ghost Value = { List ℕ };
+
+    ghost view = { λ digest. digest.sum };
+
+    ghost inverse = { λ bytes. record { sum = bytes } };
+}
+
+impl Digest {
+    /// The digest that has these bytes.
+    pub fn from_bytes(bytes: [u8; 32]) -> Digest
+        ensures { result ≡ bytes }
+    {
+        Digest { sum: bytes }
+    }
+
+    /// The digest's bytes.
+    pub fn bytes(&self) -> [u8; 32]
+        ensures { result ≡ self.now }
+    {
+        self.sum
+    }
+
+    /// The digest as 64 lower hexadecimal digits.
+    pub fn digits(&self) -> [u8; 64]
+        ensures { result ≡ encode_lower self.now }
+    {
+        let mut digits = [0; 64];
+        match hex::encode_to_slice(self.bytes(), &mut digits) {
+            Ok(()) => digits,
+            Err(_) => unreachable!(),
+        }
+    }
+}

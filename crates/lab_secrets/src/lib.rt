@@ -1,0 +1,19 @@
+//! Digests, keyed hashes and the secrets that are checked by them: SHA-256 (FIPS 180-4), HMAC (RFC 2104), PBKDF2 (RFC 8018),
+//! the verifiers of passwords, the tokens of sessions and the halves of one-time words. None of the calls takes memory.
+#![tactic(auto)]
+
+mod digests;
+mod hashing;
+mod keyed;
+mod stretching;
+#[cfg(test)]
+mod tests;
+mod verifiers;
+mod words;
+
+pub use digests::Digest;
+pub use hashing::digest;
+pub use keyed::hmac;
+pub use stretching::pbkdf2;
+pub use verifiers::{Verifier, VerifierParts};
+pub use words::{Half, Token, salt};
