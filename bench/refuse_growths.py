@@ -1,6 +1,6 @@
 #!/usr/bin/env python3
 """Refuses each growth of memory in turn while the proved programs run: labdesk on the stored run, and lab_bench on its
-workload `growths`, which makes each call of the names, forms, versions and seals that takes memory.
+workload `growths`, which makes each call of the names, forms, versions, seals and persons that takes memory.
 
 A small library in front of the C library's malloc and realloc answers the Nth call with no memory, for N = 1, 2, ..
 until a run meets no refusal. Each run of labdesk must answer every event as it should be answered, or one event by want
@@ -39,7 +39,7 @@ void *realloc(void *old, size_t size) {
 
 ROOT = os.path.dirname(os.path.dirname(os.path.abspath(__file__)))
 # The lines of one round of the workload `growths`.
-CALLS = 25
+CALLS = 35
 MEMORY_LINE = b"refused 90 memory\n"
 MEMORY_REPLY = (
     b"HTTP/1.1 503 Service Unavailable\r\nContent-Type: application/json\r\nContent-Length: 30\r\n"

@@ -4,6 +4,7 @@
 
 mod growths;
 mod moments;
+mod openings;
 mod record_growths;
 mod samples;
 mod values;

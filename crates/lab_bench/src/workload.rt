@@ -1,5 +1,6 @@
 use crate::growths::print_growths;
 use crate::moments::{parse_moments, print_moments};
+use crate::openings::{open_sessions, stretch_passwords};
 use crate::values::read_values;
 use crate::versions::{digest_versions, read_versions, stretch, version_text, write_versions};
 use anyhow::Result;
@@ -21,6 +22,10 @@ pub enum Workload {
     ReadVersions,
     /// `digest`, of the text of a version.
     DigestVersions,
+    /// `open_session`.
+    OpenSessions,
+    /// `pbkdf2` with the rounds of a password.
+    StretchPasswords,
     /// Rounds of `pbkdf2`, instead of calls.
     Rounds,
     /// Each call that takes memory.
@@ -39,6 +44,8 @@ impl Workload {
             "write-versions" => Some(Workload::WriteVersions),
             "read-versions" => Some(Workload::ReadVersions),
             "digest-versions" => Some(Workload::DigestVersions),
+            "open-sessions" => Some(Workload::OpenSessions),
+            "stretch-passwords" => Some(Workload::StretchPasswords),
             "rounds" => Some(Workload::Rounds),
             "version-text" => Some(Workload::VersionText),
             "growths" => Some(Workload::Growths),
@@ -55,6 +62,8 @@ impl Workload {
             Workload::WriteVersions => write_versions(alloc, calls, rows)?,
             Workload::ReadVersions => read_versions(alloc, calls, rows)?,
             Workload::DigestVersions => digest_versions(alloc, calls, rows)?,
+            Workload::OpenSessions => open_sessions(alloc, calls)?,
+            Workload::StretchPasswords => stretch_passwords(calls),
             Workload::Rounds => {
                 println!(rt; "{}", hex::encode(alloc, stretch(calls)?)?)?;
                 return Ok(());

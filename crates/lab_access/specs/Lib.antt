@@ -1,0 +1,7 @@
+pub mod Passwords
+pub mod Persons
+pub mod Policy
+pub mod Refusals
+pub mod Sessions
+pub mod Attempts
+pub mod Openings

@@ -1,0 +1,96 @@
+//! Passwords that are given.
+ghost use Rattle.std.specs.Prelude.{◌≡◌, option_copied};
+ghost use Rattle.lab_access.specs.Refusals.{Answers};
+ghost use Rattle.lab_access.specs.Attempts.{attempted, signing_attempted, is_own_code, tried, failed};
+
+use crate::fault::{Failure, PeopleFault};
+use crate::person::Person;
+use lab_names::{Moment, PersonCode};
+
+/// The failed passwords of which the last locks.
+const FAILURES_TO_LOCK: u32 = 5;
+
+/// Tries a text as the password of a person, who was looked up by a code. It answers the person with no failed password and no
+/// lock.
+///
+/// # Errors
+/// `Failed` with what comes of it, or want of memory.
+pub fn attempt(person: Option<&Person>, text: &str, moment: Moment) -> Result<Person, PeopleFault>
+    ensures { Answers (attempted (option_copied person.entry) text.now moment) result }
+{
+    match person {
+        Some(person) => try_password(person, true, text, moment),
+        None => Err(Failure::Stray.into()),
+    }
+}
+
+/// Tries a text as the password of a person who signs in a session, and the code, if it is given. A code of somebody else counts
+/// as a failed password of the one who signs. It answers the person with no failed password and no lock.
+///
+/// # Errors
+/// `Failed` with what comes of it, or want of memory.
+pub fn attempt_signing(
+    person: &Person,
+    code: Option<&PersonCode>,
+    text: &str,
+    moment: Moment,
+) -> Result<Person, PeopleFault>
+    ensures { Answers (signing_attempted person.now (option_copied code.entry) text.now moment) result }
+{
+    let is_own = is_own(code, person);
+    try_password(person, is_own, text, moment)
+}
+
+// Whether a code is the person's, if it is given.
+fn is_own(code: Option<&PersonCode>, person: &Person) -> bool
+    ensures { result ≡ is_own_code (option_copied code.entry) person.now }
+{
+    match code {
+        Some(code) => *code == person.code,
+        None => true,
+    }
+}
+
+#[tactic(auto, unfolding(crate::specs::Attempts::tried))]
+fn try_password(
+    person: &Person,
+    is_own: bool,
+    text: &str,
+    moment: Moment,
+) -> Result<Person, PeopleFault>
+    ensures { Answers (tried person.now is_own text.now moment) result }
+{
+    if person.retired || !person.password.is_set() {
+        return Err(Failure::Stray.into());
+    }
+    if person.is_locked(moment) {
+        return Err(Failure::AlreadyLocked(person.copy()?).into());
+    }
+    let person = person.copy()?;
+    if is_own && person.password.accepts(text, moment) {
+        return Ok(person.unlocked());
+    }
+    Err(fail(person, moment).into())
+}
+
+// One failed password more; the fifth locks.
+fn fail(person: Person, moment: Moment) -> Failure
+    ensures { result ≡ failed person moment }
+{
+    let before = match person.locked {
+        Some(_) => 0,
+        None => person.failures,
+    };
+    if before < FAILURES_TO_LOCK - 1 {
+        return Failure::Counted(Person {
+            failures: before + 1,
+            locked: None,
+            ..person
+        });
+    }
+    Failure::Locking(Person {
+        failures: FAILURES_TO_LOCK,
+        locked: Some(moment),
+        ..person
+    })
+}

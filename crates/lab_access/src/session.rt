@@ -1,0 +1,106 @@
+//! One session of a person, and which sessions a change of the account closes.
+ghost use Rattle.std.specs.Prelude.{◌≡◌, IfOk};
+ghost use Rattle.lab_access.specs.Sessions.{is_live, is_closed_by, touched, ended, signed_in};
+
+use crate::times::seconds_since;
+use lab_names::{Moment, OutOfMemory, PersonCode};
+use lab_secrets::Digest;
+
+/// The most seconds since its last request at which a session lives.
+const SECONDS_OF_REST: u64 = 900;
+
+/// The most seconds since its opening at which a session lives.
+const SECONDS_OF_SESSION: u64 = 28_800;
+
+/// One continuous period in which a person works.
+#[derive(Debug, Drop)]
+pub struct Session {
+    /// The session's number in the laboratory, from 1.
+    pub number: u32,
+    /// Whose session it is.
+    pub person: PersonCode,
+    /// The SHA-256 digest of the session's token, by which requests name it.
+    pub token: Digest,
+    /// When it was opened.
+    pub opened: Moment,
+    /// When its last request came.
+    pub last: Moment,
+    /// Whether it is closed.
+    pub closed: bool,
+    /// Whether something was signed in it, so that the code needn't be given again.
+    pub signed: bool,
+}
+
+impl Session {
+    /// The same session once more.
+    ///
+    /// # Errors
+    /// Only want of memory.
+    pub fn copy(&self) -> Result<Session, OutOfMemory>
+        ensures { IfOk result (λ copy. copy ≡ self.now) }
+    {
+        Ok(Session {
+            number: self.number,
+            person: self.person.copy()?,
+            token: self.token,
+            opened: self.opened,
+            last: self.last,
+            closed: self.closed,
+            signed: self.signed,
+        })
+    }
+
+    // Whether it lives at the moment.
+    pub(crate) fn is_live(&self, moment: Moment) -> bool
+        ensures { result ≡ is_live self.now moment }
+    {
+        !self.closed
+            && seconds_since(self.last, moment) <= SECONDS_OF_REST
+            && seconds_since(self.opened, moment) <= SECONDS_OF_SESSION
+    }
+
+    /// Takes note of a request at the moment.
+    pub fn touch(&mut self, moment: Moment)
+        ensures { self.new ≡ touched moment self.old }
+    {
+        self.last = moment;
+    }
+
+    /// Closes the session.
+    pub fn close(&mut self)
+        ensures { self.new ≡ ended self.old }
+    {
+        self.closed = true;
+    }
+
+    /// Takes note of an accepted signing.
+    pub fn mark_signed(&mut self)
+        ensures { self.new ≡ signed_in self.old }
+    {
+        self.signed = true;
+    }
+}
+
+/// Which sessions of a person are closed by a change of the account.
+#[derive(Clone, Copy, Debug, PartialEq, Eq)]
+pub enum Closing {
+    /// None.
+    Nothing,
+    /// All of the person's.
+    All,
+    /// All of the person's but the one of this number.
+    Others(u32),
+}
+
+impl Closing {
+    /// Whether it closes the session, the person's code being this one.
+    pub fn closes(&self, person: &PersonCode, session: &Session) -> bool
+        ensures { result ≡ is_closed_by self.now person.now session.now }
+    {
+        match self {
+            Closing::Nothing => false,
+            Closing::All => session.person == *person,
+            Closing::Others(number) => session.person == *person && session.number != *number,
+        }
+    }
+}

@@ -1,0 +1,49 @@
+//! Sessions, opened; and the passwords alone that they are opened by.
+
+use anyhow::Result;
+use lab_names::{Moment, Name, PersonCode, Tick};
+use lab_people::{Password, Person, ROUNDS, Roles, open_session};
+use lab_seal::pbkdf2;
+use std::alloc::Global;
+
+const PASSWORD: &str = "dan password 1";
+
+const SALT: [u8; 16] = [7; 16];
+
+fn person(alloc: Global) -> Result<Person> {
+    Ok(Person {
+        code: PersonCode::parse(alloc, "dan")?,
+        name: Name::parse(alloc, "Dan Dorn")?,
+        roles: Roles::none(),
+        retired: false,
+        failures: 0,
+        locked: None,
+        password: Password::choose(PASSWORD, SALT, Moment::from_seconds(500)?),
+        ask: None,
+    })
+}
+
+/// Opens so many sessions, and answers the sum of their numbers.
+pub(crate) fn open_sessions(alloc: Global, calls: u32) -> Result<u64> {
+    let dan = person(alloc)?;
+    let tick = Tick {
+        moment: Moment::from_seconds(900)?,
+        words: [1, 2, 3, 4, 5, 6, 7, 8],
+    };
+    let mut sum = 0u64;
+    for call in 0..calls {
+        let opened = open_session(Some(&dan), PASSWORD, &tick, call, false)?;
+        sum = sum.wrapping_add(u64::from(opened.session.number));
+    }
+    Ok(sum)
+}
+
+/// Makes of the password what its verifier is made of, so often, and answers the sum of the first bytes.
+pub(crate) fn stretch_passwords(calls: u32) -> u64 {
+    let mut sum = 0u64;
+    for _ in 0..calls {
+        let [first, ..] = pbkdf2(PASSWORD.as_bytes(), &SALT, ROUNDS);
+        sum = sum.wrapping_add(u64::from(first));
+    }
+    sum
+}

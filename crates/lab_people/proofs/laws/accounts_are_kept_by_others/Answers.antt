@@ -1,0 +1,11 @@
+use Rattle.lab_people.specs.Accounts.{asking, confirming, setting_roles, retiring, unlocking, person_meant}
+use Rattle.std.specs.Prelude.{Some}
+use Rattle.lab_people.proofs.LawLemmas.{own_meant, refused_then}
+use Rattle.lab_people.proofs.laws.accounts_are_kept_by_others.Goals as goal
+
+pub returns : goal.returns
+unfolding asking confirming setting_roles retiring unlocking
+returns c person tick roles =
+    let own = own_meant person in
+    let meant = person_meant person.code (Some person) in
+    (refused_then meant _ own, refused_then meant _ own, refused_then meant _ own, refused_then meant _ own, refused_then meant _ own)

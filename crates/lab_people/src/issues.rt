@@ -1,0 +1,102 @@
+//! One-time words, which two administrators give a person, each a half.
+ghost use Rattle.std.specs.Prelude.{◌≡◌, option_copied};
+ghost use Rattle.lab_access.specs.Refusals.{Answers};
+ghost use Rattle.lab_access.specs.Persons.{standing};
+ghost use Rattle.lab_secrets.specs.Words.{half_of};
+ghost use Rattle.lab_people.specs.Accounts.{half_verifier, asking, confirming};
+
+use crate::accounts::person_meant_by;
+use lab_access::{Ask, Closing, Password, PeopleFault, PeopleRefusal, Person, ROUNDS};
+use lab_names::{PersonCode, Tick};
+use lab_secrets::{Half, Verifier, salt};
+
+/// A half of a one-time word that was issued.
+#[derive(Drop)]
+pub struct Issued {
+    /// The person for whom.
+    pub person: Person,
+    /// The half, which is told once and not kept.
+    pub half: Half,
+    /// Which of the person's sessions are closed.
+    pub closing: Closing,
+}
+
+// The verifier of a half of a one-time word, as it is written.
+fn verifier_of_half(half: &Half, tick: &Tick) -> Verifier
+    requires { half.now ≡ half_of tick.now.words }
+    ensures { result ≡ half_verifier tick.now }
+{
+    Verifier::make(&half.digits(), salt(&tick.words), ROUNDS)
+}
+
+/// Asks for a one-time word for a person, who was looked up, and answers its first half. What the caller asked for before, or
+/// what has lapsed, is replaced.
+///
+/// # Errors
+/// In this order: `NoSuchPerson`, `OwnIssue`, `IssueOpen`; or want of memory.
+#[tactic(auto, unfolding(crate::specs::Accounts::asking))]
+pub fn ask_issue(
+    caller: &PersonCode,
+    person: Option<&Person>,
+    tick: &Tick,
+) -> Result<Issued, PeopleFault>
+    ensures { Answers (asking caller.now (option_copied person.entry) tick.now) result }
+{
+    let person = person_meant_by(caller, person)?;
+    if let Some(ask) = person.standing_ask(tick.moment)
+        && ask.asker != *caller
+    {
+        return Err(PeopleRefusal::IssueOpen.into());
+    }
+    let half = Half::from_words(&tick.words);
+    let ask = Ask {
+        asker: caller.copy()?,
+        asked: tick.moment,
+        first: verifier_of_half(&half, tick),
+    };
+    Ok(Issued {
+        person: Person {
+            ask: Some(ask),
+            ..person
+        },
+        half,
+        closing: Closing::Nothing,
+    })
+}
+
+/// Confirms what another administrator asked for, and answers the second half. The one-time word stands in place of the
+/// person's password, and all of the person's sessions are closed; failed passwords and a lock stay.
+///
+/// # Errors
+/// In this order: `NoSuchPerson`, `OwnIssue`, `NoIssue`, `SamePerson`; or want of memory.
+#[tactic(auto, unfolding(crate::specs::Accounts::confirming))]
+pub fn confirm_issue(
+    caller: &PersonCode,
+    person: Option<&Person>,
+    tick: &Tick,
+) -> Result<Issued, PeopleFault>
+    ensures { Answers (confirming caller.now (option_copied person.entry) tick.now) result }
+{
+    let person = person_meant_by(caller, person)?;
+    let Some(ask) = person.standing_ask(tick.moment) else {
+        return Err(PeopleRefusal::NoIssue.into());
+    };
+    if ask.asker == *caller {
+        return Err(PeopleRefusal::SamePerson.into());
+    }
+    let half = Half::from_words(&tick.words);
+    let password = Password::OneTime {
+        first: ask.first,
+        second: verifier_of_half(&half, tick),
+        confirmed: tick.moment,
+    };
+    Ok(Issued {
+        person: Person {
+            password,
+            ask: None,
+            ..person
+        },
+        half,
+        closing: Closing::All,
+    })
+}
