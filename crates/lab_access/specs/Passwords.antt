@@ -23,7 +23,7 @@ chosen text salt moment = Chosen (verifier_of text salt new_rounds) moment
 abbrev pub is_verified : VerifierParts → List ℕ → Bool
 is_verified verifier text = bytes_eq verifier.bytes (pbkdf2_block text verifier.salt verifier.rounds)
 
--- a text of 64 bytes, of which each half has a verifier of its own
+-- a text as long as a one-time word (`one_time_word` of lab_secrets), of which each half has a verifier of its own
 abbrev pub are_verified : VerifierParts → VerifierParts → List ℕ → Bool
 are_verified first second text =
     (length text == 64) && is_verified first (take 32 text) && is_verified second (drop 32 text)

@@ -1,6 +1,7 @@
 -- What the eight random words of a tick are used as. A word has 64 bits, and its bytes go most significant first.
 use Rattle.std.specs.Prelude.{ℕ, List, [], ◌∷◌, ◌++◌, take, drop}
 use Rattle.std.specs.Int.{w64, to_be_bytes}
+use Rattle.hex.specs.Hex.{encode_lower}
 
 -- the bytes of words, one after the other
 unfoldable pub big_endian : List ℕ → List ℕ
@@ -14,6 +15,11 @@ token_of words = big_endian (take 4 words)
 -- a half of a one-time word is words 0 and 1
 abbrev pub half_of : List ℕ → List ℕ
 half_of words = big_endian (take 2 words)
+
+-- a one-time word is two halves as they are written, one after the other: 64 lower hexadecimal digits, of which two persons
+-- are given 32 each (21 CFR 11.300(b) and (c): nobody but its owner has a password whole)
+abbrev pub one_time_word : List ℕ → List ℕ → List ℕ
+one_time_word first second = encode_lower first ++ encode_lower second
 
 -- a salt is words 4 and 5
 abbrev pub salt_of : List ℕ → List ℕ
