@@ -285,7 +285,7 @@ fn openings_are_refused_in_order(rt: HostRuntime) -> Result<(), Fail> {
         (None, RIGHT, 1, false, Some(20)),
     ] {
         let refused = open_session(found, text, &tick(100)?, sessions, has_token).err();
-        assert_eq!(rt; refused.and_then(|fault| fault.number()), number);
+        assert_eq!(rt; refused.map(|fault| fault.number()), number);
     }
     let word = format!(in rt.alloc(); "{FIRST}{SECOND}")?;
     for (password, text, seconds, due) in [
@@ -446,7 +446,7 @@ fn refusals_have_their_numbers_and_words(rt: HostRuntime) -> Result<(), Fail> {
         assert_eq!(rt; (refusal.number(), refusal.word()), (number, word));
         assert_eq!(rt; format!(in rt.alloc(); "{refusal}")?.as_str(), word);
         let fault = PeopleFault::from(refusal);
-        assert_eq!(rt; (fault.number(), fault.word()), (Some(number), word));
+        assert_eq!(rt; (fault.number(), fault.word()), (number, word));
         assert_eq!(rt; format!(in rt.alloc(); "{fault}")?.as_str(), word);
     }
     let (failed, memory) = (
@@ -454,7 +454,7 @@ fn refusals_have_their_numbers_and_words(rt: HostRuntime) -> Result<(), Fail> {
         PeopleFault::from(OutOfMemory),
     );
     for (fault, number, word) in [(failed, 20, "credentials"), (memory, 90, "memory")] {
-        assert_eq!(rt; (fault.number(), fault.word()), (Some(number), word));
+        assert_eq!(rt; (fault.number(), fault.word()), (number, word));
         assert_eq!(rt; format!(in rt.alloc(); "{fault}")?.as_str(), word);
     }
     Ok(())

@@ -1,5 +1,6 @@
 //! The calls that take memory. Each has its arguments made for it alone, so that want of memory stops one call and no other.
 
+use crate::person_growths::print_person_growths;
 use crate::record_growths::print_record_growths;
 use crate::samples::{colours, field, form, least, numbers};
 use anyhow::{Error, Result};
@@ -20,12 +21,13 @@ pub(crate) fn print_growths(rt: &impl Print, alloc: Global, calls: u32) -> io::R
         print_copied_parts(rt, alloc)?;
         print_forms(rt, alloc)?;
         print_record_growths(rt, alloc)?;
+        print_person_growths(rt, alloc)?;
     }
     Ok(())
 }
 
-// The line of a call.
-fn print_line(rt: &impl Print, text: Result<&str, &Error>) -> io::Result<()> {
+/// The line of a call: the text that it gave, or the word of its fault.
+pub(crate) fn print_line(rt: &impl Print, text: Result<&str, &Error>) -> io::Result<()> {
     match text {
         Ok(text) => println!(rt; "{text}"),
         Err(fault) => println!(rt; "{fault}"),

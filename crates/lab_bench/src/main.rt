@@ -5,6 +5,7 @@
 mod growths;
 mod moments;
 mod openings;
+mod person_growths;
 mod record_growths;
 mod samples;
 mod values;
