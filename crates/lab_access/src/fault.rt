@@ -1,5 +1,5 @@
 //! Why a call on persons gave no answer of its kind.
-ghost use Rattle.std.specs.Prelude.{◌≡◌, option_copied};
+ghost use Rattle.std.specs.Prelude.{◌≡◌, Some, option_copied};
 ghost use Rattle.lab_access.specs.declared.fault.PeopleFault.TheVariants.{Failed, Refused, Memory};
 ghost use Rattle.lab_access.specs.Refusals.{people_fault_number, people_fault_word, failure_person, failure_closing};
 
@@ -61,13 +61,13 @@ pub enum PeopleFault {
 
 impl PeopleFault {
     /// The number by which the fault is known: its refusal's, or 90 for want of memory.
-    pub fn number(&self) -> u32
-        ensures { result ≡ people_fault_number self.now }
+    pub fn number(&self) -> Option<u32>
+        ensures { result ≡ Some (people_fault_number self.now) }
     {
         match self {
-            PeopleFault::Failed(_) => PeopleRefusal::Credentials.number(),
-            PeopleFault::Refused(refusal) => refusal.number(),
-            PeopleFault::Memory(want) => want.number(),
+            PeopleFault::Failed(_) => Some(PeopleRefusal::Credentials.number()),
+            PeopleFault::Refused(refusal) => Some(refusal.number()),
+            PeopleFault::Memory(want) => Some(want.number()),
         }
     }
 

@@ -47,10 +47,7 @@ pub struct Ask {
 }
 
 impl Ask {
-    /// The same once more.
-    ///
-    /// # Errors
-    /// Only want of memory.
+    /// The same once more. The only error is want of memory.
     pub fn copy(&self) -> Result<Ask, OutOfMemory>
         ensures { IfOk result (λ copy. copy ≡ self.now) }
     {
@@ -63,10 +60,7 @@ impl Ask {
 }
 
 impl Person {
-    /// The same person once more.
-    ///
-    /// # Errors
-    /// Only want of memory.
+    /// The same person once more. The only error is want of memory.
     pub fn copy(&self) -> Result<Person, OutOfMemory>
         ensures { IfOk result (λ copy. copy ≡ self.now) }
     {

@@ -32,10 +32,7 @@ pub struct Session {
 }
 
 impl Session {
-    /// The same session once more.
-    ///
-    /// # Errors
-    /// Only want of memory.
+    /// The same session once more. The only error is want of memory.
     pub fn copy(&self) -> Result<Session, OutOfMemory>
         ensures { IfOk result (λ copy. copy ≡ self.now) }
     {

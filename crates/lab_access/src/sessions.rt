@@ -1,5 +1,5 @@
 //! Sessions, as they are opened and found.
-ghost use Rattle.std.specs.Prelude.{◌≡◌, true, false, option_copied, OnOk, IfErr};
+ghost use Rattle.std.specs.Prelude.{◌≡◌, true, false, option_copied, OnOk, IfOk, IfErr};
 ghost use Rattle.lab_access.specs.declared.refusal.PeopleRefusal.TheVariants.{NoSession};
 ghost use Rattle.lab_access.specs.Refusals.{Answers};
 ghost use Rattle.lab_access.specs.Sessions.{is_live};
@@ -10,7 +10,7 @@ use crate::fault::PeopleFault;
 use crate::person::Person;
 use crate::refusal::PeopleRefusal;
 use crate::session::Session;
-use lab_names::Tick;
+use lab_names::{OutOfMemory, Tick};
 use lab_secrets::Token;
 
 /// The most numbers of sessions that a laboratory gives.
@@ -27,6 +27,20 @@ pub struct Opened {
     pub token: Token,
     /// Whether the password is due to be changed.
     pub due: bool,
+}
+
+impl Opened {
+    /// The same once more. The only error is want of memory.
+    pub fn copy(&self) -> Result<Opened, OutOfMemory>
+        ensures { IfOk result (λ copy. copy ≡ self.now) }
+    {
+        Ok(Opened {
+            person: self.person.copy()?,
+            session: self.session.copy()?,
+            token: self.token,
+            due: self.due,
+        })
+    }
 }
 
 /// Opens a session by a code, by which the person was looked up, and a password. The laboratory gave so many numbers of

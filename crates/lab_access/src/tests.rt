@@ -256,21 +256,16 @@ fn a_due_password_comes_before_a_role(rt: HostRuntime) -> Result<(), Fail> {
 #[test]
 fn a_session_is_opened_with_the_token_of_the_words(rt: HostRuntime) -> Result<(), Fail> {
     let dan = person(rt.alloc(), chosen(0)?)?;
-    let opened = open_session(Some(&dan), RIGHT, &tick(100)?, 0, false)?;
+    let opened = open_session(Some(&dan), RIGHT, &tick(100)?, 0, false)?.copy()?;
     let token = bytes_of("0000000000000001000000000000000200000000000000030000000000000004")?;
     assert_eq!(rt; opened.token.bytes(), token);
     let digest = bytes_of("7236c00c170036c6de133a878210ddd58567aa1d0619a0f70f69e38ae6f916e9")?;
     let session = opened.session;
     assert_eq!(rt; session.token.bytes(), digest);
     assert_eq!(rt; (session.number, session.person.as_str()), (1, "dan"));
-    assert_eq!(rt;
-        (session.opened, session.last),
-        (moment(100)?, session.opened)
-    );
-    assert_eq!(rt;
-        (session.closed, session.signed, opened.due),
-        (false, false, false)
-    );
+    let opening = moment(100)?;
+    assert_eq!(rt; (session.opened, session.last), (opening, opening));
+    assert!(rt; !session.closed && !session.signed && !opened.due);
     Ok(())
 }
 
@@ -285,7 +280,7 @@ fn openings_are_refused_in_order(rt: HostRuntime) -> Result<(), Fail> {
         (None, RIGHT, 1, false, Some(20)),
     ] {
         let refused = open_session(found, text, &tick(100)?, sessions, has_token).err();
-        assert_eq!(rt; refused.map(|fault| fault.number()), number);
+        assert_eq!(rt; refused.and_then(|fault| fault.number()), number);
     }
     let word = format!(in rt.alloc(); "{FIRST}{SECOND}")?;
     for (password, text, seconds, due) in [
@@ -326,10 +321,8 @@ fn a_session_keeps_its_changes(rt: HostRuntime) -> Result<(), Fail> {
     assert_eq!(rt; (four.closed, four.signed), (false, true));
     four.close();
     let copy = four.copy()?;
-    assert_eq!(rt;
-        (copy.person.as_str(), copy.token.bytes()),
-        ("dan", [9; 32])
-    );
+    assert_eq!(rt; copy.person.as_str(), "dan");
+    assert_eq!(rt; copy.token.bytes(), [9; 32]);
     assert_eq!(rt; (copy.opened, copy.last), (moment(600)?, moment(800)?));
     assert_eq!(rt; (copy.number, copy.closed, copy.signed), (4, true, true));
     Ok(())
@@ -446,7 +439,7 @@ fn refusals_have_their_numbers_and_words(rt: HostRuntime) -> Result<(), Fail> {
         assert_eq!(rt; (refusal.number(), refusal.word()), (number, word));
         assert_eq!(rt; format!(in rt.alloc(); "{refusal}")?.as_str(), word);
         let fault = PeopleFault::from(refusal);
-        assert_eq!(rt; (fault.number(), fault.word()), (number, word));
+        assert_eq!(rt; (fault.number(), fault.word()), (Some(number), word));
         assert_eq!(rt; format!(in rt.alloc(); "{fault}")?.as_str(), word);
     }
     let (failed, memory) = (
@@ -454,7 +447,7 @@ fn refusals_have_their_numbers_and_words(rt: HostRuntime) -> Result<(), Fail> {
         PeopleFault::from(OutOfMemory),
     );
     for (fault, number, word) in [(failed, 20, "credentials"), (memory, 90, "memory")] {
-        assert_eq!(rt; (fault.number(), fault.word()), (number, word));
+        assert_eq!(rt; (fault.number(), fault.word()), (Some(number), word));
         assert_eq!(rt; format!(in rt.alloc(); "{fault}")?.as_str(), word);
     }
     Ok(())

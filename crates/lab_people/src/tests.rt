@@ -78,7 +78,7 @@ fn session(alloc: Global) -> Result<Session, Fail> {
 fn number_of<T: Drop>(answer: Result<T, PeopleFault>) -> u32 {
     match answer {
         Ok(_) => 0,
-        Err(fault) => fault.number(),
+        Err(fault) => fault.number().unwrap_or(0),
     }
 }
 
