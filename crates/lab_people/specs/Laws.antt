@@ -1,7 +1,8 @@
--- What users rely on, said of the definitions: runs of failed passwords, codes that were given, refusals, and sessions that
--- are closed.
-use Rattle.std.specs.Prelude.{◌≡◌, ◌≢◌, ℕ, Bool, true, false, List, [], ◌∷◌, Option, Some, None, option_and_then, Result, Ok, Err}
+-- What users rely on, said of the definitions: runs of failed passwords, codes and one-time words that were given, refusals,
+-- and sessions that are closed.
+use Rattle.std.specs.Prelude.{◌≡◌, ◌≢◌, ℕ, Bool, true, false, List, [], ◌∷◌, length, Option, Some, None, option_and_then, Result, Ok, Err}
 use Rattle.std.specs.List.{AllByRecursion}
+use Rattle.lab_names.specs.declared.tick.Tick.{Tick}
 use Rattle.lab_access.specs.declared.person.Person.{Person}
 use Rattle.lab_access.specs.declared.session.Session.{Session}
 use Rattle.lab_access.specs.declared.fault.PeopleFault.{PeopleFault}
@@ -9,6 +10,8 @@ use Rattle.lab_access.specs.declared.fault.PeopleFault.TheVariants.{Failed, Refu
 use Rattle.lab_access.specs.Passwords.{is_set, accepts}
 use Rattle.lab_access.specs.Attempts.{tried}
 use Rattle.lab_access.specs.Refusals.{failure_person}
+use Rattle.lab_people.specs.Accounts.{asking, confirming}
+use Rattle.lab_people.specs.declared.issues.Issued.{Issued}
 
 -- the person that a failed password leaves; none where it didn't fail, or was nobody's
 abbrev pub left_by : Result Person PeopleFault → Option Person
@@ -35,6 +38,14 @@ AreWrong person tries = AllByRecursion (λ one. accepts person.password one.0 on
 -- nobody has or had the code
 abbrev pub IsNewCode : List ℕ → List Person → Type 0
 IsNewCode code persons = AllByRecursion (λ person. person.code ≢ code) persons
+
+-- One administrator asked for a one-time word for somebody, and another confirmed it for the person whom that left. A tick has
+-- eight random words.
+pub record IsWordGiven (person : Option Person) (caller other : List ℕ) (tick later : Tick) (asked confirmed : Issued) : Type 0 where
+  pub asks : asking caller person tick ≡ Ok asked
+  pub asks_at_random : length tick.words ≡ 8
+  pub confirms : confirming other (Some asked.person) later ≡ Ok confirmed
+  pub confirms_at_random : length later.words ≡ 8
 
 -- it is refused
 abbrev pub IsRefused : {A : Type 0} → Result A PeopleFault → Type 0

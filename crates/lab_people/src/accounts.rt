@@ -30,8 +30,8 @@ pub struct Effect {
     pub closing: Closing,
 }
 
-/// Changes a person's own password in a session, by the old one. The session has taken note of the request already. The session is as before its first signature, and the
-/// person's others are closed.
+/// Changes a person's own password in a session, by the old one. The session, which has taken note of the request already, is
+/// left as before its first signature, and the person's others are closed.
 ///
 /// # Errors
 /// In this order: `Failed`, `BadPassword`, `SamePassword`; or want of memory.
@@ -65,8 +65,8 @@ pub fn change_password(
     })
 }
 
-/// Enrols a person, who has no password yet. Somebody has or had the code, or not, and the laboratory has so many persons,
-/// those who are retired among them. It takes no memory.
+/// Enrols a person, who has no password yet. Whether somebody has or had the code is handed in, and how many persons the
+/// laboratory has, those who are retired among them. It takes no memory.
 ///
 /// # Errors
 /// In this order: `CodeTaken`, `LabFull`.

@@ -1,15 +1,18 @@
 //! Laws of the definitions, which users rely on. Each function does nothing: its contract says the law, for all persons,
 //! sessions, texts and moments.
 ghost use Rattle.std.specs.Prelude.{◌≡◌, ℕ, Bool, ◌+◌, ◌<◌, List, [], ◌∷◌, ◌++◌, length, nat_lt, true, false, Option, Some, None, Ok};
+ghost use Rattle.hex.specs.Hex.{encode_lower};
 ghost use Rattle.lab_names.specs.declared.tick.Tick.{Tick as AnyTick};
+ghost use Rattle.lab_secrets.specs.Words.{one_time_word};
 ghost use Rattle.lab_access.specs.declared.person.Person.{Person as AnyPerson};
 ghost use Rattle.lab_access.specs.declared.person.Ask.{Ask as AnyAsk};
 ghost use Rattle.lab_access.specs.declared.session.Session.{Session as AnySession};
 ghost use Rattle.lab_access.specs.declared.roles.Roles.{Roles as AnyRoles};
 ghost use Rattle.lab_access.specs.declared.session.Closing.{Closing as AnyClosing};
 ghost use Rattle.lab_people.specs.declared.accounts.Effect.{Effect as AnyEffect};
-ghost use Rattle.lab_people.specs.Laws.{after_failures, HasAccount, AreWrong, IsNewCode, IsRefused, AreClosed};
-ghost use Rattle.lab_access.specs.Passwords.{accepts};
+ghost use Rattle.lab_people.specs.declared.issues.Issued.{Issued as AnyIssued};
+ghost use Rattle.lab_people.specs.Laws.{after_failures, HasAccount, AreWrong, IsNewCode, IsWordGiven, IsRefused, AreClosed};
+ghost use Rattle.lab_access.specs.Passwords.{accepts, serves};
 ghost use Rattle.lab_access.specs.Persons.{is_locked, unlocked};
 ghost use Rattle.lab_access.specs.Sessions.{closed_by, sessions_after};
 ghost use Rattle.lab_access.specs.Attempts.{tried};
@@ -63,6 +66,18 @@ pub fn accounts_are_kept_by_others()
 pub fn a_one_time_word_takes_two()
     ensures { (person : AnyPerson) (ask : AnyAsk) (tick : AnyTick) → person.ask ≡ Some ask →
         IsRefused (confirming ask.asker (Some person) tick) }
+{}
+
+/// Law: the halves of a one-time word that two administrators were given are, one after the other, a text that the person's
+/// password accepts, exactly while the word serves. Neither half alone is accepted.
+pub fn the_halves_make_the_word()
+    ensures together { (person : Option AnyPerson) (caller other : List ℕ) (tick later : AnyTick) (asked confirmed : AnyIssued)
+        (moment : ℕ) → IsWordGiven person caller other tick later asked confirmed →
+        accepts confirmed.person.password (one_time_word asked.half confirmed.half) moment ≡ serves later.moment moment }
+    ensures alone { (person : Option AnyPerson) (caller other : List ℕ) (tick later : AnyTick) (asked confirmed : AnyIssued)
+        (moment : ℕ) → IsWordGiven person caller other tick later asked confirmed →
+        (accepts confirmed.person.password (encode_lower asked.half) moment ≡ false)
+        × (accepts confirmed.person.password (encode_lower confirmed.half) moment ≡ false) }
 {}
 
 /// Law: who is retired is left without an open session. A retired person opens none, has no password accepted, and is changed by

@@ -19,5 +19,5 @@ pub use lab_secrets::{Digest, Half, Token, Verifier, VerifierParts, salt};
 pub use laws::{
     a_code_is_given_once, a_lock_lasts_half_an_hour, a_one_time_word_takes_two,
     accounts_are_kept_by_others, an_attempt_leaves_a_lock, retirement_is_for_good,
-    the_fifth_failure_locks,
+    the_fifth_failure_locks, the_halves_make_the_word,
 };
