@@ -273,7 +273,7 @@ fifth_locks person four text moment has wrong long last =
     ∙ ap (option_and_then (λ left. after_failures left ((text, moment) ∷ []))) (counted_on person 0 four has wrong (omega arith))
     ∙ ap (λ k. after_failures (with_failures person k) ((text, moment) ∷ [])) (the_four (length four) long)
     ∙ ap (option_and_then (λ left. Some left))
-      (wrong_locks (with_failures person 4) text moment 4 (counted_has person 4 has) refl last refl refl)
+    (wrong_locks (with_failures person 4) text moment 4 (counted_has person 4 has) refl last refl refl)
 
 -- a person without failures and lock is as they are
 pub unfailed : (person : Person) → person.failures ≡ 0 → person.locked ≡ None → person ≡ with_failures person 0

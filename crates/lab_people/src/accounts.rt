@@ -1,10 +1,10 @@
 //! What is done to persons' accounts.
-ghost use Rattle.std.specs.Prelude.{◌≡◌, option_copied};
+ghost use Rattle.std.specs.Prelude.{◌≡◌, IfOk, option_copied};
 ghost use Rattle.lab_access.specs.Refusals.{Answers};
 ghost use Rattle.lab_people.specs.Accounts.{changing, enrolling, person_meant, setting_roles, retiring, unlocking};
 
 use lab_access::{Closing, Password, PeopleFault, PeopleRefusal, Person, Roles, Session, attempt};
-use lab_names::{Name, PersonCode, Tick};
+use lab_names::{Name, OutOfMemory, PersonCode, Tick};
 use lab_secrets::salt;
 
 /// The most persons that a laboratory has.
@@ -21,6 +21,19 @@ pub struct PasswordChanged {
     pub closing: Closing,
 }
 
+impl PasswordChanged {
+    /// The same once more. The only error is want of memory.
+    pub fn copy(&self) -> Result<PasswordChanged, OutOfMemory>
+        ensures { IfOk result (λ copy. copy ≡ self.now) }
+    {
+        Ok(PasswordChanged {
+            person: self.person.copy()?,
+            session: self.session.copy()?,
+            closing: self.closing,
+        })
+    }
+}
+
 /// A change of a person's account by an administrator.
 #[derive(Drop)]
 pub struct Effect {
@@ -28,6 +41,19 @@ pub struct Effect {
     pub person: Person,
     /// Which of the person's sessions are closed.
     pub closing: Closing,
+}
+
+impl Effect {
+    /// The same once more. The only error is want of memory.
+    pub fn copy(&self) -> Result<Effect, OutOfMemory>
+        ensures { IfOk result (λ copy. copy ≡ self.now) }
+    {
+        let person = self.person.copy()?;
+        Ok(Effect {
+            person,
+            closing: self.closing,
+        })
+    }
 }
 
 /// Changes a person's own password in a session, by the old one. The session, which has taken note of the request already, is

@@ -1,5 +1,5 @@
 //! One-time words, which two administrators give a person, each a half.
-ghost use Rattle.std.specs.Prelude.{◌≡◌, option_copied};
+ghost use Rattle.std.specs.Prelude.{◌≡◌, IfOk, option_copied};
 ghost use Rattle.lab_access.specs.Refusals.{Answers};
 ghost use Rattle.lab_access.specs.Persons.{standing};
 ghost use Rattle.lab_secrets.specs.Words.{half_of};
@@ -7,7 +7,7 @@ ghost use Rattle.lab_people.specs.Accounts.{half_verifier, asking, confirming};
 
 use crate::accounts::person_meant_by;
 use lab_access::{Ask, Closing, Password, PeopleFault, PeopleRefusal, Person, ROUNDS};
-use lab_names::{PersonCode, Tick};
+use lab_names::{OutOfMemory, PersonCode, Tick};
 use lab_secrets::{Half, Verifier, salt};
 
 /// A half of a one-time word that was issued.
@@ -19,6 +19,19 @@ pub struct Issued {
     pub half: Half,
     /// Which of the person's sessions are closed.
     pub closing: Closing,
+}
+
+impl Issued {
+    /// The same once more. The only error is want of memory.
+    pub fn copy(&self) -> Result<Issued, OutOfMemory>
+        ensures { IfOk result (λ copy. copy ≡ self.now) }
+    {
+        Ok(Issued {
+            person: self.person.copy()?,
+            half: self.half,
+            closing: self.closing,
+        })
+    }
 }
 
 // The verifier of a half of a one-time word, as it is written.

@@ -2,12 +2,17 @@
 //! roles, unlocked and retired. Each call answers the changed values, or the first refusal (21 CFR 11.100(a) and 11.300).
 #![tactic(auto)]
 
+mod account_laws;
 mod accounts;
 mod issues;
-mod laws;
+mod password_laws;
 #[cfg(test)]
 mod tests;
 
+pub use account_laws::{
+    a_code_is_given_once, a_one_time_word_takes_two, accounts_are_kept_by_others,
+    retirement_is_for_good,
+};
 pub use accounts::{Effect, PasswordChanged, change_password, enrol, retire, set_roles, unlock};
 pub use issues::{Issued, ask_issue, confirm_issue};
 pub use lab_access::{
@@ -16,8 +21,7 @@ pub use lab_access::{
 };
 pub use lab_names::{Moment, MomentFault, Name, NameFault, OutOfMemory, PersonCode, Tick};
 pub use lab_secrets::{Digest, Half, Token, Verifier, VerifierParts, salt};
-pub use laws::{
-    a_code_is_given_once, a_lock_lasts_half_an_hour, a_one_time_word_takes_two,
-    accounts_are_kept_by_others, an_attempt_leaves_a_lock, retirement_is_for_good,
-    the_fifth_failure_locks, the_halves_make_the_word,
+pub use password_laws::{
+    a_lock_lasts_half_an_hour, an_attempt_leaves_a_lock, the_fifth_failure_locks,
+    the_halves_make_the_word,
 };

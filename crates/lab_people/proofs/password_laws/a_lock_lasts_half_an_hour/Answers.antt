@@ -3,7 +3,7 @@ use Rattle.std.specs.Prelude.{option_and_then}
 use Rattle.lab_access.specs.Persons.{is_locked}
 use Rattle.lab_access.specs.Attempts.{counting}
 use Rattle.lab_people.proofs.LawLemmas.{right_tried, wrong_counted}
-use Rattle.lab_people.proofs.laws.a_lock_lasts_half_an_hour.Goals as goal
+use Rattle.lab_people.proofs.password_laws.a_lock_lasts_half_an_hour.Goals as goal
 
 pub returns-clause-accepted : goal.returns-clause-accepted
 returns-clause-accepted c person text since moment has at free right =

@@ -1,7 +1,7 @@
 use Rattle.std.proofs.Common.{ap, ◌∙◌, ◌++◌, ◌∷◌, [], Some, None, arith}
 use Rattle.lab_people.specs.Laws.{after_failures}
 use Rattle.lab_people.proofs.LawLemmas.{counted_on, fifth_locks, unfailed}
-use Rattle.lab_people.proofs.laws.the_fifth_failure_locks.Goals as goal
+use Rattle.lab_people.proofs.password_laws.the_fifth_failure_locks.Goals as goal
 
 pub returns-clause-earlier : goal.returns-clause-earlier
 returns-clause-earlier c person tries has none free wrong few =

@@ -1,7 +1,7 @@
 use Rattle.lab_people.specs.Accounts.{asking, confirming, setting_roles, retiring, unlocking, person_meant}
 use Rattle.std.specs.Prelude.{Some}
 use Rattle.lab_people.proofs.LawLemmas.{own_meant, refused_then}
-use Rattle.lab_people.proofs.laws.accounts_are_kept_by_others.Goals as goal
+use Rattle.lab_people.proofs.account_laws.accounts_are_kept_by_others.Goals as goal
 
 pub returns : goal.returns
 unfolding asking confirming setting_roles retiring unlocking
