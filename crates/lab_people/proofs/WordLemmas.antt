@@ -1,6 +1,6 @@
 -- The halves of a one-time word, and the word that they make.
-use Rattle.std.proofs.Common.{◌≡◌, ◌+◌, ℕ, Bool, true, false, cond, ◌&&◌, List, [], ◌∷◌, ◌++◌, length, length-append, Option, Some, None, Result, Ok, Err, refl, sym, ◌∙◌, ap, subst, arith}
-use Rattle.std.specs.Prelude.{bytes_eq, take, drop}
+use Rattle.std.proofs.Common.{◌≡◌, ℕ, Bool, true, false, cond, ◌&&◌, List, [], ◌∷◌, ◌++◌, length, length-append, Option, Some, None, Result, Ok, Err, refl, sym, ◌∙◌, ap, subst, arith}
+use Rattle.std.specs.Prelude.{bytes_eq}
 use Rattle.std.proofs.lemmas.Slice.Eq.{bytes_eq-Decides}
 use Rattle.std.proofs.lemmas.List.{take_at, drop_at}
 use Rattle.hex.specs.Hex.{encode_lower, lower_digits}
@@ -123,7 +123,7 @@ confirmed_of one caller ask tick person confirmed is h =
 
 meant_confirmed : (retired own : Bool) (caller : List ℕ) (ask : Ask) (tick : Tick) (person : Person) (confirmed : Issued) → person.ask ≡ Some ask
     → and_then (cond retired (Err (Refused NoSuchPerson)) (cond own (Err (Refused OwnIssue)) (Ok person)))
-      (λ found. confirmed_by caller tick found (standing found.ask tick.moment)) ≡ Ok confirmed
+    (λ found. confirmed_by caller tick found (standing found.ask tick.moment)) ≡ Ok confirmed
     → IsConfirmed ask tick confirmed
 meant_confirmed true own caller ask tick person confirmed is h = absurd (cc)
 meant_confirmed false true caller ask tick person confirmed is h = absurd (cc)
@@ -166,6 +166,7 @@ pub halves_alone : (person : Option Person) (caller other : List ℕ) (tick late
     → (accepts confirmed.person.password (encode_lower asked.half) moment ≡ false)
     × (accepts confirmed.person.password (encode_lower confirmed.half) moment ≡ false)
 halves_alone person caller other tick later asked confirmed moment h =
-    let given = given_of person caller other tick later asked confirmed h in
-    (half_refused confirmed (ask_of caller tick) tick later asked.half moment given.1 given.0 h.asks_at_random,
-     half_refused confirmed (ask_of caller tick) later later confirmed.half moment given.1 given.1.0 h.confirms_at_random)
+    let given = given_of person caller other tick later asked confirmed h in (
+      half_refused confirmed (ask_of caller tick) tick later asked.half moment given.1 given.0 h.asks_at_random,
+      half_refused confirmed (ask_of caller tick) later later confirmed.half moment given.1 given.1.0 h.confirms_at_random,
+    )
