@@ -1,7 +1,6 @@
 -- The laws of accounts, by cases on the tests of the definitions.
-use Rattle.std.proofs.Common.{◌≡◌, ◌≢◌, ◌<◌, ◌≤◌, ◌+◌, ℕ, zero, suc, Bool, true, false, cond, ◌||◌, ◌&&◌, not, List, [], ◌∷◌, ◌++◌, length, Option, Some, None, Result, Ok, Err, refl, sym, ◌∙◌, ap, subst, nat_lt, nat_le, arith}
-use Rattle.std.specs.Prelude.{bytes_eq, option_and_then, map}
-use Rattle.std.specs.List.{list_any, AllByRecursion}
+use Rattle.std.proofs.Common.{◌≡◌, ◌≢◌, ◌<◌, ◌+◌, ℕ, suc, Bool, true, false, cond, ◌||◌, ◌&&◌, not, List, [], ◌∷◌, ◌++◌, length, Option, Some, None, Result, Ok, Err, refl, sym, ◌∙◌, ap, subst, nat_lt, nat_le, arith}
+use Rattle.std.specs.Prelude.{bytes_eq, option_and_then}
 use Rattle.std.proofs.lemmas.Slice.Eq.{bytes_eq-Decides}
 use Rattle.std.proofs.lemmas.Bool.Decides.{nat_tests}
 use Rattle.lab_names.specs.declared.tick.Tick.{Tick}
@@ -13,12 +12,11 @@ use Rattle.lab_access.specs.declared.session.Closing.TheVariants.{All}
 use Rattle.lab_access.specs.declared.fault.Failure.TheVariants.{Counted, Locking, AlreadyLocked, Stray}
 use Rattle.lab_access.specs.declared.fault.PeopleFault.{PeopleFault}
 use Rattle.lab_access.specs.declared.fault.PeopleFault.TheVariants.{Failed, Refused}
-use Rattle.lab_access.specs.declared.refusal.PeopleRefusal.{PeopleRefusal}
-use Rattle.lab_access.specs.declared.refusal.PeopleRefusal.TheVariants.{CodeTaken, LabFull, OwnIssue, SamePerson, NoIssue, NoSuchPerson}
+use Rattle.lab_access.specs.declared.refusal.PeopleRefusal.TheVariants.{CodeTaken, LabFull, OwnIssue, SamePerson, NoSuchPerson}
 use Rattle.lab_access.specs.Refusals.{and_then, failure_person}
 use Rattle.lab_access.specs.Passwords.{is_set, accepts}
 use Rattle.lab_access.specs.Persons.{is_locked, unlocked, stands, standing}
-use Rattle.lab_access.specs.Sessions.{is_closed_by, ended, closed_by, sessions_after}
+use Rattle.lab_access.specs.Sessions.{ended, sessions_after}
 use Rattle.lab_access.specs.Attempts.{counting, failed, tried}
 use Rattle.lab_people.specs.Accounts.{newcomer, has_code, enrolling, person_meant, with_one_time_word, confirmed_by, retiring}
 use Rattle.lab_people.specs.declared.accounts.Effect.{Effect}

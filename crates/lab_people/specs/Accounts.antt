@@ -1,6 +1,6 @@
 -- What is done to persons' accounts: by themselves, and by administrators, of whom it takes two to give a person a one-time
 -- word (21 CFR 11.100(a), a code "shall not be reused by, or reassigned to, anyone else"; 11.300(a), (b) and (c)).
-use Rattle.std.specs.Prelude.{ℕ, Bool, true, false, not, ◌&&◌, nat_le, List, Option, Some, None, Result, Ok, Err, bytes_eq, if◌then◌else◌}
+use Rattle.std.specs.Prelude.{ℕ, Bool, true, false, not, nat_le, List, Option, Some, None, Result, Ok, Err, bytes_eq, if◌then◌else◌}
 use Rattle.std.specs.List.{list_any}
 use Rattle.hex.specs.Hex.{encode_lower}
 use Rattle.lab_names.specs.declared.tick.Tick.{Tick}
@@ -8,7 +8,6 @@ use Rattle.lab_secrets.specs.Words.{half_of, salt_of}
 use Rattle.lab_secrets.specs.Verifiers.{verifier_of}
 use Rattle.lab_secrets.specs.declared.verifiers.VerifierParts.{VerifierParts}
 use Rattle.lab_access.specs.declared.roles.Roles.{Roles}
-use Rattle.lab_access.specs.declared.password.Password.{Password}
 use Rattle.lab_access.specs.declared.password.Password.TheVariants.{Unset, OneTime}
 use Rattle.lab_access.specs.declared.person.Person.{Person}
 use Rattle.lab_access.specs.declared.person.Ask.{Ask}
@@ -23,7 +22,7 @@ use Rattle.lab_access.specs.declared.refusal.PeopleRefusal.{PeopleRefusal}
 use Rattle.lab_access.specs.declared.refusal.PeopleRefusal.TheVariants.{BadPassword, SamePassword, CodeTaken, LabFull, OwnIssue, IssueOpen, SamePerson, NoIssue, NoSuchPerson}
 use Rattle.lab_access.specs.Attempts.{attempted}
 use Rattle.lab_access.specs.Passwords.{is_password, new_rounds, chosen}
-use Rattle.lab_access.specs.Persons.{unlocked, stands, standing}
+use Rattle.lab_access.specs.Persons.{unlocked, standing}
 use Rattle.lab_access.specs.Refusals.{and_then}
 
 -- what a change of the password gives: the session is as before its first signature, and the person's others are closed

@@ -1,6 +1,6 @@
 -- What users rely on, said of the definitions: runs of failed passwords, codes and one-time words that were given, refusals,
 -- and sessions that are closed.
-use Rattle.std.specs.Prelude.{◌≡◌, ◌≢◌, ℕ, Bool, true, false, List, [], ◌∷◌, length, Option, Some, None, option_and_then, Result, Ok, Err}
+use Rattle.std.specs.Prelude.{◌≡◌, ◌≢◌, ℕ, true, false, List, [], ◌∷◌, length, Option, Some, None, option_and_then, Result, Ok, Err}
 use Rattle.std.specs.List.{AllByRecursion}
 use Rattle.lab_names.specs.declared.tick.Tick.{Tick}
 use Rattle.lab_access.specs.declared.person.Person.{Person}

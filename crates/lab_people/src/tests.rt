@@ -168,14 +168,14 @@ fn a_change_forgets_failures_and_the_mark(rt: HostRuntime) -> Result<(), Fail> {
         assert!(rt; !person.password.accepts(RIGHT, now.moment));
     }
     let dan = person_with(rt.alloc(), "dan", OTHER, 500)?;
-    let changed = change_password(&dan, &session, OTHER, RIGHT, &now)?;
-    let Password::Chosen { verifier, changed } = changed.person.password else {
+    let dan = change_password(&dan, &session, OTHER, RIGHT, &now)?.person;
+    let Password::Chosen { verifier, changed } = &dan.password else {
         assert!(rt; false, "a chosen password");
         return Ok(());
     };
     let bytes = bytes_of("a471bbc5fd87e7cfcd3de7a15413125c33e604ef8a420b5253874ad4790757b7")?;
     assert_eq!(rt; verifier.parts().bytes, bytes);
-    assert_eq!(rt; (verifier.parts().rounds, changed), (ROUNDS, now.moment));
+    assert_eq!(rt; (verifier.parts().rounds, *changed), (ROUNDS, now.moment));
     Ok(())
 }
 

@@ -1,5 +1,4 @@
 use Rattle.std.specs.Prelude.{Some, true}
-use Rattle.lab_access.specs.Attempts.{tried}
 use Rattle.lab_access.specs.Openings.{opening}
 use Rattle.lab_people.specs.Accounts.{changing, asking, confirming, setting_roles, retiring, unlocking, person_meant}
 use Rattle.lab_people.proofs.LawLemmas.{retired_leaves, retired_tried, retired_meant, refused_then}
