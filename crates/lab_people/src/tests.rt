@@ -158,7 +158,7 @@ fn a_change_forgets_failures_and_the_mark(rt: HostRuntime) -> Result<(), Fail> {
     let now = tick(2500, 1)?;
     for (failures, locked) in [(3, None), (5, Some(moment(700)?))] {
         let dan = counted(rt.alloc(), failures, locked)?;
-        let changed = change_password(&dan, &session, RIGHT, OTHER, &now)?;
+        let changed = change_password(&dan, &session, RIGHT, OTHER, &now)?.copy()?;
         let (after, person) = (&changed.session, &changed.person);
         assert_eq!(rt; (person.failures, person.locked), (0, None));
         assert_eq!(rt; (changed.closing, after.number), (Closing::Others(4), 4));
@@ -238,7 +238,7 @@ fn a_one_time_word_takes_two_administrators(rt: HostRuntime) -> Result<(), Fail>
     let bob = PersonCode::parse(rt.alloc(), "bob")?;
     let asked = ask_issue(&ann, Some(&ivy), &tick(100, 21)?)?;
     assert_eq!(rt; &asked.half.digits(), b"00000000000000150000000000000016");
-    let confirmed = confirm_issue(&bob, Some(&asked.person), &tick(200, 31)?)?;
+    let confirmed = confirm_issue(&bob, Some(&asked.person), &tick(200, 31)?)?.copy()?;
     assert_eq!(rt;
         &confirmed.half.digits(),
         b"000000000000001f0000000000000020"
@@ -396,7 +396,7 @@ fn accounts_are_changed_by_administrators(rt: HostRuntime) -> Result<(), Fail> {
         number_of(unlock(&ann, Some(&newcomer(rt.alloc(), "ivy")?))),
         0
     );
-    let Effect { person, closing } = retire(&ann, Some(&dan))?;
+    let Effect { person, closing } = retire(&ann, Some(&dan))?.copy()?;
     assert_eq!(rt; (person.retired, person.failures), (true, 5));
     assert_eq!(rt; closing, Closing::All);
     assert_eq!(rt; number_of(unlock(&ann, Some(&person))), 33);
