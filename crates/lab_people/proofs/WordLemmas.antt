@@ -35,7 +35,7 @@ half_len (one ∷ two ∷ words) h = refl
 digits_len : (words : List ℕ) → length words ≡ 8 → length (encode_lower (half_of words)) ≡ 32
 digits_len words h = let e = length-encode_with lower_digits (half_of words) in let long = half_len words h in omega (arith, e, long)
 
--- What a text of two parts, of one verifier each, is.
+-- A text of two parts, where each part has a verifier.
 
 verified : (text salt : List ℕ) (rounds : ℕ) → is_verified (verifier_of text salt rounds) text ≡ true
 verified text salt rounds = let made = pbkdf2_block text salt rounds in (bytes_eq-Decides made made).1 refl
@@ -64,7 +64,7 @@ parts_accepted first second salt other rounds confirmed moment h k =
 short_verified : (first second : VerifierParts) (text : List ℕ) → length text ≡ 32 → are_verified first second text ≡ false
 short_verified first second text h = rw h refl
 
--- a text of 32 bytes isn't
+-- a text of 32 bytes is never accepted
 short_accepted : (first second : VerifierParts) (text : List ℕ) (confirmed moment : ℕ) → length text ≡ 32
     → accepts (OneTime first second confirmed) text moment ≡ false
 unfolding accepts

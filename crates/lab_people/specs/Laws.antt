@@ -39,7 +39,7 @@ AreWrong person tries = AllByRecursion (λ one. accepts person.password one.0 on
 abbrev pub IsNewCode : List ℕ → List Person → Type 0
 IsNewCode code persons = AllByRecursion (λ person. person.code ≢ code) persons
 
--- One administrator asked for a one-time word for somebody, and another confirmed it for the person whom that left. A tick has
+-- One administrator asked for a one-time word for somebody, and another confirmed it for the person whom this left. A tick has
 -- eight random words.
 pub record IsWordGiven (person : Option Person) (caller other : List ℕ) (tick later : Tick) (asked confirmed : Issued) : Type 0 where
   pub asks : asking caller person tick ≡ Ok asked
