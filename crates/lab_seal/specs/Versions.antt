@@ -93,6 +93,10 @@ pub record IsVersion (parts : VersionParts) : Type 0 where
   pub opened : IsTrue (is_moment parts.opened)
   pub rows : All IsRow parts.rows.items
 
+-- no version has these bytes as its text
+abbrev pub IsNoVersion : List ℕ → Type 0
+IsNoVersion bytes = (parts : VersionParts) → IsVersion parts → version_text parts ≢ bytes
+
 -- two versions have the same parts
 pub record IsSameVersion (one other : VersionParts) : Type 0 where
   pub lab : one.lab ≡ other.lab
