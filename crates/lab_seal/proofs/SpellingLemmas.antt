@@ -7,7 +7,7 @@ use Rattle.std.proofs.lemmas.List.{append-nil}
 use Rattle.lab_names.specs.Moment.{is_moment}
 use Rattle.lab_names.specs.Names.{is_lab_code, is_person_code, is_key, is_name}
 use Rattle.lab_seal.specs.Faults.{TextFaultFits}
-use Rattle.lab_seal.specs.Versions.{row_text, heading_text, subject_text, origin_text, opening_text, version_text, is_number, IsOrigin, IsRow, IsVersion, IsNoVersion, IsSameVersion, OneSpelling}
+use Rattle.lab_seal.specs.Versions.{row_text, heading_text, subject_text, origin_text, opening_text, version_text, is_number, IsFirstOrLater, IsAmendment, HasGoodNumbers, IsRow, IsVersion, IsNoVersion, IsSameVersion, OneSpelling}
 use Rattle.lab_seal.specs.Reading.{IsUnread, ◌>>=◌, first_heading, first_subject, first_origin, first_opening, first_rows, VersionRead, read_of, first_version}
 use Rattle.lab_seal.specs.declared.faults.TextFault.{TextFault}
 use Rattle.lab_seal.specs.declared.faults.TextFault.TheVariants.{BadText, Memory}
@@ -70,7 +70,8 @@ record HasVersion (text : List ℕ) (v : VersionRead) (rest : List ℕ) : Type 0
   pub form : IsTrue (is_key v.subject.form)
   pub form_version : IsTrue (is_number v.subject.form_version)
   pub sample : IsTrue (is_name v.subject.sample)
-  pub amendment : IsOrigin v.heading.number v.amendment
+  pub order : IsFirstOrLater v.heading.number v.amendment
+  pub amendment : IsAmendment v.amendment
   pub opener : IsTrue (is_person_code v.opening.opener)
   pub opened : IsTrue (is_moment v.opening.opened)
   pub rows : All IsRow v.rows
@@ -122,7 +123,8 @@ version_sound text found e =
       form = has_subject.form;
       form_version = has_subject.form_version;
       sample = has_subject.sample;
-      amendment = has_origin.origin;
+      order = has_origin.order;
+      amendment = has_origin.amendment;
       opener = has_opening.opener;
       opened = has_opening.opened;
       rows = has_rows.rows_are;
@@ -143,9 +145,9 @@ version_complete parts rest is =
     let third : List ℕ = origin_is ++ fourth in
     let second : List ℕ = subject_is ++ third in
     let regroup = behind_5 heading_is subject_is origin_is opening_is (flat_map row_text parts.rows.items) rest in
-    let a = heading_complete parts.lab parts.record_number parts.number second is.lab is.record_number is.number in
-    let b = subject_complete parts.form parts.form_version parts.sample third is.form is.form_version is.sample in
-    let c = origin_complete parts.number parts.amendment fourth is.amendment in
+    let a = heading_complete parts.lab parts.record_number parts.number second is.lab is.numbers.record_number is.numbers.number in
+    let b = subject_complete parts.form parts.form_version parts.sample third is.form is.numbers.form_version is.sample in
+    let c = origin_complete parts.number parts.amendment fourth is.numbers.order is.amendment in
     let d = opening_complete parts.opener parts.opened (length parts.rows.items) last is.opener is.opened few in
     let e = rows_complete parts.rows.items rest is.rows in
     rw (regroup, a, b, c, d, e) refl
@@ -184,11 +186,14 @@ read_is bytes parts rest e empty =
     let has = version_sound bytes (read_of parts, rest) e in
     let whole : bytes ≡ text_of (read_of parts) ++ rest = has.text_is in (
       record {
+        numbers = record {
+          record_number = has.record_number;
+          number = has.number;
+          form_version = has.form_version;
+          order = has.order;
+        };
         lab = has.lab;
-        record_number = has.record_number;
-        number = has.number;
         form = has.form;
-        form_version = has.form_version;
         sample = has.sample;
         amendment = has.amendment;
         opener = has.opener;
