@@ -7,10 +7,10 @@ use Rattle.std.proofs.lemmas.Bool.{and_parts, and_from, cond-true, ltb-false}
 use Rattle.std.proofs.lemmas.Slice.Eq.{bytes_eq-Decides}
 use Rattle.lab_names.specs.Calendar.{days_in_year, days_in_month, span_of, place_of, year_of, place_in_year, month_of, day_of_month, day_of, hour_of, minute_of, second_of}
 use Rattle.lab_names.specs.Moment.{is_moment, date_time_text, moment_text, IsNoMoment}
-use Rattle.lab_names.specs.Stamp.{stamp_of, IsInWidth}
+use Rattle.lab_names.specs.Stamp.{stamp_of}
 use Rattle.lab_names.specs.declared.faults.MomentFault.{MomentFault}
 use Rattle.lab_names.proofs.MomentLemmas.{in_width-stamp_of}
-use Rattle.lab_seal.specs.Reading.{days_of_spans, second_of_date, two_at, second_told, moment_if_spelled, moment_of}
+use Rattle.lab_seal.specs.Reading.{days_of_spans, second_of_date, second_told, moment_if_spelled, moment_of}
 use Rattle.lab_seal.proofs.ReadLemmas.{when_some}
 
 -- a day lies in its span behind the days of the spans before

@@ -1,14 +1,14 @@
 -- A version is read from its text alone, so no two versions share a text, and none is the front of another.
-use Rattle.std.proofs.Common.{◌≡◌, ◌≢◌, ℕ, ◌<◌, ◌^◌, true, false, List, [], ◌∷◌, ◌++◌, length, Option, Some, None, ◌==◌, refl, sym, ap, subst, ◌∙◌, arith, append_assoc, IsTrue}
-use Rattle.std.specs.Prelude.{All, option_and_then}
+use Rattle.std.proofs.Common.{◌≡◌, ℕ, ◌<◌, ◌^◌, true, false, List, [], ◌∷◌, ◌++◌, length, Option, Some, None, ◌==◌, refl, sym, ap, subst, ◌∙◌, arith, append_assoc, IsTrue}
+use Rattle.std.specs.Prelude.{All}
 use Rattle.std.specs.List.{flat_map}
 use Rattle.std.proofs.lemmas.Bool.Decides.{nat_tests}
 use Rattle.std.proofs.lemmas.List.{append-nil}
 use Rattle.lab_names.specs.Moment.{is_moment}
 use Rattle.lab_names.specs.Names.{is_lab_code, is_person_code, is_key, is_name}
 use Rattle.lab_seal.specs.Faults.{TextFaultFits}
-use Rattle.lab_seal.specs.Versions.{row_text, heading_text, subject_text, origin_text, opening_text, version_text, is_number, IsFirstOrLater, IsAmendment, HasGoodNumbers, IsRow, IsVersion, IsNoVersion, IsSameVersion, OneSpelling}
-use Rattle.lab_seal.specs.Reading.{IsUnread, ◌>>=◌, first_heading, first_subject, first_origin, first_opening, first_rows, VersionRead, read_of, first_version}
+use Rattle.lab_seal.specs.Versions.{row_text, heading_text, subject_text, origin_text, opening_text, version_text, is_number, IsFirstOrLater, IsAmendment, IsRow, IsVersion, IsNoVersion, OneSpelling}
+use Rattle.lab_seal.specs.Reading.{IsUnread, first_heading, first_subject, first_origin, first_opening, first_rows, VersionRead, read_of, first_version}
 use Rattle.lab_seal.specs.declared.faults.TextFault.{TextFault}
 use Rattle.lab_seal.specs.declared.faults.TextFault.TheVariants.{BadText, Memory}
 use Rattle.lab_seal.specs.declared.reading.Heading.{Heading}

@@ -1,9 +1,9 @@
 -- The parts of a version are read exactly: what was written is read back, and what is read was written.
-use Rattle.std.proofs.Common.{◌≡◌, ◌≢◌, ℕ, zero, suc, ◌*◌, ◌<◌, ◌≤◌, ◌^◌, Bool, true, false, List, [], ◌∷◌, ◌++◌, length, Option, Some, None, Result, Ok, Err, ◌==◌, refl, sym, ap, subst, ◌∙◌, arith, append_assoc, IsTrue, inl, inr}
-use Rattle.std.specs.Prelude.{codes, decimal, option_and_then, if◌then◌else◌, ◌&&◌, nat_le, All}
+use Rattle.std.proofs.Common.{◌≡◌, ◌≢◌, ℕ, zero, suc, ◌<◌, ◌^◌, Bool, true, false, List, [], ◌∷◌, ◌++◌, length, Option, Some, None, Result, Ok, Err, ◌==◌, refl, sym, ap, subst, ◌∙◌, arith, append_assoc, IsTrue}
+use Rattle.std.specs.Prelude.{codes, decimal, if◌then◌else◌, All}
 use Rattle.std.specs.List.{flat_map}
 use Rattle.std.specs.Str.{bytes_eq, is_utf8}
-use Rattle.std.proofs.lemmas.Bool.{and_parts, cond-true, leb-true, or_cases, eqb-true}
+use Rattle.std.proofs.lemmas.Bool.{cond-true, eqb-true}
 use Rattle.std.proofs.lemmas.List.Elements.{All-nil, All-cons, All-head, All-tail}
 use Rattle.std.proofs.lemmas.Slice.Eq.{bytes_eq-Decides}
 use Rattle.std.proofs.lemmas.Str.{is_utf8-from_IsUtf8}
@@ -12,7 +12,7 @@ use Rattle.hex.specs.declared.error.FromHexError.{FromHexError}
 use Rattle.hex.proofs.HexLemmas.{decode_of-ok, decode_sized-ok, decode_sized-twice, decode_sized-encode_lower, length-encode_with}
 use Rattle.lab_names.specs.Moment.{is_moment, moment_text}
 use Rattle.lab_names.specs.Names.{is_lab_code, is_person_code, is_key, is_name, is_note, is_unit}
-use Rattle.lab_seal.specs.Versions.{item, reason_text, row_text, heading_text, subject_text, origin_text, opening_text, is_number, IsDigest, IsFirstOrLater, IsAmendment, IsReason, IsRow}
+use Rattle.lab_seal.specs.Versions.{item, reason_text, row_text, heading_text, subject_text, origin_text, opening_text, is_number, IsDigest, IsFirstOrLater, IsAmendment, IsRow}
 use Rattle.lab_seal.specs.Reading.{after_word, first_item, first_admitted, first_count, first_number, first_reason, digest_decoded, digest_from_digits, moment_of, first_moment, first_heading, first_subject, first_no_amendment, first_amendment, first_origin, first_opening, first_row, first_rows, ◌>>=◌}
 use Rattle.lab_seal.specs.declared.reading.Heading.{Heading}
 use Rattle.lab_seal.specs.declared.reading.Subject.{Subject}
