@@ -70,7 +70,8 @@ impl Moment {
 
     /// Writes the moment as `YYYY-MM-DDTHH:MM:SSZ`.
     pub fn print(&self, text: &mut [u8; 20])
-        ensures { text.new ≡ moment_text self.now }
+        ensures written { text.new ≡ moment_text self.now }
+        ensures in_range { IsTrue (is_moment self.now) }
     {
         *text = self.stamp().text();
     }
@@ -88,6 +89,7 @@ impl Moment {
     fn stamp(&self) -> Stamp
         ensures value { result ≡ stamp_of self.now }
         ensures in_width { IsInWidth result }
+        ensures in_range { IsTrue (is_moment self.now) }
     {
         let date = civil_date(self.day());
         let second = self.seconds % SECONDS_IN_DAY;

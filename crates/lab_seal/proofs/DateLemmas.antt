@@ -7,10 +7,10 @@ use Rattle.std.proofs.lemmas.Bool.{and_parts, and_from, cond-true, ltb-false}
 use Rattle.std.proofs.lemmas.Slice.Eq.{bytes_eq-Decides}
 use Rattle.lab_names.specs.Calendar.{days_in_year, days_in_month, span_of, place_of, year_of, place_in_year, month_of, day_of_month, day_of, hour_of, minute_of, second_of}
 use Rattle.lab_names.specs.Moment.{is_moment, date_time_text, moment_text, IsNoMoment}
-use Rattle.lab_names.specs.Stamp.{stamp_of, IsInWidth}
+use Rattle.lab_names.specs.Stamp.{stamp_of}
 use Rattle.lab_names.specs.declared.faults.MomentFault.{MomentFault}
 use Rattle.lab_names.proofs.MomentLemmas.{in_width-stamp_of}
-use Rattle.lab_seal.specs.Reading.{days_of_spans, second_of_date, two_at, second_told, moment_said, moment_of}
+use Rattle.lab_seal.specs.Reading.{days_of_spans, second_of_date, second_told, moment_if_spelled, moment_of}
 use Rattle.lab_seal.proofs.ReadLemmas.{when_some}
 
 -- a day lies in its span behind the days of the spans before
@@ -88,7 +88,7 @@ pub moment_complete : (n : ℕ) → IsTrue (is_moment n) → moment_of (moment_t
 unfolding moment_of
 moment_complete n is =
     let same = (bytes_eq-Decides (moment_text n) (moment_text n)).1 refl in
-    ap (moment_said (moment_text n)) (told_back n is)
+    ap (moment_if_spelled (moment_text n)) (told_back n is)
     ∙ cond-true (is_moment n && bytes_eq (moment_text n) (moment_text n)) (Some n) None (and_from _ _ is same)
 
 pub moment_sound : (text : List ℕ) (n : ℕ) → moment_of text ≡ Some n → IsTrue (is_moment n) × (text ≡ moment_text n)

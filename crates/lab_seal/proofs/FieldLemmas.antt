@@ -1,12 +1,13 @@
 -- What the code's steps come to, in terms of what is read.
-use Rattle.std.proofs.Common.{◌≡◌, ◌≢◌, ℕ, ◌<◌, ◌^◌, Bool, true, false, cond, List, [], ◌∷◌, ◌++◌, length, Option, Some, None, Result, Ok, Err, ◌==◌, refl, sym, ap, subst, ◌∙◌, arith, IsTrue}
-use Rattle.std.specs.Prelude.{decimal, option_and_then, option_map, if◌then◌else◌, MatchResult, IsFalse}
-use Rattle.std.specs.Result.{result_ok}
+use Rattle.std.proofs.Common.{◌≡◌, ◌≢◌, ℕ, ◌<◌, ◌^◌, Bool, true, false, List, [], ◌∷◌, length, Option, Some, None, Result, Ok, Err, ◌==◌, refl, sym, ap, subst, ◌∙◌, arith, IsTrue}
+use Rattle.std.specs.Prelude.{decimal, option_map, if◌then◌else◌, MatchResult}
+use Rattle.std.specs.Result.{result_ok, IsErrAnd}
 use Rattle.std.specs.Str.{bytes_eq, is_utf8, IsUtf8}
 use Rattle.std.specs.Str.Parse.{ParsesUnsigned}
 use Rattle.std.proofs.lemmas.Bool.{cond-true, cond-false}
 use Rattle.std.proofs.lemmas.Bool.Decides.{nat_tests}
 use Rattle.std.proofs.lemmas.Fmt.{IsAscii-decimal, parse-decimal}
+use Rattle.std.proofs.lemmas.Result.{err_from_is_err_and}
 use Rattle.std.proofs.lemmas.Slice.Eq.{bytes_eq-Decides}
 use Rattle.std.proofs.lemmas.Str.{is_utf8-from_IsUtf8, IsUtf8-from_is_utf8, IsUtf8-from_ascii}
 use Rattle.hex.specs.Hex.{encode_lower, decode_sized}
@@ -16,7 +17,7 @@ use Rattle.lab_names.specs.Names.{is_note}
 use Rattle.lab_names.specs.declared.faults.NameFault.{NameFault}
 use Rattle.lab_names.specs.declared.faults.NameFault.TheVariants.{BadName, Memory as NoMemory}
 use Rattle.lab_seal.specs.Faults.{text_fault_of}
-use Rattle.lab_seal.specs.Reading.{IsUnread, ◌>>=◌, number_of, first_item, admitted, first_admitted, reason_of, first_reason, digest_decoded, digest_from_digits}
+use Rattle.lab_seal.specs.Reading.{IsUnread, Gives, ◌>>=◌, number_of, first_item, admitted, first_admitted, reason_of, first_reason, digest_decoded, digest_from_digits}
 use Rattle.lab_seal.specs.declared.faults.TextFault.{TextFault}
 use Rattle.lab_seal.specs.declared.faults.TextFault.TheVariants.{BadText, Memory}
 use Rattle.lab_seal.proofs.ReadLemmas.{bind_some, when_some, number_sound, number_complete}
@@ -129,17 +130,39 @@ text_some admits text word rest e =
     let item_is : first_item text ≡ Some (word, rest) = step.1 ∙ ap (λ (p : List ℕ × List ℕ). Some p) both.1 in
     ap (λ o. o >>= admitted admits) item_is
 
-pub unread_text : (admits : List ℕ → Bool) (text : List ℕ) → ((bytes : List ℕ) → IsTrue (admits bytes) → IsUtf8 bytes)
+unread_text : (admits : List ℕ → Bool) (text : List ℕ) → ((bytes : List ℕ) → IsTrue (admits bytes) → IsUtf8 bytes)
     → (fault : TextFault) → IsUnread fault (first_admitted is_utf8 text) → IsUnread fault (first_admitted admits text)
 unread_text admits text plain BadText h = text_none admits text plain h
 unread_text admits text plain (Memory m) h = tt
 
-pub unread_name : (admits : List ℕ → Bool) (text word rest : List ℕ) (fault : NameFault)
+unread_name : (admits : List ℕ → Bool) (text word rest : List ℕ) (fault : NameFault)
     → first_admitted is_utf8 text ≡ Some (word, rest) → NameFaultFits (admits word) fault
     → IsUnread (text_fault_of fault) (first_admitted admits text)
 unread_name admits text word rest BadName e h =
     text_some admits text word rest e ∙ cond-false (admits word) (Some (word, rest)) None h
 unread_name admits text word rest (NoMemory m) e h = tt
+
+gives_fault : {A B : Type 0} (view : A → B) (r : Result A TextFault) (fault : TextFault) (said : Option B)
+    → IsErrAnd r (λ e. e ≡ fault) → IsUnread fault said → Gives view r said
+gives_fault view r fault said exit unread =
+    let e = err_from_is_err_and r exit in
+    rw (e.1, e.2) unread
+
+-- what is read as a name, where no text is read
+pub gives_no_text : {A : Type 0} (view : A → List ℕ × List ℕ) (admits : List ℕ → Bool) (text : List ℕ)
+    → ((bytes : List ℕ) → IsTrue (admits bytes) → IsUtf8 bytes)
+    → (r : Result A TextFault) (fault : TextFault) → IsErrAnd r (λ e. e ≡ fault)
+    → IsUnread fault (first_admitted is_utf8 text) → Gives view r (first_admitted admits text)
+gives_no_text view admits text plain r fault exit unread =
+    gives_fault view r fault (first_admitted admits text) exit (unread_text admits text plain fault unread)
+
+-- and where the text is no name
+pub gives_no_name : {A : Type 0} (view : A → List ℕ × List ℕ) (admits : List ℕ → Bool) (text word rest : List ℕ)
+    (r : Result A TextFault) (fault : NameFault) → first_admitted is_utf8 text ≡ Some (word, rest)
+    → NameFaultFits (admits word) fault → IsErrAnd r (λ e. e ≡ text_fault_of fault)
+    → Gives view r (first_admitted admits text)
+gives_no_name view admits text word rest r fault e bad exit =
+    gives_fault view r (text_fault_of fault) (first_admitted admits text) exit (unread_name admits text word rest fault e bad)
 
 pub read_name : (admits : List ℕ → Bool) (text word rest name : List ℕ) → first_admitted is_utf8 text ≡ Some (word, rest)
     → IsTrue (admits word) → name ≡ word → first_admitted admits text ≡ Some (name, rest)

@@ -1,16 +1,16 @@
 -- The fields at the front of a text are read exactly: what was written is read back, and what is read was written.
-use Rattle.std.proofs.Common.{◌≡◌, ◌≢◌, ℕ, zero, suc, ◌+◌, ◌<◌, ◌≤◌, ◌^◌, Bool, true, false, cond, List, [], ◌∷◌, ◌++◌, length, take, drop, Option, Some, None, Result, Ok, Err, ◌==◌, refl, sym, ap, subst, ◌∙◌, arith, append_assoc, length-append, IsTrue, get_or}
-use Rattle.std.specs.Prelude.{decimal, option_and_then, if◌then◌else◌, ◌&&◌, nat_lt, nat_le, slice_index, option_map}
+use Rattle.std.proofs.Common.{◌≡◌, ℕ, suc, ◌+◌, ◌<◌, ◌≤◌, ◌^◌, Bool, true, false, List, [], ◌∷◌, ◌++◌, length, take, drop, Option, Some, None, ◌==◌, refl, sym, ap, subst, ◌∙◌, arith, append_assoc, length-append, IsTrue, get_or}
+use Rattle.std.specs.Prelude.{decimal, if◌then◌else◌, ◌&&◌, nat_lt, slice_index}
 use Rattle.std.specs.List.{position}
 use Rattle.std.specs.Str.{bytes_eq}
 use Rattle.std.specs.Str.Parse.{digits_value}
-use Rattle.std.proofs.lemmas.Bool.{and_parts, and_from, cond-true, lt-ltb, ltb-true, leb-true, eqb-true}
+use Rattle.std.proofs.lemmas.Bool.{and_parts, and_from, cond-true, lt-ltb, ltb-true, eqb-true}
 use Rattle.std.proofs.lemmas.Bool.Decides.{nat_tests}
 use Rattle.std.proofs.lemmas.Fmt.{decimal_is_IsNumeral, length-decimal-le}
 use Rattle.std.proofs.lemmas.List.{take-append-drop, drop_more, get_or_at, take_at, drop_at, length-take-le}
 use Rattle.std.proofs.lemmas.Slice.Eq.{bytes_eq-Decides}
 use Rattle.lab_seal.specs.Versions.{item, reason_text, is_number, IsReason}
-use Rattle.lab_seal.specs.Reading.{number_said, number_of, line_of, first_item, admitted, first_admitted, after_word, first_count, first_number, reason_of, first_reason, ◌>>=◌}
+use Rattle.lab_seal.specs.Reading.{number_if_spelled, number_of, line_of, first_item, admitted, first_admitted, after_word, first_count, first_number, reason_of, first_reason, ◌>>=◌}
 use Rattle.lab_names.specs.Names.{is_note}
 use Rattle.lab_seal.proofs.ItemLemmas.{item_text, first_colon, around_colon}
 use Rattle.lab_seal.proofs.TextLemmas.{note_short}
@@ -47,7 +47,7 @@ number_complete n small =
     let value = (decimal_is_IsNumeral n small).1 in
     let test = and_from (nat_lt n (2 ^ 64)) (bytes_eq (decimal n) (decimal n)) (lt-ltb n (2 ^ 64) small)
     ((bytes_eq-Decides (decimal n) (decimal n)).1 refl) in
-    ap (number_said (decimal n)) value
+    ap (number_if_spelled (decimal n)) value
     ∙ cond-true (nat_lt n (2 ^ 64) && bytes_eq (decimal n) (decimal n)) (Some n) None test
 
 pub decimal_short : (n : ℕ) → n < 2 ^ 64 → length (decimal n) < 2 ^ 64

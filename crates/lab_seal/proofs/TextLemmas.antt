@@ -1,5 +1,5 @@
 -- What a code, a name, a note, a unit or a moment is written as is UTF-8, and short.
-use Rattle.std.proofs.Common.{◌≡◌, ℕ, ◌+◌, ◌/◌, ◌%◌, ◌^◌, ◌<◌, ◌≤◌, Bool, List, [], ◌∷◌, ◌++◌, length, sym, subst, true, ◌==◌, arith, IsTrue, inl, inr, ◌⊎◌}
+use Rattle.std.proofs.Common.{◌≡◌, ℕ, ◌+◌, ◌/◌, ◌%◌, ◌^◌, ◌<◌, ◌≤◌, Bool, List, [], ◌∷◌, ◌++◌, length, sym, subst, true, ◌==◌, arith, IsTrue, inl, inr}
 use Rattle.std.specs.Prelude.{◌&&◌, nat_le}
 use Rattle.std.specs.List.{list_all}
 use Rattle.std.specs.Str.{IsAscii, IsUtf8}
@@ -9,7 +9,7 @@ use Rattle.std.proofs.lemmas.Str.{IsAscii-append, IsUtf8-from_ascii, IsUtf8-from
 use Rattle.std.proofs.lemmas.Str.Ascii.{IsAscii-nil, IsAscii-cons}
 use Rattle.lab_names.specs.Calendar.{two_digits, four_digits}
 use Rattle.lab_names.specs.Moment.{is_moment, moment_text}
-use Rattle.lab_names.specs.Names.{is_code_byte, is_code, is_lab_code, is_person_code, is_key, is_name_byte, is_text, is_name, is_note_byte, is_note, is_unit}
+use Rattle.lab_names.specs.Names.{is_code_byte, is_code, is_lab_code, is_person_code, is_key, is_name, is_note, is_unit}
 use Rattle.lab_names.specs.Stamp.{stamp_text, stamp_of, IsInWidth}
 use Rattle.lab_names.specs.declared.stamp.Stamp.{Stamp}
 use Rattle.lab_names.proofs.MomentLemmas.{moment_text-stamp, in_width-stamp_of}

@@ -1,9 +1,9 @@
 -- The parts of a version are read exactly: what was written is read back, and what is read was written.
-use Rattle.std.proofs.Common.{◌≡◌, ◌≢◌, ℕ, zero, suc, ◌*◌, ◌<◌, ◌≤◌, ◌^◌, Bool, true, false, List, [], ◌∷◌, ◌++◌, length, Option, Some, None, Result, Ok, Err, ◌==◌, refl, sym, ap, subst, ◌∙◌, arith, append_assoc, IsTrue, inl, inr}
-use Rattle.std.specs.Prelude.{codes, decimal, option_and_then, if◌then◌else◌, ◌&&◌, nat_le, All}
+use Rattle.std.proofs.Common.{◌≡◌, ◌≢◌, ℕ, zero, suc, ◌<◌, ◌^◌, Bool, true, false, List, [], ◌∷◌, ◌++◌, length, Option, Some, None, Result, Ok, Err, ◌==◌, refl, sym, ap, subst, ◌∙◌, arith, append_assoc, IsTrue}
+use Rattle.std.specs.Prelude.{codes, decimal, if◌then◌else◌, All}
 use Rattle.std.specs.List.{flat_map}
 use Rattle.std.specs.Str.{bytes_eq, is_utf8}
-use Rattle.std.proofs.lemmas.Bool.{and_parts, cond-true, leb-true, or_cases, eqb-true}
+use Rattle.std.proofs.lemmas.Bool.{cond-true, eqb-true}
 use Rattle.std.proofs.lemmas.List.Elements.{All-nil, All-cons, All-head, All-tail}
 use Rattle.std.proofs.lemmas.Slice.Eq.{bytes_eq-Decides}
 use Rattle.std.proofs.lemmas.Str.{is_utf8-from_IsUtf8}
@@ -12,7 +12,7 @@ use Rattle.hex.specs.declared.error.FromHexError.{FromHexError}
 use Rattle.hex.proofs.HexLemmas.{decode_of-ok, decode_sized-ok, decode_sized-twice, decode_sized-encode_lower, length-encode_with}
 use Rattle.lab_names.specs.Moment.{is_moment, moment_text}
 use Rattle.lab_names.specs.Names.{is_lab_code, is_person_code, is_key, is_name, is_note, is_unit}
-use Rattle.lab_seal.specs.Versions.{item, reason_text, row_text, heading_text, subject_text, origin_text, opening_text, is_number, IsDigest, IsOrigin, IsReason, IsRow}
+use Rattle.lab_seal.specs.Versions.{item, reason_text, row_text, heading_text, subject_text, origin_text, opening_text, is_number, IsDigest, IsFirstOrLater, IsAmendment, IsRow}
 use Rattle.lab_seal.specs.Reading.{after_word, first_item, first_admitted, first_count, first_number, first_reason, digest_decoded, digest_from_digits, moment_of, first_moment, first_heading, first_subject, first_no_amendment, first_amendment, first_origin, first_opening, first_row, first_rows, ◌>>=◌}
 use Rattle.lab_seal.specs.declared.reading.Heading.{Heading}
 use Rattle.lab_seal.specs.declared.reading.Subject.{Subject}
@@ -195,9 +195,10 @@ subject_complete form version sample rest is_form is_version is_sample =
 
 -- ---- what a version amends
 
-pub record HasOrigin (number : ℕ) (text : List ℕ) (amendment : Option Amendment) (rest : List ℕ) : Type 0 where
-  pub origin : IsOrigin number amendment
-  pub text_is : text ≡ origin_text amendment ++ rest
+pub record HasOrigin (number : ℕ) (text : List ℕ) (amends : Option Amendment) (rest : List ℕ) : Type 0 where
+  pub order : IsFirstOrLater number amends
+  pub amendment : IsAmendment amends
+  pub text_is : text ≡ origin_text amends ++ rest
 
 none_sound : (text : List ℕ) (found : Option Amendment × List ℕ) → first_no_amendment text ≡ Some found
     → HasOrigin 1 text found.0 found.1
@@ -209,7 +210,7 @@ none_sound text found e =
     let whole = word_sound (codes "-") text a.0 a.1 ∙ ap (λ l. item (codes "-") ++ l) (word_sound [] a.0 b.0 b.1)
     ∙ sym (behind_2 (item (codes "-")) (item []) b.0) in
     let P : Option Amendment × List ℕ → Type 0 = λ p. HasOrigin 1 text p.0 p.1 in
-    subst P same (record { origin = refl; text_is = whole })
+    subst P same (record { order = refl; amendment = tt; text_is = whole })
 
 some_sound : (number : ℕ) (text : List ℕ) (found : Option Amendment × List ℕ) → number ≢ 1
     → first_amendment text ≡ Some found → HasOrigin number text found.0 found.1
@@ -230,7 +231,7 @@ some_sound number text found later e =
     ∙ ap (λ l. item (encode_lower previous) ++ l) has_reason.text_is
     ∙ sym (behind_2 (item (encode_lower previous)) (item reason.0) reason.1) in
     let P : Option Amendment × List ℕ → Type 0 = λ p. HasOrigin number text p.0 p.1 in
-    subst P same (record { origin = (later, digest.0, has_reason.admitted); text_is = whole })
+    subst P same (record { order = later; amendment = (digest.0, has_reason.admitted); text_is = whole })
 
 pub origin_sound : (number : ℕ) (text : List ℕ) (found : Option Amendment × List ℕ) → first_origin number text ≡ Some found
     → HasOrigin number text found.0 found.1
@@ -254,21 +255,22 @@ origin_some number later = by (number == 1) refl
     by true is = absurd (later (eqb-true number 1 is))
     by false is = is
 
-pub origin_complete : (number : ℕ) (amendment : Option Amendment) (rest : List ℕ) → IsOrigin number amendment
+pub origin_complete : (number : ℕ) (amendment : Option Amendment) (rest : List ℕ) → IsFirstOrLater number amendment
+    → IsAmendment amendment
     → first_origin number (origin_text amendment ++ rest) ≡ Some (amendment, rest)
 unfolding first_origin first_no_amendment first_amendment origin_text
-origin_complete number None rest is =
+origin_complete number None rest first is =
     let regroup = behind_2 (item (codes "-")) (item []) rest in
     let a = word_complete (codes "-") (item [] ++ rest) (omega arith) in
     let b = word_complete [] rest (omega arith) in
-    rw is (rw (regroup, a, b) refl)
-origin_complete number (Some amendment) rest is =
+    rw first (rw (regroup, a, b) refl)
+origin_complete number (Some amendment) rest later is =
     let last : List ℕ = item amendment.reason ++ rest in
     let regroup = behind_2 (item (encode_lower amendment.previous)) (item amendment.reason) rest in
-    let a = item_complete (encode_lower amendment.previous) last (digits_short amendment.previous is.1) in
-    let b = digest_complete amendment.previous is.1 in
-    let c = admitted_complete is_note amendment.reason rest is.2 (note_short amendment.reason is.2) in
-    rw (origin_some number is.0, regroup, a, b, c) refl
+    let a = item_complete (encode_lower amendment.previous) last (digits_short amendment.previous is.0) in
+    let b = digest_complete amendment.previous is.0 in
+    let c = admitted_complete is_note amendment.reason rest is.1 (note_short amendment.reason is.1) in
+    rw (origin_some number later, regroup, a, b, c) refl
 
 -- ---- openings
 

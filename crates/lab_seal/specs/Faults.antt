@@ -20,3 +20,8 @@ text_fault_word (Memory _) = memory_word
 abbrev pub text_fault_of : NameFault → TextFault
 text_fault_of BadName = BadText
 text_fault_of (NoMemory fault) = Memory fault
+
+-- a fault of a reader: a text is bad only where that holds
+abbrev pub TextFaultFits : Type 0 → TextFault → Type 0
+TextFaultFits bad BadText = bad
+TextFaultFits bad (Memory _) = Unit {0}

@@ -1,6 +1,6 @@
 -- The reading of a version's text, item by item: what stands at the front of a text, with the rest of the text. No public clause
 -- names these steps; they are proved to read exactly the texts of `version_text`.
-use Rattle.std.specs.Prelude.{◌≡◌, ◌≢◌, ℕ, zero, suc, ◌+◌, ◌-◌, ◌*◌, ◌^◌, ◌&&◌, ◌==◌, Bool, nat_lt, nat_le, if◌then◌else◌, List, [], ◌∷◌, length, take, drop, slice_index, codes, decimal, Option, Some, None, option_map, option_and_then, Result, Ok, Err}
+use Rattle.std.specs.Prelude.{◌≡◌, ℕ, zero, suc, ◌+◌, ◌-◌, ◌*◌, ◌^◌, ◌&&◌, ◌==◌, Bool, nat_lt, if◌then◌else◌, List, [], ◌∷◌, length, take, drop, slice_index, codes, decimal, Option, Some, None, option_and_then, Result, Ok, Err}
 use Rattle.std.specs.List.{position}
 use Rattle.std.specs.Str.{bytes_eq, is_utf8}
 use Rattle.std.specs.Str.Parse.{digits_value}
@@ -9,7 +9,7 @@ use Rattle.hex.specs.Hex.{encode_lower, decode_sized}
 use Rattle.lab_names.specs.Calendar.{days_in_year, days_in_month}
 use Rattle.lab_names.specs.Moment.{is_moment, moment_text}
 use Rattle.lab_names.specs.Names.{is_lab_code, is_person_code, is_key, is_name, is_note, is_unit}
-use Rattle.lab_seal.specs.Versions.{version_text, is_number, IsVersion}
+use Rattle.lab_seal.specs.Versions.{is_number}
 use Rattle.lab_seal.specs.declared.faults.TextFault.{TextFault}
 use Rattle.lab_seal.specs.declared.faults.TextFault.TheVariants.{BadText, Memory}
 use Rattle.lab_seal.specs.declared.reading.Heading.{Heading}
@@ -18,15 +18,6 @@ use Rattle.lab_seal.specs.declared.reading.Opening.{Opening}
 use Rattle.lab_seal.specs.declared.versions.Amendment.{Amendment}
 use Rattle.lab_seal.specs.declared.versions.EntryRow.{EntryRow}
 use Rattle.lab_seal.specs.declared.versions.VersionParts.{VersionParts}
-
--- no version has these bytes as its text
-abbrev pub IsNoVersion : List ℕ → Type 0
-IsNoVersion bytes = (parts : VersionParts) → IsVersion parts → version_text parts ≢ bytes
-
--- a fault of a reader: a text is bad only where that holds
-abbrev pub TextFaultFits : Type 0 → TextFault → Type 0
-TextFaultFits bad BadText = bad
-TextFaultFits bad (Memory _) = Unit {0}
 
 -- nothing was read, and memory may run out at any text
 abbrev pub IsUnread : {A : Type 0} → TextFault → Option A → Type 0
@@ -42,12 +33,13 @@ infixl 10 ◌>>=◌
 abbrev pub ◌>>=◌ : {A B : Type 0} → Option A → (A → Option B) → Option B
 o >>= f = option_and_then f o
 
--- the number of which these are the decimal digits, without leading zeros
-abbrev pub number_said : List ℕ → ℕ → Option ℕ
-number_said digits n = if nat_lt n (2 ^ 64) && bytes_eq (decimal n) digits then Some n else None
+-- this number, if these are its decimal digits, without leading zeros
+abbrev pub number_if_spelled : List ℕ → ℕ → Option ℕ
+number_if_spelled digits n = if nat_lt n (2 ^ 64) && bytes_eq (decimal n) digits then Some n else None
 
+-- the number of which these are the digits
 unfoldable pub number_of : List ℕ → Option ℕ
-number_of digits = number_said digits (digits_value 10 digits)
+number_of digits = number_if_spelled digits (digits_value 10 digits)
 
 -- so many bytes, where a line feed follows them
 unfoldable pub line_of : ℕ → List ℕ → Option (List ℕ × List ℕ)
@@ -129,12 +121,13 @@ second_told text =
     second_of_date (two_at text 0 * 100 + two_at text 2) (two_at text 5) (two_at text 8)
     + two_at text 11 * 3600 + two_at text 14 * 60 + two_at text 17
 
--- the moment that has this text
-abbrev pub moment_said : List ℕ → ℕ → Option ℕ
-moment_said text n = if is_moment n && bytes_eq (moment_text n) text then Some n else None
+-- this moment, if this is its text
+abbrev pub moment_if_spelled : List ℕ → ℕ → Option ℕ
+moment_if_spelled text n = if is_moment n && bytes_eq (moment_text n) text then Some n else None
 
+-- the moment that has this text
 unfoldable pub moment_of : List ℕ → Option ℕ
-moment_of text = moment_said text (second_told text)
+moment_of text = moment_if_spelled text (second_told text)
 
 unfoldable pub first_moment : List ℕ → Option (ℕ × List ℕ)
 first_moment text = do
@@ -215,16 +208,17 @@ first_rows (suc n) text = do
   rows ← first_rows n row.1
   Some (row.0 ∷ rows.0, rows.1)
 
--- a version, its rows as a list
-pub record Version : Type 0 where
+-- the parts of a version as they are read one after the other, the rows as a list
+pub record VersionRead : Type 0 where
   pub heading : Heading
   pub subject : Subject
   pub amendment : Option Amendment
   pub opening : Opening
   pub rows : List EntryRow
 
-abbrev pub version_said : VersionParts → Version
-version_said parts = record {
+-- the parts that a version is put together from
+abbrev pub read_of : VersionParts → VersionRead
+read_of parts = record {
   heading = record { lab = parts.lab; record_number = parts.record_number; number = parts.number };
   subject = record { form = parts.form; form_version = parts.form_version; sample = parts.sample };
   amendment = parts.amendment;
@@ -233,7 +227,7 @@ version_said parts = record {
 }
 
 -- the version at the front
-unfoldable pub first_version : List ℕ → Option (Version × List ℕ)
+unfoldable pub first_version : List ℕ → Option (VersionRead × List ℕ)
 first_version text = do
   heading ← first_heading text
   subject ← first_subject heading.1

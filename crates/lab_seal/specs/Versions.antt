@@ -60,10 +60,14 @@ abbrev pub IsDigest : List ℕ → Type 0
 IsDigest digest = (length digest ≡ 32) × IsBytes digest
 
 -- the first version amends none, and every other one does
-abbrev pub IsOrigin : ℕ → Option Amendment → Type 0
-IsOrigin number None = number ≡ 1
-IsOrigin number (Some amendment) =
-    (number ≢ 1) × IsDigest amendment.previous × IsTrue (is_note amendment.reason)
+abbrev pub IsFirstOrLater : ℕ → Option Amendment → Type 0
+IsFirstOrLater number None = number ≡ 1
+IsFirstOrLater number (Some _) = number ≢ 1
+
+-- the parts of an amendment are what their types admit, or there is none
+abbrev pub IsAmendment : Option Amendment → Type 0
+IsAmendment None = Unit {0}
+IsAmendment (Some amendment) = IsDigest amendment.previous × IsTrue (is_note amendment.reason)
 
 -- a reason is a note, or there is none
 abbrev pub IsReason : Option (List ℕ) → Type 0
@@ -79,19 +83,27 @@ pub record IsRow (row : EntryRow) : Type 0 where
   pub moment : IsTrue (is_moment row.moment)
   pub reason : IsReason row.reason
 
--- the parts of a version are what their types admit, its numbers lie between 1 and 1,000,000,000, and it amends a version
--- exactly where it is not the first
-pub record IsVersion (parts : VersionParts) : Type 0 where
-  pub lab : IsTrue (is_lab_code parts.lab)
+-- the numbers of a version lie between 1 and 1,000,000,000, and it amends a version exactly where it is not the first
+pub record HasGoodNumbers (parts : VersionParts) : Type 0 where
   pub record_number : IsTrue (is_number parts.record_number)
   pub number : IsTrue (is_number parts.number)
-  pub form : IsTrue (is_key parts.form)
   pub form_version : IsTrue (is_number parts.form_version)
+  pub order : IsFirstOrLater parts.number parts.amendment
+
+-- the numbers of a version are good, and its other parts are what their types admit
+pub record IsVersion (parts : VersionParts) : Type 0 where
+  pub numbers : HasGoodNumbers parts
+  pub lab : IsTrue (is_lab_code parts.lab)
+  pub form : IsTrue (is_key parts.form)
   pub sample : IsTrue (is_name parts.sample)
-  pub amendment : IsOrigin parts.number parts.amendment
+  pub amendment : IsAmendment parts.amendment
   pub opener : IsTrue (is_person_code parts.opener)
   pub opened : IsTrue (is_moment parts.opened)
   pub rows : All IsRow parts.rows.items
+
+-- no version has these bytes as its text
+abbrev pub IsNoVersion : List ℕ → Type 0
+IsNoVersion bytes = (parts : VersionParts) → IsVersion parts → version_text parts ≢ bytes
 
 -- two versions have the same parts
 pub record IsSameVersion (one other : VersionParts) : Type 0 where

@@ -1,4 +1,5 @@
-//! Fields: the items at the front of a text, each read by the rules of its type. What is read comes with the rest of the text.
+//! Fields: the items at the front of a text, each read as a value of its type: a number, a name, a moment or a digest. The
+//! value comes with the rest of the text.
 ghost use Rattle.std.specs.Prelude.{◌≡◌, ◌==◌, ◌<◌, length, option_map};
 ghost use Rattle.std.specs.List.{position};
 ghost use Rattle.std.specs.Str.{is_utf8};

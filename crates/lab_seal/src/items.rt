@@ -1,8 +1,8 @@
 //! Items: texts that are written one after the other, each behind its length, so that no two lists of texts are written alike.
-ghost use Rattle.std.specs.Prelude.{◌≡◌, ◌++◌, OnOk, decimal};
+ghost use Rattle.std.specs.Prelude.{◌≡◌, ◌++◌, OnOk, IsTrue, decimal};
 ghost use Rattle.hex.specs.Hex.{encode_lower};
-ghost use Rattle.lab_names.specs.Moment.{moment_text};
-ghost use Rattle.lab_seal.specs.Versions.{item};
+ghost use Rattle.lab_names.specs.Moment.{is_moment, moment_text};
+ghost use Rattle.lab_seal.specs.Versions.{item, IsDigest};
 
 use itoa::Buffer;
 use lab_names::{Moment, OutOfMemory};
@@ -31,7 +31,8 @@ pub(crate) fn push_number(text: &mut Vec<u8>, number: u64) -> Result<(), OutOfMe
 
 // Adds a moment's text as an item.
 pub(crate) fn push_moment(text: &mut Vec<u8>, moment: Moment) -> Result<(), OutOfMemory>
-    ensures { OnOk result (text.new.items ≡ text.old.items ++ item (moment_text moment)) }
+    ensures text { OnOk result (text.new.items ≡ text.old.items ++ item (moment_text moment)) }
+    ensures in_range { IsTrue (is_moment moment) }
 {
     let mut printed = [0; 20];
     moment.print(&mut printed);
@@ -40,7 +41,8 @@ pub(crate) fn push_moment(text: &mut Vec<u8>, moment: Moment) -> Result<(), OutO
 
 // Adds a digest's digits as an item.
 pub(crate) fn push_digest(text: &mut Vec<u8>, digest: &Digest) -> Result<(), OutOfMemory>
-    ensures { OnOk result (text.new.items ≡ text.old.items ++ item (encode_lower digest.now)) }
+    ensures text { OnOk result (text.new.items ≡ text.old.items ++ item (encode_lower digest.now)) }
+    ensures bytes { IsDigest digest.now }
 {
     push_item(text, &digest.digits())
 }

@@ -1,7 +1,8 @@
 //! The reading of a version's text: of every text that `write_version` gives, and of no other bytes.
 ghost use Rattle.std.specs.Prelude.{◌≡◌, IfOk, IfErr};
-ghost use Rattle.lab_seal.specs.Versions.{version_text, IsVersion, OneSpelling};
-ghost use Rattle.lab_seal.specs.Reading.{IsNoVersion, TextFaultFits, Gives, first_heading, first_subject, first_no_amendment, first_amendment, first_origin, first_opening, first_row, first_rows, first_version, version_said};
+ghost use Rattle.lab_seal.specs.Faults.{TextFaultFits};
+ghost use Rattle.lab_seal.specs.Versions.{version_text, IsVersion, IsNoVersion, OneSpelling};
+ghost use Rattle.lab_seal.specs.Reading.{Gives, first_heading, first_subject, first_no_amendment, first_amendment, first_origin, first_opening, first_row, first_rows, first_version, read_of};
 
 use crate::{Amendment, EntryRow, TextFault, VersionParts, fields};
 use lab_names::{Key, LabCode, Moment, Name, PersonCode};
@@ -47,7 +48,7 @@ pub fn read_version(alloc: Global, bytes: &[u8]) -> Result<VersionParts, TextFau
 
 #[tactic(auto, unfolding(crate::specs::Reading::first_version))]
 fn first_version(alloc: Global, text: &[u8]) -> Result<(VersionParts, &[u8]), TextFault>
-    ensures { Gives (λ found. (version_said found.0, found.1.now)) result (first_version text.now) }
+    ensures { Gives (λ found. (read_of found.0, found.1.now)) result (first_version text.now) }
 {
     let (heading, rest) = first_heading(alloc, text)?;
     let (subject, rest) = first_subject(alloc, rest)?;

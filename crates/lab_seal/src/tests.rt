@@ -149,15 +149,55 @@ fn refuses(rt: &(impl Abort + AllocGlobal), text: &[u8]) {
     }
 }
 
+// The bytes of a later version with one row, which has a reason, 254 of them, as Python wrote them by the rule of
+// docs/FORMATS.md.
+const LATER_VERSION: &[u8] = b"11:labrecord 1\n4:aqua\n1:1\n1:2\n5:water\n1:1\n2:S1\n\
+    64:ba7816bf8f01cfea414140de5dae2223b00361a396177a9cb410ff61f20015ad\n3:why\n3:dan\n\
+    20:1970-01-01T00:16:40Z\n1:1\n2:ph\n25:7,5 \xc2\xb5S\nafter calibration\n6:\xc2\xb5S/cm\n\
+    5:eve-2\n20:2024-02-29T23:59:59Z\n20:misread: 7.5\nnot 5.7\n";
+
+#[test]
+fn a_row_that_has_a_reason_is_read(rt: HostRuntime) -> Result<(), Fail> {
+    let version = read_version(rt.alloc(), LATER_VERSION)?;
+    assert_eq!(rt; version.rows.len(), 1);
+    let Some(row) = version.rows.first() else {
+        panic!(rt; "no row");
+    };
+    is_row_with_a_reason(&rt, row);
+    is_row_with_a_reason(&rt, &row.copy()?);
+    let Some(amendment) = &version.amendment else {
+        panic!(rt; "no amendment");
+    };
+    let copy = amendment.copy()?;
+    assert_eq!(rt; copy.previous, digest(b"abc"));
+    assert_eq!(rt; copy.reason.as_str(), "why");
+    Ok(())
+}
+
+// The row of `LATER_VERSION`.
+fn is_row_with_a_reason(rt: &impl Abort, row: &EntryRow) {
+    assert_eq!(rt; row.key.as_str(), "ph");
+    assert_eq!(rt; row.value.as_str(), "7,5 \u{b5}S\nafter calibration");
+    assert_eq!(rt; row.unit.as_str(), "\u{b5}S/cm");
+    assert_eq!(rt; row.person.as_str(), "eve-2");
+    assert_eq!(rt; row.moment.seconds(), 1_709_251_199);
+    match &row.reason {
+        Some(reason) => assert_eq!(rt; reason.as_str(), "misread: 7.5\nnot 5.7"),
+        None => panic!(rt; "no reason"),
+    }
+}
+
 #[test]
 fn every_cut_and_every_longer_text_is_refused(rt: HostRuntime) -> Result<(), Fail> {
-    for end in 0..FIRST_VERSION.len() {
-        refuses(&rt, &FIRST_VERSION[..end]);
-    }
-    for more in [b"\n".as_slice(), b"0:\n".as_slice(), FIRST_VERSION] {
-        let mut text = Vec::from_slice(rt.alloc(), FIRST_VERSION)?;
-        text.extend_from_slice(more)?;
-        refuses(&rt, &text);
+    for whole in [FIRST_VERSION, LATER_VERSION] {
+        for end in 0..whole.len() {
+            refuses(&rt, &whole[..end]);
+        }
+        for more in [b"\n".as_slice(), b"0:\n".as_slice(), whole] {
+            let mut text = Vec::from_slice(rt.alloc(), whole)?;
+            text.extend_from_slice(more)?;
+            refuses(&rt, &text);
+        }
     }
     Ok(())
 }
@@ -264,6 +304,26 @@ fn faults_of_texts_have_numbers_and_words(rt: HostRuntime) {
     assert_eq!(rt; TextFault::Memory(OutOfMemory).number(), Some(90));
     assert_eq!(rt; TextFault::Memory(OutOfMemory).word(), "memory");
     one_spelling();
+}
+
+#[test]
+fn meanings_are_copied(rt: HostRuntime) -> Result<(), Fail> {
+    let meanings = [
+        Meaning::Authorship,
+        Meaning::Review,
+        Meaning::Rejection(Note::parse(rt.alloc(), "misread scale")?),
+    ];
+    let expected = [
+        ("authorship", ""),
+        ("review", ""),
+        ("rejection", "misread scale"),
+    ];
+    for (meaning, (word, reason)) in meanings.iter().zip(expected) {
+        let copy = meaning.copy()?;
+        assert_eq!(rt; copy.word(), word);
+        assert_eq!(rt; copy.reason(), reason);
+    }
+    Ok(())
 }
 
 // The seals are those that Python's `hashlib` gives of the seven items.

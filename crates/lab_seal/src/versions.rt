@@ -1,6 +1,8 @@
 //! The text of a version, over which its digest is taken.
-ghost use Rattle.std.specs.Prelude.{◌≡◌, ◌++◌, OnOk, IfOk, length};
-ghost use Rattle.lab_seal.specs.Versions.{reason_text, row_text, heading_text, subject_text, origin_text, opening_text, version_text, IsSameVersion};
+ghost use Rattle.std.specs.Prelude.{◌≡◌, ◌++◌, OnOk, IfOk, IsTrue, length};
+ghost use Rattle.lab_names.specs.Moment.{is_moment};
+ghost use Rattle.lab_names.specs.Names.{is_lab_code, is_person_code, is_key, is_name};
+ghost use Rattle.lab_seal.specs.Versions.{reason_text, row_text, heading_text, subject_text, origin_text, opening_text, version_text, IsReason, IsRow, IsAmendment, HasGoodNumbers, IsVersion, IsSameVersion};
 
 use crate::items::{push_digest, push_item, push_moment, push_number};
 use lab_names::{Key, LabCode, Moment, Name, Note, OutOfMemory, PersonCode, Unit};
@@ -134,10 +136,11 @@ fn copy_of_rows(alloc: Global, rows: &[EntryRow]) -> Result<Vec<EntryRow>, OutOf
     Ok(copy)
 }
 
-/// The text of a version. `read_version` reads it back where the version's numbers lie between 1 and 1,000,000,000 and it
-/// amends a version exactly where it is not the first.
+/// The text of a version. It is one that `read_version` reads back where the version's numbers lie between 1 and
+/// 1,000,000,000 and it amends a version exactly where it is not the first.
 pub fn write_version(alloc: Global, parts: &VersionParts) -> Result<Vec<u8>, OutOfMemory>
-    ensures { IfOk result (λ text. text.items ≡ version_text parts.now) }
+    ensures text { IfOk result (λ text. text.items ≡ version_text parts.now) }
+    ensures version { IfOk result (λ _. HasGoodNumbers parts.now → IsVersion parts.now) }
 {
     let mut text = Vec::new(alloc);
     push_heading(&mut text, parts)?;
@@ -152,7 +155,8 @@ pub fn write_version(alloc: Global, parts: &VersionParts) -> Result<Vec<u8>, Out
 
 #[tactic(auto, unfolding(crate::specs::Versions::heading_text))]
 fn push_heading(text: &mut Vec<u8>, parts: &VersionParts) -> Result<(), OutOfMemory>
-    ensures { OnOk result (text.new.items ≡ text.old.items ++ heading_text parts.now.lab parts.now.record_number parts.now.number) }
+    ensures text { OnOk result (text.new.items ≡ text.old.items ++ heading_text parts.now.lab parts.now.record_number parts.now.number) }
+    ensures lab { IfOk result (λ _. IsTrue (is_lab_code parts.now.lab)) }
 {
     push_item(text, b"labrecord 1")?;
     push_item(text, parts.lab.as_str().as_bytes())?;
@@ -162,7 +166,9 @@ fn push_heading(text: &mut Vec<u8>, parts: &VersionParts) -> Result<(), OutOfMem
 
 #[tactic(auto, unfolding(crate::specs::Versions::subject_text))]
 fn push_subject(text: &mut Vec<u8>, parts: &VersionParts) -> Result<(), OutOfMemory>
-    ensures { OnOk result (text.new.items ≡ text.old.items ++ subject_text parts.now.form parts.now.form_version parts.now.sample) }
+    ensures text { OnOk result (text.new.items ≡ text.old.items ++ subject_text parts.now.form parts.now.form_version parts.now.sample) }
+    ensures form { IfOk result (λ _. IsTrue (is_key parts.now.form)) }
+    ensures sample { IfOk result (λ _. IsTrue (is_name parts.now.sample)) }
 {
     push_item(text, parts.form.as_str().as_bytes())?;
     push_number(text, u64::from(parts.form_version))?;
@@ -171,7 +177,8 @@ fn push_subject(text: &mut Vec<u8>, parts: &VersionParts) -> Result<(), OutOfMem
 
 #[tactic(auto, unfolding(crate::specs::Versions::origin_text))]
 fn push_origin(text: &mut Vec<u8>, parts: &VersionParts) -> Result<(), OutOfMemory>
-    ensures { OnOk result (text.new.items ≡ text.old.items ++ origin_text parts.now.amendment) }
+    ensures text { OnOk result (text.new.items ≡ text.old.items ++ origin_text parts.now.amendment) }
+    ensures amendment { IfOk result (λ _. IsAmendment parts.now.amendment) }
 {
     let Some(amendment) = &parts.amendment else {
         push_item(text, b"-")?;
@@ -183,7 +190,9 @@ fn push_origin(text: &mut Vec<u8>, parts: &VersionParts) -> Result<(), OutOfMemo
 
 #[tactic(auto, unfolding(crate::specs::Versions::opening_text))]
 fn push_opening(text: &mut Vec<u8>, parts: &VersionParts) -> Result<(), OutOfMemory>
-    ensures { OnOk result (text.new.items ≡ text.old.items ++ opening_text parts.now.opener parts.now.opened (length parts.now.rows.items)) }
+    ensures text { OnOk result (text.new.items ≡ text.old.items ++ opening_text parts.now.opener parts.now.opened (length parts.now.rows.items)) }
+    ensures opener { IfOk result (λ _. IsTrue (is_person_code parts.now.opener)) }
+    ensures opened { IfOk result (λ _. IsTrue (is_moment parts.now.opened)) }
 {
     push_item(text, parts.opener.as_str().as_bytes())?;
     push_moment(text, parts.opened)?;
@@ -192,7 +201,8 @@ fn push_opening(text: &mut Vec<u8>, parts: &VersionParts) -> Result<(), OutOfMem
 
 #[tactic(auto, unfolding(crate::specs::Versions::row_text))]
 fn push_row(text: &mut Vec<u8>, row: &EntryRow) -> Result<(), OutOfMemory>
-    ensures { OnOk result (text.new.items ≡ text.old.items ++ row_text row.now) }
+    ensures text { OnOk result (text.new.items ≡ text.old.items ++ row_text row.now) }
+    ensures row { IfOk result (λ _. IsRow row.now) }
 {
     push_item(text, row.key.as_str().as_bytes())?;
     push_item(text, row.value.as_str().as_bytes())?;
@@ -203,7 +213,8 @@ fn push_row(text: &mut Vec<u8>, row: &EntryRow) -> Result<(), OutOfMemory>
 }
 
 fn reason_bytes(row: &EntryRow) -> &[u8]
-    ensures { result.now ≡ reason_text row.now.reason }
+    ensures value { result.now ≡ reason_text row.now.reason }
+    ensures reason { IsReason row.now.reason }
 {
     match &row.reason {
         Some(reason) => reason.as_str().as_bytes(),

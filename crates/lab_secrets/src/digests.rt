@@ -1,6 +1,6 @@
 //! The digests of SHA-256.
-ghost use Rattle.std.specs.Prelude.{◌≡◌};
-ghost use Rattle.hex.specs.Hex.{encode_lower};
+ghost use Rattle.std.specs.Prelude.{◌≡◌, length};
+ghost use Rattle.hex.specs.Hex.{encode_lower, IsBytes};
 
 use std::marker::Model;
 
@@ -39,7 +39,8 @@ impl Digest {
 
     /// The digest as 64 lower hexadecimal digits.
     pub fn digits(&self) -> [u8; 64]
-        ensures { result ≡ encode_lower self.now }
+        ensures digits { result ≡ encode_lower self.now }
+        ensures bytes { (length self.now ≡ 32) × IsBytes self.now }
     {
         let mut digits = [0; 64];
         match hex::encode_to_slice(self.bytes(), &mut digits) {

@@ -1,4 +1,4 @@
-use Rattle.std.proofs.Common.{◌≡◌, None, Some, sym, ap, ◌∙◌}
+use Rattle.std.proofs.Common.{None, Some, sym, ap, ◌∙◌}
 use Rattle.std.specs.Str.{bytes_eq}
 use Rattle.std.proofs.lemmas.Bool.{cond-true, cond-false}
 use Rattle.hex.specs.Hex.{encode_lower}
@@ -14,7 +14,7 @@ returns-in_err-ok c =
 pub returns-then-eq : goal.returns-then-eq
 returns-then-eq c =
     let out = c.decode_to_slice.new.out in
-    let shown = c.as_slice.ensures ∙ c.digits.ensures ∙ ap encode_lower c.from_bytes-digest.ensures in
+    let shown = c.as_slice.ensures ∙ c.digits.ensures.digits ∙ ap encode_lower c.from_bytes-digest.ensures in
     let equal = sym (ap (λ l. bytes_eq l c.args.digits.now) shown) ∙ sym c.eq.ensures ∙ c.if-eq.true in
     ap Some c.from_bytes-digest.ensures
     ∙ sym (digest_decoded_is c.args.digits.now c.decode_to_slice.result out _ c.decode_to_slice.ensures.value
@@ -24,7 +24,7 @@ returns-then-eq c =
 pub returns-else-eq : goal.returns-else-eq
 returns-else-eq c =
     let out = c.decode_to_slice.new.out in
-    let shown = c.as_slice.ensures ∙ c.digits.ensures ∙ ap encode_lower c.from_bytes-digest.ensures in
+    let shown = c.as_slice.ensures ∙ c.digits.ensures.digits ∙ ap encode_lower c.from_bytes-digest.ensures in
     let differs = sym (ap (λ l. bytes_eq l c.args.digits.now) shown) ∙ sym c.eq.ensures ∙ c.if-eq.false in
     sym (digest_decoded_is c.args.digits.now c.decode_to_slice.result out _ c.decode_to_slice.ensures.value
     (sym c.ok.ensures.value ∙ c.in_ok-ok.was)

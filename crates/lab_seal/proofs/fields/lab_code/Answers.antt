@@ -1,22 +1,14 @@
-use Rattle.std.proofs.lemmas.Result.{err_from_is_err_and}
 use Rattle.lab_names.specs.Names.{is_lab_code}
-use Rattle.lab_seal.proofs.FieldLemmas.{unread_text, unread_name, read_name}
+use Rattle.lab_seal.proofs.FieldLemmas.{gives_no_text, gives_no_name, read_name}
 use Rattle.lab_seal.proofs.TextLemmas.{lab_code_utf8}
 use Rattle.lab_seal.proofs.fields.lab_code.Goals as goal
 
 pub returns-in_err-code : goal.returns-in_err-code
-returns-in_err-code c =
-    let p = err_from_is_err_and c.from_residual.result c.from_residual.ensures.1 in
-    rw (p.1, p.2) (unread_text is_lab_code c.args.text.now lab_code_utf8 _ c.in_err-code.ensures)
+returns-in_err-code c = gives_no_text _ is_lab_code _ lab_code_utf8 _ _ c.from_residual.ensures.1 c.in_err-code.ensures
 
 pub returns-in_err-parse : goal.returns-in_err-parse
 returns-in_err-parse c =
-    let p = err_from_is_err_and c.from_residual-in_err-parse.result c.from_residual-in_err-parse.ensures.1 in
-    let word = c.in_ok-code.code.now in
-    rw (p.1, p.2) (unread_name is_lab_code c.args.text.now word c.in_ok-code.rest.now _ c.in_ok-code.ensures c.in_err-parse.ensures.fault)
+    gives_no_name _ is_lab_code _ _ _ _ _ c.in_ok-code.ensures c.in_err-parse.ensures.fault c.from_residual-in_err-parse.ensures.1
 
 pub returns : goal.returns
-returns c =
-    let word = c.in_ok-code.code.now in
-    read_name is_lab_code c.args.text.now word c.in_ok-code.rest.now c.in_ok-parse.field-0 c.in_ok-code.ensures
-    c.in_ok-parse.ensures.admitted c.in_ok-parse.ensures.value
+returns c = read_name is_lab_code _ _ _ _ c.in_ok-code.ensures c.in_ok-parse.ensures.admitted c.in_ok-parse.ensures.value

@@ -1,22 +1,14 @@
-use Rattle.std.proofs.lemmas.Result.{err_from_is_err_and}
 use Rattle.lab_names.specs.Names.{is_note}
-use Rattle.lab_seal.proofs.FieldLemmas.{unread_text, unread_name, read_name}
+use Rattle.lab_seal.proofs.FieldLemmas.{gives_no_text, gives_no_name, read_name}
 use Rattle.lab_seal.proofs.TextLemmas.{note_utf8}
 use Rattle.lab_seal.proofs.fields.note.Goals as goal
 
 pub returns-in_err-note : goal.returns-in_err-note
-returns-in_err-note c =
-    let p = err_from_is_err_and c.from_residual.result c.from_residual.ensures.1 in
-    rw (p.1, p.2) (unread_text is_note c.args.text.now note_utf8 _ c.in_err-note.ensures)
+returns-in_err-note c = gives_no_text _ is_note _ note_utf8 _ _ c.from_residual.ensures.1 c.in_err-note.ensures
 
 pub returns-in_err-parse : goal.returns-in_err-parse
 returns-in_err-parse c =
-    let p = err_from_is_err_and c.from_residual-in_err-parse.result c.from_residual-in_err-parse.ensures.1 in
-    let word = c.in_ok-note.note.now in
-    rw (p.1, p.2) (unread_name is_note c.args.text.now word c.in_ok-note.rest.now _ c.in_ok-note.ensures c.in_err-parse.ensures.fault)
+    gives_no_name _ is_note _ _ _ _ _ c.in_ok-note.ensures c.in_err-parse.ensures.fault c.from_residual-in_err-parse.ensures.1
 
 pub returns : goal.returns
-returns c =
-    let word = c.in_ok-note.note.now in
-    read_name is_note c.args.text.now word c.in_ok-note.rest.now c.in_ok-parse.field-0 c.in_ok-note.ensures
-    c.in_ok-parse.ensures.admitted c.in_ok-parse.ensures.value
+returns c = read_name is_note _ _ _ _ c.in_ok-note.ensures c.in_ok-parse.ensures.admitted c.in_ok-parse.ensures.value

@@ -1,6 +1,6 @@
 use Rattle.std.proofs.Common.{sym, ◌∙◌}
 use Rattle.std.proofs.lemmas.Result.{err_from_is_err_and}
-use Rattle.lab_seal.proofs.FieldLemmas.{unread_reason, read_reason, no_reason}
+use Rattle.lab_seal.proofs.FieldLemmas.{unread_reason, read_reason}
 use Rattle.lab_seal.proofs.fields.reason.Goals as goal
 
 pub returns-in_err-note : goal.returns-in_err-note

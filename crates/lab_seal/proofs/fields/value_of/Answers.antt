@@ -1,5 +1,4 @@
-use Rattle.std.proofs.Common.{◌≡◌, ◌<◌, ◌^◌, List, ℕ, sym, ap, ◌∙◌, arith}
-use Rattle.std.specs.Str.{IsUtf8, bytes_eq}
+use Rattle.std.proofs.Common.{◌<◌, ◌^◌, sym, ◌∙◌, arith}
 use Rattle.lab_seal.proofs.FieldLemmas.{ok_said, err_said, number_not_text, number_unparsed, number_other, number_read}
 use Rattle.lab_seal.proofs.fields.value_of.Goals as goal
 
