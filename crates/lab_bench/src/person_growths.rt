@@ -1,5 +1,5 @@
-//! The calls on persons that take memory. Each has its arguments made for it alone, so that want of memory stops one call and no
-//! other.
+//! The calls on persons that take memory, and copies of what they answer. Each has its arguments made for it alone, so that
+//! want of memory stops one call and no other.
 
 use crate::growths::print_line;
 use anyhow::{Error, Result};
@@ -62,7 +62,7 @@ fn copied_person(alloc: Global) -> Result<Person> {
 }
 
 fn opened(alloc: Global) -> Result<Opened> {
-    Ok(open_session(Some(&person(alloc)?), PASSWORD, &tick()?, 0, false)?)
+    Ok(open_session(Some(&person(alloc)?), PASSWORD, &tick()?, 0, false)?.copy()?)
 }
 
 fn copied_session(alloc: Global) -> Result<Session> {
@@ -86,7 +86,7 @@ fn signing_attempted(alloc: Global) -> Result<Person> {
 fn changed(alloc: Global) -> Result<PasswordChanged> {
     let opened = opened(alloc)?;
     let new = "dan password 2";
-    Ok(change_password(&opened.person, &opened.session, PASSWORD, new, &tick()?)?)
+    Ok(change_password(&opened.person, &opened.session, PASSWORD, new, &tick()?)?.copy()?)
 }
 
 fn asked(alloc: Global) -> Result<Issued> {
@@ -99,11 +99,8 @@ fn asked(alloc: Global) -> Result<Issued> {
 
 fn confirmed(alloc: Global) -> Result<Issued> {
     let asked = asked(alloc)?;
-    Ok(confirm_issue(
-        &PersonCode::parse(alloc, "bob")?,
-        Some(&asked.person),
-        &tick()?,
-    )?)
+    let bob = PersonCode::parse(alloc, "bob")?;
+    Ok(confirm_issue(&bob, Some(&asked.person), &tick()?)?.copy()?)
 }
 
 fn roled(alloc: Global) -> Result<Effect> {
@@ -115,7 +112,8 @@ fn roled(alloc: Global) -> Result<Effect> {
 }
 
 fn retired(alloc: Global) -> Result<Effect> {
-    Ok(retire(&PersonCode::parse(alloc, "ann")?, Some(&person(alloc)?))?)
+    let ann = PersonCode::parse(alloc, "ann")?;
+    Ok(retire(&ann, Some(&person(alloc)?))?.copy()?)
 }
 
 fn unlocked(alloc: Global) -> Result<Effect> {
