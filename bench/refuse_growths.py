@@ -39,7 +39,7 @@ void *realloc(void *old, size_t size) {
 
 ROOT = os.path.dirname(os.path.dirname(os.path.abspath(__file__)))
 # The lines of one round of the workload `growths`.
-CALLS = 36
+CALLS = 39
 MEMORY_LINE = b"refused 90 memory\n"
 MEMORY_REPLY = (
     b"HTTP/1.1 503 Service Unavailable\r\nContent-Type: application/json\r\nContent-Length: 30\r\n"

@@ -19,9 +19,9 @@ touched moment session = record session { last = moment }
 abbrev pub ended : Session → Session
 ended session = record session { closed = true }
 
--- a session in which something was signed
-abbrev pub signed_in : Session → Session
-signed_in session = record session { signed = true }
+-- a session that is marked, since something was signed in it
+abbrev pub marked_signed : Session → Session
+marked_signed session = record session { signed = true }
 
 -- a session has the token of that digest
 abbrev pub has_token : List Session → List ℕ → Bool

@@ -25,7 +25,7 @@ pub struct Person {
     pub roles: Roles,
     /// Whether the person has left, which is for good.
     pub retired: bool,
-    /// The failed passwords since the last success, the last unlocking or the end of the last lock.
+    /// The failed passwords since the last success or unlocking. After a lock has ended, the next password counts anew.
     pub failures: u32,
     /// When the account was locked, if it was.
     pub locked: Option<Moment>,

@@ -1,6 +1,6 @@
 //! One session of a person, and which sessions a change of the account closes.
 ghost use Rattle.std.specs.Prelude.{◌≡◌, IfOk};
-ghost use Rattle.lab_access.specs.Sessions.{is_live, is_closed_by, touched, ended, signed_in};
+ghost use Rattle.lab_access.specs.Sessions.{is_live, is_closed_by, touched, ended, marked_signed};
 
 use crate::times::seconds_since;
 use lab_names::{Moment, OutOfMemory, PersonCode};
@@ -72,7 +72,7 @@ impl Session {
 
     /// Takes note of an accepted signing.
     pub fn mark_signed(&mut self)
-        ensures { self.new ≡ signed_in self.old }
+        ensures { self.new ≡ marked_signed self.old }
     {
         self.signed = true;
     }

@@ -47,7 +47,7 @@ impl Opened {
 /// sessions before, and has a session whose token is the tick's or has none.
 ///
 /// # Errors
-/// In this order: `Credentials`, `RandomRepeated`, `LabFull`; or want of memory.
+/// In this order: `Failed`, `RandomRepeated`, `LabFull`; or want of memory.
 #[tactic(auto, unfolding(crate::specs::Openings::opening))]
 pub fn open_session(
     person: Option<&Person>,
@@ -84,7 +84,7 @@ pub fn open_session(
     })
 }
 
-/// Finds a session alive at a tick. It takes no memory.
+/// Lets a session be used at a tick, or refuses it. It takes no memory.
 ///
 /// # Errors
 /// `NoSession`, where it is closed or its time has passed.

@@ -2,12 +2,12 @@
 //! want of memory stops one call and no other.
 
 use crate::growths::print_line;
-use anyhow::{Error, Result};
+use anyhow::{Error, Result, bail};
 use lab_names::{Moment, Name, PersonCode, Tick};
 use lab_people::{
-    Effect, Issued, Opened, Password, PasswordChanged, Person, Roles, Session, Verifier, ask_issue,
-    attempt, attempt_signing, change_password, confirm_issue, enrol, open_session, retire,
-    set_roles, unlock,
+    Effect, Failure, Issued, Opened, Password, PasswordChanged, PeopleFault, Person, Roles,
+    Session, Verifier, ask_issue, attempt, attempt_signing, change_password, confirm_issue, enrol,
+    open_session, retire, set_roles, unlock,
 };
 use std::alloc::Global;
 use std::io::{self, Print};
@@ -19,6 +19,8 @@ pub(crate) fn print_person_growths(rt: &impl Print, alloc: Global) -> io::Result
     print_code(rt, copied_person(alloc).as_ref())?;
     print_code(rt, attempted(alloc).as_ref())?;
     print_code(rt, signing_attempted(alloc).as_ref())?;
+    print_code(rt, failed(alloc).as_ref())?;
+    print_code(rt, failed_while_locked(alloc).as_ref())?;
     print_code(rt, opened(alloc).as_ref().map(|opened| &opened.person))?;
     print_code(rt, changed(alloc).as_ref().map(|changed| &changed.person))?;
     print_code(rt, asked(alloc).as_ref().map(|issued| &issued.person))?;
@@ -71,6 +73,26 @@ fn copied_session(alloc: Global) -> Result<Session> {
 
 fn attempted(alloc: Global) -> Result<Person> {
     Ok(attempt(Some(&person(alloc)?), PASSWORD, Moment::from_seconds(900)?)?)
+}
+
+fn failed(alloc: Global) -> Result<Person> {
+    left_by_a_wrong_password(&person(alloc)?)
+}
+
+fn failed_while_locked(alloc: Global) -> Result<Person> {
+    left_by_a_wrong_password(&Person {
+        locked: Some(Moment::from_seconds(800)?),
+        ..person(alloc)?
+    })
+}
+
+// The person as a wrong password leaves them, counted or locked.
+fn left_by_a_wrong_password(dan: &Person) -> Result<Person> {
+    match attempt(Some(dan), "a wrong password", Moment::from_seconds(900)?) {
+        Err(PeopleFault::Failed(Failure::Counted(left) | Failure::AlreadyLocked(left))) => Ok(left),
+        Err(fault) => Err(fault.into()),
+        Ok(_) => bail!("a wrong password was accepted"),
+    }
 }
 
 fn signing_attempted(alloc: Global) -> Result<Person> {

@@ -5,7 +5,7 @@ use crate::growths::print_line;
 use crate::versions::{version, version_text};
 use anyhow::Result;
 use lab_names::{LabCode, Moment, Name, Note, PersonCode};
-use lab_seal::{Meaning, SealParts, VersionParts, digest, read_version};
+use lab_seal::{Amendment, Meaning, SealParts, VersionParts, digest, read_version, write_version};
 use std::alloc::Global;
 use std::io::{self, Print};
 
@@ -13,6 +13,12 @@ use std::io::{self, Print};
 pub(crate) fn print_record_growths(rt: &impl Print, alloc: Global) -> io::Result<()> {
     print_line(rt, version_text(alloc, 2).as_ref().map(|_| "text"))?;
     print_line(rt, read(alloc).as_ref().map(|parts| parts.sample.as_str()))?;
+    print_line(
+        rt,
+        later_read(alloc)
+            .as_ref()
+            .map(|parts| parts.sample.as_str()),
+    )?;
     print_line(
         rt,
         copied_version(alloc)
@@ -30,8 +36,26 @@ fn read(alloc: Global) -> Result<VersionParts> {
     Ok(read_version(alloc, text.as_slice())?)
 }
 
+// A later version, with what it amends.
+fn later_version(alloc: Global) -> Result<VersionParts> {
+    let amendment = Amendment {
+        previous: digest(b"abc"),
+        reason: Note::parse(alloc, "misread scale")?,
+    };
+    Ok(VersionParts {
+        number: 2,
+        amendment: Some(amendment),
+        ..version(alloc, 1)?
+    })
+}
+
+fn later_read(alloc: Global) -> Result<VersionParts> {
+    let text = write_version(alloc, &later_version(alloc)?)?;
+    Ok(read_version(alloc, text.as_slice())?)
+}
+
 fn copied_version(alloc: Global) -> Result<VersionParts> {
-    Ok(version(alloc, 2)?.copy(alloc)?)
+    Ok(later_version(alloc)?.copy(alloc)?)
 }
 
 fn copied_seal(alloc: Global) -> Result<SealParts> {

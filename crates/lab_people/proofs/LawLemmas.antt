@@ -189,11 +189,18 @@ wrong_tried person text moment has free wrong =
     wrong_by (person.retired || not (is_set person.password)) (is_locked person.locked moment) (accepts person.password text moment) person moment (not_stray person has) free wrong
 
 -- a lock stays
-pub locked_tried : (person : Person) (text : List ℕ) (moment : ℕ) → HasAccount person → is_locked person.locked moment ≡ true
-    → tried person true text moment ≡ Err (Failed (AlreadyLocked person))
+pub locked_tried : (person : Person) (is_own : Bool) (text : List ℕ) (moment : ℕ) → HasAccount person → is_locked person.locked moment ≡ true
+    → tried person is_own text moment ≡ Err (Failed (AlreadyLocked person))
 unfolding tried
-locked_tried person text moment has locked =
-    kept_by (person.retired || not (is_set person.password)) (is_locked person.locked moment) (accepts person.password text moment) person moment (not_stray person has) locked
+locked_tried person is_own text moment has locked =
+    kept_by (person.retired || not (is_set person.password)) (is_locked person.locked moment) (is_own && accepts person.password text moment) person moment (not_stray person has) locked
+
+-- another's code is as a wrong password
+pub other_tried : (person : Person) (text wrong : List ℕ) (moment : ℕ) → accepts person.password wrong moment ≡ false
+    → tried person false text moment ≡ tried person true wrong moment
+unfolding tried
+other_tried person text wrong moment h =
+    ap (λ accepted. tests (person.retired || not (is_set person.password)) (is_locked person.locked moment) accepted person moment) (sym h)
 
 -- Failures.
 
@@ -259,24 +266,20 @@ after_more person [] others = refl
 after_more person (one ∷ tries) others =
     after_one (left_by (tried person true one.0 one.1)) tries others (λ left. after_more left tries others)
 
-the_four : (n : ℕ) → n ≡ 4 → 0 + n ≡ 4
-the_four n h = omega arith
-
 -- the fifth locks
-pub fifth_locks : (person : Person) (four : List (List ℕ × ℕ)) (text : List ℕ) (moment : ℕ) → HasAccount person → AreWrong person four
-    → length four ≡ 4 → accepts person.password text moment ≡ false
-    → after_failures (with_failures person 0) (four ++ ((text, moment) ∷ [])) ≡ Some (locked_at person moment)
-fifth_locks person four text moment has wrong long last =
-    after_more (with_failures person 0) four ((text, moment) ∷ [])
-    ∙ ap (option_and_then (λ left. after_failures left ((text, moment) ∷ []))) (counted_on person 0 four has wrong (omega arith))
-    ∙ ap (λ k. after_failures (with_failures person k) ((text, moment) ∷ [])) (the_four (length four) long)
+pub fifth_locks : (person : Person) (n : ℕ) (before : List (List ℕ × ℕ)) (text : List ℕ) (moment : ℕ) → HasAccount person → AreWrong person before
+    → n + length before ≡ 4 → accepts person.password text moment ≡ false
+    → after_failures (with_failures person n) (before ++ ((text, moment) ∷ [])) ≡ Some (locked_at person moment)
+fifth_locks person n before text moment has wrong long last =
+    after_more (with_failures person n) before ((text, moment) ∷ [])
+    ∙ ap (option_and_then (λ left. after_failures left ((text, moment) ∷ []))) (counted_on person n before has wrong (omega arith))
+    ∙ ap (λ k. after_failures (with_failures person k) ((text, moment) ∷ [])) long
     ∙ ap (option_and_then (λ left. Some left))
     (wrong_locks (with_failures person 4) text moment 4 (counted_has person 4 has) refl last refl refl)
 
--- a person without failures and lock is as they are
-pub unfailed : (person : Person) → person.failures ≡ 0 → person.locked ≡ None → person ≡ with_failures person 0
-unfailed person none free =
-    ap (λ n. record person { failures = n; locked = person.locked }) none ∙ ap (λ l. record person { failures = 0; locked = l }) free
+-- a person who isn't locked is as they are with their failures
+pub unlocked_as_is : (person : Person) → person.locked ≡ None → person ≡ with_failures person person.failures
+unlocked_as_is person free = ap (λ since. record person { failures = person.failures; locked = since }) free
 
 -- Retirement.
 

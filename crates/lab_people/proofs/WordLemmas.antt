@@ -152,7 +152,7 @@ pub halves_together : (person : Option Person) (caller other : List ℕ) (tick l
 halves_together person caller other tick later asked confirmed moment h =
     let given = given_of person caller other tick later asked confirmed h in
     rw (given.0, given.1.0, given.1.1)
-    (parts_accepted _ _ _ _ _ later.moment moment (digits_len tick.words h.asks_at_random) (digits_len later.words h.confirms_at_random))
+    (parts_accepted _ _ _ _ _ later.moment moment (digits_len tick.words h.eight_words) (digits_len later.words h.eight_later_words))
 
 half_refused : (confirmed : Issued) (ask : Ask) (tick later : Tick) (half : List ℕ) (moment : ℕ) → IsConfirmed ask later confirmed
     → half ≡ half_of tick.words → length tick.words ≡ 8
@@ -167,6 +167,6 @@ pub halves_alone : (person : Option Person) (caller other : List ℕ) (tick late
     × (accepts confirmed.person.password (encode_lower confirmed.half) moment ≡ false)
 halves_alone person caller other tick later asked confirmed moment h =
     let given = given_of person caller other tick later asked confirmed h in (
-      half_refused confirmed (ask_of caller tick) tick later asked.half moment given.1 given.0 h.asks_at_random,
-      half_refused confirmed (ask_of caller tick) later later confirmed.half moment given.1 given.1.0 h.confirms_at_random,
+      half_refused confirmed (ask_of caller tick) tick later asked.half moment given.1 given.0 h.eight_words,
+      half_refused confirmed (ask_of caller tick) later later confirmed.half moment given.1 given.1.0 h.eight_later_words,
     )

@@ -1,5 +1,6 @@
 -- What is done to persons' accounts: by themselves, and by administrators, of whom it takes two to give a person a one-time
--- word (21 CFR 11.100(a), a code "shall not be reused by, or reassigned to, anyone else"; 11.300(a), (b) and (c)).
+-- word (21 CFR 11.100(a), a code "shall not be reused by, or reassigned to, anyone else"; 11.300(a) and (b);
+-- 11.200(a)(3), use by anyone else "requires collaboration of two or more individuals").
 use Rattle.std.specs.Prelude.{ℕ, Bool, true, false, not, nat_le, List, Option, Some, None, Result, Ok, Err, bytes_eq, if◌then◌else◌}
 use Rattle.std.specs.List.{list_any}
 use Rattle.hex.specs.Hex.{encode_lower}

@@ -43,9 +43,9 @@ IsNewCode code persons = AllByRecursion (λ person. person.code ≢ code) person
 -- eight random words.
 pub record IsWordGiven (person : Option Person) (caller other : List ℕ) (tick later : Tick) (asked confirmed : Issued) : Type 0 where
   pub asks : asking caller person tick ≡ Ok asked
-  pub asks_at_random : length tick.words ≡ 8
+  pub eight_words : length tick.words ≡ 8
   pub confirms : confirming other (Some asked.person) later ≡ Ok confirmed
-  pub confirms_at_random : length later.words ≡ 8
+  pub eight_later_words : length later.words ≡ 8
 
 -- it is refused
 abbrev pub IsRefused : {A : Type 0} → Result A PeopleFault → Type 0

@@ -22,6 +22,6 @@ pub use lab_access::{
 pub use lab_names::{Moment, MomentFault, Name, NameFault, OutOfMemory, PersonCode, Tick};
 pub use lab_secrets::{Digest, Half, Token, Verifier, VerifierParts, salt};
 pub use password_laws::{
-    a_lock_lasts_half_an_hour, an_attempt_leaves_a_lock, the_fifth_failure_locks,
-    the_halves_make_the_word,
+    a_lock_lasts_half_an_hour, an_attempt_leaves_a_lock, another_code_is_a_wrong_password,
+    the_fifth_failure_locks, the_halves_make_the_word,
 };

@@ -1,25 +1,27 @@
 //! Laws of passwords, which users rely on. Each function does nothing: its contract says the law, for all persons, texts and
 //! moments.
-ghost use Rattle.std.specs.Prelude.{◌≡◌, ℕ, ◌+◌, ◌<◌, List, [], ◌∷◌, ◌++◌, length, nat_lt, true, false, Option, Some, None, Ok};
+ghost use Rattle.std.specs.Prelude.{◌≡◌, ℕ, Bool, ◌+◌, ◌<◌, List, [], ◌∷◌, ◌++◌, length, nat_lt, true, false, Option, Some, None, Ok, Err};
 ghost use Rattle.hex.specs.Hex.{encode_lower};
 ghost use Rattle.lab_names.specs.declared.tick.Tick.{Tick as AnyTick};
 ghost use Rattle.lab_secrets.specs.Words.{one_time_word};
 ghost use Rattle.lab_access.specs.declared.person.Person.{Person as AnyPerson};
+ghost use Rattle.lab_access.specs.declared.fault.Failure.TheVariants.{AlreadyLocked};
+ghost use Rattle.lab_access.specs.declared.fault.PeopleFault.TheVariants.{Failed};
 ghost use Rattle.lab_people.specs.declared.issues.Issued.{Issued as AnyIssued};
 ghost use Rattle.lab_people.specs.Laws.{after_failures, HasAccount, AreWrong, IsWordGiven};
 ghost use Rattle.lab_access.specs.Passwords.{accepts, serves};
 ghost use Rattle.lab_access.specs.Persons.{is_locked, unlocked};
 ghost use Rattle.lab_access.specs.Attempts.{tried};
 
-/// Law: from a person without failures on, the fifth wrong password with no success between locks, and no earlier one does.
+/// Law: wrong passwords that follow one another are counted, and the one with which five count locks. No earlier one does.
 pub fn the_fifth_failure_locks()
-    ensures earlier { (person : AnyPerson) (tries : List (List ℕ × ℕ)) → HasAccount person → person.failures ≡ 0 →
-        person.locked ≡ None → AreWrong person tries → length tries < 5 →
-        after_failures person tries ≡ Some (record person { failures = length tries; locked = None }) }
-    ensures fifth { (person : AnyPerson) (four : List (List ℕ × ℕ)) (text : List ℕ) (moment : ℕ) → HasAccount person →
-        person.failures ≡ 0 → person.locked ≡ None → AreWrong person four → length four ≡ 4 →
+    ensures earlier { (person : AnyPerson) (tries : List (List ℕ × ℕ)) → HasAccount person → person.locked ≡ None →
+        AreWrong person tries → person.failures + length tries < 5 →
+        after_failures person tries ≡ Some (record person { failures = person.failures + length tries; locked = None }) }
+    ensures fifth { (person : AnyPerson) (before : List (List ℕ × ℕ)) (text : List ℕ) (moment : ℕ) → HasAccount person →
+        person.locked ≡ None → AreWrong person before → person.failures + length before ≡ 4 →
         accepts person.password text moment ≡ false →
-        after_failures person (four ++ ((text, moment) ∷ [])) ≡ Some (record person { failures = 5; locked = Some moment }) }
+        after_failures person (before ++ ((text, moment) ∷ [])) ≡ Some (record person { failures = 5; locked = Some moment }) }
 {}
 
 /// Law: a lock lasts 1,800 seconds, to the second. Then a right password is accepted, and a wrong one is the first again.
@@ -33,10 +35,17 @@ pub fn a_lock_lasts_half_an_hour()
         after_failures person ((text, moment) ∷ []) ≡ Some (record person { failures = 1; locked = None }) }
 {}
 
-/// Law: whatever is given as the password of a person who is locked, it is refused, and leaves count and lock as before.
+/// Law: whatever is given as the password of a person who is locked, with whichever code, it is refused and leaves the person,
+/// count and lock, as before.
 pub fn an_attempt_leaves_a_lock()
-    ensures { (person : AnyPerson) (text : List ℕ) (moment : ℕ) → HasAccount person →
-        is_locked person.locked moment ≡ true → after_failures person ((text, moment) ∷ []) ≡ Some person }
+    ensures { (person : AnyPerson) (is_own : Bool) (text : List ℕ) (moment : ℕ) → HasAccount person →
+        is_locked person.locked moment ≡ true → tried person is_own text moment ≡ Err (Failed (AlreadyLocked person)) }
+{}
+
+/// Law: where another's code is given at a signing, whatever the password, it comes to what a wrong password comes to.
+pub fn another_code_is_a_wrong_password()
+    ensures { (person : AnyPerson) (text wrong : List ℕ) (moment : ℕ) → accepts person.password wrong moment ≡ false →
+        tried person false text moment ≡ tried person true wrong moment }
 {}
 
 /// Law: the halves of a one-time word that two administrators were given are, one after the other, a text that the person's

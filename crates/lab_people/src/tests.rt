@@ -2,8 +2,8 @@
 
 use crate::{
     Ask, Closing, Digest, Effect, Failure, Moment, Name, Password, PeopleFault, PeopleRefusal,
-    Person, PersonCode, ROUNDS, Role, Roles, Rule, Session, Tick, Verifier, allowed, ask_issue,
-    change_password, confirm_issue, enrol, open_session, retire, set_roles, unlock,
+    Person, PersonCode, ROUNDS, Role, Roles, Rule, Session, Tick, Token, Verifier, allowed,
+    ask_issue, change_password, confirm_issue, enrol, open_session, retire, set_roles, unlock,
 };
 use std::alloc::Global;
 use std::test::Fail;
@@ -116,6 +116,30 @@ fn a_password_is_due_after_ninety_days(rt: HostRuntime) -> Result<(), Fail> {
     assert_eq!(rt; changed.closing, Closing::Others(1));
     assert!(rt; !changed.person.password.is_due(moment(15_724_799)?));
     assert!(rt; changed.person.password.is_due(moment(15_724_800)?));
+    Ok(())
+}
+
+// Equal words make equal tokens, in two laboratories and in one, where the second opening is refused: 21 comes after 20.
+#[test]
+fn equal_words_make_equal_tokens(rt: HostRuntime) -> Result<(), Fail> {
+    let ann = person(rt.alloc(), "ann")?;
+    let now = tick(700, 1)?;
+    let here = open_session(Some(&ann), RIGHT, &now, 0, false)?;
+    let there = open_session(Some(&ann), RIGHT, &now, 0, false)?;
+    assert_eq!(rt; here.token.bytes(), there.token.bytes());
+    assert_eq!(rt; here.session.token.bytes(), there.session.token.bytes());
+    assert_eq!(rt; here.session.token.bytes(), here.token.digest().bytes());
+    let again = here.session.token.bytes() == Token::from_words(&now.words).digest().bytes();
+    assert_eq!(rt;
+        number_of(open_session(Some(&ann), RIGHT, &now, 1, again)),
+        21
+    );
+    assert_eq!(rt;
+        number_of(open_session(Some(&ann), OTHER, &now, 1, again)),
+        20
+    );
+    let later = open_session(Some(&ann), RIGHT, &tick(700, 2)?, 1, false)?;
+    assert!(rt; later.session.token.bytes() != here.session.token.bytes());
     Ok(())
 }
 

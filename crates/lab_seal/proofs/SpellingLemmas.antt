@@ -7,7 +7,7 @@ use Rattle.std.proofs.lemmas.List.{append-nil}
 use Rattle.lab_names.specs.Moment.{is_moment}
 use Rattle.lab_names.specs.Names.{is_lab_code, is_person_code, is_key, is_name}
 use Rattle.lab_seal.specs.Faults.{TextFaultFits}
-use Rattle.lab_seal.specs.Versions.{row_text, heading_text, subject_text, origin_text, opening_text, version_text, is_number, IsFirstOrLater, IsAmendment, IsRow, IsVersion, IsNoVersion, OneSpelling}
+use Rattle.lab_seal.specs.Versions.{row_text, heading_text, subject_text, origin_text, opening_text, version_text, is_number, AmendsUnlessFirst, IsAmendment, IsRow, IsVersion, IsNoVersion, OneSpelling}
 use Rattle.lab_seal.specs.Reading.{IsUnread, first_heading, first_subject, first_origin, first_opening, first_rows, VersionRead, read_of, first_version}
 use Rattle.lab_seal.specs.declared.faults.TextFault.{TextFault}
 use Rattle.lab_seal.specs.declared.faults.TextFault.TheVariants.{BadText, Memory}
@@ -70,7 +70,7 @@ record HasVersion (text : List ℕ) (v : VersionRead) (rest : List ℕ) : Type 0
   pub form : IsTrue (is_key v.subject.form)
   pub form_version : IsTrue (is_number v.subject.form_version)
   pub sample : IsTrue (is_name v.subject.sample)
-  pub order : IsFirstOrLater v.heading.number v.amendment
+  pub order : AmendsUnlessFirst v.heading.number v.amendment
   pub amendment : IsAmendment v.amendment
   pub opener : IsTrue (is_person_code v.opening.opener)
   pub opened : IsTrue (is_moment v.opening.opened)

@@ -12,7 +12,7 @@ use Rattle.hex.specs.declared.error.FromHexError.{FromHexError}
 use Rattle.hex.proofs.HexLemmas.{decode_of-ok, decode_sized-ok, decode_sized-twice, decode_sized-encode_lower, length-encode_with}
 use Rattle.lab_names.specs.Moment.{is_moment, moment_text}
 use Rattle.lab_names.specs.Names.{is_lab_code, is_person_code, is_key, is_name, is_note, is_unit}
-use Rattle.lab_seal.specs.Versions.{item, reason_text, row_text, heading_text, subject_text, origin_text, opening_text, is_number, IsDigest, IsFirstOrLater, IsAmendment, IsRow}
+use Rattle.lab_seal.specs.Versions.{item, reason_text, row_text, heading_text, subject_text, origin_text, opening_text, is_number, IsDigest, AmendsUnlessFirst, IsAmendment, IsRow}
 use Rattle.lab_seal.specs.Reading.{after_word, first_item, first_admitted, first_count, first_number, first_reason, digest_decoded, digest_from_digits, moment_of, first_moment, first_heading, first_subject, first_no_amendment, first_amendment, first_origin, first_opening, first_row, first_rows, ◌>>=◌}
 use Rattle.lab_seal.specs.declared.reading.Heading.{Heading}
 use Rattle.lab_seal.specs.declared.reading.Subject.{Subject}
@@ -196,7 +196,7 @@ subject_complete form version sample rest is_form is_version is_sample =
 -- ---- what a version amends
 
 pub record HasOrigin (number : ℕ) (text : List ℕ) (amends : Option Amendment) (rest : List ℕ) : Type 0 where
-  pub order : IsFirstOrLater number amends
+  pub order : AmendsUnlessFirst number amends
   pub amendment : IsAmendment amends
   pub text_is : text ≡ origin_text amends ++ rest
 
@@ -255,7 +255,7 @@ origin_some number later = by (number == 1) refl
     by true is = absurd (later (eqb-true number 1 is))
     by false is = is
 
-pub origin_complete : (number : ℕ) (amendment : Option Amendment) (rest : List ℕ) → IsFirstOrLater number amendment
+pub origin_complete : (number : ℕ) (amendment : Option Amendment) (rest : List ℕ) → AmendsUnlessFirst number amendment
     → IsAmendment amendment
     → first_origin number (origin_text amendment ++ rest) ≡ Some (amendment, rest)
 unfolding first_origin first_no_amendment first_amendment origin_text

@@ -60,9 +60,9 @@ abbrev pub IsDigest : List ℕ → Type 0
 IsDigest digest = (length digest ≡ 32) × IsBytes digest
 
 -- the first version amends none, and every other one does
-abbrev pub IsFirstOrLater : ℕ → Option Amendment → Type 0
-IsFirstOrLater number None = number ≡ 1
-IsFirstOrLater number (Some _) = number ≢ 1
+abbrev pub AmendsUnlessFirst : ℕ → Option Amendment → Type 0
+AmendsUnlessFirst number None = number ≡ 1
+AmendsUnlessFirst number (Some _) = number ≢ 1
 
 -- the parts of an amendment are what their types admit, or there is none
 abbrev pub IsAmendment : Option Amendment → Type 0
@@ -88,7 +88,7 @@ pub record HasGoodNumbers (parts : VersionParts) : Type 0 where
   pub record_number : IsTrue (is_number parts.record_number)
   pub number : IsTrue (is_number parts.number)
   pub form_version : IsTrue (is_number parts.form_version)
-  pub order : IsFirstOrLater parts.number parts.amendment
+  pub order : AmendsUnlessFirst parts.number parts.amendment
 
 -- the numbers of a version are good, and its other parts are what their types admit
 pub record IsVersion (parts : VersionParts) : Type 0 where

@@ -17,7 +17,7 @@ abbrev pub half_of : List ℕ → List ℕ
 half_of words = big_endian (take 2 words)
 
 -- a one-time word is two halves as they are written, one after the other: 64 lower hexadecimal digits, of which two persons
--- are given 32 each (21 CFR 11.300(b) and (c): nobody but its owner has a password whole)
+-- are given 32 each (21 CFR 11.200(a)(3), use by anyone else "requires collaboration of two or more individuals")
 abbrev pub one_time_word : List ℕ → List ℕ → List ℕ
 one_time_word first second = encode_lower first ++ encode_lower second
 
