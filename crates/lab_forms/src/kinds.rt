@@ -1,10 +1,14 @@
-//! The fields of a form: what each is called, and what it takes.
-ghost use Rattle.std.specs.Prelude.{◌≡◌, ◌≤◌, IfOk, IsTrue, string_bytes};
+//! What the fields of a form take as values.
+ghost use Rattle.std.specs.Prelude.{◌≡◌, ◌≤◌, IfOk, IsTrue, List, ℕ, nat_eq, bytes_eq, string_bytes};
+ghost use Rattle.std.specs.Cmp.Lexicographic.{pointwise, nat_list_eq_equiv, lists_equiv};
+ghost use Rattle.std.specs.Cmp.{partial_equiv_from_equiv};
+ghost use Rattle.lab_forms.specs.Kinds.{bound_amount, is_bound, is_at_most};
 
-use crate::date::is_date_text;
-use crate::number::{DECIMALS_LIMIT, read_amount, uncompared};
+use crate::dates::is_date_text;
+use crate::numbers::{DECIMALS_LIMIT, read_amount, uncompared};
 use crate::words::{Worded, has_word, has_word_twice};
-use lab_names::{Key, Name, OutOfMemory, Unit};
+use lab_names::{Name, Notes, OutOfMemory, Rule, Unit};
+use std::alloc::AllocError;
 use std::marker::Model;
 
 /// The most bytes of a text.
@@ -45,13 +49,37 @@ impl Bound {
         self.text.as_str()
     }
 
-    /// The same bound once more.
+    /// A copy.
     pub fn copy(&self) -> Result<Bound, OutOfMemory>
-        ensures { IfOk result (λ bound. bound ≡ self.now) }
+        ensures { IfOk result (λ copy. copy ≡ self.now) }
     {
+        Ok(self.clone()?)
+    }
+}
+
+impl Clone for Bound {
+    ghost use Rattle.std.specs.Prelude.{◌≡◌};
+
+    ghost is_clone = { λ bound copy. copy ≡ bound };
+
+    fn clone(&self) -> Result<Bound, AllocError> {
         let text = self.text.clone()?;
         Ok(Bound { text })
     }
+}
+
+impl PartialEq for Bound {
+    ghost eq = { pointwise nat_eq };
+
+    ghost laws = { partial_equiv_from_equiv nat_list_eq_equiv };
+
+    fn eq(&self, other: &Bound) -> bool {
+        self.text == other.text
+    }
+}
+
+impl Eq for Bound {
+    ghost laws = { nat_list_eq_equiv };
 }
 
 /// The names among which a value is chosen, in their order.
@@ -93,16 +121,37 @@ impl Choices {
         list
     }
 
-    /// The same choices once more.
+    /// A copy.
     pub fn copy(&self) -> Result<Choices, OutOfMemory>
-        ensures { IfOk result (λ choices. choices ≡ self.now) }
+        ensures { IfOk result (λ copy. copy ≡ self.now) }
     {
-        let mut names = Vec::new(*self.names.allocator());
-        for name in &self.names {
-            names.push(name.copy()?)?;
-        }
+        Ok(self.clone()?)
+    }
+}
+
+impl Clone for Choices {
+    ghost use Rattle.std.specs.Prelude.{◌≡◌};
+
+    ghost is_clone = { λ choices copy. copy ≡ choices };
+
+    fn clone(&self) -> Result<Choices, AllocError> {
+        let names = self.names.clone()?;
         Ok(Choices { names })
     }
+}
+
+impl PartialEq for Choices {
+    ghost eq = { pointwise (pointwise nat_eq) };
+
+    ghost laws = { partial_equiv_from_equiv (lists_equiv nat_list_eq_equiv) };
+
+    fn eq(&self, other: &Choices) -> bool {
+        self.names == other.names
+    }
+}
+
+impl Eq for Choices {
+    ghost laws = { lists_equiv nat_list_eq_equiv };
 }
 
 impl Worded for Name {
@@ -114,7 +163,7 @@ impl Worded for Name {
 }
 
 /// What a field takes as a value.
-#[derive(Debug, Drop)]
+#[derive(Clone, Debug, Drop)]
 pub enum Kind {
     /// A number of at most so many decimals, 0 to 6, in the unit, from the least to the greatest where they are there.
     Number {
@@ -135,17 +184,6 @@ pub enum Kind {
     Date,
     /// `yes` or `no`.
     YesNo,
-}
-
-ghost use Rattle.lab_forms.specs.Kinds.{bound_amount, is_bound, is_at_most};
-
-fn copy_bound(bound: &Option<Bound>) -> Result<Option<Bound>, OutOfMemory>
-    ensures { IfOk result (λ copy. copy ≡ bound.now) }
-{
-    match bound {
-        Some(bound) => Ok(Some(bound.copy()?)),
-        None => Ok(None),
-    }
 }
 
 fn bound_of(decimals: u32, bound: &Option<Bound>) -> Option<i128>
@@ -175,31 +213,13 @@ fn is_not_above(low: Option<i128>, high: Option<i128>) -> bool
 }
 
 impl Kind {
-    ghost use Rattle.lab_forms.specs.Kinds.{has_form, unit_of, is_in_range, is_kind};
+    ghost use Rattle.lab_forms.specs.Kinds.{has_form, is_value, unit_of, is_in_range, is_kind};
 
-    /// The same kind once more.
+    /// A copy.
     pub fn copy(&self) -> Result<Kind, OutOfMemory>
-        ensures { IfOk result (λ kind. kind ≡ self.now) }
+        ensures { IfOk result (λ copy. copy ≡ self.now) }
     {
-        Ok(match self {
-            Kind::Number {
-                unit,
-                decimals,
-                min,
-                max,
-            } => Kind::Number {
-                unit: unit.copy()?,
-                decimals: *decimals,
-                min: copy_bound(min)?,
-                max: copy_bound(max)?,
-            },
-            Kind::Text { size } => Kind::Text { size: *size },
-            Kind::Choice { choices } => Kind::Choice {
-                choices: choices.copy()?,
-            },
-            Kind::Date => Kind::Date,
-            Kind::YesNo => Kind::YesNo,
-        })
+        Ok(self.clone()?)
     }
 
     /// Whether a form may ask for this kind.
@@ -227,8 +247,16 @@ impl Kind {
         }
     }
 
-    /// Whether a text has the form of a value of this kind.
+    /// Whether a text is one that a value of this kind can have.
     pub(crate) fn takes(&self, text: &str) -> bool
+        requires { IsTrue (is_kind self.now) }
+        ensures { result ≡ is_value self.now text.now }
+    {
+        Notes::admits(text) && self.has_form(text)
+    }
+
+    // Whether a text has the form of a value of this kind.
+    fn has_form(&self, text: &str) -> bool
         requires { IsTrue (is_kind self.now) }
         ensures { result ≡ has_form self.now text.now }
     {
@@ -274,39 +302,45 @@ impl Kind {
     }
 }
 
-/// A field of a form.
-#[derive(Debug, Drop)]
-pub struct Field {
-    /// By what it is known in its form.
-    pub key: Key,
-    /// What people read beside it.
-    pub label: Name,
-    /// Whether a record has to have a value of it before it is signed.
-    pub required: bool,
-    /// What it takes.
-    pub kind: Kind,
-}
+impl PartialEq for Kind {
+    ghost use Rattle.lab_forms.specs.Kinds.{kind_eq};
+    ghost use Rattle.lab_forms.specs.Equality.{kinds_equiv};
 
-impl Field {
-    /// The same field once more.
-    pub fn copy(&self) -> Result<Field, OutOfMemory>
-        ensures { IfOk result (λ field. field ≡ self.now) }
-    {
-        Ok(Field {
-            key: self.key.copy()?,
-            label: self.label.copy()?,
-            required: self.required,
-            kind: self.kind.copy()?,
-        })
+    ghost eq = { kind_eq };
+
+    ghost laws = { partial_equiv_from_equiv kinds_equiv };
+
+    fn eq(&self, other: &Kind) -> bool {
+        match (self, other) {
+            (
+                Kind::Number {
+                    unit,
+                    decimals,
+                    min,
+                    max,
+                },
+                Kind::Number {
+                    unit: other_unit,
+                    decimals: other_decimals,
+                    min: other_min,
+                    max: other_max,
+                },
+            ) => {
+                unit == other_unit
+                    && decimals == other_decimals
+                    && min == other_min
+                    && max == other_max
+            }
+            (Kind::Text { size }, Kind::Text { size: other }) => size == other,
+            (Kind::Choice { choices }, Kind::Choice { choices: other }) => choices == other,
+            (Kind::Date, Kind::Date) | (Kind::YesNo, Kind::YesNo) => true,
+            _ => false,
+        }
     }
 }
 
-impl Worded for Field {
-    ghost use Rattle.lab_forms.specs.Forms.{key_of};
+impl Eq for Kind {
+    ghost use Rattle.lab_forms.specs.Equality.{kinds_equiv};
 
-    ghost text_of = { key_of };
-
-    fn word(&self) -> &str {
-        self.key.as_str()
-    }
+    ghost laws = { kinds_equiv };
 }

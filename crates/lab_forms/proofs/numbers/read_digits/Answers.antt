@@ -1,7 +1,7 @@
 -- The number has room for one digit more.
 use Rattle.std.proofs.Common.{arith, length}
 use Rattle.lab_forms.proofs.NumberLemmas.{has_room, tens}
-use Rattle.lab_forms.proofs.number.read_digits.Goals as goal
+use Rattle.lab_forms.proofs.numbers.read_digits.Goals as goal
 
 pub overflow_mul-number : goal.overflow_mul-number
 overflow_mul-number c =

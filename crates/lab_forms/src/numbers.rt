@@ -58,8 +58,8 @@ fn read_unsigned(decimals: u32, text: &[u8]) -> Option<u128>
 fn unsigned(text: &[u8]) -> &[u8]
     ensures { result.now ≡ without_sign text.now }
 {
-    match text.first() {
-        Some(b'-' | b'+') => &text[1..],
+    match text {
+        [b'-' | b'+', rest @ ..] => rest,
         _ => text,
     }
 }
@@ -83,8 +83,8 @@ pub fn read_amount(decimals: u32, text: &[u8]) -> Option<i128>
 pub fn uncompared(text: &[u8]) -> &[u8]
     ensures { result.now ≡ without_comparison text.now }
 {
-    match text.first() {
-        Some(b'<' | b'>') => &text[1..],
+    match text {
+        [b'<' | b'>', rest @ ..] => rest,
         _ => text,
     }
 }

@@ -4,7 +4,7 @@ use Rattle.std.specs.List.{list_all}
 use Rattle.std.proofs.lemmas.Bool.Decides.{nat_tests}
 use Rattle.lab_forms.specs.Forms.{is_field}
 use Rattle.lab_forms.proofs.FormLemmas.{form_of}
-use Rattle.lab_forms.proofs.form.Form.make.Goals as goal
+use Rattle.lab_forms.proofs.forms.Form.make.Goals as goal
 
 pub invariant_of-result : goal.invariant_of-result
 invariant_of-result c =

@@ -2,7 +2,7 @@ use Rattle.std.proofs.Common.{◌≡◌, ◌<◌, ◌^◌, take, true}
 use Rattle.std.specs.List.{list_all}
 use Rattle.std.specs.Char.{is_ascii_digit}
 use Rattle.lab_forms.specs.Numbers.{number_of}
-use Rattle.lab_forms.proofs.number.read_digits.Given as goal
+use Rattle.lab_forms.proofs.numbers.read_digits.Given as goal
 
 -- the bytes so far are digits, and this is the number that they write
 abbrev pub invariant-loop-byte : goal.invariant-loop-byte

@@ -4,7 +4,7 @@ use Rattle.std.specs.Prelude.{position}
 use Rattle.lab_forms.specs.Numbers.{is_point, is_digits, number_of}
 use Rattle.lab_forms.proofs.NumberLemmas.{read_none, read_some, unsigned-whole, unsigned-split, fits_wide, tens}
 use Rattle.lab_forms.proofs.WordLemmas.{rest_all}
-use Rattle.lab_forms.proofs.number.read_unsigned.Goals as goal
+use Rattle.lab_forms.proofs.numbers.read_unsigned.Goals as goal
 
 pub returns-in_err-whole-clause-value : goal.returns-in_err-whole-clause-value
 returns-in_err-whole-clause-value c =

@@ -2,7 +2,7 @@
 ghost use Rattle.std.specs.Prelude.{◌≡◌, ◌<◌};
 ghost use Rattle.lab_forms.specs.Dates.{has_hyphens, is_calendar_day, is_date};
 
-use crate::number::read_digits;
+use crate::numbers::read_digits;
 use jiff_core::civil::Date;
 
 /// The bytes of a date's text, `YYYY-MM-DD`.

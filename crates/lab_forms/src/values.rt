@@ -7,7 +7,7 @@ use std::marker::Model;
 /// A value that a form has read, as it was written: `7.5` and `7.50` are two values.
 ///
 /// A contract sees it as the list of its text's bytes.
-#[derive(Debug, Drop)]
+#[derive(Clone, Debug, Drop)]
 pub struct Value {
     text: Note,
 }
@@ -35,11 +35,17 @@ impl Value {
         self.text.as_str()
     }
 
-    /// The same value once more.
-    pub fn copy(&self) -> Result<Value, OutOfMemory>
-        ensures { IfOk result (λ value. value ≡ self.now) }
+    /// Gives the text up, as the note that it is.
+    pub fn into_note(self) -> Note
+        ensures { result ≡ self }
     {
-        let text = self.text.copy()?;
-        Ok(Value { text })
+        self.text
+    }
+
+    /// A copy.
+    pub fn copy(&self) -> Result<Value, OutOfMemory>
+        ensures { IfOk result (λ copy. copy ≡ self.now) }
+    {
+        Ok(self.clone()?)
     }
 }

@@ -3,7 +3,7 @@ use Rattle.std.proofs.Common.{◌∙◌, sym, refl}
 use Rattle.lab_forms.specs.Numbers.{is_digits, number_of}
 use Rattle.lab_forms.specs.Dates.{is_date, has_hyphens, year_part, month_part, day_part}
 use Rattle.lab_forms.proofs.NumberLemmas.{read_none, read_some}
-use Rattle.lab_forms.proofs.date.is_date_text.Goals as goal
+use Rattle.lab_forms.proofs.dates.is_date_text.Goals as goal
 
 pub returns-then-not-has_date_hyphens : goal.returns-then-not-has_date_hyphens
 unfolding is_date

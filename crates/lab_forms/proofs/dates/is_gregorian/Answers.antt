@@ -3,7 +3,7 @@ use Rattle.std.proofs.Common.{◌∙◌, sym, arith}
 use Rattle.std.proofs.lemmas.Bool.Decides.{nat_tests}
 use Rattle.lab_forms.proofs.DateLemmas.{to_date, from_date, no_year_zero, same_test}
 use Rattle.lab_forms.specs.Dates.{is_calendar_day}
-use Rattle.lab_forms.proofs.date.is_gregorian.Goals as goal
+use Rattle.lab_forms.proofs.dates.is_gregorian.Goals as goal
 
 pub returns-then-year-ge1 : goal.returns-then-year-ge1
 returns-then-year-ge1 c =
