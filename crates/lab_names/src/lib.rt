@@ -4,6 +4,7 @@
 mod faults;
 mod moment;
 mod names;
+mod series;
 mod stamp;
 #[cfg(test)]
 mod tests;
@@ -12,4 +13,5 @@ mod tick;
 pub use faults::{MomentFault, NameFault, OutOfMemory};
 pub use moment::Moment;
 pub use names::{Key, LabCode, Name, Note, PersonCode, Unit};
+pub use series::Series;
 pub use tick::Tick;
