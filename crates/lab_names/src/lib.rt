@@ -5,6 +5,7 @@ mod faults;
 mod moment;
 mod names;
 mod ordinals;
+mod series;
 mod stamp;
 #[cfg(test)]
 mod tests;
@@ -17,5 +18,6 @@ pub use names::{
     Key, Keys, LabCode, LabCodes, Name, Names, Note, Notes, PersonCode, PersonCodes, Unit, Units,
 };
 pub use ordinals::Ordinal;
+pub use series::Series;
 pub use text::{Rule, Text};
 pub use tick::Tick;
