@@ -6,7 +6,6 @@ mod moment;
 mod names;
 mod ordinals;
 mod series;
-mod stamp;
 #[cfg(test)]
 mod tests;
 mod text;
