@@ -2,4 +2,4 @@ pub mod SpanLemmas
 pub mod CalendarLemmas
 pub mod NamesLemmas
 pub mod MomentLemmas
-pub mod StandardFacts
+pub mod KnownValues

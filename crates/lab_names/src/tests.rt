@@ -237,15 +237,48 @@ fn notes_have_1000_bytes_at_most(rt: HostRuntime) -> Result<(), Fail> {
 }
 
 #[test]
-fn faults_have_numbers_and_words(rt: HostRuntime) {
-    assert_eq!(rt; NameFault::BadName.number(), Some(1));
-    assert_eq!(rt; NameFault::BadName.word(), "bad_name");
-    assert_eq!(rt; NameFault::Memory(OutOfMemory).number(), Some(90));
-    assert_eq!(rt; NameFault::Memory(OutOfMemory).word(), "memory");
-    assert_eq!(rt; MomentFault::BadMoment.number(), Some(2));
-    assert_eq!(rt; MomentFault::BadMoment.word(), "bad_moment");
-    assert_eq!(rt; OutOfMemory.number(), 90);
-    assert_eq!(rt; OutOfMemory.word(), "memory");
+fn faults_have_numbers_words_and_texts(rt: HostRuntime) -> Result<(), Fail> {
+    let memory = OutOfMemory;
+    assert_eq!(rt; (memory.number(), memory.word()), (Some(90), "memory"));
+    assert_eq!(rt; memory.to_string(rt.alloc())?.as_str(), "memory");
+    for (fault, number, word) in [
+        (NameFault::BadName, 1, "bad_name"),
+        (NameFault::Memory(OutOfMemory), 90, "memory"),
+    ] {
+        assert_eq!(rt; (fault.number(), fault.word()), (Some(number), word));
+        assert_eq!(rt; fault.to_string(rt.alloc())?.as_str(), word);
+    }
+    let fault = MomentFault::BadMoment;
+    assert_eq!(rt; (fault.number(), fault.word()), (Some(2), "bad_moment"));
+    assert_eq!(rt; fault.to_string(rt.alloc())?.as_str(), "bad_moment");
+    Ok(())
+}
+
+// Python's `sorted` of the same texts as bytes.
+#[test]
+fn codes_stand_in_the_order_of_their_bytes(rt: HostRuntime) -> Result<(), Fail> {
+    let mut codes = Vec::new(rt.alloc());
+    for text in ["bob", "an", "ann", "an-2", "b2", "an2", "ann"] {
+        codes.push(PersonCode::parse(rt.alloc(), text)?)?;
+    }
+    codes.sort()?;
+    let mut texts = Vec::new(rt.alloc());
+    for code in codes.iter() {
+        texts.push(code.as_str())?;
+    }
+    assert_eq!(rt;
+        texts.as_slice(),
+        ["an", "an-2", "an2", "ann", "ann", "b2", "bob"].as_slice()
+    );
+    Ok(())
+}
+
+#[test]
+fn texts_of_one_length_differ(rt: HostRuntime) -> Result<(), Fail> {
+    let code = LabCode::parse(rt.alloc(), "aqua")?;
+    assert_eq!(rt; code == LabCode::parse(rt.alloc(), "aqui")?, false);
+    assert_eq!(rt; code == LabCode::parse(rt.alloc(), "aqua")?, true);
+    Ok(())
 }
 
 #[test]
