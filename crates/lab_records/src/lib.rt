@@ -12,10 +12,10 @@ mod refusal;
 #[cfg(test)]
 mod tests;
 
-pub use crate::command::{Change, Command, Founding, Need, Outcome, Reply, Slice};
+pub use crate::command::{Change, Command, Founding, Instruction, Need, Outcome, Reply, Slice};
 pub use crate::decision::{decide, needs};
-pub use crate::fault::Fault;
+pub use crate::fault::{KeeperFault, PlacingFault};
 pub use crate::keeper::Keeper;
 pub use crate::lab::Lab;
-pub use crate::refusal::Refusal;
+pub use crate::refusal::{BirthRefusal, Refusal};
 pub use lab_names::{LabCode, Moment, Name, NameFault, OutOfMemory, Tick};
