@@ -9,8 +9,8 @@ mod fault;
 mod keeper;
 mod lab;
 mod refusal;
-#[cfg(test)]
-mod tests;
+
+
 
 pub use crate::command::{Change, Command, Founding, Instruction, Need, Outcome, Reply, Slice};
 pub use crate::decision::{decide, needs};
