@@ -73,7 +73,12 @@ pub trait Keeper {
         ensures passes { Passes (world self.old) (world self.new) };
 
     /// Founds a laboratory by one commit, where there is none of that code.
-    fn found(&mut self, code: &LabCode, founding: &Founding, tick: &Tick) -> Result<(), PlacingFault>
+    fn found(
+        &mut self,
+        code: &LabCode,
+        founding: &Founding,
+        tick: &Tick,
+    ) -> Result<(), PlacingFault>
         ensures was_none { Given (world self.old) (world self.new)
             (OnOk result ((world self.old).meaning code.now ≡ None)) }
         ensures founded { Given (world self.old) (world self.new)
