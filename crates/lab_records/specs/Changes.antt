@@ -1,5 +1,5 @@
 -- Changes of one laboratory: what a list of them makes of it, and which lists fit it.
-use Rattle.std.specs.Prelude.{◌≡◌, ◌≢◌, ℕ, Option, Some, None, List, [], ◌∷◌, IsTrue}
+use Rattle.std.specs.Prelude.{◌≡◌, ◌↔◌, Option, Some, None, List, [], ◌∷◌, IsTrue}
 use Rattle.lab_names.specs.declared.Tick.{Tick}
 use Rattle.lab_records.specs.declared.lab.Lab.{Lab}
 use Rattle.lab_records.specs.declared.command.Change.{Change}
@@ -29,9 +29,9 @@ ChangesFit None [] = Unit {0}
 ChangesFit None (one ∷ others) = ⊥
 
 -- an outcome that is the step of a laboratory: the reply is its reply, the changes fit the laboratory and make of
--- it what it is after the step, and there are none where the step writes nothing
+-- it what it is after the step, and there are none where the step writes nothing, and there alone
 pub record Decides (lab : Option Lab) (tick : Tick) (instruction : Instruction) (outcome : Outcome) : Type 0 where
   pub reply : outcome.reply ≡ (step lab tick instruction).reply
   pub fit : ChangesFit lab outcome.changes
   pub after : changed_in lab outcome.changes ≡ (step lab tick instruction).after
-  pub idle : IsTrue (is_idle lab tick instruction) → outcome.changes ≡ []
+  pub idle : IsTrue (is_idle lab tick instruction) ↔ (outcome.changes ≡ [])

@@ -1,5 +1,5 @@
 -- What is known of a keeper of laboratories at a moment, and the words for what a call of it makes and passes on.
-use Rattle.std.specs.Prelude.{◌≡◌, ◌≢◌, ◌⊎◌, ℕ, List, Option, Some, Result, Ok, Err}
+use Rattle.std.specs.Prelude.{◌≡◌, ◌≢◌, ◌⊎◌, ℕ, List, Option, Some, None, Result, Ok, Err}
 use Rattle.lab_records.specs.declared.lab.Lab.{Lab}
 use Rattle.lab_records.specs.declared.command.Change.{Change}
 use Rattle.lab_records.specs.declared.fault.KeeperFault.{KeeperFault}
@@ -45,9 +45,10 @@ pub record SetsOne (code : List ℕ) (lab : Option Lab) (old new : Meaning) : Ty
 abbrev pub Changes : List ℕ → List Change → Meaning → Meaning → Type 0
 Changes code changes old new = SetsOne code (changed_in (old code) changes) old new
 
--- the laboratory was placed under its code, and no other was touched
-abbrev pub Places : Lab → Meaning → Meaning → Type 0
-Places lab old new = SetsOne lab.code (Some lab) old new
+-- the laboratory was placed under its code, where none was, and no other was touched
+pub record Places (lab : Lab) (old new : Meaning) : Type 0 where
+  pub was_none : old lab.code ≡ None
+  pub placed : SetsOne lab.code (Some lab) old new
 
 -- ---- what every call passes on
 
@@ -65,9 +66,13 @@ Given old new P = new.is_honest → old.is_reached → P
 abbrev pub Lives : World → World → Type 0
 Lives old new = old.is_live × new.is_live
 
+-- these are the laboratories, where the keeper is there to tell
+abbrev pub Tells : World → Meaning → Type 0
+Tells world meaning = world.is_live → SameMeaning meaning world.meaning
+
 -- every laboratory means what it meant, where the keeper is there to tell
 abbrev pub Leaves : World → World → Type 0
-Leaves old new = new.is_live → SameMeaning old.meaning new.meaning
+Leaves old new = Tells new old.meaning
 
 -- ---- what a crash may leave
 

@@ -2,7 +2,7 @@
 //! keeper, so what a keeper promises is said here: of the meaning of each laboratory, of the keeper's own
 //! rows, of what passes from one call to the next, and of what a crash may leave.
 
-ghost use Rattle.std.specs.Prelude.{◌≡◌, ◌≢◌, ℕ, List, [], Option, Some, None, Err, IsSome, IfOk, IfErr, OnOk, OnErr};
+ghost use Rattle.std.specs.Prelude.{◌≡◌, ◌≢◌, ℕ, List, [], Option, Some, Err, IsSome, IfOk, IfErr, OnOk, OnErr};
 ghost use Rattle.lab_records.specs.declared.lab.Lab.{Lab as WholeLab};
 ghost use Rattle.lab_records.specs.declared.command.Change.{Change as OneChange};
 ghost use Rattle.lab_records.specs.declared.fault.PlacingFault.TheVariants.{LabExists};
@@ -79,8 +79,6 @@ pub trait Keeper {
         founding: &Founding,
         tick: &Tick,
     ) -> Result<(), PlacingFault>
-        ensures was_none { Given (world self.old) (world self.new)
-            (OnOk result ((world self.old).meaning code.now ≡ None)) }
         ensures founded { Given (world self.old) (world self.new)
             (OnOk result (Places (newborn code.now tick.now founding.now)
             (world self.old).meaning (world self.new).meaning)) }
