@@ -1,4 +1,4 @@
--- Laws of a list of laboratories.
+-- Laws of a list of laboratories, which its keeper rests on.
 use Rattle.std.proofs.Common.{◌≡◌, ℕ, Bool, true, false, cond, List, [], ◌∷◌, refl, subst, sym, Option, Some, None, ◌∙◌}
 use Rattle.std.proofs.lemmas.Slice.Eq.{bytes_eq-Decides}
 use Rattle.std.specs.Prelude.{find, slice_get, slice_set, MatchOption}
@@ -7,7 +7,7 @@ use Rattle.std.proofs.lemmas.Option.{get_or_from_slice_get}
 use Rattle.std.proofs.lemmas.List.{set-get_or}
 use Rattle.lab_records.specs.declared.lab.Lab.{Lab}
 use Rattle.lab_records.specs.declared.command.Change.{Change}
-use Rattle.lab_desk.specs.Listed.{ChangesInPlace, has_code, lab_of}
+use Rattle.lab_desk.specs.Lists.{ChangesInPlace, has_code, lab_of}
 
 -- writing what stands in a place leaves the list
 set_same : (labs : List Lab) (place : ℕ) (lab : Lab) → slice_get labs place ≡ Some lab → slice_set labs place lab ≡ labs
