@@ -9,6 +9,8 @@ mod foundings;
 mod lists;
 mod requests;
 mod runs;
+#[cfg(test)]
+mod tests;
 
 pub use crate::desk::Desk;
 pub use crate::events::Event;
