@@ -14,7 +14,7 @@ simple = refl
 told : (c : In_ok-command) → app_of c.in_ok-command.command ≡ labdesk_app
 told c =
     let bare : app_of c.subcommand_required.result ≡ bare_app = search rules in
-    let replay : shape_of c.about-replay.result ≡ (new_app (codes "replay")).top = search rules in
+    let replay : shape_of c.after_help-replay.result ≡ (new_app (codes "replay")).top = search rules in
     c.in_ok-command.ensures.shape (search rules) ∙ ap₂ with_subcommand bare replay
 
 pub returns-in_err-try_get_matches_from : goal.returns-in_err-try_get_matches_from
