@@ -16,7 +16,8 @@ use std::io::{Read, Write};
 const VERSION: &str = "0.2.0\nproved with rattle-kit-13b logic dac8208d650f15bf";
 
 /// What help says of the input.
-const INPUT: &str = "An event is a line, and right after it as many bytes as the line's last number says:
+const INPUT: &str =
+    "An event is a line, and right after it as many bytes as the line's last number says:
 
     found <lab> <seconds> <word> <length>
     call <seconds> <word> <length>
