@@ -1,5 +1,5 @@
 //! The command line: which words ask for what.
-ghost use Rattle.std.specs.Prelude.{◌≡◌, map, string_bytes};
+ghost use Rattle.std.specs.Prelude.{◌≡◌, map};
 ghost use Rattle.clap.specs.Words.{fault_of, FailsBy, kind_of};
 ghost use Rattle.lab_program.specs.CommandLine.{labdesk_app, AsksReplay, Explains, IsExplained};
 ghost use Rattle.lab_program.specs.Replay.{IsReplay};
@@ -10,6 +10,7 @@ use clap::error::ErrorKind;
 use clap::{Command, Error};
 use lab_wire::WriteFault;
 use std::alloc::Global;
+use std::convert::AsStr;
 use std::io::{Read, Write};
 
 /// The version of the program, and the kit that proved it as `rt version` names it.
@@ -37,8 +38,8 @@ pub enum Task {
 ///
 /// # Errors
 /// The words name none, or ask for help or the version, or memory ran out.
-pub fn task_of(alloc: Global, words: &[String]) -> Result<Task, Error>
-    ensures { FailsBy (fault_of labdesk_app (map string_bytes words.now)) result }
+pub fn task_of<S: AsStr>(alloc: Global, words: &[S]) -> Result<Task, Error>
+    ensures { FailsBy (fault_of labdesk_app (map S.text words.now)) result }
 {
     let replay = Command::new(alloc, "replay")
         .about("Run the events of standard input, and write their answers to standard output")
@@ -86,17 +87,17 @@ fn explain<W: Write, E: Write>(
 ///
 /// # Errors
 /// A fault of status 1 could not be told whole, as standard error failed.
-pub fn labdesk<R: Read + Drop, W: Write, E: Write>(
+pub fn labdesk<S: AsStr, R: Read + Drop, W: Write, E: Write>(
     alloc: Global,
-    words: &[String],
+    words: &[S],
     input: R,
     output: &mut W,
     errors: &mut E,
 ) -> Result<u8, WriteFault>
-    ensures replayed { AsksReplay (map string_bytes words.now) → IsReplay (R.remaining input)
+    ensures replayed { AsksReplay (map S.text words.now) → IsReplay (R.remaining input)
         (W.contents output.old) (W.contents output.new)
         (E.contents errors.old) (E.contents errors.new) result }
-    ensures explained { IsExplained (fault_of labdesk_app (map string_bytes words.now))
+    ensures explained { IsExplained (fault_of labdesk_app (map S.text words.now))
         (W.contents output.old) (W.contents output.new)
         (E.contents errors.old) (E.contents errors.new) result }
 {

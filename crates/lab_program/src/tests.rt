@@ -344,22 +344,16 @@ fn an_output_that_fails(rt: HostRuntime) -> Result<(), Fail> {
     Ok(())
 }
 
-/// Gives the words to a program that is called by another name, and asserts the status and what is written and told.
+/// Gives the words to a program, and asserts the status and what is written and told.
 fn check_words<R: Abort + AllocGlobal>(
     rt: &R,
     words: &[&str],
     written: &str,
     told: &str,
     status: u8,
-) -> Result<(), AllocError> {
-    let alloc = rt.alloc();
-    let mut list = Vec::new(alloc);
-    list.push(String::from_str(alloc, "out/lab_program")?)?;
-    for word in words {
-        list.push(String::from_str(alloc, word)?)?;
-    }
-    let (mut output, mut errors) = (Vec::new(alloc), Vec::new(alloc));
-    let answered = labdesk(alloc, &list, AQUA.as_bytes(), &mut output, &mut errors);
+) {
+    let (mut output, mut errors) = (Vec::new(rt.alloc()), Vec::new(rt.alloc()));
+    let answered = labdesk(rt.alloc(), words, AQUA.as_bytes(), &mut output, &mut errors);
     assert!(rt;
         output.as_slice() == written.as_bytes(),
         "{output:?} to {words:?}"
@@ -369,21 +363,19 @@ fn check_words<R: Abort + AllocGlobal>(
         "{errors:?} to {words:?}"
     );
     assert_eq!(rt; answered, Ok(status), "to {words:?}");
-    Ok(())
 }
 
 #[test]
-fn a_replay_is_asked_for(rt: HostRuntime) -> Result<(), Fail> {
-    check_words(&rt, &["replay"], "founded aqua\n", "", 0)?;
-    Ok(())
+fn a_replay_is_asked_for(rt: HostRuntime) {
+    let words = ["out/lab_program", "replay"];
+    check_words(&rt, &words, "founded aqua\n", "", 0);
 }
 
 #[test]
-fn the_version(rt: HostRuntime) -> Result<(), Fail> {
+fn the_version(rt: HostRuntime) {
     let version = "labdesk 0.2.0\nproved with rattle-kit-13b logic dac8208d650f15bf\n";
-    check_words(&rt, &["--version"], version, "", 0)?;
-    check_words(&rt, &["-V"], version, "", 0)?;
-    Ok(())
+    check_words(&rt, &["out/lab_program", "--version"], version, "", 0);
+    check_words(&rt, &["labdesk", "-V"], version, "", 0);
 }
 
 const INPUT_HELP: &str =
@@ -413,8 +405,8 @@ Options:
 
 ";
     let help = joined(rt.alloc(), &[head, INPUT_HELP])?;
-    check_words(&rt, &["--help"], help.as_str(), "", 0)?;
-    check_words(&rt, &["help"], help.as_str(), "", 0)?;
+    check_words(&rt, &["out/lab_program", "--help"], help.as_str(), "", 0);
+    check_words(&rt, &["labdesk", "help"], help.as_str(), "", 0);
     Ok(())
 }
 
@@ -429,52 +421,50 @@ Options:
 
 ";
     let help = joined(rt.alloc(), &[head, INPUT_HELP])?;
-    check_words(&rt, &["help", "replay"], help.as_str(), "", 0)?;
-    check_words(&rt, &["replay", "--help"], help.as_str(), "", 0)?;
+    let words = ["out/lab_program", "help", "replay"];
+    check_words(&rt, &words, help.as_str(), "", 0);
+    let words = ["labdesk", "replay", "--help"];
+    check_words(&rt, &words, help.as_str(), "", 0);
     Ok(())
 }
 
 #[test]
-fn words_that_ask_for_nothing(rt: HostRuntime) -> Result<(), Fail> {
-    let usage = "\n\nUsage: labdesk <COMMAND>\n\nFor more information, try '--help'.\n";
-    for (words, why) in [
-        (
-            [].as_slice(),
-            "error: 'labdesk' requires a subcommand but one was not provided\n  [subcommands: replay, help]",
-        ),
-        (
-            ["relay"].as_slice(),
-            "error: unrecognized subcommand 'relay'\n\n  tip: a similar subcommand exists: 'replay'",
-        ),
-        (
-            ["--file"].as_slice(),
-            "error: unexpected argument '--file' found",
-        ),
-    ] {
-        let told = joined(rt.alloc(), &[why, usage])?;
-        check_words(&rt, words, "", told.as_str(), 2)?;
-    }
+fn words_that_ask_for_nothing(rt: HostRuntime) {
+    let told =
+        "error: 'labdesk' requires a subcommand but one was not provided\n  [subcommands: replay, help]\n\nUsage: labdesk <COMMAND>\n\nFor more information, try '--help'.\n";
+    check_words(&rt, &["out/lab_program"], "", told, 2);
+}
+
+#[test]
+fn a_word_that_is_no_command(rt: HostRuntime) {
+    let told =
+        "error: unrecognized subcommand 'relay'\n\n  tip: a similar subcommand exists: 'replay'\n\nUsage: labdesk <COMMAND>\n\nFor more information, try '--help'.\n";
+    check_words(&rt, &["out/lab_program", "relay"], "", told, 2);
+}
+
+#[test]
+fn words_that_are_too_many(rt: HostRuntime) {
+    let told =
+        "error: unexpected argument '--file' found\n\nUsage: labdesk <COMMAND>\n\nFor more information, try '--help'.\n";
+    check_words(&rt, &["out/lab_program", "--file"], "", told, 2);
     let told =
         "error: unexpected argument 'twice' found\n\nUsage: labdesk replay\n\nFor more information, try '--help'.\n";
-    check_words(&rt, &["replay", "twice"], "", told, 2)?;
-    Ok(())
+    let words = ["out/lab_program", "replay", "twice"];
+    check_words(&rt, &words, "", told, 2);
 }
 
 #[test]
-fn a_version_that_cannot_be_written(rt: HostRuntime) -> Result<(), Fail> {
+fn a_version_that_cannot_be_written(rt: HostRuntime) {
     let alloc = rt.alloc();
-    let mut list = Vec::new(alloc);
-    list.push(String::from_str(alloc, "labdesk")?)?;
-    list.push(String::from_str(alloc, "--version")?)?;
+    let words = ["labdesk", "--version"];
     let mut output = Narrow {
         bytes: Vec::new(alloc),
         room: 9,
         fails: true,
     };
     let mut errors = Vec::new(alloc);
-    let answered = labdesk(alloc, &list, AQUA.as_bytes(), &mut output, &mut errors);
+    let answered = labdesk(alloc, &words, AQUA.as_bytes(), &mut output, &mut errors);
     assert!(rt; output.bytes.as_slice() == b"labdesk 0".as_slice());
     assert!(rt; errors.as_slice() == b"labdesk: write_fault\n".as_slice());
     assert_eq!(rt; answered, Ok(1));
-    Ok(())
 }
