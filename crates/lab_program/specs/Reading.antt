@@ -5,8 +5,8 @@ use Rattle.std.specs.Io.KnownBytes.{Consumes}
 use Rattle.lab_program.specs.declared.fault.ReplayFault.{ReplayFault}
 use Rattle.lab_program.specs.declared.fault.ReplayFault.TheVariants.{BadEvent, WriteFault, Memory}
 use Rattle.lab_program.specs.declared.event.Heading.{Heading as HeadingRead}
-use Rattle.lab_desk.specs.declared.event.Event.{Event as EventRead}
-use Rattle.lab_desk.specs.declared.event.Event.TheVariants.{Found, Call}
+use Rattle.lab_desk.specs.declared.events.Event.{Event as EventRead}
+use Rattle.lab_desk.specs.declared.events.Event.TheVariants.{Found, Call}
 use Rattle.lab_program.specs.Event.{line_at, Heading, Event, Next, End, Bad, Taken}
 
 -- a text was refused with this fault
@@ -26,8 +26,8 @@ heading_said heading = record { founded = heading.founded; moment = heading.tick
 
 -- an event that was read, in plain values
 abbrev pub event_said : EventRead → Event
-event_said (Found lab tick body) = record { founded = Some lab; moment = tick.moment; words = tick.words; bytes = body.items }
-event_said (Call tick bytes) = record { founded = None; moment = tick.moment; words = tick.words; bytes = bytes.items }
+event_said (Found lab tick body) = record { founded = Some lab; moment = tick.moment; words = tick.words; bytes = body }
+event_said (Call tick bytes) = record { founded = None; moment = tick.moment; words = tick.words; bytes = bytes }
 
 -- so many bytes were taken from the front of an input, and the rest is left; or there were fewer
 abbrev pub TakesBytes : {A : Type 0} → ℕ → List ℕ → Option (List ℕ) → Result (Vec ℕ A) ReplayFault → Type 0

@@ -9,7 +9,7 @@ ghost use Rattle.lab_program.specs.Reading.{Gives, TakesAtMost, TakesByte, Takes
 
 use crate::fault::ReplayFault;
 use lab_desk::Event;
-use lab_names::{LabCode, Moment, OutOfMemory, Tick};
+use lab_names::{LabCode, Moment, OutOfMemory, Series, Tick};
 use std::alloc::Global;
 use std::io;
 use std::io::{BufRead, Read};
@@ -42,6 +42,7 @@ impl Heading {
         ensures { event_said result ≡ record { founded = self.founded; moment = self.tick.moment; words = self.tick.words; bytes = bytes.items } }
     {
         let tick = self.tick;
+        let bytes = Series::from_vec(bytes);
         match self.founded {
             Some(lab) => Event::Found {
                 lab,
