@@ -1,3 +1,3 @@
+mod KnownValues
 mod Listing
-mod ReplyKinds
 pub mod Running

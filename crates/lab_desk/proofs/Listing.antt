@@ -13,8 +13,9 @@ use Rattle.lab_records.specs.declared.lab.Lab.{Lab}
 use Rattle.lab_records.specs.declared.command.Change.{Change}
 use Rattle.lab_records.specs.declared.command.Change.TheVariants.{Last}
 use Rattle.lab_records.specs.Changes.{changed, changed_in}
-use Rattle.lab_desk.specs.Listed.{has_code, lab_of, ChangesInPlace}
-use Rattle.lab_desk.specs.ListedLaws.{find_true}
+use Rattle.lab_records.specs.Worlds.{Meaning, SameMeaning, Changes, Places}
+use Rattle.lab_desk.specs.Lists.{has_code, lab_of, ChangesInPlace}
+use Rattle.lab_desk.specs.ListLaws.{find_true}
 
 -- no change gives a laboratory another code
 code_kept : (lab : Lab) (changes : List Change) → (changed lab changes).code ≡ lab.code
@@ -64,6 +65,27 @@ changed_elsewhere labs code place lab changes stands here other differs =
     (subst (λ (one : Lab). has_code other one ≡ false) here (lacks_other other lab (λ same. differs (sym same ∙ stands.code_is))))
     (lacks_other other (changed lab changes) (λ same. differs (sym same ∙ code_kept lab changes ∙ stands.code_is)))
 
+-- the changes were made of the laboratory in that place, and of no other
+pub changed_meaning : (labs : List Lab) (code : List ℕ) (place : ℕ) (lab : Lab) (changes : List Change) → StandsAt labs code place lab → lab ≡ get_or labs place lab → Changes code changes (lab_of labs) (lab_of (slice_set labs place (changed lab changes)))
+changed_meaning labs code place lab changes stands here = record {
+  here = changed_here labs code place lab changes stands;
+  others = changed_elsewhere labs code place lab changes stands here;
+}
+
+-- where there is none of the code, no laboratory is changed
+pub unchanged_meaning : (labs : List Lab) (code : List ℕ) (changes : List Change) → lab_of labs code ≡ None → Changes code changes (lab_of labs) (lab_of labs)
+unchanged_meaning labs code changes none = record {
+  here = none ∙ ap (λ (found : Option Lab). changed_in found changes) (sym none);
+  others = λ other differs. refl;
+}
+
+-- what a crash leaves, which is what the changes made
+pub left_as : (code : List ℕ) (changes : List Change) (old new held : Meaning) → Changes code changes old new → SameMeaning new held → Changes code changes old held
+left_as code changes old new held made same = record {
+  here = same code ∙ made.here;
+  others = λ other differs. same other ∙ made.others other differs;
+}
+
 -- the list is changed in that place
 pub changed_in_place : (labs : List Lab) (code : List ℕ) (place : ℕ) (lab : Lab) (changes : List Change) → StandsAt labs code place lab → ChangesInPlace labs (slice_set labs place (changed lab changes)) code changes
 changed_in_place labs code place lab changes stands =
@@ -86,6 +108,20 @@ added_elsewhere labs lab other differs =
     find-append (has_code other) labs (lab ∷ [])
     ∙ ap (λ (b : Bool). option_or (lab_of labs other) (cond b (Some lab) None)) (lacks_other other lab (λ same. differs (sym same)))
     ∙ or_none (lab_of labs other)
+
+-- the laboratory was placed, and no other was touched
+pub added_meaning : (labs : List Lab) (lab : Lab) → lab_of labs lab.code ≡ None → Places lab (lab_of labs) (lab_of (labs ++ lab ∷ []))
+added_meaning labs lab none = record {
+  was_none = none;
+  placed = record { here = added_here labs lab none; others = added_elsewhere labs lab };
+}
+
+-- what a crash leaves, which is what the founding made
+pub placed_as : (lab : Lab) (old new held : Meaning) → Places lab old new → SameMeaning new held → Places lab old held
+placed_as lab old new held made same = record {
+  was_none = made.was_none;
+  placed = record { here = same lab.code ∙ made.placed.here; others = λ other differs. same other ∙ made.placed.others other differs };
+}
 
 -- an empty length is the empty list
 pub no_changes : (changes : List Change) → (length changes == 0) ≡ true → changes ≡ []

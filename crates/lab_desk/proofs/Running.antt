@@ -1,241 +1,299 @@
 -- Runs join: a run, and a run from where it ended, are one run; and one event is a run.
-use Rattle.std.proofs.Common.{◌≡◌, ℕ, Bool, true, false, cond, List, [], ◌∷◌, ◌++◌, Option, Result, Ok, Err, refl, sym, ◌∙◌, ap, subst, append_assoc, append-nil, Vec, Global, inl, inr, ◌+◌, ◌<◌, length, take, get_or}
+use Rattle.std.proofs.Common.{◌≡◌, ◌≢◌, ℕ, Bool, true, false, cond, List, [], ◌∷◌, ◌++◌, Option, Some, None, Result, Ok, Err, refl, sym, ◌∙◌, ap, subst, append_assoc, append-nil, inl, inr, ◌+◌, ◌<◌, length, take, map, get_or, option_map, filter_map, All, IsOk}
 use Rattle.std.specs.Prelude.{bytes_eq, ◌⊎◌, OnOk, IfErr, MatchResult}
+use Rattle.std.proofs.lemmas.Bool.{false≢true}
+use Rattle.std.specs.List.{cons_option}
 use Rattle.std.specs.List.{concat}
 use Rattle.std.proofs.lemmas.List.{take_more}
 use Rattle.std.proofs.lemmas.List.Folds.{concat-append}
+use Rattle.std.proofs.lemmas.List.Elements.{filter_map-append, All-append, All-nil, All-cons}
 use Rattle.std.proofs.lemmas.Slice.Eq.{bytes_eq-Decides}
+use Rattle.std.specs.Io.KnownBytes.{Appends}
+use Rattle.std.proofs.KnownBytes.{Appends-nil, Appends-trans}
+use Rattle.std.proofs.lemmas.List.{map-append}
 use Rattle.lab_names.specs.declared.Tick.{Tick}
 use Rattle.lab_records.specs.declared.lab.Lab.{Lab}
-use Rattle.lab_records.specs.declared.command.Change.{Change}
-use Rattle.lab_wire.specs.declared.send.WriteFault.{WriteFault}
-use Rattle.lab_records.specs.declared.refusal.Refusal.{Refusal}
-use Rattle.lab_records.specs.Machine.{step, after_birth}
-use Rattle.lab_records.specs.Changes.{SameMeaning}
-use Rattle.lab_wire.specs.declared.Ask.{Ask}
-use Rattle.lab_wire.specs.Asked.{asked, IsAskRefusal}
-use Rattle.lab_wire.proofs.AskLemmas.{asked-kind}
-use Rattle.lab_wire.specs.Foundings.{founding_named}
+use Rattle.lab_records.specs.Machine.{step}
+use Rattle.lab_records.specs.Worlds.{World, Meaning, SetsOne, Tells, Leaves, Lives, Passes}
+use Rattle.lab_wire.specs.declared.sending.WriteFault.{WriteFault}
+use Rattle.lab_wire.specs.declared.asked.Asked.{Asked}
+use Rattle.lab_wire.specs.declared.replies.Answer.TheVariants.{Replied, Storage}
+use Rattle.lab_wire.specs.Asked.{asked}
+use Rattle.lab_wire.specs.Bodies.{founding_named}
 use Rattle.lab_wire.specs.Replies.{reply_text, memory_text}
-use Rattle.lab_desk.specs.declared.event.Event.{Event}
-use Rattle.lab_desk.specs.declared.event.Event.TheVariants.{Found, Call}
-use Rattle.lab_desk.specs.Answers.{born_of, line_of, after_founding, after_request, reply_to, IsRefusedLine, memory_line, storage_line}
-use Rattle.lab_desk.specs.Desks.{storage_text, TakesRequest, RefusesRequest}
-use Rattle.lab_desk.specs.Alone.{Own, Founds, Asks, own_call, own_of, after_own, answer_own, alone_after, alone_answers, own_taken, own_answers, answers_for}
-use Rattle.lab_desk.specs.Runs.{IsRun, AreAnswers, IsAnswer, ForWireFault}
+use Rattle.lab_desk.specs.declared.events.Event.{Event}
+use Rattle.lab_desk.specs.declared.events.Event.TheVariants.{Found, Call}
+use Rattle.lab_desk.specs.Requests.{Asks, Steps, TakesRequest, RefusesRequest, IsRefusedReply, answer_to}
+use Rattle.lab_desk.specs.Foundings.{Body, Births, born_of, after_birth, line_of, TakesFounding, RefusesFounding, IsRefusedLine, memory_line, storage_line}
+use Rattle.lab_desk.specs.Alone.{Own, Founds, Obeys, own_call, own_of, after_own, answer_own, alone_after, alone_answers}
+use Rattle.lab_desk.specs.Runs.{Handled, IsRun, IsTold, IsAnswer, IsAnswerBy, IsAnswerToNobody, IsNobodys, IsRefusal, AreAlone, own_in, own_events, own_answers, after_run, answers_of, Sends, Runs, RunsCut}
 
 -- ---- runs join
 
-answers_then : (may_refuse : Type 0) (events : List Event) (taken : List Bool) (answers : List (List ℕ)) (more : List Event) (taken_next : List Bool) (answers_next : List (List ℕ)) →
-    AreAnswers may_refuse events taken answers → AreAnswers may_refuse more taken_next answers_next → AreAnswers may_refuse (events ++ more) (taken ++ taken_next) (answers ++ answers_next)
-answers_then may_refuse [] [] [] more taken_next answers_next first next = next
-answers_then may_refuse (event ∷ events) (one ∷ taken) (answer ∷ answers) more taken_next answers_next first next =
-    (first.0, answers_then may_refuse events taken answers more taken_next answers_next first.1 next)
-answers_then may_refuse [] [] (answer ∷ answers) more taken_next answers_next first next = absurd first
-answers_then may_refuse [] (one ∷ taken) answers more taken_next answers_next first next = absurd first
-answers_then may_refuse (event ∷ events) [] answers more taken_next answers_next first next = absurd first
-answers_then may_refuse (event ∷ events) (one ∷ taken) [] more taken_next answers_next first next = absurd first
-
-own_taken_then : (may_refuse : Type 0) (code : List ℕ) (events : List Event) (taken : List Bool) (answers : List (List ℕ)) (more : List Event) (taken_next : List Bool) →
-    AreAnswers may_refuse events taken answers → own_taken code (events ++ more) (taken ++ taken_next) ≡ own_taken code events taken ++ own_taken code more taken_next
-own_taken_then may_refuse code [] [] [] more taken_next first = refl
-own_taken_then may_refuse code (event ∷ events) (true ∷ taken) (answer ∷ answers) more taken_next first =
-    ap (λ (owns : List Own). own_of code event ++ owns) (own_taken_then may_refuse code events taken answers more taken_next first.1)
-    ∙ sym (append_assoc (own_of code event) (own_taken code events taken) (own_taken code more taken_next))
-own_taken_then may_refuse code (event ∷ events) (false ∷ taken) (answer ∷ answers) more taken_next first =
-    own_taken_then may_refuse code events taken answers more taken_next first.1
-own_taken_then may_refuse code [] [] (answer ∷ answers) more taken_next first = absurd first
-own_taken_then may_refuse code [] (one ∷ taken) answers more taken_next first = absurd first
-own_taken_then may_refuse code (event ∷ events) [] answers more taken_next first = absurd first
-own_taken_then may_refuse code (event ∷ events) (true ∷ taken) [] more taken_next first = absurd first
-own_taken_then may_refuse code (event ∷ events) (false ∷ taken) [] more taken_next first = absurd first
-
-own_answers_then : (may_refuse : Type 0) (code : List ℕ) (events : List Event) (taken : List Bool) (answers : List (List ℕ)) (more : List Event) (taken_next : List Bool) (answers_next : List (List ℕ)) →
-    AreAnswers may_refuse events taken answers → own_answers code (events ++ more) (taken ++ taken_next) (answers ++ answers_next) ≡ own_answers code events taken answers ++ own_answers code more taken_next answers_next
-own_answers_then may_refuse code [] [] [] more taken_next answers_next first = refl
-own_answers_then may_refuse code (event ∷ events) (true ∷ taken) (answer ∷ answers) more taken_next answers_next first =
-    ap (λ (told : List (List ℕ)). answers_for (own_of code event) answer ++ told) (own_answers_then may_refuse code events taken answers more taken_next answers_next first.1)
-    ∙ sym (append_assoc (answers_for (own_of code event) answer) (own_answers code events taken answers) (own_answers code more taken_next answers_next))
-own_answers_then may_refuse code (event ∷ events) (false ∷ taken) (answer ∷ answers) more taken_next answers_next first =
-    own_answers_then may_refuse code events taken answers more taken_next answers_next first.1
-own_answers_then may_refuse code [] [] (answer ∷ answers) more taken_next answers_next first = absurd first
-own_answers_then may_refuse code [] (one ∷ taken) answers more taken_next answers_next first = absurd first
-own_answers_then may_refuse code (event ∷ events) [] answers more taken_next answers_next first = absurd first
-own_answers_then may_refuse code (event ∷ events) (true ∷ taken) [] more taken_next answers_next first = absurd first
-own_answers_then may_refuse code (event ∷ events) (false ∷ taken) [] more taken_next answers_next first = absurd first
-
-alone_after_then : (code : List ℕ) (lab : Option Lab) (owns more : List Own) → alone_after code lab (owns ++ more) ≡ alone_after code (alone_after code lab owns) more
+alone_after_then : (code : List ℕ) (lab : Option Lab) (owns more : List Own) →
+    alone_after code lab (owns ++ more) ≡ alone_after code (alone_after code lab owns) more
 alone_after_then code lab [] more = refl
 alone_after_then code lab (own ∷ owns) more = alone_after_then code (after_own code lab own) owns more
 
-alone_answers_then : (code : List ℕ) (lab : Option Lab) (owns more : List Own) → alone_answers code lab (owns ++ more) ≡ alone_answers code lab owns ++ alone_answers code (alone_after code lab owns) more
+alone_answers_then : (code : List ℕ) (lab : Option Lab) (owns more : List Own) →
+    alone_answers code lab (owns ++ more) ≡ alone_answers code lab owns ++ alone_answers code (alone_after code lab owns) more
 alone_answers_then code lab [] more = refl
-alone_answers_then code lab (own ∷ owns) more = ap (λ (told : List (List ℕ)). answer_own code lab own ∷ told) (alone_answers_then code (after_own code lab own) owns more)
+alone_answers_then code lab (own ∷ owns) more =
+    ap (λ (told : List (List ℕ)). answer_own code lab own ∷ told) (alone_answers_then code (after_own code lab own) owns more)
+
+-- a laboratory's own events in two runs
+owns_then : (code : List ℕ) (first next : List Handled) → own_events code (first ++ next) ≡ own_events code first ++ own_events code next
+owns_then code first next = filter_map-append (own_in code) first next
+
+-- what each laboratory is after two runs
+after_then : (start : Meaning) (first next : List Handled) (code : List ℕ) → after_run start (first ++ next) code ≡ after_run (after_run start first) next code
+after_then start first next code =
+    ap (λ (owns : List Own). alone_after code (start code) owns) (owns_then code first next)
+    ∙ alone_after_then code (start code) (own_events code first) (own_events code next)
+
+alone_then : (start : Meaning) (first next : List Handled) → AreAlone start first → AreAlone (after_run start first) next → AreAlone start (first ++ next)
+alone_then start first next here there code =
+    filter_map-append (λ (one : Handled). option_map (λ (own : Own). one.answer) (own_in code one)) first next
+    ∙ ap (λ (told : List (List ℕ)). told ++ own_answers code next) (here code)
+    ∙ ap (λ (told : List (List ℕ)). alone_answers code (start code) (own_events code first) ++ told) (there code)
+    ∙ sym (alone_answers_then code (start code) (own_events code first) (own_events code next))
+    ∙ ap (λ (owns : List Own). alone_answers code (start code) owns) (sym (owns_then code first next))
+
+-- a refusal stays one where the store may refuse as well
+refusal_wider : (narrow wide : Type 0) → (narrow → wide) → (P Q R : Type 0) → P ⊎ ((narrow × R) × Q) → P ⊎ ((wide × R) × Q)
+refusal_wider narrow wide wider P Q R refused =
+    elim refused as (λ _. P ⊎ ((wide × R) × Q)) [ inl memory ↦ inl memory | inr storage ↦ inr ((wider storage.0.0, storage.0.1), storage.1) ]
+
+answer_by_wider : (narrow wide : Type 0) → (narrow → wide) → (taken : Bool) (event : Event) (answer : List ℕ) → IsAnswerBy narrow taken event answer → IsAnswerBy wide taken event answer
+answer_by_wider narrow wide wider true event answer is = is
+answer_by_wider narrow wide wider false (Found lab tick body) answer is =
+    refusal_wider narrow wide wider (answer ≡ memory_line) (answer ≡ storage_line) (IsOk (founding_named body)) is
+answer_by_wider narrow wide wider false (Call tick bytes) answer is =
+    refusal_wider narrow wide wider (answer ≡ memory_text) (answer ≡ reply_text tick Storage) (IsOk (asked bytes)) is
+
+answers_wider : (narrow wide : Type 0) → (narrow → wide) → (handled : List Handled) → All (IsAnswer narrow) handled → All (IsAnswer wide) handled
+answers_wider narrow wide wider handled are k one within =
+    let at : Handled = get_or handled k one in
+    answer_by_wider narrow wide wider at.taken at.event at.answer (are k one within)
 
 -- a run, and a run from where it ended, are one run
-pub run_then : (may_refuse : Type 0) (events : List Event) (taken : List Bool) (answers : List (List ℕ)) (more : List Event) (taken_next : List Bool) (answers_next : List (List ℕ)) (old mid new : List ℕ → Option Lab) →
-    IsRun may_refuse events taken answers old mid → IsRun may_refuse more taken_next answers_next mid new → IsRun may_refuse (events ++ more) (taken ++ taken_next) (answers ++ answers_next) old new
-run_then may_refuse events taken answers more taken_next answers_next old mid new first next = record {
-  each = answers_then may_refuse events taken answers more taken_next answers_next first.each next.each;
-  alone = λ code.
-      let both : own_taken code (events ++ more) (taken ++ taken_next) ≡ own_taken code events taken ++ own_taken code more taken_next = own_taken_then may_refuse code events taken answers more taken_next first.each in
-      let middle : mid code ≡ alone_after code (old code) (own_taken code events taken) = (first.alone code).after in
-      record {
-        answered =
-            own_answers_then may_refuse code events taken answers more taken_next answers_next first.each
-            ∙ ap (λ (told : List (List ℕ)). told ++ own_answers code more taken_next answers_next) (first.alone code).answered
-            ∙ ap (λ (told : List (List ℕ)). alone_answers code (old code) (own_taken code events taken) ++ told)
-            ((next.alone code).answered ∙ ap (λ (lab : Option Lab). alone_answers code lab (own_taken code more taken_next)) middle)
-            ∙ sym (alone_answers_then code (old code) (own_taken code events taken) (own_taken code more taken_next))
-            ∙ ap (λ (owns : List Own). alone_answers code (old code) owns) (sym both);
-        after =
-            (next.alone code).after ∙ ap (λ (lab : Option Lab). alone_after code lab (own_taken code more taken_next)) middle
-            ∙ sym (alone_after_then code (old code) (own_taken code events taken) (own_taken code more taken_next))
-            ∙ ap (λ (owns : List Own). alone_after code (old code) owns) (sym both);
-      };
+pub run_then : (old mid new : World) (first next : List Handled) → (mid.may_refuse → old.may_refuse) → IsRun old mid first → IsRun mid new next → IsRun old new (first ++ next)
+run_then old mid new first next wider here there = record {
+  each = All-append (IsAnswer old.may_refuse) first next here.each (answers_wider mid.may_refuse old.may_refuse wider next there.each);
+  alone = λ start tells. alone_then start first next (here.alone start tells) (there.alone (after_run start first) (here.after start tells));
+  after = λ start tells live code. there.after (after_run start first) (here.after start tells) live code ∙ sym (after_then start first next code);
 }
 
 -- no event is a run
-pub no_run : (may_refuse : Type 0) (old : List ℕ → Option Lab) → IsRun may_refuse [] [] [] old old
-no_run may_refuse old = record { each = tt; alone = λ code. record { answered = refl; after = refl } }
+pub no_run : (world : World) → IsRun world world []
+no_run world = record { each = All-nil (IsAnswer world.may_refuse); alone = λ start tells code. refl; after = λ start tells. tells }
 
 -- ---- one event is a run
 
--- a founding of the laboratory, or of another
-found_alone : (lab code : List ℕ) (tick : Tick) (body : List ℕ) (answer : List ℕ) (old : List ℕ → Option Lab) (after : Option Lab) (b : Bool) → (b ≡ true → lab ≡ code) →
-    answer ≡ line_of lab (born_of (old lab) lab tick (founding_named body)) →
-    after ≡ cond b (after_birth (old code) (born_of (old code) lab tick (founding_named body))) (old code) →
-    (answers_for (cond b (Founds tick body ∷ []) []) answer ++ [] ≡ alone_answers code (old code) (cond b (Founds tick body ∷ []) [] ++ []))
-    × (after ≡ alone_after code (old code) (cond b (Founds tick body ∷ []) [] ++ []))
-found_alone lab code tick body answer old after true names answered changed = (
-  ap (λ (told : List ℕ). told ∷ []) (subst (λ (named : List ℕ). answer ≡ line_of named (born_of (old named) named tick (founding_named body))) (names refl) answered),
-  subst (λ (named : List ℕ). after ≡ after_birth (old code) (born_of (old code) named tick (founding_named body))) (names refl) changed,
-)
-found_alone lab code tick body answer old after false names answered changed = (refl, changed)
+-- an answer to the laboratory's own event is its machine's
+abbrev Told : List ℕ → Option Lab → Option Own → List ℕ → Type 0
+Told code lab None answer = Unit {0}
+Told code lab (Some own) answer = answer ≡ answer_own code lab own
 
--- a founding is a run
-founding_run : (may_refuse : Type 0) (lab : List ℕ) (tick : Tick) (body : Vec ℕ Global) (taken : Bool) (answer : List ℕ) (old new : List ℕ → Option Lab) →
-    (taken ≡ true → answer ≡ line_of lab (born_of (old lab) lab tick (founding_named body.items))) →
-    (taken ≡ true → (code : List ℕ) → new code ≡ after_founding code (old code) lab tick (founding_named body.items)) →
-    (taken ≡ false → IsRefusedLine may_refuse answer) → (taken ≡ false → SameMeaning old new) →
-    IsRun may_refuse (Found lab tick body ∷ []) (taken ∷ []) (answer ∷ []) old new
-founding_run may_refuse lab tick body true answer old new answered changed refused same = record {
-  each = (tt, tt);
-  alone = λ code.
-      let both = found_alone lab code tick body.items answer old (new code) (bytes_eq lab code) (bytes_eq-Decides lab code).0 (answered refl) (changed refl code) in
-      record { answered = both.0; after = both.1 };
-}
-founding_run may_refuse lab tick body false answer old new answered changed refused same = record {
-  each = (refused refl, tt);
-  alone = λ code. record { answered = refl; after = same refl code };
-}
+-- the laboratory after an event, which may be its own
+abbrev after_one : List ℕ → Option Lab → Option Own → Option Lab
+after_one code lab None = lab
+after_one code lab (Some own) = after_own code lab own
 
--- a founding, taken or refused
-pub one_founding : (may_refuse : Type 0) (event : Event) (lab : List ℕ) (tick : Tick) (body : Vec ℕ Global) (read : List ℕ) (taken : Bool) (answer line : List ℕ) (old new : List ℕ → Option Lab) →
-    event ≡ Found lab tick body → read ≡ body.items → answer ≡ line →
-    (taken ≡ true → line ≡ line_of lab (born_of (old lab) lab tick (founding_named read))) →
-    (taken ≡ true → (code : List ℕ) → new code ≡ after_founding code (old code) lab tick (founding_named read)) →
-    (taken ≡ false → IsRefusedLine may_refuse line) → (taken ≡ false → SameMeaning old new) →
-    IsRun may_refuse (event ∷ []) (taken ∷ []) (answer ∷ []) old new
-one_founding may_refuse event lab tick body read taken answer line old new is reads lines answered changed refused same =
-    subst (λ (one : Event). IsRun may_refuse (one ∷ []) (taken ∷ []) (answer ∷ []) old new) (sym is)
-    (founding_run may_refuse lab tick body taken answer old new
-    (λ holds. subst (λ (bytes : List ℕ). answer ≡ line_of lab (born_of (old lab) lab tick (founding_named bytes))) reads (lines ∙ answered holds))
-    (λ holds code. subst (λ (bytes : List ℕ). new code ≡ after_founding code (old code) lab tick (founding_named bytes)) reads (changed holds code))
-    (λ fails. subst (λ (told : List ℕ). IsRefusedLine may_refuse told) (sym lines) (refused fails)) same)
+told_one : (code : List ℕ) (lab : Option Lab) (found : Option Own) (answer : List ℕ) → Told code lab found answer →
+    cons_option (option_map (λ (own : Own). answer) found) [] ≡ alone_answers code lab (cons_option found [])
+told_one code lab None answer told = refl
+told_one code lab (Some own) answer told = ap (λ (one : List ℕ). one ∷ []) told
 
--- a call of the laboratory, or of another
-ask_alone : (ask : Ask) (code : List ℕ) (tick : Tick) (answer : List ℕ) (old : List ℕ → Option Lab) (after : Option Lab) (b : Bool) → (b ≡ true → ask.lab ≡ code) →
-    answer ≡ reply_text tick (step (old ask.lab) tick ask.command).reply →
-    after ≡ cond b (step (old code) tick ask.command).after (old code) →
-    (answers_for (cond b (Asks tick ask.command ∷ []) []) answer ++ [] ≡ alone_answers code (old code) (cond b (Asks tick ask.command ∷ []) [] ++ []))
-    × (after ≡ alone_after code (old code) (cond b (Asks tick ask.command ∷ []) [] ++ []))
-ask_alone ask code tick answer old after true names answered changed =
-    (ap (λ (told : List ℕ). told ∷ []) (subst (λ (named : List ℕ). answer ≡ reply_text tick (step (old named) tick ask.command).reply) (names refl) answered), changed)
-ask_alone ask code tick answer old after false names answered changed = (refl, changed)
+after_own_one : (code : List ℕ) (lab : Option Lab) (found : Option Own) → after_one code lab found ≡ alone_after code lab (cons_option found [])
+after_own_one code lab None = refl
+after_own_one code lab (Some own) = refl
 
--- bytes that name the laboratory, or another, or none
-call_alone : (code : List ℕ) (tick : Tick) (asks : Result Ask Refusal) (answer : List ℕ) (old : List ℕ → Option Lab) (after : Option Lab) →
-    answer ≡ reply_text tick (reply_to old tick asks) → after ≡ after_request code (old code) tick asks →
-    (answers_for (own_call code tick asks) answer ++ [] ≡ alone_answers code (old code) (own_call code tick asks ++ [])) × (after ≡ alone_after code (old code) (own_call code tick asks ++ []))
-call_alone code tick (Err refusal) answer old after answered changed = (refl, changed)
-call_alone code tick (Ok ask) answer old after answered changed = ask_alone ask code tick answer old after (bytes_eq ask.lab code) (bytes_eq-Decides ask.lab code).0 answered changed
+-- one event, from what it makes of each laboratory
+record IsOne (old new : World) (one : Handled) : Type 0 where
+  each : IsAnswer old.may_refuse one
+  told : (start : Meaning) → Tells old start → (code : List ℕ) → Told code (start code) (own_in code one) one.answer
+  after : (start : Meaning) → Tells old start → new.is_live → (code : List ℕ) → new.meaning code ≡ after_one code (start code) (own_in code one)
 
--- a wire fault is answered from bytes and tick alone
-nobodys : (tick : Tick) (asks : Result Ask Refusal) (answer : List ℕ) (old : List ℕ → Option Lab) → IfErr asks IsAskRefusal → answer ≡ reply_text tick (reply_to old tick asks) → ForWireFault tick asks answer
-nobodys tick (Err refusal) answer old kind answered = (kind, answered)
-nobodys tick (Ok ask) answer old kind answered = tt
-
--- a call is a run
-call_run : (may_refuse : Type 0) (tick : Tick) (bytes : Vec ℕ Global) (taken : Bool) (answer : List ℕ) (old new : List ℕ → Option Lab) →
-    (taken ≡ true → answer ≡ reply_text tick (reply_to old tick (asked bytes.items))) →
-    (taken ≡ true → (code : List ℕ) → new code ≡ after_request code (old code) tick (asked bytes.items)) →
-    (taken ≡ false → (answer ≡ memory_text) ⊎ (may_refuse × (answer ≡ storage_text tick))) → (taken ≡ false → SameMeaning old new) →
-    IsRun may_refuse (Call tick bytes ∷ []) (taken ∷ []) (answer ∷ []) old new
-call_run may_refuse tick bytes true answer old new answered changed refused same = record {
-  each = (nobodys tick (asked bytes.items) answer old (asked-kind bytes.items) (answered refl), tt);
-  alone = λ code.
-      let both = call_alone code tick (asked bytes.items) answer old (new code) (answered refl) (changed refl code) in
-      record { answered = both.0; after = both.1 };
-}
-call_run may_refuse tick bytes false answer old new answered changed refused same = record {
-  each = (refused refl, tt);
-  alone = λ code. record { answered = refl; after = same refl code };
+one_run : (old new : World) (one : Handled) → IsOne old new one → IsRun old new (one ∷ [])
+one_run old new one is = record {
+  each = All-cons (IsAnswer old.may_refuse) one [] is.each (All-nil (IsAnswer old.may_refuse));
+  alone = λ start tells code. told_one code (start code) (own_in code one) one.answer (is.told start tells code);
+  after = λ start tells live code. is.after start tells live code ∙ after_own_one code (start code) (own_in code one);
 }
 
--- a call, taken or refused
-pub one_call : (may_refuse rests : Type 0) (moves : List ℕ → List Change → Type 0) (event : Event) (tick : Tick) (bytes : Vec ℕ Global) (read : List ℕ) (taken : Bool) (answer reply : List ℕ) (old new : List ℕ → Option Lab) →
-    event ≡ Call tick bytes → read ≡ bytes.items → answer ≡ reply →
-    (taken ≡ true → TakesRequest rests moves old new tick (asked read) reply) →
-    (taken ≡ false → RefusesRequest may_refuse rests old new tick reply) →
-    IsRun may_refuse (event ∷ []) (taken ∷ []) (answer ∷ []) old new
-one_call may_refuse rests moves event tick bytes read taken answer reply old new is reads replies takes refuses =
-    subst (λ (one : Event). IsRun may_refuse (one ∷ []) (taken ∷ []) (answer ∷ []) old new) (sym is)
-    (call_run may_refuse tick bytes taken answer old new
-    (λ holds. subst (λ (asks : List ℕ). answer ≡ reply_text tick (reply_to old tick (asked asks))) reads (replies ∙ (takes holds).replied))
-    (λ holds code. subst (λ (asks : List ℕ). new code ≡ after_request code (old code) tick (asked asks)) reads ((takes holds).after code))
-    (λ fails. subst (λ (told : List ℕ). (told ≡ memory_text) ⊎ (may_refuse × (told ≡ storage_text tick))) (sym replies) (refuses fails).replied)
-    (λ fails. (refuses fails).same))
+-- a laboratory of another code
+other_code : (named code : List ℕ) → bytes_eq named code ≡ false → code ≢ named
+other_code named code differs same = false≢true (sym differs ∙ (bytes_eq-Decides named code).1 (sym same))
+
+-- a founding that was refused, and a call that was refused, leave every laboratory
+left_alone : (old new : World) (start : Meaning) → (new.is_live → old.is_live) → Tells old start → Leaves old new → new.is_live → (code : List ℕ) → new.meaning code ≡ start code
+left_alone old new start back tells left live code = left live code ∙ tells (back live) code
+
+-- ---- a founding
+
+-- a body that says nothing is refused whatever laboratory there is
+born_seen : (body : Body) (seen start : Option Lab) (code : List ℕ) (tick : Tick) → (IsOk body → seen ≡ start) → born_of seen code tick body ≡ born_of start code tick body
+born_seen (Err refusal) seen start code tick same = refl
+born_seen (Ok founding) seen start code tick same = ap (λ (lab : Option Lab). born_of lab code tick (Ok founding)) (same refl)
+
+founding_told : (old new : World) (start : Meaning) (lab code : List ℕ) (tick : Tick) (body answer : List ℕ) (b : Bool) → bytes_eq lab code ≡ b → Tells old start → TakesFounding old new lab tick (founding_named body) answer →
+    Told code (start code) (cond b (Some (Founds tick body)) None) answer
+founding_told old new start lab code tick body answer true names tells takes =
+    let same : lab ≡ code = (bytes_eq-Decides lab code).0 names in
+    subst (λ (named : List ℕ). answer ≡ line_of named (born_of (start named) named tick (founding_named body))) same
+    (takes.answered ∙ ap (line_of lab) (born_seen (founding_named body) (old.meaning lab) (start lab) lab tick (λ reads. tells (takes.lives reads).0 lab)))
+founding_told old new start lab code tick body answer false names tells takes = tt
+
+founding_after : (old new : World) (start : Meaning) (lab code : List ℕ) (tick : Tick) (body answer : List ℕ) (b : Bool) → bytes_eq lab code ≡ b → old.is_live → Tells old start → TakesFounding old new lab tick (founding_named body) answer →
+    new.meaning code ≡ after_one code (start code) (cond b (Some (Founds tick body)) None)
+founding_after old new start lab code tick body answer true names live tells takes =
+    let same : lab ≡ code = (bytes_eq-Decides lab code).0 names in
+    subst (λ (named : List ℕ). new.meaning named ≡ after_birth (start named) (born_of (start named) named tick (founding_named body))) same
+    (takes.after.here ∙ ap (λ (seen : Option Lab). after_birth seen (born_of seen lab tick (founding_named body))) (tells live lab))
+founding_after old new start lab code tick body answer false names live tells takes =
+    takes.after.others code (other_code lab code names) ∙ tells live code
+
+founding_is : (old new : World) (lab : List ℕ) (tick : Tick) (body : List ℕ) (taken : Bool) (answer : List ℕ) → (new.is_live → old.is_live) →
+    (taken ≡ true → TakesFounding old new lab tick (founding_named body) answer) → (taken ≡ false → RefusesFounding old new (founding_named body) answer) →
+    IsOne old new (record { event = Found lab tick body; taken = taken; answer = answer })
+founding_is old new lab tick body true answer back takes refuses = record {
+  each = tt;
+  told = λ start tells code. founding_told old new start lab code tick body answer (bytes_eq lab code) refl tells (takes refl);
+  after = λ start tells live code. founding_after old new start lab code tick body answer (bytes_eq lab code) refl (back live) tells (takes refl);
+}
+founding_is old new lab tick body false answer back takes refuses = record {
+  each = (refuses refl).answered;
+  told = λ start tells code. tt;
+  after = λ start tells live code. left_alone old new start back tells (refuses refl).same live code;
+}
+
+-- a founding, taken or refused, is a run
+pub one_founding : (old new : World) (event : Event) (lab : List ℕ) (tick : Tick) (body read : List ℕ) (taken : Bool) (answer line : List ℕ) →
+    event ≡ Found lab tick body → read ≡ body → answer ≡ line → (new.is_live → old.is_live) →
+    (taken ≡ true → TakesFounding old new lab tick (founding_named read) line) → (taken ≡ false → RefusesFounding old new (founding_named read) line) →
+    IsRun old new (record { event = event; taken = taken; answer = answer } ∷ [])
+one_founding old new event lab tick body read taken answer line is reads lines back takes refuses =
+    rw (is, lines, ← reads) (one_run old new (record { event = Found lab tick read; taken = taken; answer = line }) (founding_is old new lab tick read taken line back takes refuses))
+
+-- ---- a call
+
+call_told : (old new : World) (start : Meaning) (asked_here : Asked) (code : List ℕ) (tick : Tick) (answer : List ℕ) (b : Bool) → bytes_eq asked_here.lab code ≡ b → Tells old start → TakesRequest old new tick (Ok asked_here) answer →
+    Told code (start code) (cond b (Some (Obeys tick asked_here.instruction)) None) answer
+call_told old new start asks code tick answer true names tells takes =
+    let same : asks.lab ≡ code = (bytes_eq-Decides asks.lab code).0 names in
+    subst (λ (named : List ℕ). answer ≡ reply_text tick (Replied (step (start named) tick asks.instruction).reply)) same
+    (takes.replied ∙ ap (λ (seen : Option Lab). reply_text tick (Replied (step seen tick asks.instruction).reply)) (tells (takes.lives refl).0 asks.lab))
+call_told old new start asks code tick answer false names tells takes = tt
+
+asks_told : (old new : World) (start : Meaning) (asks : Asks) (code : List ℕ) (tick : Tick) (answer : List ℕ) → Tells old start → TakesRequest old new tick asks answer →
+    Told code (start code) (own_call code tick asks) answer
+asks_told old new start (Err refusal) code tick answer tells takes = tt
+asks_told old new start (Ok asks) code tick answer tells takes = call_told old new start asks code tick answer (bytes_eq asks.lab code) refl tells takes
+
+call_after : (old new : World) (start : Meaning) (asked_here : Asked) (code : List ℕ) (tick : Tick) (answer : List ℕ) (b : Bool) → bytes_eq asked_here.lab code ≡ b → old.is_live → Tells old start → TakesRequest old new tick (Ok asked_here) answer →
+    new.meaning code ≡ after_one code (start code) (cond b (Some (Obeys tick asked_here.instruction)) None)
+call_after old new start asks code tick answer true names live tells takes =
+    let same : asks.lab ≡ code = (bytes_eq-Decides asks.lab code).0 names in
+    subst (λ (named : List ℕ). new.meaning named ≡ (step (start named) tick asks.instruction).after) same
+    (takes.after.here ∙ ap (λ (seen : Option Lab). (step seen tick asks.instruction).after) (tells live asks.lab))
+call_after old new start asks code tick answer false names live tells takes =
+    takes.after.others code (other_code asks.lab code names) ∙ tells live code
+
+asks_after : (old new : World) (start : Meaning) (asks : Asks) (code : List ℕ) (tick : Tick) (answer : List ℕ) → old.is_live → Tells old start → TakesRequest old new tick asks answer →
+    new.meaning code ≡ after_one code (start code) (own_call code tick asks)
+asks_after old new start (Err refusal) code tick answer live tells takes = takes.after code ∙ tells live code
+asks_after old new start (Ok asks) code tick answer live tells takes = call_after old new start asks code tick answer (bytes_eq asks.lab code) refl live tells takes
+
+-- bytes that ask nothing are answered from themselves and the tick alone
+nobodys : (old new : World) (tick : Tick) (asks : Asks) (answer : List ℕ) → TakesRequest old new tick asks answer → IsAnswerToNobody tick asks answer
+nobodys old new tick (Err refusal) answer takes = takes.replied
+nobodys old new tick (Ok asks) answer takes = tt
+
+call_is : (old new : World) (tick : Tick) (bytes : List ℕ) (taken : Bool) (answer : List ℕ) → (new.is_live → old.is_live) →
+    (taken ≡ true → TakesRequest old new tick (asked bytes) answer) → (taken ≡ false → RefusesRequest old new tick (asked bytes) answer) →
+    IsOne old new (record { event = Call tick bytes; taken = taken; answer = answer })
+call_is old new tick bytes true answer back takes refuses = record {
+  each = nobodys old new tick (asked bytes) answer (takes refl);
+  told = λ start tells code. asks_told old new start (asked bytes) code tick answer tells (takes refl);
+  after = λ start tells live code. asks_after old new start (asked bytes) code tick answer (back live) tells (takes refl);
+}
+call_is old new tick bytes false answer back takes refuses = record {
+  each = (refuses refl).replied;
+  told = λ start tells code. tt;
+  after = λ start tells live code. left_alone old new start back tells (refuses refl).same live code;
+}
+
+-- a call, taken or refused, is a run
+pub one_call : (old new : World) (event : Event) (tick : Tick) (bytes read : List ℕ) (taken : Bool) (answer reply : List ℕ) →
+    event ≡ Call tick bytes → read ≡ bytes → answer ≡ reply → (new.is_live → old.is_live) →
+    (taken ≡ true → TakesRequest old new tick (asked read) reply) → (taken ≡ false → RefusesRequest old new tick (asked read) reply) →
+    IsRun old new (record { event = event; taken = taken; answer = answer } ∷ [])
+one_call old new event tick bytes read taken answer reply is reads replies back takes refuses =
+    rw (is, replies, ← reads) (one_run old new (record { event = Call tick read; taken = taken; answer = reply }) (call_is old new tick read taken reply back takes refuses))
+
+-- ---- what is told and written
 
 -- what went out, from the clauses of sending
-pub sent_as : (sent : Result (Unit {0}) WriteFault) (whole : Type 0) (cut short : WriteFault → Type 0) → OnOk sent whole → IfErr sent cut → IfErr sent short →
-    MatchResult sent (λ _. whole) (λ fault. cut fault × short fault)
-sent_as (Ok done) whole cut short all some less = all
-sent_as (Err fault) whole cut short all some less = (some, less)
+pub sent_as : (answer : List ℕ) (sent : Result (Unit {0}) WriteFault) (before after : Option (List ℕ)) → OnOk sent (Appends before after answer) →
+    IfErr sent (λ fault. Appends before after (take fault.sent answer)) → IfErr sent (λ fault. fault.sent < length answer) → Sends answer sent before after
+sent_as answer (Ok done) before after whole cut short = whole
+sent_as answer (Err fault) before after whole cut short = (cut, short)
 
--- ---- one more event
+-- no event was handled yet
+pub runs_none : (world : World) (events : List Event) (contents : Option (List ℕ)) → Runs world world (take 0 events) [] contents contents
+runs_none world events contents = record {
+  handled = [];
+  told = record { events_are = refl; taken_are = refl };
+  run = no_run world;
+  written = Appends-nil contents;
+}
 
--- a refusal stays one where the store may refuse as well
-refusal_wider : (narrow wide : Type 0) → (narrow → wide) → (P Q : Type 0) → P ⊎ (narrow × Q) → P ⊎ (wide × Q)
-refusal_wider narrow wide wider P Q refused = elim refused as (λ _. P ⊎ (wide × Q)) [ inl memory ↦ inl memory | inr storage ↦ inr (wider storage.0, storage.1) ]
+-- one event more is told
+told_more : (events : List Event) (at : ℕ) (taken : List Bool) (handled : List Handled) (one : Handled) → one.event ≡ get_or events at one.event → at < length events →
+    IsTold (take at events) taken handled → IsTold (take (at + 1) events) (taken ++ one.taken ∷ []) (handled ++ one ∷ [])
+told_more events at taken handled one is within told = record {
+  events_are =
+      map-append (λ (h : Handled). h.event) handled (one ∷ []) ∙ ap (λ (es : List Event). es ++ one.event ∷ []) told.events_are
+      ∙ ap (λ (last : Event). take at events ++ last ∷ []) is ∙ sym (take_more events at one.event within);
+  taken_are = map-append (λ (h : Handled). h.taken) handled (one ∷ []) ∙ ap (λ (ts : List Bool). ts ++ one.taken ∷ []) told.taken_are;
+}
 
-answer_wider : (narrow wide : Type 0) → (narrow → wide) → (event : Event) (taken : Bool) (answer : List ℕ) → IsAnswer narrow event taken answer → IsAnswer wide event taken answer
-answer_wider narrow wide wider event true answer is = is
-answer_wider narrow wide wider (Found lab tick body) false answer is = refusal_wider narrow wide wider (answer ≡ memory_line) (answer ≡ storage_line) is
-answer_wider narrow wide wider (Call tick bytes) false answer is = refusal_wider narrow wide wider (answer ≡ memory_text) (answer ≡ storage_text tick) is
-
-answers_wider : (narrow wide : Type 0) → (narrow → wide) → (events : List Event) (taken : List Bool) (answers : List (List ℕ)) → AreAnswers narrow events taken answers → AreAnswers wide events taken answers
-answers_wider narrow wide wider [] [] [] are = are
-answers_wider narrow wide wider (event ∷ events) (one ∷ taken) (answer ∷ answers) are =
-    (answer_wider narrow wide wider event one answer are.0, answers_wider narrow wide wider events taken answers are.1)
-answers_wider narrow wide wider [] [] (answer ∷ answers) are = absurd are
-answers_wider narrow wide wider [] (one ∷ taken) answers are = absurd are
-answers_wider narrow wide wider (event ∷ events) [] answers are = absurd are
-answers_wider narrow wide wider (event ∷ events) (one ∷ taken) [] are = absurd are
-
--- a run over a store that may refuse less is one over a store that may refuse more
-pub run_wider : (narrow wide : Type 0) → (narrow → wide) → (events : List Event) (taken : List Bool) (answers : List (List ℕ)) (old new : List ℕ → Option Lab) → IsRun narrow events taken answers old new → IsRun wide events taken answers old new
-run_wider narrow wide wider events taken answers old new run = record { each = answers_wider narrow wide wider events taken answers run.each; alone = run.alone }
+-- a run so far, and one event more that comes next
+pub record GoesOn (old mid new : World) (events : List Event) (at : ℕ) (taken : List Bool) (before between : Option (List ℕ)) (one : Handled) : Type 0 where
+  pub so_far : Runs old mid (take at events) taken before between
+  pub passes : mid.may_refuse → old.may_refuse
+  pub next : IsRun mid new (one ∷ [])
+  pub is : one.event ≡ get_or events at one.event
+  pub within : at < length events
 
 -- the answers so far, and one more
-pub concat_more : (answers : List (List ℕ)) (answer : List ℕ) → concat answers ++ answer ≡ concat (answers ++ answer ∷ [])
-concat_more answers answer = sym (concat-append answers (answer ∷ []) ∙ ap (λ (last : List ℕ). concat answers ++ last) (append-nil answer))
+answers_more : (handled : List Handled) (one : Handled) → answers_of handled ++ one.answer ≡ answers_of (handled ++ one ∷ [])
+answers_more handled one =
+    sym (ap concat (map-append (λ (h : Handled). h.answer) handled (one ∷ []))
+    ∙ concat-append (map (λ (h : Handled). h.answer) handled) (one.answer ∷ [])
+    ∙ ap (λ (last : List ℕ). answers_of handled ++ last) (append-nil one.answer))
 
--- a run goes on by an event
-pub run_more : (narrow wide : Type 0) → (narrow → wide) → (events : List Event) (event : Event) (at : ℕ) (taken : List Bool) (one : Bool) (taken_more : List Bool) (answers : List (List ℕ)) (answer : List ℕ) (old mid new : List ℕ → Option Lab) →
-    event ≡ get_or events at event → at < length events → taken_more ≡ taken ++ one ∷ [] →
-    IsRun wide (take at events) taken answers old mid → IsRun narrow (event ∷ []) (one ∷ []) (answer ∷ []) mid new →
-    IsRun wide (take (at + 1) events) taken_more (answers ++ answer ∷ []) old new
-run_more narrow wide wider events event at taken one taken_more answers answer old mid new is within pushed first next =
-    let more : take (at + 1) events ≡ take at events ++ event ∷ [] = take_more events at event within ∙ ap (λ (last : Event). take at events ++ last ∷ []) (sym is) in
-    rw (more, pushed) (run_then wide (take at events) taken answers (event ∷ []) (one ∷ []) (answer ∷ []) old mid new first (run_wider narrow wide wider (event ∷ []) (one ∷ []) (answer ∷ []) mid new next))
+-- a run goes on by an event whose answer went out whole
+pub run_more : (old mid new : World) (events : List Event) (at : ℕ) (taken : List Bool) (before between after : Option (List ℕ)) (one : Handled) →
+    GoesOn old mid new events at taken before between one → Appends between after one.answer →
+    Runs old new (take (at + 1) events) (taken ++ one.taken ∷ []) before after
+run_more old mid new events at taken before between after one on sent = record {
+  handled = on.so_far.handled ++ one ∷ [];
+  told = told_more events at taken on.so_far.handled one on.is on.within on.so_far.told;
+  run = run_then old mid new on.so_far.handled (one ∷ []) on.passes on.so_far.run on.next;
+  written = subst (Appends before after) (answers_more on.so_far.handled one) (Appends-trans before between after _ _ on.so_far.written sent);
+}
+
+-- and ends by one whose answer was cut
+pub run_cut : (old mid new : World) (events : List Event) (at : ℕ) (taken told : List Bool) (before between after : Option (List ℕ)) (one : Handled) (sent : ℕ) →
+    GoesOn old mid new events at taken before between one → told ≡ taken ++ one.taken ∷ [] → length told ≡ at + 1 →
+    Appends between after (take sent one.answer) × (sent < length one.answer) → RunsCut old new events told sent before after
+run_cut old mid new events at taken told before between after one sent on pushed counted out = record {
+  handled = on.so_far.handled;
+  last = one;
+  told = rw (counted, pushed) (told_more events at taken on.so_far.handled one on.is on.within on.so_far.told);
+  run = run_then old mid new on.so_far.handled (one ∷ []) on.passes on.so_far.run on.next;
+  written = Appends-trans before between after _ _ on.so_far.written out.0;
+  short = out.1;
+}

@@ -1,30 +1,70 @@
--- Why a run ended before its last event.
-use Rattle.std.specs.Prelude.{ℕ, List, Bool, Option, Some, None, codes}
-use Rattle.lab_names.specs.Faults.{memory_number, memory_word}
-use Rattle.lab_desk.specs.declared.event.RunFault.{RunFault}
-use Rattle.lab_desk.specs.declared.event.RunFault.TheVariants.{Memory, Write}
+-- Why a founding founded nothing, and why a run ended before its last event.
+use Rattle.std.specs.Prelude.{◌≡◌, ℕ, List, Bool, Option, Some, None, Result, Ok, Err, IsOk, codes, option_map}
+use Rattle.lab_names.specs.Faults.{Entry, memory_entry}
+use Rattle.lab_records.specs.Refusals.{placing_fault_entry}
+use Rattle.lab_records.specs.declared.fault.PlacingFault.TheVariants.{LabExists, Storage, Memory as NoMemory}
+use Rattle.lab_wire.specs.Refusals.{body_entry}
+use Rattle.lab_desk.specs.declared.faults.FoundFault.{FoundFault}
+use Rattle.lab_desk.specs.declared.faults.FoundFault.TheVariants.{Body as OfBody, Placing}
+use Rattle.lab_desk.specs.declared.faults.RunFault.{RunFault}
+use Rattle.lab_desk.specs.declared.faults.RunFault.TheVariants.{Memory, Write}
+use Rattle.lab_desk.specs.Foundings.{Body}
+
+-- ---- foundings
+
+-- the number and the word of a founding's fault
+abbrev pub found_fault_entry : FoundFault → Entry
+found_fault_entry (OfBody refusal) = body_entry refusal
+found_fault_entry (Placing fault) = placing_fault_entry fault
+
+-- the body's refusal where it is that; and where the body reads, that the laboratory exists where it does, and the store's
+-- where it may refuse
+abbrev pub FoundFaultFits : Type 0 → Type 0 → Body → FoundFault → Type 0
+FoundFaultFits may_refuse exists body (OfBody refusal) = body ≡ Err refusal
+FoundFaultFits may_refuse exists body (Placing LabExists) = IsOk body × exists
+FoundFaultFits may_refuse exists body (Placing Storage) = IsOk body × may_refuse
+FoundFaultFits may_refuse exists body (Placing NoMemory) = Unit {0}
+
+-- a fact on a founding whose body was at fault, so that the keeper wasn't asked
+abbrev pub OnBody : Result (Unit {0}) FoundFault → Type 0 → Type 0
+OnBody (Ok _) P = Unit {0}
+OnBody (Err (OfBody refusal)) P = P
+OnBody (Err (Placing fault)) P = Unit {0}
+
+-- a fact on a founding that the keeper answered by what it keeps: it founded, or the laboratory exists
+abbrev pub OnKept : Result (Unit {0}) FoundFault → Type 0 → Type 0
+OnKept (Ok _) P = P
+OnKept (Err (OfBody refusal)) P = Unit {0}
+OnKept (Err (Placing LabExists)) P = P
+OnKept (Err (Placing Storage)) P = Unit {0}
+OnKept (Err (Placing NoMemory)) P = Unit {0}
+
+-- a founding that asked for no commit: its body was at fault, or the laboratory exists
+abbrev pub OnUncommitted : Result (Unit {0}) FoundFault → Type 0 → Type 0
+OnUncommitted (Ok _) P = Unit {0}
+OnUncommitted (Err (OfBody refusal)) P = P
+OnUncommitted (Err (Placing LabExists)) P = P
+OnUncommitted (Err (Placing Storage)) P = Unit {0}
+OnUncommitted (Err (Placing NoMemory)) P = Unit {0}
+
+-- ---- runs
 
 -- a fact on a write fault: which events were taken, and how much of the last answer went out
 abbrev pub IfWrite : (List Bool → ℕ → Type 0) → RunFault → Type 0
 IfWrite P (Write taken sent) = P taken.items sent
-IfWrite P (Memory want) = Unit {0}
+IfWrite P Memory = Unit {0}
 
--- a fact on want of memory
+-- a fact on a run for whose list there was no memory
 abbrev pub IfMemory : Type 0 → RunFault → Type 0
 IfMemory P (Write taken sent) = Unit {0}
-IfMemory P (Memory want) = P
-
--- want of memory, and no write fault
-abbrev pub IsMemoryFault : RunFault → Type 0
-IsMemoryFault (Write taken sent) = ⊥
-IsMemoryFault (Memory want) = Unit {0}
+IfMemory P Memory = P
 
 -- the number of a run's fault, where it has one
 abbrev pub run_fault_number : RunFault → Option ℕ
 run_fault_number (Write taken sent) = None
-run_fault_number (Memory want) = Some memory_number
+run_fault_number Memory = Some memory_entry.number
 
 -- and its word
 abbrev pub run_fault_word : RunFault → List ℕ
 run_fault_word (Write taken sent) = codes "write_fault"
-run_fault_word (Memory want) = memory_word
+run_fault_word Memory = memory_entry.word

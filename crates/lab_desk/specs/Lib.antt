@@ -1,8 +1,8 @@
-pub mod Listed
-pub mod ListedLaws
-pub mod Answers
-pub mod Desks
-pub mod Events
+pub mod Lists
+pub mod ListLaws
+pub mod Requests
+pub mod Foundings
+pub mod Desk
 pub mod Alone
 pub mod Runs
 pub mod Faults

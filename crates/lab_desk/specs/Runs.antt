@@ -1,52 +1,109 @@
--- A run of an installation: which events were taken, what was answered, and that each laboratory's answers
--- and what it means are those of its run alone.
-use Rattle.std.specs.Prelude.{◌≡◌, ℕ, List, [], ◌∷◌, Bool, true, false, Option, Result, Ok, Err}
+-- A run of an installation: which events were taken, what was answered, and that each laboratory's answers and what it means
+-- are those of its run alone.
+use Rattle.std.specs.Prelude.{◌≡◌, ◌<◌, ◌++◌, ℕ, List, [], ◌∷◌, Bool, true, false, All, Option, None, Result, Ok, Err, IsOk, IfErr, MatchResult, filter_map, if◌then◌else◌, length, map, option_map, take}
+use Rattle.std.specs.Io.KnownBytes.{Appends}
+use Rattle.std.specs.List.{concat}
 use Rattle.lab_names.specs.declared.Tick.{Tick}
 use Rattle.lab_records.specs.declared.lab.Lab.{Lab}
-use Rattle.lab_records.specs.declared.refusal.Refusal.{Refusal}
-use Rattle.lab_records.specs.declared.command.Reply.TheVariants.{Refused}
-use Rattle.lab_wire.specs.declared.Ask.{Ask}
-use Rattle.lab_wire.specs.Asked.{asked, IsAskRefusal}
+use Rattle.lab_records.specs.Worlds.{World, Meaning, Tells}
+use Rattle.lab_wire.specs.declared.sending.WriteFault.{WriteFault}
+use Rattle.lab_wire.specs.declared.replies.Answer.TheVariants.{Refused}
+use Rattle.lab_wire.specs.Asked.{asked}
+use Rattle.lab_wire.specs.Bodies.{founding_named}
 use Rattle.lab_wire.specs.Replies.{reply_text}
-use Rattle.lab_desk.specs.declared.event.Event.{Event}
-use Rattle.lab_desk.specs.declared.event.Event.TheVariants.{Found, Call}
-use Rattle.lab_desk.specs.Answers.{IsRefusedLine}
-use Rattle.lab_desk.specs.Desks.{IsRefusedReply}
-use Rattle.lab_desk.specs.Alone.{own_taken, own_answers, alone_after, alone_answers}
+use Rattle.lab_desk.specs.declared.events.Event.{Event}
+use Rattle.lab_desk.specs.declared.events.Event.TheVariants.{Found, Call}
+use Rattle.lab_desk.specs.Requests.{Asks, IsRefusedReply}
+use Rattle.lab_desk.specs.Foundings.{IsRefusedLine}
+use Rattle.lab_desk.specs.Alone.{Own, own_of, alone_after, alone_answers}
 
--- an event that names no laboratory, being no request, is answered from its bytes and tick alone, by one of the
--- refusals of such bytes
-abbrev pub ForWireFault : Tick → Result Ask Refusal → List ℕ → Type 0
-ForWireFault tick (Err refusal) answer = IsAskRefusal refusal × (answer ≡ reply_text tick (Refused refusal))
-ForWireFault tick (Ok ask) answer = Unit {0}
+-- an event, whether it was taken, and what was answered to it: it is taken unless memory ran out or the store refused
+pub record Handled : Type 0 where
+  pub event : Event
+  pub taken : Bool
+  pub answer : List ℕ
 
--- what is written to a taken event that belongs to no laboratory
+-- ---- what is answered, apart from what a laboratory's machine says of it
+
+-- bytes that ask nothing are answered from themselves and the tick alone
+abbrev pub IsAnswerToNobody : Tick → Asks → List ℕ → Type 0
+IsAnswerToNobody tick asks answer = IfErr asks (λ refusal. answer ≡ reply_text tick (Refused refusal))
+
+-- the answer to a taken event that belongs to no laboratory
 abbrev pub IsNobodys : Event → List ℕ → Type 0
 IsNobodys (Found lab tick body) answer = Unit {0}
-IsNobodys (Call tick bytes) answer = ForWireFault tick (asked bytes.items) answer
+IsNobodys (Call tick bytes) answer = IsAnswerToNobody tick (asked bytes) answer
 
--- what is written to an event that was refused for memory, or by a store that may refuse
+-- the answer to an event that was refused for memory, or by a store that may refuse, which was asked something
 abbrev pub IsRefusal : Type 0 → Event → List ℕ → Type 0
-IsRefusal may_refuse (Found lab tick body) answer = IsRefusedLine may_refuse answer
-IsRefusal may_refuse (Call tick bytes) answer = IsRefusedReply may_refuse tick answer
+IsRefusal may_refuse (Found lab tick body) answer = IsRefusedLine (may_refuse × IsOk (founding_named body)) answer
+IsRefusal may_refuse (Call tick bytes) answer = IsRefusedReply (may_refuse × IsOk (asked bytes)) tick answer
 
--- one event's answer, apart from what its laboratory's machine says of it
-abbrev pub IsAnswer : Type 0 → Event → Bool → List ℕ → Type 0
-IsAnswer may_refuse event true answer = IsNobodys event answer
-IsAnswer may_refuse event false answer = IsRefusal may_refuse event answer
+abbrev pub IsAnswerBy : Type 0 → Bool → Event → List ℕ → Type 0
+IsAnswerBy may_refuse true event answer = IsNobodys event answer
+IsAnswerBy may_refuse false event answer = IsRefusal may_refuse event answer
 
--- each event has one answer, in order
-abbrev pub AreAnswers : Type 0 → List Event → List Bool → List (List ℕ) → Type 0
-AreAnswers may_refuse [] [] [] = Unit {0}
-AreAnswers may_refuse (event ∷ events) (one ∷ taken) (answer ∷ answers) = IsAnswer may_refuse event one answer × AreAnswers may_refuse events taken answers
-AreAnswers may_refuse _ _ _ = ⊥
+abbrev pub IsAnswer : Type 0 → Handled → Type 0
+IsAnswer may_refuse handled = IsAnswerBy may_refuse handled.taken handled.event handled.answer
 
--- to a laboratory the answers, and what it means in the end, are those of its run alone
-pub record IsAlone (code : List ℕ) (events : List Event) (taken : List Bool) (answers : List (List ℕ)) (old new : Option Lab) : Type 0 where
-  pub answered : own_answers code events taken answers ≡ alone_answers code old (own_taken code events taken)
-  pub after : new ≡ alone_after code old (own_taken code events taken)
+-- ---- each laboratory alone
 
--- a run: one answer an event, in order, and every laboratory alone
-pub record IsRun (may_refuse : Type 0) (events : List Event) (taken : List Bool) (answers : List (List ℕ)) (old new : List ℕ → Option Lab) : Type 0 where
-  pub each : AreAnswers may_refuse events taken answers
-  pub alone : (code : List ℕ) → IsAlone code events taken answers (old code) (new code)
+-- the laboratory's own event, where this one is its own and was taken
+abbrev pub own_in : List ℕ → Handled → Option Own
+own_in code handled = if handled.taken then own_of code handled.event else None
+
+-- its own events among those handled
+abbrev pub own_events : List ℕ → List Handled → List Own
+own_events code = filter_map (own_in code)
+
+-- and the answers to them
+abbrev pub own_answers : List ℕ → List Handled → List (List ℕ)
+own_answers code = filter_map (λ handled. option_map (λ own. handled.answer) (own_in code handled))
+
+-- what each laboratory is after its own events alone
+abbrev pub after_run : Meaning → List Handled → Meaning
+after_run start handled code = alone_after code (start code) (own_events code handled)
+
+-- each laboratory's answers are those of its run alone
+abbrev pub AreAlone : Meaning → List Handled → Type 0
+AreAlone start handled = (code : List ℕ) →
+    own_answers code handled ≡ alone_answers code (start code) (own_events code handled)
+
+-- a run: each event is answered as it may be; and from what the keeper told at its start, as from what it kept, each
+-- laboratory's answers, and what the keeper tells of it at its end, are those of its run alone
+pub record IsRun (old new : World) (handled : List Handled) : Type 0 where
+  pub each : All (IsAnswer old.may_refuse) handled
+  pub alone : (start : Meaning) → Tells old start → AreAlone start handled
+  pub after : (start : Meaning) → Tells old start → Tells new (after_run start handled)
+
+-- ---- what is told and written
+
+-- these are the events, in order, and whether each was taken
+pub record IsTold (events : List Event) (taken : List Bool) (handled : List Handled) : Type 0 where
+  pub events_are : map (λ (one : Handled). one.event) handled ≡ events
+  pub taken_are : map (λ (one : Handled). one.taken) handled ≡ taken
+
+-- the answers, one after the other
+abbrev pub answers_of : List Handled → List ℕ
+answers_of handled = concat (map (λ (one : Handled). one.answer) handled)
+
+-- an answer went out whole, or its first bytes did and then the writer failed
+abbrev pub Sends : List ℕ → Result (Unit {0}) WriteFault → Option (List ℕ) → Option (List ℕ) → Type 0
+Sends answer (Ok _) before after = Appends before after answer
+Sends answer (Err fault) before after = Appends before after (take fault.sent answer) × (fault.sent < length answer)
+
+-- all events were handled, and their answers were written, and nothing else
+pub record Runs (old new : World) (events : List Event) (taken : List Bool) (before after : Option (List ℕ)) : Type 0 where
+  pub handled : List Handled
+  pub told : IsTold events taken handled
+  pub run : IsRun old new handled
+  pub written : Appends before after (answers_of handled)
+
+-- the first events were handled, and their answers were written, the last of them cut to its first bytes
+pub record RunsCut (old new : World) (events : List Event) (taken : List Bool) (sent : ℕ) (before after : Option (List ℕ)) : Type 0 where
+  pub handled : List Handled
+  pub last : Handled
+  pub told : IsTold (take (length taken) events) taken (handled ++ last ∷ [])
+  pub run : IsRun old new (handled ++ last ∷ [])
+  pub written : Appends before after (answers_of handled ++ take sent last.answer)
+  pub short : sent < length last.answer

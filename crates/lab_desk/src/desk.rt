@@ -1,24 +1,23 @@
 //! The desk: one body for every keeper.
 
-ghost use Rattle.std.specs.Prelude.{◌≡◌, ◌⊎◌, ◌≤◌, length, vec_capacity, ℕ, List, [], IfOk, IfErr, OnOk, OnErr, Ok, Err, None, true, false, IfSome, IsSome};
-ghost use Rattle.lab_records.specs.declared.command.Reply.TheVariants.{Refused as RefusedReply};
-ghost use Rattle.lab_records.specs.Changes.{SameMeaning};
-ghost use Rattle.lab_records.specs.Refusals.{MayFail};
-ghost use Rattle.lab_records.specs.declared.command.Founding.{Founding as OneFounding};
-ghost use Rattle.lab_records.specs.Machine.{newborn};
+ghost use Rattle.std.specs.Prelude.{◌≡◌, ◌⊎◌, ◌≤◌, length, vec_capacity, [], true, false, Ok, Err, IsTrue, IsFalse, IfOk, IfErr, OnOk, OnErr, option_map};
+ghost use Rattle.lab_records.specs.Worlds.{Passes, Given, Leaves, Lives, Quiet, CommitsAs, IsSettled};
+ghost use Rattle.lab_wire.specs.declared.refusals.RequestRefusal.{RequestRefusal as OneRefusal};
+ghost use Rattle.lab_wire.specs.declared.replies.Answer.TheVariants.{Refused as RefusedAnswer};
 ghost use Rattle.lab_wire.specs.Asked.{asked};
+ghost use Rattle.lab_wire.specs.Bodies.{founding_named};
 ghost use Rattle.lab_wire.specs.Replies.{reply_text, memory_text};
-ghost use Rattle.lab_wire.specs.Foundings.{founding_named};
-ghost use Rattle.lab_desk.specs.Answers.{reply_to, after_request, MovesFor, born_of, after_founding, FoundingMay, line_of, shown, IsRefusedLine, IsRefusedWith};
-ghost use Rattle.lab_desk.specs.Faults.{IsMemoryFault};
-ghost use Rattle.std.specs.Option.{option_map};
-ghost use Rattle.lab_desk.specs.Desks.{TakesRequest, RefusesRequest};
+ghost use Rattle.lab_desk.specs.Requests.{TakesRequest, RefusesRequest, MovesFor, Steps, is_idle_request};
+ghost use Rattle.lab_desk.specs.Foundings.{Founds, Births, TakesFounding, RefusesFounding, shown};
+ghost use Rattle.lab_desk.specs.Faults.{FoundFaultFits, OnBody, OnKept, OnUncommitted};
+ghost use Rattle.std.specs.Prelude.{IsSome};
 
-use crate::event::{Event, RunFault};
-use crate::founding::{Line, answer_refusal, founded};
-use crate::handling::answer_request;
-use lab_records::{Fault, Keeper, LabCode, OutOfMemory, Reply, Tick};
-use lab_wire::{founding_of, memory_reply, reply_bytes};
+use crate::events::Event;
+use crate::faults::FoundFault;
+use crate::foundings::{Line, founded, refused};
+use crate::requests::answer_asked;
+use lab_records::{Keeper, KeeperFault, LabCode, OutOfMemory, PlacingFault, Tick};
+use lab_wire::{Answer, BodyFault, RequestFault, ask, founding_of, memory_reply, reply_bytes};
 use std::alloc::Global;
 use std::marker::Model;
 
@@ -32,21 +31,25 @@ pub struct Desk<S> {
 }
 
 impl<S> Model for Desk<S> {
-    ghost use Rattle.std.specs.Prelude.{◌≡◌};
+    ghost use Rattle.std.specs.Prelude.{◌≡◌, option_map, unwrap_or};
     ghost use Rattle.lab_wire.specs.Replies.{memory_text};
-    ghost use Rattle.std.specs.Prelude.{unwrap_or};
-    ghost use Rattle.std.specs.Option.{option_map};
-    ghost use Rattle.lab_desk.specs.Desks.{Served};
+    ghost use Rattle.lab_desk.specs.Desk.{Served};
 
     ghost Value = { Served S };
 
-    ghost view = { λ desk. record { keeper = desk.keeper; reply = unwrap_or (option_map (λ reply. reply.items) desk.last) desk.memory.items } };
+    ghost view = { λ desk. record {
+        keeper = desk.keeper;
+        reply = unwrap_or (option_map (λ reply. reply.items) desk.last) desk.memory.items;
+    } };
 
     ghost invariant = { λ desk. desk.memory.items ≡ memory_text };
 }
 
 impl<S: Keeper + Drop> Desk<S> {
-    /// A desk over a keeper, with the reply for want of memory prepared. An error drops the keeper.
+    /// A desk over a keeper, with the reply for lack of memory prepared. An error drops the keeper.
+    ///
+    /// # Errors
+    /// Only that memory ran out.
     pub fn new(alloc: Global, keeper: S) -> Result<Desk<S>, OutOfMemory>
         ensures keeper { IfOk result (λ desk. desk.keeper ≡ keeper) }
         ensures reply { IfOk result (λ desk. desk.reply ≡ []) }
@@ -60,40 +63,62 @@ impl<S: Keeper + Drop> Desk<S> {
         })
     }
 
-    /// Handles a request: `reply` has its reply, and the keeper what became of its laboratory. Where memory
-    /// runs out, or the store refuses, the reply says so and nothing is changed.
-    pub fn handle(&mut self, tick: &Tick, bytes: &[u8])
-        ensures handled { S.is_honest self.new.keeper → S.is_reached self.old.keeper →
-            TakesRequest (S.rests self.old.keeper self.new.keeper) (S.moves self.old.keeper self.new.keeper)
-            (S.meaning self.old.keeper) (S.meaning self.new.keeper) tick.now (asked bytes.now) self.new.reply
-            ⊎ RefusesRequest (S.may_refuse self.old.keeper) (S.rests self.old.keeper self.new.keeper)
-            (S.meaning self.old.keeper) (S.meaning self.new.keeper) tick.now self.new.reply }
-        ensures honest { S.is_honest self.new.keeper → S.is_honest self.old.keeper }
-        ensures reached { S.is_honest self.new.keeper → S.is_reached self.old.keeper → S.is_reached self.new.keeper }
-        ensures refusing { S.may_refuse self.new.keeper → S.may_refuse self.old.keeper }
-    {
-        let _taken = self.serve(tick, bytes);
-    }
+    /// Handles a request: `reply` has its reply, and the keeper what became of its laboratory. Answers whether the
+    /// request was taken: it was, unless memory ran out or the store refused; then the reply says so and nothing
+    /// is changed.
+    pub fn handle(&mut self, tick: &Tick, bytes: &[u8]) -> bool
+        ensures taken { Given (S.world self.old.keeper) (S.world self.new.keeper) (result ≡ true →
+            TakesRequest (S.world self.old.keeper) (S.world self.new.keeper) tick.now (asked bytes.now) self.new.reply) }
+        ensures refused { Given (S.world self.old.keeper) (S.world self.new.keeper) (result ≡ false →
+            RefusesRequest (S.world self.old.keeper) (S.world self.new.keeper) tick.now (asked bytes.now) self.new.reply) }
 
-    /// Handles a request, and says whether it was taken: it was, unless memory ran out or the store refused.
-    pub(crate) fn serve(&mut self, tick: &Tick, bytes: &[u8]) -> bool
-        ensures taken { S.is_honest self.new.keeper → S.is_reached self.old.keeper → result ≡ true →
-            TakesRequest (S.rests self.old.keeper self.new.keeper) (S.moves self.old.keeper self.new.keeper)
-            (S.meaning self.old.keeper) (S.meaning self.new.keeper) tick.now (asked bytes.now) self.new.reply }
-        ensures refused { S.is_honest self.new.keeper → S.is_reached self.old.keeper → result ≡ false →
-            RefusesRequest (S.may_refuse self.old.keeper) (S.rests self.old.keeper self.new.keeper)
-            (S.meaning self.old.keeper) (S.meaning self.new.keeper) tick.now self.new.reply }
-        ensures honest { S.is_honest self.new.keeper → S.is_honest self.old.keeper }
-        ensures reached { S.is_honest self.new.keeper → S.is_reached self.old.keeper → S.is_reached self.new.keeper }
-        ensures refusing { S.may_refuse self.new.keeper → S.may_refuse self.old.keeper }
+        // The rows:
+        ensures rows { Given (S.world self.old.keeper) (S.world self.new.keeper) (result ≡ true →
+            MovesFor (S.world self.old.keeper).meaning tick.now (asked bytes.now)
+            (S.rests self.old.keeper self.new.keeper) (S.moves self.old.keeper self.new.keeper)) }
+        ensures rows_refused { Given (S.world self.old.keeper) (S.world self.new.keeper) (result ≡ false →
+            (S.world self.new.keeper).is_live → S.rests self.old.keeper self.new.keeper) }
+
+        // Bytes that ask nothing:
+        ensures untouched { (refusal : OneRefusal) → asked bytes.now ≡ Err refusal →
+            self.new.keeper ≡ self.old.keeper }
+        ensures nobodys { (refusal : OneRefusal) → asked bytes.now ≡ Err refusal →
+            (self.new.reply ≡ reply_text tick.now (RefusedAnswer refusal)) ⊎ (self.new.reply ≡ memory_text) }
+
+        // What a crash may leave:
+        ensures crash { Given (S.world self.old.keeper) (S.world self.new.keeper)
+            (CommitsAs (Steps tick.now (asked bytes.now)) (S.world self.old.keeper) (S.world self.new.keeper)) }
+        ensures quiet { IsTrue (is_idle_request (S.world self.old.keeper).meaning tick.now (asked bytes.now)) →
+            Given (S.world self.old.keeper) (S.world self.new.keeper)
+            (Quiet (S.world self.old.keeper) (S.world self.new.keeper)) }
+        ensures settled { IsFalse (is_idle_request (S.world self.old.keeper).meaning tick.now (asked bytes.now)) →
+            Given (S.world self.old.keeper) (S.world self.new.keeper) (result ≡ true → IsSettled (S.world self.new.keeper)) }
+
+        ensures reached { Given (S.world self.old.keeper) (S.world self.new.keeper) (S.world self.new.keeper).is_reached }
+        ensures passes { Passes (S.world self.old.keeper) (S.world self.new.keeper) }
     {
-        match answer_request(self.alloc, &mut self.keeper, tick, bytes) {
+        let asked = match ask(self.alloc, bytes) {
+            Ok(asked) => asked,
+            Err(RequestFault::Refused(refusal)) => {
+                self.last = reply_bytes(self.alloc, tick, &Answer::Refused(refusal)).ok();
+                return self.last.is_some();
+            }
+            Err(RequestFault::Memory) => {
+                self.last = None;
+                return false;
+            }
+        };
+        match answer_asked(self.alloc, &mut self.keeper, tick, asked) {
             Ok(reply) => {
                 self.last = Some(reply);
                 true
             }
-            Err(fault) => {
-                self.last = refusal_bytes(self.alloc, tick, fault);
+            Err(KeeperFault::Storage) => {
+                self.last = reply_bytes(self.alloc, tick, &Answer::Storage).ok();
+                false
+            }
+            Err(KeeperFault::Memory) => {
+                self.last = None;
                 false
             }
         }
@@ -112,43 +137,57 @@ impl<S: Keeper + Drop> Desk<S> {
     /// Founds a laboratory from its body.
     ///
     /// # Errors
-    /// The body's refusals, that the laboratory is there, the store's refusal, want of memory. After each of
-    /// them every laboratory means what it meant.
-    pub fn found(&mut self, lab: &LabCode, tick: &Tick, body: &[u8]) -> Result<(), Fault>
-        ensures founded { S.is_honest self.new.keeper → S.is_reached self.old.keeper → OnOk result ((founding : OneFounding)
-            × (founding_named body.now ≡ Ok founding)
-            × (S.meaning self.old.keeper lab.now ≡ None)
-            × S.places self.old.keeper self.new.keeper (newborn lab.now tick.now founding)) }
-        ensures after { S.is_honest self.new.keeper → S.is_reached self.old.keeper → OnOk result ((code : List ℕ) →
-            S.meaning self.new.keeper code ≡ after_founding code (S.meaning self.old.keeper code) lab.now tick.now (founding_named body.now)) }
-        ensures err { S.is_honest self.new.keeper → S.is_reached self.old.keeper →
-            OnErr result (SameMeaning (S.meaning self.old.keeper) (S.meaning self.new.keeper)) }
-        ensures fault { IfErr result (MayFail (FoundingMay (S.may_refuse self.old.keeper)
-            (S.is_honest self.new.keeper → S.is_reached self.old.keeper → IsSome (S.meaning self.old.keeper lab.now)) (founding_named body.now))) }
-        ensures rows_err { S.is_honest self.new.keeper → S.is_reached self.old.keeper → OnErr result (S.rests self.old.keeper self.new.keeper) }
+    /// The body's refusals, that the laboratory is there, the store's refusal, and that memory ran out. After each
+    /// of them every laboratory means what it meant.
+    pub fn found(&mut self, lab: &LabCode, tick: &Tick, body: &[u8]) -> Result<(), FoundFault>
+        ensures founded { Given (S.world self.old.keeper) (S.world self.new.keeper) (OnOk result
+            (Founds (S.world self.old.keeper) (S.world self.new.keeper) (S.places self.old.keeper self.new.keeper)
+            lab.now tick.now (founding_named body.now))) }
+        ensures err { Given (S.world self.old.keeper) (S.world self.new.keeper)
+            (OnErr result (Leaves (S.world self.old.keeper) (S.world self.new.keeper))) }
+        ensures rows_err { Given (S.world self.old.keeper) (S.world self.new.keeper)
+            (OnErr result ((S.world self.new.keeper).is_live → S.rests self.old.keeper self.new.keeper)) }
+        ensures fault { IfErr result (FoundFaultFits (S.world self.old.keeper).may_refuse
+            (Given (S.world self.old.keeper) (S.world self.new.keeper) (IsSome ((S.world self.old.keeper).meaning lab.now)))
+            (founding_named body.now)) }
+        ensures lives { Given (S.world self.old.keeper) (S.world self.new.keeper)
+            (OnKept result (Lives (S.world self.old.keeper) (S.world self.new.keeper))) }
+        ensures untouched { OnBody result (self.new.keeper ≡ self.old.keeper) }
         ensures reply { self.new.reply ≡ self.old.reply }
-        ensures honest { S.is_honest self.new.keeper → S.is_honest self.old.keeper }
-        ensures reached { S.is_honest self.new.keeper → S.is_reached self.old.keeper → S.is_reached self.new.keeper }
-        ensures refusing { S.may_refuse self.new.keeper → S.may_refuse self.old.keeper }
+
+        // What a crash may leave:
+        ensures crash { Given (S.world self.old.keeper) (S.world self.new.keeper)
+            (CommitsAs (Births lab.now tick.now (founding_named body.now))
+            (S.world self.old.keeper) (S.world self.new.keeper)) }
+        ensures quiet { Given (S.world self.old.keeper) (S.world self.new.keeper)
+            (OnUncommitted result (Quiet (S.world self.old.keeper) (S.world self.new.keeper))) }
+        ensures settled { Given (S.world self.old.keeper) (S.world self.new.keeper)
+            (OnOk result (IsSettled (S.world self.new.keeper))) }
+
+        ensures reached { Given (S.world self.old.keeper) (S.world self.new.keeper) (S.world self.new.keeper).is_reached }
+        ensures passes { Passes (S.world self.old.keeper) (S.world self.new.keeper) }
     {
-        let founding = founding_of(self.alloc, body)?;
-        self.keeper.found(lab, &founding, tick)
+        let founding = match founding_of(self.alloc, body) {
+            Ok(founding) => founding,
+            Err(BodyFault::Refused(refusal)) => return Err(FoundFault::Body(refusal)),
+            Err(BodyFault::Memory) => return Err(FoundFault::Placing(PlacingFault::Memory)),
+        };
+        match self.keeper.found(lab, &founding, tick) {
+            Ok(()) => Ok(()),
+            Err(fault) => Err(FoundFault::Placing(fault)),
+        }
     }
 
     /// Founds a laboratory, and says so in a line, which is built before anything is changed.
     pub(crate) fn answer_founding(&mut self, lab: &LabCode, tick: &Tick, body: &[u8]) -> Line
-        ensures taken { S.is_honest self.new.keeper → S.is_reached self.old.keeper → result.taken ≡ true →
-            shown (option_map (λ line. line.items) result.text) ≡ line_of lab.now (born_of (S.meaning self.old.keeper lab.now) lab.now tick.now (founding_named body.now)) }
-        ensures after { S.is_honest self.new.keeper → S.is_reached self.old.keeper → result.taken ≡ true → (code : List ℕ) →
-            S.meaning self.new.keeper code ≡ after_founding code (S.meaning self.old.keeper code) lab.now tick.now (founding_named body.now) }
-        ensures refused { result.taken ≡ false →
-            IsRefusedLine (S.may_refuse self.old.keeper) (shown (option_map (λ line. line.items) result.text)) }
-        ensures same { S.is_honest self.new.keeper → S.is_reached self.old.keeper → result.taken ≡ false →
-            SameMeaning (S.meaning self.old.keeper) (S.meaning self.new.keeper) }
-        ensures reply { self.new.reply ≡ self.old.reply }
-        ensures honest { S.is_honest self.new.keeper → S.is_honest self.old.keeper }
-        ensures reached { S.is_honest self.new.keeper → S.is_reached self.old.keeper → S.is_reached self.new.keeper }
-        ensures refusing { S.may_refuse self.new.keeper → S.may_refuse self.old.keeper }
+        ensures taken { Given (S.world self.old.keeper) (S.world self.new.keeper) (result.taken ≡ true →
+            TakesFounding (S.world self.old.keeper) (S.world self.new.keeper) lab.now tick.now
+            (founding_named body.now) (shown (option_map (λ line. line.items) result.text))) }
+        ensures refused { Given (S.world self.old.keeper) (S.world self.new.keeper) (result.taken ≡ false →
+            RefusesFounding (S.world self.old.keeper) (S.world self.new.keeper)
+            (founding_named body.now) (shown (option_map (λ line. line.items) result.text))) }
+        ensures reached { Given (S.world self.old.keeper) (S.world self.new.keeper) (S.world self.new.keeper).is_reached }
+        ensures passes { Passes (S.world self.old.keeper) (S.world self.new.keeper) }
     {
         let Ok(line) = founded(self.alloc, lab) else {
             return Line {
@@ -161,20 +200,29 @@ impl<S: Keeper + Drop> Desk<S> {
                 taken: true,
                 text: Some(line),
             },
-            Err(fault) => answer_refusal(self.alloc, &fault),
+            Err(FoundFault::Placing(PlacingFault::Memory)) => Line {
+                taken: false,
+                text: None,
+            },
+            Err(fault) => match refused(self.alloc, &fault) {
+                Ok(text) => Line {
+                    taken: fault != FoundFault::Placing(PlacingFault::Storage),
+                    text: Some(text),
+                },
+                Err(_) => Line {
+                    taken: false,
+                    text: None,
+                },
+            },
         }
     }
 
     /// Room for one word an event.
-    pub(crate) fn room_for(&self, events: &[Event]) -> Result<Vec<bool>, RunFault>
+    pub(crate) fn room_for(&self, events: &[Event]) -> Result<Vec<bool>, OutOfMemory>
         ensures empty { IfOk result (λ taken. taken.items ≡ []) }
         ensures room { IfOk result (λ taken. length events.now ≤ vec_capacity taken) }
-        ensures memory { IfErr result IsMemoryFault }
     {
-        match Vec::with_capacity(self.alloc, events.len()) {
-            Ok(taken) => Ok(taken),
-            Err(_) => Err(RunFault::Memory(OutOfMemory)),
-        }
+        Ok(Vec::with_capacity(self.alloc, events.len())?)
     }
 
     /// The keeper, given up.
@@ -182,15 +230,5 @@ impl<S: Keeper + Drop> Desk<S> {
         ensures { result ≡ self.keeper }
     {
         self.keeper
-    }
-}
-
-/// The reply for a request that was refused for memory or storage; none where memory doesn't serve for it.
-fn refusal_bytes(alloc: Global, tick: &Tick, fault: Fault) -> Option<Vec<u8>>
-    ensures { IfSome result (λ reply. IsRefusedWith fault (λ refusal. reply.items ≡ reply_text tick.now (RefusedReply refusal))) }
-{
-    match fault {
-        Fault::Memory(_) => None,
-        Fault::Refused(refusal) => reply_bytes(alloc, tick, &Reply::Refused(refusal)).ok(),
     }
 }

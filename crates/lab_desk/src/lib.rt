@@ -3,15 +3,18 @@
 #![tactic(auto)]
 
 mod desk;
-mod event;
-mod founding;
-mod handling;
+mod events;
+mod faults;
+mod foundings;
 mod lists;
-mod run;
+mod requests;
+mod runs;
 #[cfg(test)]
 mod tests;
 
 pub use crate::desk::Desk;
-pub use crate::event::{Event, RunFault};
+pub use crate::events::Event;
+pub use crate::faults::{FoundFault, RunFault};
 pub use crate::lists::Lists;
-pub use lab_records::{Fault, Keeper, LabCode, OutOfMemory, Refusal, Tick};
+pub use lab_records::{Keeper, LabCode, OutOfMemory, PlacingFault, Refusal, Series, Tick};
+pub use lab_wire::BodyRefusal;

@@ -3,10 +3,11 @@
 ghost use Rattle.std.specs.Prelude.{◌≡◌, ◌≢◌, ℕ, List, [], ◌∷◌, ◌++◌, ◌<◌, IfOk, OnErr, length, position, slice_get, slice_set, IfSome};
 ghost use Rattle.lab_records.specs.Changes.{changed};
 ghost use Rattle.std.specs.Option.{option_copied};
-ghost use Rattle.lab_desk.specs.Listed.{has_code, lab_of};
+ghost use Rattle.lab_desk.specs.Lists.{has_code, lab_of};
 
 use lab_records::{
-    Change, Fault, Founding, Keeper, Lab, LabCode, Need, OutOfMemory, Refusal, Slice, Tick,
+    Change, Founding, Keeper, KeeperFault, Lab, LabCode, Need, OutOfMemory, PlacingFault, Slice,
+    Tick,
 };
 use std::alloc::Global;
 use std::marker::Model;
@@ -40,16 +41,10 @@ impl Lists {
 impl Keeper for Lists {
     ghost use Rattle.std.specs.Prelude.{◌≡◌, ◌++◌, ◌∷◌, [], refl};
     ghost use Rattle.std.proofs.Common.{◌∙◌};
-    ghost use Rattle.lab_desk.specs.Listed.{lab_of, ChangesInPlace};
-    ghost use Rattle.lab_desk.specs.ListedLaws.{own_code, unchanged_in_place, changed_after_rest};
+    ghost use Rattle.lab_desk.specs.Lists.{world_of, ChangesInPlace};
+    ghost use Rattle.lab_desk.specs.ListLaws.{own_code, unchanged_in_place, changed_after_rest};
 
-    ghost meaning = { lab_of };
-
-    ghost is_honest = { λ _. Unit {0} };
-
-    ghost is_reached = { λ _. Unit {0} };
-
-    ghost may_refuse = { λ _. ⊥ };
+    ghost world = { world_of };
 
     ghost rests = { λ old new. new ≡ old };
 
@@ -57,14 +52,14 @@ impl Keeper for Lists {
 
     ghost places = { λ old new lab. new ≡ old ++ lab ∷ [] };
 
-    fn load(&mut self, code: &LabCode, need: &Need) -> Result<Option<Slice>, Fault> {
+    fn load(&mut self, code: &LabCode, need: &Need) -> Result<Option<Slice>, KeeperFault> {
         let Some(lab) = lab_named(&self.labs, code) else {
             return Ok(None);
         };
         Ok(Some(lab.part(need)?))
     }
 
-    fn apply(&mut self, code: &LabCode, changes: &[Change]) -> Result<(), Fault> {
+    fn apply(&mut self, code: &LabCode, changes: &[Change]) -> Result<(), KeeperFault> {
         if changes.is_empty() {
             return Ok(());
         }
@@ -76,9 +71,9 @@ impl Keeper for Lists {
         Ok(())
     }
 
-    fn found(&mut self, code: &LabCode, founding: &Founding, tick: &Tick) -> Result<(), Fault> {
+    fn found(&mut self, code: &LabCode, founding: &Founding, tick: &Tick) -> Result<(), PlacingFault> {
         if lab_named(&self.labs, code).is_some() {
-            return Err(Fault::Refused(Refusal::LabExists));
+            return Err(PlacingFault::LabExists);
         }
         let lab = Lab {
             code: code.copy()?,
@@ -89,7 +84,7 @@ impl Keeper for Lists {
         Ok(())
     }
 
-    ghost kept = { λ labs code lab honest reached. own_code labs code lab };
+    ghost kept = { λ labs code lab honest live reached. own_code labs code lab };
 
     ghost still = { λ _. refl };
 
@@ -115,7 +110,7 @@ fn place_of(labs: &[Lab], code: &LabCode) -> Option<usize>
         .position(|lab| lab.code.as_str() == code.as_str())
 }
 
-/// A second laboratory beside the first, with the changes made.
+/// A copy of a laboratory, with the changes made.
 fn changed_copy(lab: &Lab, changes: &[Change]) -> Result<Lab, OutOfMemory>
     ensures { IfOk result (λ copy. copy ≡ changed lab.now changes.now) }
 {

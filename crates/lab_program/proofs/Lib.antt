@@ -2,4 +2,6 @@ pub mod EventLemmas
 pub mod NumberLemmas
 pub mod ReadLemmas
 pub mod NextLemmas
+pub mod ExplainLemmas
+pub mod KnownValues
 pub mod ReplayLemmas

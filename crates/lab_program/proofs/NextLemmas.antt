@@ -1,46 +1,63 @@
 -- The next line and the next event, from what the readers gave.
-use Rattle.std.proofs.Common.{◌≡◌, ◌≢◌, ℕ, ◌<◌, ◌≤◌, List, [], ◌∷◌, ◌++◌, length, take, drop, Option, Some, None, Bool, true, false, cond, nat_eq, nat_le, refl, arith, sym, ap, ◌∙◌, length-append}
-use Rattle.std.specs.Prelude.{IfSome, IsSome, Ok, Err, Vec}
-use Rattle.std.specs.Option.{option_eq, option_to_list}
+use Rattle.std.proofs.Common.{◌≡◌, ℕ, ◌<◌, ◌≤◌, List, [], ◌∷◌, ◌++◌, length, take, drop, Option, Some, None, Bool, true, false, cond, nat_le, refl, arith, sym, ap, ◌∙◌, length-append, append-nil}
+use Rattle.std.specs.Prelude.{IfSome, Ok, Err, Vec}
 use Rattle.std.proofs.lemmas.Bool.Decides.{nat_tests}
-use Rattle.std.specs.Io.BufRead.{take_through, drop_through}
-use Rattle.lab_desk.specs.declared.event.Event.{Event as EventRead}
+use Rattle.lab_desk.specs.declared.events.Event.{Event as EventRead}
 use Rattle.lab_program.specs.declared.event.Heading.{Heading as HeadingRead}
 use Rattle.lab_program.specs.declared.fault.ReplayFault.{ReplayFault}
 use Rattle.lab_program.specs.declared.fault.ReplayFault.TheVariants.{BadEvent, ReadFault, WriteFault, Memory}
-use Rattle.lab_program.specs.Event.{cut_at, heading_of, next_event, next_of, with_bytes, Event, End, Bad, Taken}
-use Rattle.lab_program.specs.Reading.{IsRefused, TakesLine, TakesBytes, TakesNext, heading_said, event_said}
-use Rattle.lab_program.proofs.ReadLemmas.{cut_at-ended, cut_at-short}
+use Rattle.lab_program.specs.Event.{cut_at, most_line, line_at, short_line, ◌>>=◌, heading_of, next_event, next_of, with_bytes, Event, End, Bad, Taken}
+use Rattle.lab_program.specs.Reading.{IsRefused, TakesByte, TakesLine, TakesBytes, TakesNext, heading_said, event_said}
+use Rattle.lab_program.proofs.ReadLemmas.{HasRead, after, cut_feed, cut_end}
+use Rattle.lab_program.specs.Fault.{IsInputFault}
 
-module _ {A : Type 0} (line : Vec ℕ A) (left : Option (List ℕ)) where
-  -- a line that a line feed ended
-  pub line_taken : (old : Option (List ℕ)) (got : Option ℕ) (start items : List ℕ)
-      → IfSome old (λ xs. items ≡ start ++ take_through 10 xs) → IfSome old (λ xs. left ≡ Some (drop_through 10 xs))
-      → start ≡ [] → items ≡ line.items ++ option_to_list got → option_eq nat_eq got (Some 10) ≡ true
-      → IfSome old (λ input. TakesLine input left (Ok (Some line)))
-  line_taken None got start items read rest none popped same = tt
-  line_taken (Some xs) None start items read rest none popped same = absurd (cc)
-  line_taken (Some xs) (Some b) start items read rest none popped same =
-      let feed : b ≡ 10 = grind (arith, nat_tests) in
-      let whole : take_through 10 xs ≡ line.items ++ 10 ∷ [] =
-      ap (λ s. s ++ take_through 10 xs) (sym none) ∙ sym read ∙ popped ∙ ap (λ x. line.items ++ x ∷ []) feed in
-      (drop_through 10 xs, cut_at-ended 10 xs line.items whole, rest)
+short_test : (b : Bool) (parts : List ℕ × List ℕ) → b ≡ true → cond b (Some parts) None ≡ Some parts
+short_test true parts e = refl
+short_test false parts e = absurd (cc)
 
-  some_input : (xs front : List ℕ) (b : ℕ) → take_through 10 xs ≡ front ++ b ∷ [] → 0 < length xs
-  some_input [] front b e = omega (arith, ap length e, length-append front (b ∷ []))
-  some_input (x ∷ xs) front b e = omega arith
+long_test : (b : Bool) (parts : List ℕ × List ℕ) → b ≡ false → cond b (Some parts) None ≡ None
+long_test true parts e = absurd (cc)
+long_test false parts e = refl
 
-  -- and one that the end of the input ended
-  pub line_short : (old : Option (List ℕ)) (got : Option ℕ) (start items : List ℕ)
-      → IfSome old (λ xs. items ≡ start ++ take_through 10 xs)
-      → start ≡ [] → items ≡ line.items ++ option_to_list got → IsSome got → option_eq nat_eq got (Some 10) ≡ false
-      → IfSome old (λ input. TakesLine {A = A} input left (Err BadEvent))
-  line_short None got start items read none popped some other = tt
-  line_short (Some xs) None start items read none popped some other = absurd (cc)
-  line_short (Some xs) (Some b) start items read none popped some other =
-      let unlike : b ≢ 10 = λ e. grind (arith, nat_tests) in
-      let whole : take_through 10 xs ≡ line.items ++ b ∷ [] = ap (λ s. s ++ take_through 10 xs) (sym none) ∙ sym read ∙ popped in
-      (some_input xs line.items b whole, cut_at-short 10 b xs line.items whole unlike)
+short_enough : (line rest : List ℕ) → length line ≤ most_line → short_line (line, rest) ≡ Some (line, rest)
+short_enough line rest h = let e : nat_le (length line) 1000 ≡ true = grind (arith, nat_tests) in short_test _ (line, rest) e
+
+too_long : (line : List ℕ) (cut : Option (List ℕ × List ℕ)) → most_line < length line → after line cut >>= short_line ≡ None
+too_long line None h = refl
+too_long line (Some parts) h =
+    let longer : 1000 < length (line ++ parts.0) = omega (arith, h, length-append line parts.0) in
+    let e : nat_le (length (line ++ parts.0)) 1000 ≡ false = grind (arith, nat_tests) in
+    long_test _ (line ++ parts.0, parts.1) e
+
+-- the line that the bytes before a line feed are
+pub line_taken : {A : Type 0} → (old mid new : Option (List ℕ)) (line : Vec ℕ A) (b : ℕ) → b ≡ 10 → length line.items ≤ most_line
+    → HasRead old mid line.items → IfSome mid (λ input. TakesByte input new (Ok (Some b))) → IfSome old (λ input. TakesLine input new (Ok (Some line)))
+line_taken None mid new line b feed within read took = tt
+line_taken (Some input) mid new line b feed within read took =
+    let byte : IfSome (Some read.0) (λ xs. TakesByte xs new (Ok (Some b))) = rw read.1 at took in
+    let rest : read.0 ≡ 10 ∷ byte.0 = byte.1 ∙ ap (λ x. x ∷ byte.0) feed in
+    let cut : cut_at 10 input ≡ Some (line.items ++ [], byte.0) =
+    read.3 ∙ ap (λ xs. after line.items (cut_at 10 xs)) rest ∙ ap (after line.items) (cut_feed byte.0) in
+    let whole : cut_at 10 input ≡ Some (line.items, byte.0) = cut ∙ ap (λ xs. Some (xs, byte.0)) (append-nil line.items) in
+    (byte.0, ap (λ o. o >>= short_line) whole ∙ short_enough line.items byte.0 within, byte.2)
+
+-- bytes that the end of the input follows are no line
+pub line_short : (A : Type 0) (old mid new : Option (List ℕ)) (line : List ℕ) → HasRead old mid line → IfSome mid (λ input. TakesByte input new (Ok None))
+    → 0 < length line → IfSome old (λ input. TakesLine {A = A} input new (Err BadEvent))
+line_short A None mid new line read took some = tt
+line_short A (Some input) mid new line read took some =
+    let byte : IfSome (Some read.0) (λ xs. TakesByte xs new (Ok None)) = rw read.1 at took in
+    let cut : cut_at 10 input ≡ None = read.3 ∙ ap (λ xs. after line (cut_at 10 xs)) byte.0 ∙ ap (after line) cut_end in
+    let long : 0 < length input = omega (arith, some, ap length read.2, length-append line read.0) in
+    (long, ap (λ o. o >>= short_line) cut)
+
+-- nor are too many bytes
+pub line_long : (A : Type 0) (old mid : Option (List ℕ)) (line : List ℕ) → HasRead old mid line → most_line < length line
+    → IfSome old (λ input. TakesLine {A = A} input mid (Err BadEvent))
+line_long A None mid line read many = tt
+line_long A (Some input) mid line read many =
+    let long : 0 < length input = omega (arith, many, ap length read.2, length-append line read.0) in
+    (long, ap (λ o. o >>= short_line) read.3 ∙ too_long line (cut_at 10 read.0) many)
 
 -- The next event.
 
@@ -49,18 +66,17 @@ unfolding next_event
 next_at_end [] e = refl
 next_at_end (b ∷ bs) e = absurd (cc)
 
-next_of_line : (input : List ℕ) → 0 < length input → next_event input ≡ next_of (cut_at 10 input)
+next_of_line : (input : List ℕ) → 0 < length input → next_event input ≡ next_of (line_at input)
 unfolding next_event
 next_of_line [] h = absurd (omega arith)
 next_of_line (b ∷ bs) h = refl
 
-no_cut : (o : Option (List ℕ × List ℕ)) (input : List ℕ) (parts : List ℕ × List ℕ) → input ≡ [] → cut_at 10 input ≡ Some parts → ⊥
-unfolding cut_at
-no_cut o input parts e cut = let none : cut_at 10 input ≡ None = ap (cut_at 10) e in absurd (cc)
+no_line : (parts : List ℕ × List ℕ) → line_at [] ≡ Some parts → ⊥
+no_line parts line = let none : line_at [] ≡ None = ap (λ o. o >>= short_line) cut_end in absurd (cc)
 
-next_of_cut : (input : List ℕ) (parts : List ℕ × List ℕ) → cut_at 10 input ≡ Some parts → next_event input ≡ with_bytes (heading_of parts.0) parts.1
+next_of_cut : (input : List ℕ) (parts : List ℕ × List ℕ) → line_at input ≡ Some parts → next_event input ≡ with_bytes (heading_of parts.0) parts.1
 unfolding next_event
-next_of_cut [] parts cut = absurd (no_cut None [] parts refl cut)
+next_of_cut [] parts cut = absurd (no_line parts cut)
 next_of_cut (b ∷ bs) parts cut = ap next_of cut
 
 -- there was no next line
@@ -78,7 +94,7 @@ next_no_line A (Some input) left after WriteFault line = line
 next_no_line A (Some input) left after Memory line = tt
 
 module _ {A : Type 0} (line : Vec ℕ A) where
-  bad_heading : (input : List ℕ) (parts : List ℕ × List ℕ) → cut_at 10 input ≡ Some parts → heading_of parts.0 ≡ None → next_event input ≡ Bad
+  bad_heading : (input : List ℕ) (parts : List ℕ × List ℕ) → line_at input ≡ Some parts → heading_of parts.0 ≡ None → next_event input ≡ Bad
   bad_heading input parts cut none = next_of_cut input parts cut ∙ ap (λ o. with_bytes o parts.1) none
 
   -- the line's words were no heading

@@ -1,15 +1,17 @@
 -- Facts on what a reader gave.
-use Rattle.std.proofs.Common.{◌≡◌, ◌≢◌, ℕ, ◌+◌, ◌<◌, ◌≤◌, List, [], ◌∷◌, ◌++◌, length, take, drop, get_or, Option, Some, None, Bool, true, false, cond, ◌==◌, refl, arith, sym, ap, subst, ◌∙◌, zero, suc, drop_at, length-take-le, length-append}
-use Rattle.std.specs.Prelude.{option_map}
-use Rattle.std.proofs.lemmas.List.{append_cancel_right, take_at}
+use Rattle.std.proofs.Common.{◌≡◌, ◌≢◌, ℕ, ◌+◌, ◌<◌, ◌≤◌, List, [], ◌∷◌, ◌++◌, length, take, drop, Option, Some, None, Bool, true, false, cond, ◌==◌, refl, arith, sym, ap, subst, ◌∙◌, drop_at, length-take-le, length-append, append_assoc}
+use Rattle.std.specs.Prelude.{option_map, IfSome, Ok, Err}
+use Rattle.std.proofs.lemmas.List.{take_at}
 use lib.Seq.{take-take, take-add}
 use Rattle.std.proofs.lemmas.Bool.Decides.{nat_tests}
 use Rattle.std.proofs.lemmas.Slice.{take-put_mid}
 use Rattle.std.proofs.KnownBytes.{Consumes-trans}
 use Rattle.std.specs.Io.KnownBytes.{Consumes}
-use Rattle.std.specs.Io.BufRead.{take_through, drop_through}
 use borrow.Rule.Slice.PartMut.{put_mid}
-use Rattle.lab_program.specs.Event.{cut_at}
+use Rattle.lab_program.specs.declared.fault.ReplayFault.{ReplayFault}
+use Rattle.lab_program.specs.declared.fault.ReplayFault.TheVariants.{BadEvent, ReadFault, WriteFault, Memory}
+use Rattle.lab_program.specs.Event.{cut_at, line_feed}
+use Rattle.lab_program.specs.Reading.{TakesAtMost, TakesByte}
 
 -- a part that was read into stands after what was there
 put_more : (a k n : ℕ) (xs ys : List ℕ) → a ≤ length xs → n ≤ length ys → take (a + n) (put_mid a k xs ys) ≡ take a xs ++ take n ys
@@ -29,54 +31,88 @@ Consumes-put_more old mid new a k n xs ys within fits first second =
 
 -- Lines.
 
-get_or_pushed : (front : List ℕ) (b : ℕ) → get_or (front ++ b ∷ []) (length front) 0 ≡ b
-get_or_pushed [] b = refl
-get_or_pushed (x ∷ front) b = get_or_pushed front b
+-- what is cut, with bytes put in front of it
+abbrev pub after : List ℕ → Option (List ℕ × List ℕ) → Option (List ℕ × List ℕ)
+after front cut = option_map (λ parts. (front ++ parts.0, parts.1)) cut
 
-pushed_same : (front more : List ℕ) (x y : ℕ) → front ++ x ∷ [] ≡ more ++ y ∷ [] → x ≡ y
-pushed_same front more x y e =
-    let long : length front ≡ length more = omega (arith, length-append front (x ∷ []), length-append more (y ∷ []), ap length e) in
-    sym (get_or_pushed front x) ∙ ap (λ l. get_or l (length front) 0) e ∙ ap (λ n. get_or (more ++ y ∷ []) n 0) long ∙ get_or_pushed more y
+after_none : (cut : Option (List ℕ × List ℕ)) → cut ≡ after [] cut
+after_none None = refl
+after_none (Some parts) = refl
 
--- what a cut at a byte says of the bytes through the first such byte
-abbrev LineCut : ℕ → List ℕ → Option (List ℕ × List ℕ) → Type 0
-LineCut byte text None = (take_through byte text ≡ text) × ((k : ℕ) → k < length text → get_or text k 0 ≢ byte)
-LineCut byte text (Some parts) = (take_through byte text ≡ parts.0 ++ byte ∷ []) × (drop_through byte text ≡ parts.1)
+after_more : (front : List ℕ) (b : ℕ) (cut : Option (List ℕ × List ℕ)) → after front (after (b ∷ []) cut) ≡ after (front ++ b ∷ []) cut
+after_more front b None = refl
+after_more front b (Some parts) = ap (λ bytes. Some (bytes, parts.1)) (sym (append_assoc front (b ∷ []) parts.0))
 
-none_step : (byte b : ℕ) (bs : List ℕ) → (b == byte) ≡ false → ((k : ℕ) → k < length bs → get_or bs k 0 ≢ byte)
-    → (k : ℕ) → k < length (b ∷ bs) → get_or (b ∷ bs) k 0 ≢ byte
-none_step byte b bs e h zero lt same = grind (arith, nat_tests)
-none_step byte b bs e h (suc k) lt same = h k (omega arith) same
+cut_past : (same : Bool) (b : ℕ) (bs : List ℕ) → (b == 10) ≡ same → b ≢ 10 → cond same (Some ([], bs)) (after (b ∷ []) (cut_at 10 bs)) ≡ after (b ∷ []) (cut_at 10 bs)
+cut_past true b bs e other = absurd (other (grind (arith, nat_tests)))
+cut_past false b bs e other = refl
 
-line_cut_step : (same : Bool) (byte b : ℕ) (bs : List ℕ) (cut : Option (List ℕ × List ℕ)) → (b == byte) ≡ same → LineCut byte bs cut
-    → LineCut byte (b ∷ bs) (cond same (Some ([], bs)) (option_map (λ parts. (b ∷ parts.0, parts.1)) cut))
-line_cut_step true byte b bs cut e h = (let found : b ≡ byte = grind (arith, nat_tests) in rw (e, found) refl, rw e refl)
-line_cut_step false byte b bs None e h = (rw (e, h.0) refl, none_step byte b bs e h.1)
-line_cut_step false byte b bs (Some parts) e h = (rw (e, h.0) refl, rw (e, h.1) refl)
-
-line_cut : (byte : ℕ) (text : List ℕ) → LineCut byte text (cut_at byte text)
+cut_other : (b : ℕ) (bs : List ℕ) → b ≢ 10 → cut_at 10 (b ∷ bs) ≡ after (b ∷ []) (cut_at 10 bs)
 unfolding cut_at
-line_cut byte [] = (refl, λ k h. absurd (omega arith))
-line_cut byte (b ∷ bs) = line_cut_step (b == byte) byte b bs (cut_at byte bs) refl (line_cut byte bs)
+cut_other b bs other = cut_past (b == 10) b bs refl other
 
-ended : (byte : ℕ) (text front : List ℕ) (cut : Option (List ℕ × List ℕ)) → LineCut byte text cut → take_through byte text ≡ front ++ byte ∷ []
-    → cut ≡ Some (front, drop_through byte text)
-ended byte text front None h e =
-    let whole : text ≡ front ++ byte ∷ [] = sym h.0 ∙ e in
-    absurd (h.1 (length front) (rw whole (omega (arith, length-append front (byte ∷ [])))) (rw whole (get_or_pushed front byte)))
-ended byte text front (Some parts) h e =
-    let same : parts.0 ≡ front = append_cancel_right parts.0 front (byte ∷ []) (sym h.0 ∙ e) in
-    rw (same, h.1) refl
+pub cut_feed : (bs : List ℕ) → cut_at 10 (10 ∷ bs) ≡ Some ([], bs)
+unfolding cut_at
+cut_feed bs = refl
 
--- a line that ends at the byte
-pub cut_at-ended : (byte : ℕ) (text front : List ℕ) → take_through byte text ≡ front ++ byte ∷ [] → cut_at byte text ≡ Some (front, drop_through byte text)
-cut_at-ended byte text front e = ended byte text front (cut_at byte text) (line_cut byte text) e
+pub cut_end : cut_at 10 [] ≡ None
+unfolding cut_at
+cut_end = refl
 
-cut_short : (byte last : ℕ) (text front : List ℕ) (cut : Option (List ℕ × List ℕ)) → LineCut byte text cut → take_through byte text ≡ front ++ last ∷ []
-    → last ≢ byte → cut ≡ None
-cut_short byte last text front None h e other = refl
-cut_short byte last text front (Some parts) h e other = absurd (other (pushed_same front parts.0 last byte (sym e ∙ h.0)))
+-- these bytes were read from the front of an input, the rest is left, and no line feed is among them
+abbrev pub HasRead : Option (List ℕ) → Option (List ℕ) → List ℕ → Type 0
+HasRead None left front = Unit {0}
+HasRead (Some input) left front =
+    (rest : List ℕ) × (left ≡ Some rest) × (input ≡ front ++ rest) × (cut_at line_feed input ≡ after front (cut_at line_feed rest))
 
--- a line that ends elsewhere
-pub cut_at-short : (byte last : ℕ) (text front : List ℕ) → take_through byte text ≡ front ++ last ∷ [] → last ≢ byte → cut_at byte text ≡ None
-cut_at-short byte last text front e other = cut_short byte last text front (cut_at byte text) (line_cut byte text) e other
+pub has_read-none : (old : Option (List ℕ)) → HasRead old old []
+has_read-none None = tt
+has_read-none (Some input) = (input, refl, refl, after_none (cut_at 10 input))
+
+-- a byte after them that is no line feed
+pub has_read-more : (old mid new : Option (List ℕ)) (front : List ℕ) (b : ℕ) → b ≢ 10 → HasRead old mid front
+    → IfSome mid (λ input. TakesByte input new (Ok (Some b))) → HasRead old new (front ++ b ∷ [])
+has_read-more None mid new front b other read took = tt
+has_read-more (Some input) mid new front b other read took =
+    let byte : IfSome (Some read.0) (λ xs. TakesByte xs new (Ok (Some b))) = rw read.1 at took in (
+      byte.0,
+      byte.2,
+      read.2 ∙ ap (λ xs. front ++ xs) byte.1 ∙ sym (append_assoc front (b ∷ []) byte.0),
+      read.3 ∙ ap (λ xs. after front (cut_at 10 xs)) byte.1 ∙ ap (after front) (cut_other b byte.0 other) ∙ after_more front b (cut_at 10 byte.0),
+    )
+
+-- how many were taken, before the next byte was asked for, and after it
+pub taken_before : (old mid : Option (List ℕ)) (front : List ℕ) (most : ℕ) → length front ≤ most → HasRead old mid front → TakesAtMost most old mid
+taken_before None mid front most within read = ([], tt, omega arith)
+taken_before (Some input) mid front most within read = rw read.1 (front, read.2, within)
+
+pub taken_after : (old mid new : Option (List ℕ)) (front : List ℕ) (b most : ℕ) → length front < most → HasRead old mid front
+    → IfSome mid (λ input. TakesByte input new (Ok (Some b))) → TakesAtMost most old new
+taken_after None mid new front b most within read took = ([], tt, omega arith)
+taken_after (Some input) mid new front b most within read took =
+    let byte : IfSome (Some read.0) (λ xs. TakesByte xs new (Ok (Some b))) = rw read.1 at took in
+    rw byte.2 (
+      front ++ b ∷ [],
+      read.2 ∙ ap (λ xs. front ++ xs) byte.1 ∙ sym (append_assoc front (b ∷ []) byte.0),
+      omega (arith, length-append front (b ∷ [])),
+    )
+
+pub taken_at_end : (old mid new : Option (List ℕ)) (front : List ℕ) (most : ℕ) → length front ≤ most → HasRead old mid front
+    → IfSome mid (λ input. TakesByte input new (Ok None)) → TakesAtMost most old new
+taken_at_end None mid new front most within read took = ([], tt, omega arith)
+taken_at_end (Some input) mid new front most within read took =
+    let byte : IfSome (Some read.0) (λ xs. TakesByte xs new (Ok None)) = rw read.1 at took in
+    rw byte.1 (front, read.2, within)
+
+left_at_fault : (input : List ℕ) (new : Option (List ℕ)) (fault : ReplayFault) → TakesByte input new (Err fault) → new ≡ Some input
+left_at_fault input new BadEvent took = absurd took
+left_at_fault input new ReadFault took = took
+left_at_fault input new WriteFault took = took
+left_at_fault input new Memory took = took
+
+pub taken_at_fault : (old mid new : Option (List ℕ)) (front : List ℕ) (most : ℕ) (fault : ReplayFault) → length front ≤ most → HasRead old mid front
+    → IfSome mid (λ input. TakesByte input new (Err fault)) → TakesAtMost most old new
+taken_at_fault None mid new front most fault within read took = ([], tt, omega arith)
+taken_at_fault (Some input) mid new front most fault within read took =
+    let byte : IfSome (Some read.0) (λ xs. TakesByte xs new (Err fault)) = rw read.1 at took in
+    rw (left_at_fault read.0 new fault byte) (front, read.2, within)

@@ -1,6 +1,7 @@
 -- The events that `labdesk replay` reads. Each is a line and as many bytes after it as the line's last number says:
 -- `found <lab> <seconds> <word> <length>` or `call <seconds> <word> <length>`, with numbers in decimal digits, one space
--- between, and a line feed at the end. Digits, space and line feed are those of ASCII, RFC 20.
+-- between, and a line feed at the end, before which it has at most 1,000 bytes. Digits, space and line feed are those of
+-- ASCII, RFC 20.
 use Rattle.std.specs.Prelude.{ℕ, Bool, if◌then◌else◌, ◌==◌, ◌&&◌, nat_le, nat_eq, codes, List, [], ◌∷◌, length, take, drop, Option, Some, None, option_map, option_and_then}
 use Rattle.std.specs.List.{range_with_len}
 use Rattle.std.specs.Str.{all_ascii_digits}
@@ -12,6 +13,16 @@ use Rattle.lab_names.specs.Names.{is_lab_code}
 infixl 10 ◌>>=◌
 abbrev pub ◌>>=◌ : {A B : Type 0} → Option A → (A → Option B) → Option B
 o >>= f = option_and_then f o
+
+abbrev pub space : ℕ
+space = 32
+
+abbrev pub line_feed : ℕ
+line_feed = 10
+
+-- the most bytes of a line before its line feed
+abbrev pub most_line : ℕ
+most_line = 1000
 
 -- what stands before the first such byte, and what stands after it
 unfoldable pub cut_at : ℕ → List ℕ → Option (List ℕ × List ℕ)
@@ -40,8 +51,8 @@ pub record Heading : Type 0 where
 -- the three numbers at the end of a line: the seconds, the first of eight words that follow one another, and the length
 unfoldable pub numbered : Option (List ℕ) → List ℕ → Option Heading
 numbered founded text = do
-  seconds ← cut_at 32 text
-  word ← cut_at 32 seconds.1
+  seconds ← cut_at space text
+  word ← cut_at space seconds.1
   moment ← number_where is_moment seconds.0
   first ← number_where (λ n. nat_le n 18446744073709551608) word.0
   count ← number_where (λ n. nat_le n 1000000) word.1
@@ -54,14 +65,14 @@ lab_code text = if is_lab_code text then Some text else None
 -- a founding, by the laboratory and what follows it
 unfoldable pub founding_of : List ℕ → Option Heading
 founding_of text = do
-  lab ← cut_at 32 text
+  lab ← cut_at space text
   code ← lab_code lab.0
   numbered (Some code) lab.1
 
 -- what a line says, its line feed left off
 unfoldable pub heading_of : List ℕ → Option Heading
 heading_of line = do
-  kind ← cut_at 32 line
+  kind ← cut_at space line
   if pointwise nat_eq kind.0 (codes "found") then founding_of kind.1
       else (if pointwise nat_eq kind.0 (codes "call") then numbered None kind.1 else None)
 
@@ -82,7 +93,15 @@ abbrev pub next_of : Option (List ℕ × List ℕ) → Next
 next_of None = Bad
 next_of (Some parts) = with_bytes (heading_of parts.0) parts.1
 
+-- parts of which the first has the length of a line
+abbrev pub short_line : List ℕ × List ℕ → Option (List ℕ × List ℕ)
+short_line parts = if nat_le (length parts.0) most_line then Some parts else None
+
+-- the line at the front of an input, its line feed left off, and what follows it
+abbrev pub line_at : List ℕ → Option (List ℕ × List ℕ)
+line_at input = cut_at line_feed input >>= short_line
+
 -- the event at the front of an input
 unfoldable pub next_event : List ℕ → Next
 next_event [] = End
-next_event input = next_of (cut_at 10 input)
+next_event input = next_of (line_at input)

@@ -1,7 +1,7 @@
 -- The words by which the program tells on standard error why it stopped.
 use Rattle.std.specs.Prelude.{List, ℕ, codes, ◌++◌}
-use Rattle.lab_desk.specs.declared.event.RunFault.{RunFault}
-use Rattle.lab_desk.specs.declared.event.RunFault.TheVariants.{Memory as RunMemory, Write}
+use Rattle.lab_desk.specs.declared.faults.RunFault.{RunFault}
+use Rattle.lab_desk.specs.declared.faults.RunFault.TheVariants.{Memory as RunMemory, Write}
 use Rattle.lab_names.specs.declared.faults.NameFault.{NameFault}
 use Rattle.lab_names.specs.declared.faults.NameFault.TheVariants.{BadName, Memory as NoMemory}
 use Rattle.lab_program.specs.declared.fault.ReplayFault.{ReplayFault}
@@ -25,7 +25,7 @@ fault_of_name (NoMemory _) = Memory
 
 -- the fault of a run that stopped
 abbrev pub fault_of_run : RunFault → ReplayFault
-fault_of_run (RunMemory _) = Memory
+fault_of_run RunMemory = Memory
 fault_of_run (Write _ _) = WriteFault
 
 -- the fault of a reader that failed: want of memory, or any other

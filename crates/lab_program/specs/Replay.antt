@@ -1,12 +1,13 @@
 -- What a replay does with its input: it runs the events that the input begins with, each by itself and in order, and
 -- stops at the end of the input, at what is no event, or at a fault.
-use Rattle.std.specs.Prelude.{◌≡◌, ◌<◌, ℕ, List, [], ◌∷◌, ◌++◌, length, take, Bool, Option, None, Ok, Err, Result, IfSome, IfOk}
-use Rattle.std.specs.List.{concat}
+use Rattle.std.specs.Prelude.{◌≡◌, ◌<◌, ℕ, List, [], ◌∷◌, ◌++◌, length, take, map, Option, Ok, Err, Result, IfSome, IfOk}
 use Rattle.std.specs.Io.KnownBytes.{Keeps, Appends}
 use Rattle.lab_records.specs.declared.lab.Lab.{Lab}
-use Rattle.lab_desk.specs.declared.event.Event.{Event as EventRead}
-use Rattle.lab_desk.specs.Runs.{IsRun}
-use Rattle.lab_wire.specs.declared.send.WriteFault.{WriteFault as Untold}
+use Rattle.lab_desk.specs.declared.events.Event.{Event as EventRead}
+use Rattle.lab_records.specs.Worlds.{World}
+use Rattle.lab_desk.specs.Lists.{world_of}
+use Rattle.lab_desk.specs.Runs.{Handled, IsRun, answers_of}
+use Rattle.lab_wire.specs.declared.sending.WriteFault.{WriteFault as Untold}
 use Rattle.lab_program.specs.declared.fault.ReplayFault.{ReplayFault}
 use Rattle.lab_program.specs.declared.fault.ReplayFault.TheVariants.{BadEvent, ReadFault, WriteFault, Memory}
 use Rattle.lab_program.specs.Event.{Next, End, Bad, Taken, next_event}
@@ -30,26 +31,28 @@ Stops (Err Memory) next = Unit {0}
 
 -- the answers were written in order and whole, and nothing else; after a write fault the last of them is cut to its
 -- first bytes
-abbrev pub IsWritten : Result (Unit {0}) ReplayFault → List (List ℕ) → List ℕ → Type 0
-IsWritten (Ok _) answers written = written ≡ concat answers
-IsWritten (Err WriteFault) answers written =
-    (before : List (List ℕ)) × (last : List ℕ) × (sent : ℕ) × (answers ≡ before ++ last ∷ []) × (sent < length last)
-    × (written ≡ concat before ++ take sent last)
-IsWritten (Err BadEvent) answers written = written ≡ concat answers
-IsWritten (Err ReadFault) answers written = written ≡ concat answers
-IsWritten (Err Memory) answers written = written ≡ concat answers
+abbrev pub IsWritten : Result (Unit {0}) ReplayFault → List Handled → List ℕ → Type 0
+IsWritten (Ok _) handled written = written ≡ answers_of handled
+IsWritten (Err WriteFault) handled written =
+    (before : List Handled) × (last : Handled) × (sent : ℕ) × (handled ≡ before ++ last ∷ [])
+    × (sent < length last.answer) × (written ≡ answers_of before ++ take sent last.answer)
+IsWritten (Err BadEvent) handled written = written ≡ answers_of handled
+IsWritten (Err ReadFault) handled written = written ≡ answers_of handled
+IsWritten (Err Memory) handled written = written ≡ answers_of handled
 
--- a replay over laboratories that mean this before and after: the events that the input begins with were run, and their
--- answers were written
-pub record Replays (may_refuse : Type 0) (old new : List ℕ → Option Lab) (input before after : Option (List ℕ)) (ending : Result (Unit {0}) ReplayFault) : Type 0 where
-  pub events : List EventRead
-  pub taken : List Bool
-  pub answers : List (List ℕ)
+-- the events that were handled
+abbrev pub events_of : List Handled → List EventRead
+events_of = map (λ (one : Handled). one.event)
+
+-- a replay over a keeper of which this is known before and after: the events that the input begins with were run, and
+-- their answers were written
+pub record Replays (old new : World) (input before after : Option (List ℕ)) (ending : Result (Unit {0}) ReplayFault) : Type 0 where
+  pub handled : List Handled
   pub written : List ℕ
   pub rest : List ℕ
-  pub begins : IfSome input (λ bytes. BeginsWith events bytes rest × Stops ending (next_event rest))
-  pub run : IsRun may_refuse events taken answers old new
-  pub answered : IsWritten ending answers written
+  pub begins : IfSome input (λ bytes. BeginsWith (events_of handled) bytes rest × Stops ending (next_event rest))
+  pub run : IsRun old new handled
+  pub answered : IsWritten ending handled written
   pub wrote : Appends before after written
 
 -- a fault's line was told whole; where standard error failed, its first bytes were, and not all
@@ -63,13 +66,9 @@ abbrev pub Tells : Result (Unit {0}) ReplayFault → Result ℕ Untold → Optio
 Tells (Ok _) status before after = (status ≡ Ok 0) × Keeps before after
 Tells (Err fault) status before after = IfOk status (λ number. number ≡ 1) × IsTold fault status before after
 
--- no laboratory
-abbrev pub nothing : List ℕ → Option Lab
-nothing code = None
-
 -- a replay over no laboratories, by its status
 pub record IsReplay (input before after told_before told_after : Option (List ℕ)) (status : Result ℕ Untold) : Type 0 where
   pub ending : Result (Unit {0}) ReplayFault
-  pub labs : List ℕ → Option Lab
-  pub replays : Replays ⊥ nothing labs input before after ending
+  pub labs : List Lab
+  pub replays : Replays (world_of []) (world_of labs) input before after ending
   pub tells : Tells ending status told_before told_after

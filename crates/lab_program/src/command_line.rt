@@ -1,9 +1,8 @@
 //! The command line: which words ask for what.
-ghost use Rattle.std.specs.Prelude.{◌≡◌, ◌≢◌, ◌≤◌, map, string_bytes, Ok, IfOk};
-ghost use Rattle.std.specs.Io.KnownBytes.{Keeps};
+ghost use Rattle.std.specs.Prelude.{◌≡◌, map};
 ghost use Rattle.clap.specs.Words.{fault_of, FailsBy, kind_of};
-ghost use Rattle.lab_program.specs.CommandLine.{labdesk_app, AsksReplay};
-ghost use Rattle.lab_program.specs.Replay.{IsReplay, IsTold};
+ghost use Rattle.lab_program.specs.CommandLine.{labdesk_app, AsksReplay, Explains, IsExplained};
+ghost use Rattle.lab_program.specs.Replay.{IsReplay};
 
 use crate::fault::ReplayFault;
 use crate::replay::{replay, tell};
@@ -11,7 +10,22 @@ use clap::error::ErrorKind;
 use clap::{Command, Error};
 use lab_wire::WriteFault;
 use std::alloc::Global;
+use std::convert::AsStr;
 use std::io::{Read, Write};
+
+/// The version of the program, and the kit that proved it as `rt version` names it.
+const VERSION: &str = "0.2.0\nproved with rattle-kit-13b logic dac8208d650f15bf";
+
+/// What help says of the input.
+const INPUT: &str =
+    "An event is a line, and right after it as many bytes as the line's last number says:
+
+    found <lab> <seconds> <word> <length>
+    call <seconds> <word> <length>
+
+The input is described in docs/FORMATS.md. An example:
+
+    labdesk replay < examples/two-laboratories.events";
 
 /// What the words of a command line ask for.
 #[derive(Clone, Copy, Debug, PartialEq, Eq)]
@@ -23,23 +37,26 @@ pub enum Task {
 /// The task that the words name, the first of them the program's own.
 ///
 /// # Errors
-/// The words name none, or ask for help, or memory ran out.
-pub fn task_of(alloc: Global, words: &[String]) -> Result<Task, Error>
-    ensures { FailsBy (fault_of labdesk_app (map string_bytes words.now)) result }
+/// The words name none, or ask for help or the version, or memory ran out.
+pub fn task_of<S: AsStr>(alloc: Global, words: &[S]) -> Result<Task, Error>
+    ensures { FailsBy (fault_of labdesk_app (map S.text words.now)) result }
 {
-    let replay = Command::new(alloc, "replay").about(
-        "Run the events of standard input, and write their answers to standard output",
-    );
+    let replay = Command::new(alloc, "replay")
+        .about("Run the events of standard input, and write their answers to standard output")
+        .after_help(INPUT);
     let command = Command::new(alloc, "labdesk")
+        .bin_name("labdesk")?
+        .version(VERSION)
         .about("Signed laboratory records")
+        .after_help(INPUT)
         .subcommand_required(true)
         .subcommand(replay)?;
     command.try_get_matches_from(words)?;
     Ok(Task::Replay)
 }
 
-/// Tells why the words name no task, and answers the status: 0 for help that was asked for, which goes to the output, 2
-/// for a fault in the words, and 1 where memory ran out or the text could not be written.
+/// Tells why the words name no task, and answers the status: 0 for help or the version, which go to the output, 2 for a
+/// fault in the words, and 1 where memory ran out or the text could not be written.
 ///
 /// # Errors
 /// What gives the status 1 could not be told, as standard error failed.
@@ -48,11 +65,8 @@ fn explain<W: Write, E: Write>(
     output: &mut W,
     errors: &mut E,
 ) -> Result<u8, WriteFault>
-    ensures memory { kind_of error.now ≡ ErrorKind.OutOfMemory → IfOk result (λ status. status ≡ 1) × Keeps (W.contents output.old) (W.contents output.new)
-        × IsTold ReplayFault.Memory result (E.contents errors.old) (E.contents errors.new) }
-    ensures fault { kind_of error.now ≢ ErrorKind.OutOfMemory → kind_of error.now ≢ ErrorKind.DisplayHelp
-        → kind_of error.now ≢ ErrorKind.DisplayVersion → result ≡ Ok 2 }
-    ensures help { kind_of error.now ≡ ErrorKind.DisplayHelp → IfOk result (λ status. status ≤ 1) }
+    ensures { Explains (kind_of error.now) (W.contents output.old) (W.contents output.new)
+        (E.contents errors.old) (E.contents errors.new) result }
 {
     if error.kind() == ErrorKind::OutOfMemory {
         tell(errors, ReplayFault::Memory)?;
@@ -73,14 +87,18 @@ fn explain<W: Write, E: Write>(
 ///
 /// # Errors
 /// A fault of status 1 could not be told whole, as standard error failed.
-pub fn labdesk<R: Read + Drop, W: Write, E: Write>(
+pub fn labdesk<S: AsStr, R: Read + Drop, W: Write, E: Write>(
     alloc: Global,
-    words: &[String],
+    words: &[S],
     input: R,
     output: &mut W,
     errors: &mut E,
 ) -> Result<u8, WriteFault>
-    ensures { AsksReplay (map string_bytes words.now) → IsReplay (R.remaining input) (W.contents output.old) (W.contents output.new)
+    ensures replayed { AsksReplay (map S.text words.now) → IsReplay (R.remaining input)
+        (W.contents output.old) (W.contents output.new)
+        (E.contents errors.old) (E.contents errors.new) result }
+    ensures explained { IsExplained (fault_of labdesk_app (map S.text words.now))
+        (W.contents output.old) (W.contents output.new)
         (E.contents errors.old) (E.contents errors.new) result }
 {
     match task_of(alloc, words) {

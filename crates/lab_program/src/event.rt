@@ -5,11 +5,11 @@ ghost use Rattle.std.specs.Io.KnownBytes.{Consumes, IsAtEnd};
 ghost use Rattle.lab_names.specs.Moment.{is_moment};
 ghost use Rattle.lab_program.specs.Event.{cut_at, number_where, lab_code, numbered, founding_of, heading_of, next_event};
 ghost use Rattle.lab_program.specs.Fault.{IsInputFault};
-ghost use Rattle.lab_program.specs.Reading.{Gives, TakesBytes, TakesLine, TakesNext, heading_said};
+ghost use Rattle.lab_program.specs.Reading.{Gives, TakesAtMost, TakesByte, TakesBytes, TakesLine, TakesNext, heading_said};
 
 use crate::fault::ReplayFault;
 use lab_desk::Event;
-use lab_names::{LabCode, Moment, Tick};
+use lab_names::{LabCode, Moment, OutOfMemory, Series, Tick};
 use std::alloc::Global;
 use std::io;
 use std::io::{BufRead, Read};
@@ -19,6 +19,9 @@ const LAST_FIRST_WORD: u64 = u64::MAX - 7;
 
 /// The most bytes of an event.
 const MOST_BYTES: u64 = 1_000_000;
+
+/// The most bytes of an event's line before its line feed. Leading zeros may be many, and memory is bounded.
+const MOST_LINE: usize = 1_000;
 
 /// What the line of an event says.
 #[derive(Debug, Drop)]
@@ -39,6 +42,7 @@ impl Heading {
         ensures { event_said result ≡ record { founded = self.founded; moment = self.tick.moment; words = self.tick.words; bytes = bytes.items } }
     {
         let tick = self.tick;
+        let bytes = Series::from_vec(bytes);
         match self.founded {
             Some(lab) => Event::Found {
                 lab,
@@ -192,21 +196,35 @@ fn bytes<R: Read>(alloc: Global, reader: &mut R, count: usize) -> Result<Vec<u8>
     Ok(bytes)
 }
 
-/// Takes the next line from the input, its line feed left off, and `None` at the input's end. What has no line feed is
-/// no line.
+/// Takes the next byte from the input, and `None` at its end.
+fn byte<R: Read>(reader: &mut R) -> Result<Option<u8>, ReplayFault>
+    ensures taken { IfSome (R.remaining reader.old) (λ input. TakesByte input (R.remaining reader.new) result) }
+    ensures fault { IfErr result IsInputFault }
+{
+    let mut byte = [0u8];
+    if reader.read(&mut byte)? == 0 {
+        return Ok(None);
+    }
+    Ok(Some(byte[0]))
+}
+
+/// Takes the next line from the input, its line feed left off, and `None` at the input's end. What has no line feed
+/// within a line's length is no line, and no more of the input is taken.
 fn line<B: BufRead>(alloc: Global, reader: &mut B) -> Result<Option<Vec<u8>>, ReplayFault>
     ensures taken { IfSome (B.remaining reader.old) (λ input. TakesLine input (B.remaining reader.new) result) }
     ensures fault { IfErr result IsInputFault }
+    ensures bounded { TakesAtMost 1001 (B.remaining reader.old) (B.remaining reader.new) }
 {
     let mut line = Vec::new(alloc);
-    if reader.read_until(b'\n', &mut line)? == 0 {
-        return Ok(None);
+    while line.len() <= MOST_LINE {
+        match byte(reader)? {
+            None if line.is_empty() => return Ok(None),
+            None => return Err(ReplayFault::BadEvent),
+            Some(b'\n') => return Ok(Some(line)),
+            Some(byte) => line.push(byte).map_err(OutOfMemory::from)?,
+        }
     }
-    if line.pop() == Some(b'\n') {
-        Ok(Some(line))
-    } else {
-        Err(ReplayFault::BadEvent)
-    }
+    Err(ReplayFault::BadEvent)
 }
 
 /// Takes the next event from the input, and `None` at its end.

@@ -73,7 +73,7 @@ impl From<RunFault> for ReplayFault {
 
     fn from(fault: RunFault) -> ReplayFault {
         match fault {
-            RunFault::Memory(_) => ReplayFault::Memory,
+            RunFault::Memory => ReplayFault::Memory,
             RunFault::Write { .. } => ReplayFault::WriteFault,
         }
     }

@@ -1,7 +1,9 @@
 //! `labdesk replay`: the events of an input, run one after the other.
-ghost use Rattle.std.specs.Prelude.{◌≡◌, ℕ, List, Option};
+ghost use Rattle.std.specs.Prelude.{List, []};
 ghost use Rattle.lab_records.specs.declared.lab.Lab.{Lab as WholeLab};
-ghost use Rattle.lab_program.specs.Replay.{IsReplay, IsTold, Replays, nothing};
+ghost use Rattle.lab_records.specs.Worlds.{Given};
+ghost use Rattle.lab_desk.specs.Lists.{world_of};
+ghost use Rattle.lab_program.specs.Replay.{IsReplay, IsTold, Replays};
 
 use crate::event::next_event;
 use crate::fault::ReplayFault;
@@ -26,9 +28,9 @@ fn run_events<S: Keeper + Drop, B: BufRead, W: Write>(
     reader: &mut B,
     output: &mut W,
 ) -> Result<(), ReplayFault>
-    ensures replayed { S.is_honest desk.new.keeper → S.is_reached desk.old.keeper →
-        Replays (S.may_refuse desk.old.keeper) (S.meaning desk.old.keeper) (S.meaning desk.new.keeper)
-        (B.remaining reader.old) (W.contents output.old) (W.contents output.new) result }
+    ensures replayed { Given (S.world desk.old.keeper) (S.world desk.new.keeper)
+        (Replays (S.world desk.old.keeper) (S.world desk.new.keeper)
+        (B.remaining reader.old) (W.contents output.old) (W.contents output.new) result) }
 {
     for _ in 0..u64::MAX {
         let Some(event) = next_event(alloc, reader)? else {
@@ -48,7 +50,7 @@ fn run_input<R: Read + Drop, W: Write>(
     input: R,
     output: &mut W,
 ) -> Result<(), ReplayFault>
-    ensures replayed { (labs : List ℕ → Option WholeLab) × Replays ⊥ nothing labs
+    ensures replayed { (labs : List WholeLab) × Replays (world_of []) (world_of labs)
         (R.remaining input) (W.contents output.old) (W.contents output.new) result }
 {
     let mut desk = Desk::new(alloc, Lists::new(alloc))?;

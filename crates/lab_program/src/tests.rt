@@ -1,12 +1,13 @@
 use crate::command_line::labdesk;
 use crate::event::next_event;
+use crate::fault::ReplayFault;
 use crate::limited::LimitedReader;
 use crate::replay::replay;
 use lab_desk::{Desk, Lists};
 use lab_wire::WriteFault;
 use std::alloc::{AllocError, Global};
 use std::io;
-use std::io::{ErrorKind, Read, Write};
+use std::io::{BufReader, ErrorKind, Read, Write};
 use std::process::Abort;
 use std::test::Fail;
 
@@ -231,8 +232,59 @@ fn a_reader_is_asked_no_more_than_it_may_be(rt: HostRuntime) -> Result<(), Fail>
     for _ in 0..3 {
         assert_eq!(rt; reader.read(&mut buffer)?, 4);
     }
-    assert!(rt; reader.read(&mut buffer).is_err());
-    assert!(rt; reader.read(&mut buffer).is_err());
+    for _ in 0..2 {
+        let fault = reader.read(&mut buffer).map_err(|error| error.kind());
+        assert_eq!(rt; fault, Err(ErrorKind::TimedOut));
+    }
+    Ok(())
+}
+
+/// The line of a founding that has so many bytes before its line feed, most of them leading zeros.
+fn long_founding(alloc: Global, bytes: usize) -> Result<String, AllocError> {
+    let mut line = String::from_str(alloc, "found aqua 0 1 ")?;
+    for _ in 17..bytes {
+        line.push('0')?;
+    }
+    line.push_str("19\n{\"name\":\"Aqua Lab\"}")?;
+    Ok(line)
+}
+
+#[test]
+fn a_line_of_the_greatest_length(rt: HostRuntime) -> Result<(), Fail> {
+    let line = long_founding(rt.alloc(), 1_000)?;
+    let answers = ["founded aqua\n", "founded brick\n"];
+    check(&rt, &[line.as_str(), BRICK], &answers, "", 0)?;
+    Ok(())
+}
+
+#[test]
+fn a_line_that_is_too_long(rt: HostRuntime) -> Result<(), Fail> {
+    let line = long_founding(rt.alloc(), 1_001)?;
+    let told = "labdesk: bad_event\n";
+    check(&rt, &[BRICK, line.as_str()], &["founded brick\n"], told, 1)?;
+    Ok(())
+}
+
+/// What comes without end is no line, and is found to be none by the first bytes: the reader is asked once.
+#[test]
+fn a_line_without_end(rt: HostRuntime) -> Result<(), Fail> {
+    let alloc = rt.alloc();
+    let endless = LimitedReader::new(io::repeat(b'0'), 1);
+    let mut reader = BufReader::new(alloc, endless)?;
+    let event = next_event(alloc, &mut reader).map(|event| event.is_some());
+    assert_eq!(rt; event, Err(ReplayFault::BadEvent));
+    Ok(())
+}
+
+#[test]
+fn an_input_without_end(rt: HostRuntime) -> Result<(), Fail> {
+    let alloc = rt.alloc();
+    let (mut output, mut errors) = (Vec::new(alloc), Vec::new(alloc));
+    let input = AQUA.as_bytes().chain(io::repeat(b'0'));
+    let answered = replay(alloc, input, &mut output, &mut errors);
+    assert!(rt; output.as_slice() == b"founded aqua\n".as_slice());
+    assert!(rt; errors.as_slice() == b"labdesk: bad_event\n".as_slice());
+    assert_eq!(rt; answered, Ok(1));
     Ok(())
 }
 
@@ -292,27 +344,127 @@ fn an_output_that_fails(rt: HostRuntime) -> Result<(), Fail> {
     Ok(())
 }
 
+/// Gives the words to a program, and asserts the status and what is written and told.
+fn check_words<R: Abort + AllocGlobal>(
+    rt: &R,
+    words: &[&str],
+    written: &str,
+    told: &str,
+    status: u8,
+) {
+    let (mut output, mut errors) = (Vec::new(rt.alloc()), Vec::new(rt.alloc()));
+    let answered = labdesk(rt.alloc(), words, AQUA.as_bytes(), &mut output, &mut errors);
+    assert!(rt;
+        output.as_slice() == written.as_bytes(),
+        "{output:?} to {words:?}"
+    );
+    assert!(rt;
+        errors.as_slice() == told.as_bytes(),
+        "{errors:?} to {words:?}"
+    );
+    assert_eq!(rt; answered, Ok(status), "to {words:?}");
+}
+
 #[test]
-fn words_of_the_command_line(rt: HostRuntime) -> Result<(), Fail> {
-    let alloc = rt.alloc();
-    for (words, status, has_output, has_errors) in [
-        ("labdesk replay", 0, true, false),
-        ("labdesk", 2, false, true),
-        ("labdesk relay", 2, false, true),
-        ("labdesk replay twice", 2, false, true),
-        ("labdesk --file", 2, false, true),
-        ("labdesk --help", 0, true, false),
-        ("labdesk help replay", 0, true, false),
-    ] {
-        let mut list = Vec::new(alloc);
-        for word in words.split(' ') {
-            list.push(String::from_str(alloc, word)?)?;
-        }
-        let (mut output, mut errors) = (Vec::new(alloc), Vec::new(alloc));
-        let answered = labdesk(alloc, &list, AQUA.as_bytes(), &mut output, &mut errors);
-        assert_eq!(rt; answered, Ok(status), "{words}");
-        assert_eq!(rt; !output.is_empty(), has_output, "{words}");
-        assert_eq!(rt; !errors.is_empty(), has_errors, "{words}");
-    }
+fn a_replay_is_asked_for(rt: HostRuntime) {
+    let words = ["out/lab_program", "replay"];
+    check_words(&rt, &words, "founded aqua\n", "", 0);
+}
+
+#[test]
+fn the_version(rt: HostRuntime) {
+    let version = "labdesk 0.2.0\nproved with rattle-kit-13b logic dac8208d650f15bf\n";
+    check_words(&rt, &["out/lab_program", "--version"], version, "", 0);
+    check_words(&rt, &["labdesk", "-V"], version, "", 0);
+}
+
+const INPUT_HELP: &str =
+    "An event is a line, and right after it as many bytes as the line's last number says:
+
+    found <lab> <seconds> <word> <length>
+    call <seconds> <word> <length>
+
+The input is described in docs/FORMATS.md. An example:
+
+    labdesk replay < examples/two-laboratories.events
+";
+
+#[test]
+fn help(rt: HostRuntime) -> Result<(), Fail> {
+    let head = "Signed laboratory records
+
+Usage: labdesk <COMMAND>
+
+Commands:
+  replay  Run the events of standard input, and write their answers to standard output
+  help    Print this message or the help of the given subcommand(s)
+
+Options:
+  -h, --help     Print help
+  -V, --version  Print version
+
+";
+    let help = joined(rt.alloc(), &[head, INPUT_HELP])?;
+    check_words(&rt, &["out/lab_program", "--help"], help.as_str(), "", 0);
+    check_words(&rt, &["labdesk", "help"], help.as_str(), "", 0);
     Ok(())
+}
+
+#[test]
+fn help_on_a_replay(rt: HostRuntime) -> Result<(), Fail> {
+    let head = "Run the events of standard input, and write their answers to standard output
+
+Usage: labdesk replay
+
+Options:
+  -h, --help  Print help
+
+";
+    let help = joined(rt.alloc(), &[head, INPUT_HELP])?;
+    let words = ["out/lab_program", "help", "replay"];
+    check_words(&rt, &words, help.as_str(), "", 0);
+    let words = ["labdesk", "replay", "--help"];
+    check_words(&rt, &words, help.as_str(), "", 0);
+    Ok(())
+}
+
+#[test]
+fn words_that_ask_for_nothing(rt: HostRuntime) {
+    let told =
+        "error: 'labdesk' requires a subcommand but one was not provided\n  [subcommands: replay, help]\n\nUsage: labdesk <COMMAND>\n\nFor more information, try '--help'.\n";
+    check_words(&rt, &["out/lab_program"], "", told, 2);
+}
+
+#[test]
+fn a_word_that_is_no_command(rt: HostRuntime) {
+    let told =
+        "error: unrecognized subcommand 'relay'\n\n  tip: a similar subcommand exists: 'replay'\n\nUsage: labdesk <COMMAND>\n\nFor more information, try '--help'.\n";
+    check_words(&rt, &["out/lab_program", "relay"], "", told, 2);
+}
+
+#[test]
+fn words_that_are_too_many(rt: HostRuntime) {
+    let told =
+        "error: unexpected argument '--file' found\n\nUsage: labdesk <COMMAND>\n\nFor more information, try '--help'.\n";
+    check_words(&rt, &["out/lab_program", "--file"], "", told, 2);
+    let told =
+        "error: unexpected argument 'twice' found\n\nUsage: labdesk replay\n\nFor more information, try '--help'.\n";
+    let words = ["out/lab_program", "replay", "twice"];
+    check_words(&rt, &words, "", told, 2);
+}
+
+#[test]
+fn a_version_that_cannot_be_written(rt: HostRuntime) {
+    let alloc = rt.alloc();
+    let words = ["labdesk", "--version"];
+    let mut output = Narrow {
+        bytes: Vec::new(alloc),
+        room: 9,
+        fails: true,
+    };
+    let mut errors = Vec::new(alloc);
+    let answered = labdesk(alloc, &words, AQUA.as_bytes(), &mut output, &mut errors);
+    assert!(rt; output.bytes.as_slice() == b"labdesk 0".as_slice());
+    assert!(rt; errors.as_slice() == b"labdesk: write_fault\n".as_slice());
+    assert_eq!(rt; answered, Ok(1));
 }

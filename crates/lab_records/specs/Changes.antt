@@ -1,8 +1,12 @@
 -- Changes of one laboratory: what a list of them makes of it, and which lists fit it.
-use Rattle.std.specs.Prelude.{◌≡◌, ◌≢◌, ℕ, Option, Some, None, List, [], ◌∷◌}
+use Rattle.std.specs.Prelude.{◌≡◌, ◌↔◌, Option, Some, None, List, [], ◌∷◌, IsTrue}
+use Rattle.lab_names.specs.declared.Tick.{Tick}
 use Rattle.lab_records.specs.declared.lab.Lab.{Lab}
 use Rattle.lab_records.specs.declared.command.Change.{Change}
 use Rattle.lab_records.specs.declared.command.Change.TheVariants.{Last}
+use Rattle.lab_records.specs.declared.command.Instruction.{Instruction}
+use Rattle.lab_records.specs.declared.command.Outcome.{Outcome}
+use Rattle.lab_records.specs.Machine.{step, is_idle}
 
 -- one change of a laboratory
 abbrev pub change : Lab → Change → Lab
@@ -24,10 +28,10 @@ ChangesFit (Some lab) changes = Unit {0}
 ChangesFit None [] = Unit {0}
 ChangesFit None (one ∷ others) = ⊥
 
--- every laboratory means what it meant
-abbrev pub SameMeaning : (List ℕ → Option Lab) → (List ℕ → Option Lab) → Type 0
-SameMeaning old new = (code : List ℕ) → new code ≡ old code
-
--- every laboratory but that of the code means what it meant
-abbrev pub SameElsewhere : List ℕ → (List ℕ → Option Lab) → (List ℕ → Option Lab) → Type 0
-SameElsewhere code old new = (other : List ℕ) → other ≢ code → new other ≡ old other
+-- an outcome that is the step of a laboratory: the reply is its reply, the changes fit the laboratory and make of
+-- it what it is after the step, and there are none where the step writes nothing, and there alone
+pub record Decides (lab : Option Lab) (tick : Tick) (instruction : Instruction) (outcome : Outcome) : Type 0 where
+  pub reply : outcome.reply ≡ (step lab tick instruction).reply
+  pub fit : ChangesFit lab outcome.changes
+  pub after : changed_in lab outcome.changes ≡ (step lab tick instruction).after
+  pub idle : IsTrue (is_idle lab tick instruction) ↔ (outcome.changes ≡ [])

@@ -1,16 +1,21 @@
--- The part of a laboratory that a command needs, and what a part holds.
+-- The part of a laboratory that an instruction needs, and what a part holds.
 use Rattle.std.specs.Prelude.{Option, Some, None}
 use Rattle.lab_names.specs.declared.tick.Tick.{Tick}
 use Rattle.lab_records.specs.declared.lab.Lab.{Lab}
 use Rattle.lab_records.specs.declared.command.Slice.{Slice}
 use Rattle.lab_records.specs.declared.command.Need.{Need}
 use Rattle.lab_records.specs.declared.command.Need.TheVariants.{Heading}
+use Rattle.lab_records.specs.declared.command.Instruction.{Instruction}
 use Rattle.lab_records.specs.declared.command.Command.{Command}
 use Rattle.lab_records.specs.declared.command.Command.TheVariants.{Card}
 
 -- what a command needs to be decided
-abbrev pub need_of : Tick → Command → Need
-need_of tick Card = Heading
+abbrev pub need_of_command : Command → Need
+need_of_command Card = Heading
+
+-- what an instruction needs to be decided
+abbrev pub need_of : Tick → Instruction → Need
+need_of tick instruction = need_of_command instruction.command
 
 -- the part of a laboratory
 abbrev pub part : Need → Lab → Slice

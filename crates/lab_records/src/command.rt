@@ -3,17 +3,27 @@
 ghost use Rattle.std.specs.Prelude.{◌≡◌, IfOk};
 
 use crate::refusal::Refusal;
-use lab_names::{LabCode, Moment, Name, OutOfMemory};
+use lab_names::{LabCode, Moment, Name, OutOfMemory, Series};
+use lab_secrets::Token;
 
 /// What is asked of a laboratory.
-#[derive(Clone, Copy, Debug, PartialEq, Eq, Drop)]
+#[derive(Clone, Debug, PartialEq, Eq, Drop)]
 pub enum Command {
     /// The laboratory's card: its code and its name.
     Card,
 }
 
+/// A command, and by which session it is given, if by any.
+#[derive(Clone, Drop)]
+pub struct Instruction {
+    /// The token of the session.
+    pub token: Option<Token>,
+    /// The command.
+    pub command: Command,
+}
+
 /// What a laboratory replies.
-#[derive(Debug, Drop)]
+#[derive(Clone, Debug, Drop)]
 pub enum Reply {
     /// The laboratory's card.
     Card {
@@ -27,21 +37,21 @@ pub enum Reply {
 }
 
 /// What a founding gives a laboratory.
-#[derive(Debug, Drop)]
+#[derive(Clone, Debug, Drop)]
 pub struct Founding {
     /// The laboratory's name.
     pub name: Name,
 }
 
-/// Which part of a laboratory a command needs.
+/// Which part of a laboratory an instruction needs.
 #[derive(Clone, Copy, Debug, PartialEq, Eq, Drop)]
 pub enum Need {
     /// Code, name and last moment alone.
     Heading,
 }
 
-/// The part of a laboratory that a command needs.
-#[derive(Debug, Drop)]
+/// The part of a laboratory that an instruction needs.
+#[derive(Clone, Debug, Drop)]
 pub struct Slice {
     /// The laboratory's code.
     pub code: LabCode,
@@ -52,83 +62,101 @@ pub struct Slice {
 }
 
 /// One change of a laboratory.
-#[derive(Clone, Copy, Debug)]
+#[derive(Clone, Debug, PartialEq, Eq, Drop)]
 pub enum Change {
     /// The last moment becomes this one.
     Last(Moment),
 }
 
-/// What was decided: the reply, and the changes that it tells of, in order.
-#[derive(Debug, Drop)]
+/// What was decided: the reply, and the changes that it tells of.
+#[derive(Clone, Debug, Drop)]
 pub struct Outcome {
     /// The reply.
     pub reply: Reply,
     /// The changes, in the order in which they are made.
-    pub changes: Vec<Change>,
+    pub changes: Series<Change>,
+}
+
+impl Command {
+    /// A copy.
+    ///
+    /// # Errors
+    /// Only that memory ran out.
+    pub fn copy(&self) -> Result<Command, OutOfMemory>
+        ensures { IfOk result (λ copy. copy ≡ self.now) }
+    {
+        Ok(self.clone()?)
+    }
+}
+
+impl Instruction {
+    /// A copy.
+    ///
+    /// # Errors
+    /// Only that memory ran out.
+    pub fn copy(&self) -> Result<Instruction, OutOfMemory>
+        ensures { IfOk result (λ copy. copy ≡ self.now) }
+    {
+        Ok(self.clone()?)
+    }
 }
 
 impl Founding {
-    /// A second founding that equals this one.
+    /// A copy.
     ///
     /// # Errors
-    /// Only want of memory.
+    /// Only that memory ran out.
     pub fn copy(&self) -> Result<Founding, OutOfMemory>
         ensures { IfOk result (λ copy. copy ≡ self.now) }
     {
-        let name = self.name.copy()?;
-        Ok(Founding { name })
+        Ok(self.clone()?)
     }
 }
 
 impl Reply {
-    /// A second reply that equals this one.
+    /// A copy.
     ///
     /// # Errors
-    /// Only want of memory.
+    /// Only that memory ran out.
     pub fn copy(&self) -> Result<Reply, OutOfMemory>
         ensures { IfOk result (λ copy. copy ≡ self.now) }
     {
-        match self {
-            Reply::Card { lab, name } => Ok(Reply::Card {
-                lab: lab.copy()?,
-                name: name.copy()?,
-            }),
-            Reply::Refused(refusal) => Ok(Reply::Refused(*refusal)),
-        }
+        Ok(self.clone()?)
     }
 }
 
 impl Slice {
-    /// A second slice that equals this one.
+    /// A copy.
     ///
     /// # Errors
-    /// Only want of memory.
+    /// Only that memory ran out.
     pub fn copy(&self) -> Result<Slice, OutOfMemory>
         ensures { IfOk result (λ copy. copy ≡ self.now) }
     {
-        let Slice { code, name, last } = self;
-        let code = code.copy()?;
-        let name = name.copy()?;
-        Ok(Slice {
-            code,
-            name,
-            last: *last,
-        })
+        Ok(self.clone()?)
+    }
+}
+
+impl Change {
+    /// A copy.
+    ///
+    /// # Errors
+    /// Only that memory ran out.
+    pub fn copy(&self) -> Result<Change, OutOfMemory>
+        ensures { IfOk result (λ copy. copy ≡ self.now) }
+    {
+        Ok(self.clone()?)
     }
 }
 
 impl Outcome {
-    /// A second outcome that equals this one.
+    /// A copy.
     ///
     /// # Errors
-    /// Only want of memory.
+    /// Only that memory ran out.
     pub fn copy(&self) -> Result<Outcome, OutOfMemory>
-        ensures reply { IfOk result (λ copy. copy.reply ≡ self.now.reply) }
-        ensures changes { IfOk result (λ copy. copy.changes.items ≡ self.now.changes.items) }
+        ensures { IfOk result (λ copy. copy ≡ self.now) }
     {
-        Ok(Outcome {
-            reply: self.reply.copy()?,
-            changes: self.changes.clone()?,
-        })
+        Ok(self.clone()?)
     }
 }

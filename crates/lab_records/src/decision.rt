@@ -1,63 +1,56 @@
-//! What is decided of a command, from the part of the laboratory that the command needs.
+//! What is decided of an instruction, from the part of the laboratory that the instruction needs.
 
-ghost use Rattle.std.specs.Prelude.{◌≡◌, Option, IfOk, Some};
+ghost use Rattle.std.specs.Prelude.{◌≡◌, Option, IsTrue, IfOk, IsOk, Some};
 ghost use Rattle.lab_records.specs.declared.lab.Lab.{Lab as WholeLab};
-ghost use Rattle.lab_records.specs.Machine.{step};
+ghost use Rattle.lab_records.specs.Machine.{is_idle};
 ghost use Rattle.lab_records.specs.Parts.{need_of, part_of};
-ghost use Rattle.lab_records.specs.Changes.{ChangesFit, changed_in};
+ghost use Rattle.lab_records.specs.Changes.{Decides};
 
-use crate::command::{Command, Need, Outcome, Reply, Slice};
+use crate::command::{Command, Instruction, Need, Outcome, Reply, Slice};
 use crate::refusal::Refusal;
-use lab_names::{OutOfMemory, Tick};
+use lab_names::{OutOfMemory, Series, Tick};
 use std::alloc::Global;
 
-/// Which part of a laboratory is needed to decide a command.
-pub fn needs(_tick: &Tick, command: &Command) -> Need
-    ensures { result ≡ need_of _tick.now command.now }
+/// Which part of a laboratory is needed to decide an instruction.
+pub fn needs(_tick: &Tick, instruction: &Instruction) -> Need
+    ensures { result ≡ need_of _tick.now instruction.now }
 {
-    match command {
+    match &instruction.command {
         Command::Card => Need::Heading,
     }
 }
 
-/// Decides a command from the part of a laboratory that it needs. Nothing is changed here: the changes are
+/// Decides an instruction from the part of a laboratory that it needs. Nothing is changed here: the changes are
 /// for a keeper to make. A refusal is a reply.
 ///
 /// # Errors
-/// Only want of memory.
+/// Only that memory ran out, and none where nothing is to be written.
 pub fn decide(
     alloc: Global,
-    slice: &Slice,
+    slice: Slice,
     tick: &Tick,
-    command: &Command,
+    instruction: Instruction,
 ) -> Result<Outcome, OutOfMemory>
-    // For any laboratory of which the slice is the part that the command needs:
-    ensures reply { (lab : Option WholeLab) → part_of (need_of tick.now command.now) lab ≡ Some slice.now →
-        IfOk result (λ outcome. outcome.reply ≡ (step lab tick.now command.now).reply) }
-    ensures fit { (lab : Option WholeLab) → part_of (need_of tick.now command.now) lab ≡ Some slice.now →
-        IfOk result (λ outcome. ChangesFit lab outcome.changes.items) }
-    ensures after { (lab : Option WholeLab) → part_of (need_of tick.now command.now) lab ≡ Some slice.now →
-        IfOk result (λ outcome. changed_in lab outcome.changes.items ≡ (step lab tick.now command.now).after) }
+    // For any laboratory of which the slice is the part that the instruction needs:
+    ensures decides { (lab : Option WholeLab) → part_of (need_of tick.now instruction) lab ≡ Some slice →
+        IfOk result (Decides lab tick.now instruction) }
+    ensures idle { (lab : Option WholeLab) → part_of (need_of tick.now instruction) lab ≡ Some slice →
+        IsTrue (is_idle lab tick.now instruction) → IsOk result }
 {
-    let reply = if tick.moment.seconds() < slice.last.seconds() {
-        Reply::Refused(Refusal::ClockBehind)
-    } else {
-        answer(slice, command)?
-    };
-    Ok(Outcome {
-        reply,
-        changes: Vec::new(alloc),
-    })
-}
-
-/// The reply to a command that the clock allows.
-fn answer(slice: &Slice, command: &Command) -> Result<Reply, OutOfMemory>
-    ensures { IfOk result (λ reply. reply ≡ Reply.Card slice.now.code slice.now.name) }
-{
-    match command {
-        Command::Card => Ok(Reply::Card {
-            lab: slice.code.copy()?,
-            name: slice.name.copy()?,
+    let changes = Series::new(alloc);
+    if tick.moment < slice.last {
+        return Ok(Outcome {
+            reply: Reply::Refused(Refusal::ClockBehind),
+            changes,
+        });
+    }
+    match instruction.command {
+        Command::Card => Ok(Outcome {
+            reply: Reply::Card {
+                lab: slice.code,
+                name: slice.name,
+            },
+            changes,
         }),
     }
 }

@@ -1,68 +1,155 @@
-//! Why a call gave no answer of its kind.
+//! Why a keeper gave no answer: its store refused, memory ran out, or the laboratory to be founded is there.
 
 ghost use Rattle.std.specs.Prelude.{◌≡◌, Some};
-ghost use Rattle.lab_records.specs.declared.fault.Fault.TheVariants.{Memory};
-ghost use Rattle.lab_records.specs.Refusals.{fault_number, fault_word};
+ghost use Rattle.lab_records.specs.declared.fault.KeeperFault.TheVariants.{Memory};
+ghost use Rattle.lab_records.specs.declared.fault.PlacingFault.TheVariants.{Memory as NoMemory};
+ghost use Rattle.lab_records.specs.Refusals.{keeper_fault_entry, placing_fault_entry};
 
-use crate::refusal::Refusal;
+use crate::refusal::BirthRefusal;
 use lab_names::OutOfMemory;
 use std::alloc::{AllocError, AllocFailed};
+use std::fmt;
 use thiserror::Error;
 
-/// Why a call gave no answer of its kind: it was refused, or memory ran out. Each call says which refusals
-/// it gives. Its text is its word.
-#[derive(Clone, Copy, Debug, PartialEq, Eq, Drop, Error)]
-pub enum Fault {
-    /// Refused, and nothing was changed.
-    #[error("{0}")]
-    Refused(Refusal),
-    /// Memory ran out, and nothing was changed.
-    #[error("{0}")]
-    Memory(OutOfMemory),
+/// Why a keeper neither read nor changed a laboratory. Nothing was changed. Its text is its word.
+#[derive(Clone, Copy, Debug, PartialEq, Eq, Error)]
+pub enum KeeperFault {
+    /// The store refused.
+    Storage,
+    /// Memory ran out.
+    Memory,
 }
 
-impl Fault {
-    /// The number by which the fault is known: its refusal's, or 90 for want of memory.
+impl KeeperFault {
+    fn entry(&self) -> (u32, &'static str)
+        ensures number { result.0 ≡ (keeper_fault_entry self.now).number }
+        ensures word { result.1.now ≡ (keeper_fault_entry self.now).word }
+    {
+        match self {
+            KeeperFault::Storage => (63, "storage"),
+            KeeperFault::Memory => (90, "memory"),
+        }
+    }
+
+    /// The number by which the fault is known.
     pub fn number(&self) -> Option<u32>
-        ensures { result ≡ Some (fault_number self.now) }
+        ensures { result ≡ Some (keeper_fault_entry self.now).number }
     {
-        match self {
-            Fault::Refused(refusal) => Some(refusal.number()),
-            Fault::Memory(want) => Some(want.number()),
-        }
+        Some(self.entry().0)
     }
 
-    /// The word by which the fault is known: its refusal's, or `memory`.
+    /// The word by which the fault is known.
     pub fn word(&self) -> &'static str
-        ensures { result.now ≡ fault_word self.now }
+        ensures { result.now ≡ (keeper_fault_entry self.now).word }
+    {
+        self.entry().1
+    }
+}
+
+impl fmt::Display for KeeperFault {
+    ghost use Rattle.std.specs.Prelude.{Some};
+    ghost use Rattle.lab_records.specs.Refusals.{keeper_fault_entry};
+
+    ghost output = { λ fault. Some (keeper_fault_entry fault).word };
+
+    fn fmt<W: fmt::Write>(&self, f: &mut fmt::Formatter<W>) -> fmt::Result {
+        f.write_str(self.word())
+    }
+}
+
+impl From<OutOfMemory> for KeeperFault {
+    ghost from_gives = { λ _ fault. fault ≡ Memory };
+
+    fn from(_error: OutOfMemory) -> KeeperFault {
+        KeeperFault::Memory
+    }
+}
+
+impl From<AllocError> for KeeperFault {
+    ghost from_gives = { λ _ fault. fault ≡ Memory };
+
+    fn from(_error: AllocError) -> KeeperFault {
+        KeeperFault::Memory
+    }
+}
+
+impl<T: Drop> From<AllocFailed<T>> for KeeperFault {
+    ghost from_gives = { λ _ fault. fault ≡ Memory };
+
+    fn from(_error: AllocFailed<T>) -> KeeperFault {
+        KeeperFault::Memory
+    }
+}
+
+/// Why a keeper founded no laboratory. Nothing was changed. Its text is its word.
+#[derive(Clone, Copy, Debug, PartialEq, Eq, Error)]
+pub enum PlacingFault {
+    /// The laboratory is there already.
+    LabExists,
+    /// The store refused.
+    Storage,
+    /// Memory ran out.
+    Memory,
+}
+
+impl PlacingFault {
+    fn entry(&self) -> (u32, &'static str)
+        ensures number { result.0 ≡ (placing_fault_entry self.now).number }
+        ensures word { result.1.now ≡ (placing_fault_entry self.now).word }
     {
         match self {
-            Fault::Refused(refusal) => refusal.word(),
-            Fault::Memory(want) => want.word(),
+            PlacingFault::LabExists => BirthRefusal::LabExists.entry(),
+            PlacingFault::Storage => KeeperFault::Storage.entry(),
+            PlacingFault::Memory => KeeperFault::Memory.entry(),
         }
     }
-}
 
-impl From<OutOfMemory> for Fault {
-    ghost from_gives = { λ error fault. fault ≡ Memory error };
+    /// The number by which the fault is known.
+    pub fn number(&self) -> Option<u32>
+        ensures { result ≡ Some (placing_fault_entry self.now).number }
+    {
+        Some(self.entry().0)
+    }
 
-    fn from(error: OutOfMemory) -> Fault {
-        Fault::Memory(error)
+    /// The word by which the fault is known.
+    pub fn word(&self) -> &'static str
+        ensures { result.now ≡ (placing_fault_entry self.now).word }
+    {
+        self.entry().1
     }
 }
 
-impl From<AllocError> for Fault {
-    ghost from_gives = { λ _ fault. fault ≡ Memory (record {}) };
+impl fmt::Display for PlacingFault {
+    ghost use Rattle.std.specs.Prelude.{Some};
+    ghost use Rattle.lab_records.specs.Refusals.{placing_fault_entry};
 
-    fn from(_error: AllocError) -> Fault {
-        Fault::Memory(OutOfMemory)
+    ghost output = { λ fault. Some (placing_fault_entry fault).word };
+
+    fn fmt<W: fmt::Write>(&self, f: &mut fmt::Formatter<W>) -> fmt::Result {
+        f.write_str(self.word())
     }
 }
 
-impl<T: Drop> From<AllocFailed<T>> for Fault {
-    ghost from_gives = { λ _ fault. fault ≡ Memory (record {}) };
+impl From<OutOfMemory> for PlacingFault {
+    ghost from_gives = { λ _ fault. fault ≡ NoMemory };
 
-    fn from(_error: AllocFailed<T>) -> Fault {
-        Fault::Memory(OutOfMemory)
+    fn from(_error: OutOfMemory) -> PlacingFault {
+        PlacingFault::Memory
+    }
+}
+
+impl From<AllocError> for PlacingFault {
+    ghost from_gives = { λ _ fault. fault ≡ NoMemory };
+
+    fn from(_error: AllocError) -> PlacingFault {
+        PlacingFault::Memory
+    }
+}
+
+impl<T: Drop> From<AllocFailed<T>> for PlacingFault {
+    ghost from_gives = { λ _ fault. fault ≡ NoMemory };
+
+    fn from(_error: AllocFailed<T>) -> PlacingFault {
+        PlacingFault::Memory
     }
 }

@@ -1,34 +1,24 @@
 //! Who keeps laboratories: a list in memory, or the tables of a database. One body of the desk serves every
 //! keeper, so what a keeper promises is said here: of the meaning of each laboratory, of the keeper's own
-//! rows, and of what passes from one call to the next.
+//! rows, of what passes from one call to the next, and of what a crash may leave.
 
-ghost use Rattle.std.specs.Prelude.{◌≡◌, ◌≢◌, ℕ, List, [], Option, Some, None, IsSome, IfOk, IfErr, OnOk, OnErr};
+ghost use Rattle.std.specs.Prelude.{◌≡◌, ◌≢◌, ℕ, List, [], Option, Some, Err, IsSome, IfOk, IfErr, OnOk, OnErr};
 ghost use Rattle.lab_records.specs.declared.lab.Lab.{Lab as WholeLab};
 ghost use Rattle.lab_records.specs.declared.command.Change.{Change as OneChange};
+ghost use Rattle.lab_records.specs.declared.fault.PlacingFault.TheVariants.{LabExists};
 ghost use Rattle.lab_records.specs.Machine.{newborn};
 ghost use Rattle.lab_records.specs.Parts.{part_of};
-ghost use Rattle.lab_records.specs.Changes.{ChangesFit, changed_in, SameMeaning, SameElsewhere};
-ghost use Rattle.lab_records.specs.Refusals.{MayFail, StoreOnly, StoreOrExists};
+ghost use Rattle.lab_records.specs.Changes.{ChangesFit};
+ghost use Rattle.lab_records.specs.Worlds.{World, Changes, Places, Passes, Given, Lives, Leaves, Quiet, CommitsAs, IsSettled, KeeperFaultFits, PlacingFaultFits, OnPlaced};
 
 use crate::command::{Change, Founding, Need, Slice};
-use crate::fault::Fault;
+use crate::fault::{KeeperFault, PlacingFault};
 use lab_names::{LabCode, Tick};
 
 /// A keeper of laboratories.
 pub trait Keeper {
-    /// What the rows mean for each code: the laboratory of that code, or none.
-    ghost meaning: { Self → List ℕ → Option WholeLab };
-
-    /// The premise on the world below: what was read is what was written, up to this state. For a list in
-    /// memory it always holds; for a file it says that the disk returned what was written to it, and that the
-    /// file is still open.
-    ghost is_honest: { Self → Type 0 };
-
-    /// The rows are such as foundings and requests make.
-    ghost is_reached: { Self → Type 0 };
-
-    /// Whether the keeper may refuse a call for a cause of its store. Contracts alone see it.
-    ghost may_refuse: { Self → Type 0 };
+    /// What is known of the keeper at a moment.
+    ghost world: { Self → World };
 
     /// The rows are as they were.
     ghost rests: { Self → Self → Type 0 };
@@ -40,53 +30,80 @@ pub trait Keeper {
     ghost places: { Self → Self → WholeLab → Type 0 };
 
     /// The part of a laboratory that is needed, or none where there is no laboratory of that code.
-    fn load(&mut self, code: &LabCode, need: &Need) -> Result<Option<Slice>, Fault>
-        ensures part { is_honest self.new → is_reached self.old →
-            IfOk result (λ found. found ≡ part_of need.now (meaning self.old code.now)) }
-        ensures fault { IfErr result (MayFail (StoreOnly (may_refuse self.old))) }
-        ensures rows { is_honest self.new → is_reached self.old → rests self.old self.new }
-        ensures same { is_honest self.new → is_reached self.old → SameMeaning (meaning self.old) (meaning self.new) }
-        ensures honest { is_honest self.new → is_honest self.old }
-        ensures reached { is_honest self.new → is_reached self.old → is_reached self.new }
-        ensures refusing { may_refuse self.new → may_refuse self.old };
+    fn load(&mut self, code: &LabCode, need: &Need) -> Result<Option<Slice>, KeeperFault>
+        ensures part { Given (world self.old) (world self.new)
+            (IfOk result (λ found. found ≡ part_of need.now ((world self.old).meaning code.now))) }
+        ensures same { Given (world self.old) (world self.new) (Leaves (world self.old) (world self.new)) }
+        ensures rows { Given (world self.old) (world self.new)
+            ((world self.new).is_live → rests self.old self.new) }
+        ensures lives { Given (world self.old) (world self.new)
+            (OnOk result (Lives (world self.old) (world self.new))) }
+        ensures fault { IfErr result (KeeperFaultFits (world self.old).may_refuse) }
+        ensures crash { Given (world self.old) (world self.new) (Quiet (world self.old) (world self.new)) }
+        ensures reached { Given (world self.old) (world self.new) (world self.new).is_reached }
+        ensures passes { Passes (world self.old) (world self.new) };
 
-    /// Makes changes of one laboratory, all or none.
-    fn apply(&mut self, code: &LabCode, changes: &[Change]) -> Result<(), Fault>
-        ensures changed { is_honest self.new → is_reached self.old → ChangesFit (meaning self.old code.now) changes.now →
-            OnOk result (meaning self.new code.now ≡ changed_in (meaning self.old code.now) changes.now) }
-        ensures others { is_honest self.new → is_reached self.old → ChangesFit (meaning self.old code.now) changes.now →
-            OnOk result (SameElsewhere code.now (meaning self.old) (meaning self.new)) }
-        ensures err { is_honest self.new → is_reached self.old → OnErr result (SameMeaning (meaning self.old) (meaning self.new)) }
-        ensures fault { IfErr result (MayFail (StoreOnly (may_refuse self.old))) }
-        ensures rows { is_honest self.new → is_reached self.old → ChangesFit (meaning self.old code.now) changes.now →
-            OnOk result (moves self.old self.new code.now changes.now) }
-        ensures rows_err { is_honest self.new → is_reached self.old → OnErr result (rests self.old self.new) }
-        ensures honest { is_honest self.new → is_honest self.old }
-        ensures reached { is_honest self.new → is_reached self.old → ChangesFit (meaning self.old code.now) changes.now →
-            is_reached self.new }
-        ensures reached_err { is_honest self.new → is_reached self.old → OnErr result (is_reached self.new) }
-        ensures refusing { may_refuse self.new → may_refuse self.old };
+    /// Makes changes of one laboratory, all or none, by one commit; by none where there is no change.
+    fn apply(&mut self, code: &LabCode, changes: &[Change]) -> Result<(), KeeperFault>
+        // Where the changes fit:
+        ensures changed { ChangesFit ((world self.old).meaning code.now) changes.now →
+            Given (world self.old) (world self.new)
+            (OnOk result (Changes code.now changes.now (world self.old).meaning (world self.new).meaning)) }
+        ensures rows { ChangesFit ((world self.old).meaning code.now) changes.now →
+            Given (world self.old) (world self.new) (OnOk result (moves self.old self.new code.now changes.now)) }
+        ensures crash { ChangesFit ((world self.old).meaning code.now) changes.now →
+            Given (world self.old) (world self.new)
+            (CommitsAs (Changes code.now changes.now) (world self.old) (world self.new)) }
+        ensures settled { ChangesFit ((world self.old).meaning code.now) changes.now → changes.now ≢ [] →
+            Given (world self.old) (world self.new) (OnOk result (IsSettled (world self.new))) }
+        ensures reached { ChangesFit ((world self.old).meaning code.now) changes.now →
+            Given (world self.old) (world self.new) (world self.new).is_reached }
 
-    /// Founds a laboratory, where there is none of that code.
-    fn found(&mut self, code: &LabCode, founding: &Founding, tick: &Tick) -> Result<(), Fault>
-        ensures was_none { is_honest self.new → is_reached self.old → OnOk result (meaning self.old code.now ≡ None) }
-        ensures founded { is_honest self.new → is_reached self.old →
-            OnOk result (meaning self.new code.now ≡ Some (newborn code.now tick.now founding.now)) }
-        ensures others { is_honest self.new → is_reached self.old →
-            OnOk result (SameElsewhere code.now (meaning self.old) (meaning self.new)) }
-        ensures err { is_honest self.new → is_reached self.old → OnErr result (SameMeaning (meaning self.old) (meaning self.new)) }
-        ensures fault { IfErr result (MayFail (StoreOrExists (may_refuse self.old)
-            (is_honest self.new → is_reached self.old → IsSome (meaning self.old code.now)))) }
-        ensures rows { is_honest self.new → is_reached self.old →
-            OnOk result (places self.old self.new (newborn code.now tick.now founding.now)) }
-        ensures rows_err { is_honest self.new → is_reached self.old → OnErr result (rests self.old self.new) }
-        ensures honest { is_honest self.new → is_honest self.old }
-        ensures reached { is_honest self.new → is_reached self.old → is_reached self.new }
-        ensures refusing { may_refuse self.new → may_refuse self.old };
+        // Whatever they are:
+        ensures err { Given (world self.old) (world self.new)
+            (OnErr result (Leaves (world self.old) (world self.new))) }
+        ensures rows_err { Given (world self.old) (world self.new)
+            (OnErr result ((world self.new).is_live → rests self.old self.new)) }
+        ensures lives { Given (world self.old) (world self.new)
+            (OnOk result (Lives (world self.old) (world self.new))) }
+        ensures fault { IfErr result (KeeperFaultFits (world self.old).may_refuse) }
+        ensures quiet { changes.now ≡ [] →
+            Given (world self.old) (world self.new) (Quiet (world self.old) (world self.new)) }
+        ensures reached_err { Given (world self.old) (world self.new) (OnErr result (world self.new).is_reached) }
+        ensures passes { Passes (world self.old) (world self.new) };
+
+    /// Founds a laboratory by one commit, where there is none of that code.
+    fn found(
+        &mut self,
+        code: &LabCode,
+        founding: &Founding,
+        tick: &Tick,
+    ) -> Result<(), PlacingFault>
+        ensures founded { Given (world self.old) (world self.new)
+            (OnOk result (Places (newborn code.now tick.now founding.now)
+            (world self.old).meaning (world self.new).meaning)) }
+        ensures err { Given (world self.old) (world self.new)
+            (OnErr result (Leaves (world self.old) (world self.new))) }
+        ensures rows { Given (world self.old) (world self.new)
+            (OnOk result (places self.old self.new (newborn code.now tick.now founding.now))) }
+        ensures rows_err { Given (world self.old) (world self.new)
+            (OnErr result ((world self.new).is_live → rests self.old self.new)) }
+        ensures lives { Given (world self.old) (world self.new)
+            (OnPlaced result (Lives (world self.old) (world self.new))) }
+        ensures fault { IfErr result (PlacingFaultFits (world self.old).may_refuse
+            (Given (world self.old) (world self.new) (IsSome ((world self.old).meaning code.now)))) }
+        ensures crash { Given (world self.old) (world self.new)
+            (CommitsAs (Places (newborn code.now tick.now founding.now)) (world self.old) (world self.new)) }
+        ensures settled { Given (world self.old) (world self.new) (OnOk result (IsSettled (world self.new))) }
+        ensures quiet { result ≡ Err LabExists →
+            Given (world self.old) (world self.new) (Quiet (world self.old) (world self.new)) }
+        ensures reached { Given (world self.old) (world self.new) (world self.new).is_reached }
+        ensures passes { Passes (world self.old) (world self.new) };
 
     /// A laboratory is kept under its own code.
-    ghost kept: { (keeper : Self) (code : List ℕ) (lab : WholeLab) → is_honest keeper → is_reached keeper →
-        meaning keeper code ≡ Some lab → lab.code ≡ code };
+    ghost kept: { (keeper : Self) (code : List ℕ) (lab : WholeLab) → (world keeper).is_honest →
+        (world keeper).is_live → (world keeper).is_reached →
+        (world keeper).meaning code ≡ Some lab → lab.code ≡ code };
 
     /// Rows that nobody touched are as they were.
     ghost still: { (keeper : Self) → rests keeper keeper };

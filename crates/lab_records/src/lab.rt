@@ -8,7 +8,7 @@ use crate::command::{Change, Need, Slice};
 use lab_names::{LabCode, Moment, Name, OutOfMemory};
 
 /// One laboratory, whole.
-#[derive(Debug, Drop)]
+#[derive(Clone, Debug, Drop)]
 pub struct Lab {
     /// The code by which requests name it.
     pub code: LabCode,
@@ -19,24 +19,20 @@ pub struct Lab {
 }
 
 impl Lab {
-    /// A second laboratory that equals this one.
+    /// A copy.
     ///
     /// # Errors
-    /// Only want of memory.
+    /// Only that memory ran out.
     pub fn copy(&self) -> Result<Lab, OutOfMemory>
         ensures { IfOk result (λ copy. copy ≡ self.now) }
     {
-        Ok(Lab {
-            code: self.code.copy()?,
-            name: self.name.copy()?,
-            last: self.last,
-        })
+        Ok(self.clone()?)
     }
 
     /// The part of the laboratory that is needed.
     ///
     /// # Errors
-    /// Only want of memory.
+    /// Only that memory ran out.
     pub fn part(&self, need: &Need) -> Result<Slice, OutOfMemory>
         ensures { IfOk result (λ slice. slice ≡ part need.now self.now) }
     {

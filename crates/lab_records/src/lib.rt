@@ -1,5 +1,5 @@
 //! One laboratory as a small machine: what it holds, what it can be asked, what it replies, and what each
-//! command changes (ISO/IEC 17025:2017, 7.5 and 8.4). It knows no bytes and no tables: those who keep
+//! instruction changes (ISO/IEC 17025:2017, 7.5 and 8.4). It knows no bytes and no tables: those who keep
 //! laboratories are a `Keeper`.
 #![tactic(auto)]
 
@@ -12,10 +12,11 @@ mod refusal;
 #[cfg(test)]
 mod tests;
 
-pub use crate::command::{Change, Command, Founding, Need, Outcome, Reply, Slice};
+pub use crate::command::{Change, Command, Founding, Instruction, Need, Outcome, Reply, Slice};
 pub use crate::decision::{decide, needs};
-pub use crate::fault::Fault;
+pub use crate::fault::{KeeperFault, PlacingFault};
 pub use crate::keeper::Keeper;
 pub use crate::lab::Lab;
-pub use crate::refusal::Refusal;
-pub use lab_names::{LabCode, Moment, Name, NameFault, OutOfMemory, Tick};
+pub use crate::refusal::{BirthRefusal, Refusal};
+pub use lab_names::{LabCode, Moment, Name, NameFault, OutOfMemory, Series, Tick};
+pub use lab_secrets::Token;

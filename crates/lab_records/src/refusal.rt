@@ -1,74 +1,107 @@
-//! The refusals that a reply can name: each has a number and a word, which customers and programs rely on.
+//! What a laboratory's machine refuses: each refusal has a number and a word, which customers and programs rely on.
 
-ghost use Rattle.std.specs.Prelude.{◌≡◌};
-ghost use Rattle.lab_records.specs.Refusals.{number_of, word_of};
+ghost use Rattle.std.specs.Prelude.{◌≡◌, Some, IfOk};
+ghost use Rattle.lab_records.specs.Refusals.{refusal_entry, birth_entry};
 
+use lab_names::OutOfMemory;
+use std::fmt;
 use thiserror::Error;
 
-/// Why something was refused. Its text is its word.
-#[derive(Clone, Copy, Debug, PartialEq, Eq, Drop, Error)]
+/// Why an instruction was refused. Its text is its word.
+#[derive(Clone, Debug, PartialEq, Eq, Drop, Error)]
 pub enum Refusal {
-    /// A name that doesn't read.
-    #[error("bad_name")]
-    BadName,
     /// There is no laboratory of that code.
-    #[error("no_such_lab")]
     NoSuchLab,
     /// The moment is before the laboratory's last moment.
-    #[error("clock_behind")]
     ClockBehind,
-    /// The store refused; nothing was changed.
-    #[error("storage")]
-    Storage,
-    /// The laboratory that is to be founded is there already.
-    #[error("lab_exists")]
-    LabExists,
-    /// The head of a request ends early, or is none.
-    #[error("bad_head")]
-    BadHead,
-    /// The head of a request is longer than it may be, or has too many lines.
-    #[error("head_too_long")]
-    HeadTooLong,
-    /// Nothing is to be had by this method and path.
-    #[error("no_route")]
-    NoRoute,
-    /// A body that is not of the form that is asked for.
-    #[error("bad_body")]
-    BadBody,
 }
 
 impl Refusal {
-    /// The number by which the refusal is known.
-    pub fn number(&self) -> u32
-        ensures { result ≡ number_of self.now }
+    fn entry(&self) -> (u32, &'static str)
+        ensures number { result.0 ≡ (refusal_entry self.now).number }
+        ensures word { result.1.now ≡ (refusal_entry self.now).word }
     {
         match self {
-            Refusal::BadName => 1,
-            Refusal::NoSuchLab => 40,
-            Refusal::ClockBehind => 41,
-            Refusal::Storage => 63,
-            Refusal::LabExists => 64,
-            Refusal::BadHead => 80,
-            Refusal::HeadTooLong => 81,
-            Refusal::NoRoute => 86,
-            Refusal::BadBody => 88,
+            Refusal::NoSuchLab => (40, "no_such_lab"),
+            Refusal::ClockBehind => (41, "clock_behind"),
         }
+    }
+
+    /// The number by which the refusal is known.
+    pub fn number(&self) -> Option<u32>
+        ensures { result ≡ Some (refusal_entry self.now).number }
+    {
+        Some(self.entry().0)
     }
 
     /// The word by which the refusal is known.
     pub fn word(&self) -> &'static str
-        ensures { result.now ≡ word_of self.now }
+        ensures { result.now ≡ (refusal_entry self.now).word }
+    {
+        self.entry().1
+    }
+
+    /// A copy.
+    ///
+    /// # Errors
+    /// Only that memory ran out.
+    pub fn copy(&self) -> Result<Refusal, OutOfMemory>
+        ensures { IfOk result (λ copy. copy ≡ self.now) }
+    {
+        Ok(self.clone()?)
+    }
+}
+
+impl fmt::Display for Refusal {
+    ghost use Rattle.std.specs.Prelude.{Some};
+    ghost use Rattle.lab_records.specs.Refusals.{refusal_entry};
+
+    ghost output = { λ refusal. Some (refusal_entry refusal).word };
+
+    fn fmt<W: fmt::Write>(&self, f: &mut fmt::Formatter<W>) -> fmt::Result {
+        f.write_str(self.word())
+    }
+}
+
+/// Why a founding was refused by the machine. Its text is its word.
+#[derive(Clone, Copy, Debug, PartialEq, Eq, Error)]
+pub enum BirthRefusal {
+    /// The laboratory that is to be founded is there already.
+    LabExists,
+}
+
+impl BirthRefusal {
+    pub(crate) fn entry(&self) -> (u32, &'static str)
+        ensures number { result.0 ≡ (birth_entry self.now).number }
+        ensures word { result.1.now ≡ (birth_entry self.now).word }
     {
         match self {
-            Refusal::BadName => "bad_name",
-            Refusal::NoSuchLab => "no_such_lab",
-            Refusal::ClockBehind => "clock_behind",
-            Refusal::Storage => "storage",
-            Refusal::LabExists => "lab_exists",
-            Refusal::BadHead => "bad_head",
-            Refusal::HeadTooLong => "head_too_long",
-            Refusal::NoRoute => "no_route",
-            Refusal::BadBody => "bad_body",
+            BirthRefusal::LabExists => (64, "lab_exists"),
         }
+    }
+
+    /// The number by which the refusal is known.
+    pub fn number(&self) -> Option<u32>
+        ensures { result ≡ Some (birth_entry self.now).number }
+    {
+        Some(self.entry().0)
+    }
+
+    /// The word by which the refusal is known.
+    pub fn word(&self) -> &'static str
+        ensures { result.now ≡ (birth_entry self.now).word }
+    {
+        self.entry().1
+    }
+}
+
+impl fmt::Display for BirthRefusal {
+    ghost use Rattle.std.specs.Prelude.{Some};
+    ghost use Rattle.lab_records.specs.Refusals.{birth_entry};
+
+    ghost output = { λ refusal. Some (birth_entry refusal).word };
+
+    fn fmt<W: fmt::Write>(&self, f: &mut fmt::Formatter<W>) -> fmt::Result {
+        f.write_str(self.word())
     }
 }

@@ -1,23 +1,24 @@
 -- The reading of a head by lines and words finds a head exactly where the grammar of `httparse` has
 -- one, and the same words and fields.
-use Rattle.std.proofs.Common.{◌≡◌, ℕ, ◌+◌, ◌<◌, ◌≤◌, ◌⊎◌, Bool, true, false, cond, List, [], ◌∷◌, ◌++◌, length, map, refl, sym, ap, ◌∙◌, arith, append_assoc, Some, None, inl, inr, suc, zero, length-append}
+use Rattle.std.proofs.Common.{◌≡◌, ℕ, ◌+◌, ◌<◌, ◌≤◌, ◌⊎◌, Bool, true, false, cond, List, [], ◌∷◌, ◌++◌, length, drop, map, refl, sym, ap, ◌∙◌, arith, append_assoc, Some, None, inl, inr, suc, zero, length-append}
 use Rattle.std.specs.Prelude.{◌||◌, ◌==◌, All, not, take_while, if◌then◌else◌}
 use Rattle.std.specs.List.{list_any, list_all, slice_split, join_with_byte}
 use Rattle.std.specs.Str.Lines.{strip_carriage_return}
 use Rattle.std.proofs.lemmas.Bool.{and_from, and_parts, or_cases, cond-true, cond-false, lt-ltb, ltb-true, eqb-true, cases_Bool}
+use Rattle.std.proofs.Math.Seq.{drop-append_seam}
 use Rattle.std.proofs.lemmas.List.Elements.{All-append, All-cons, All-nil, All-head, All-tail}
 use Rattle.std.proofs.lemmas.List.Splits.{slice_split_at, join_with_byte-slice_split}
 use Rattle.std.proofs.lemmas.List.Sums.{list_all-from_AllPass, AllPass-from_list_all, take_while-cons}
 use Rattle.std.proofs.lemmas.Slice.Eq.{bytes_eq-Decides}
 use Rattle.std.proofs.lemmas.Str.{IsUtf8-from_is_utf8, is_utf8-from_IsUtf8}
-use Rattle.httparse.specs.Grammar.{is_token_byte, is_token, is_uri_byte, is_value_byte, AllPass, LineEnd, crlf, lf, print_end, print_blank, print_version, Field, IsField, print_section, RequestHead, IsRequestHead, ReadsRequest}
+use Rattle.httparse.specs.Grammar.{is_token_byte, is_token, is_uri_byte, is_value_byte, AllPass, LineEnd, crlf, lf, print_end, print_blank, print_version, Field, IsField, print_section, RequestHead, IsRequestHead, ReadsRequest, print_request, trim_ows}
 use Rattle.httparse.specs.Pieces.{is_newline, Stops}
 use Rattle.httparse.proofs.PieceLemmas.{space_ends_token, newline_not_stopped}
 use Rattle.httparse.proofs.GrammarLemmas.{print_request-append}
-use Rattle.lab_wire.specs.Heads.{without_front, is_line_feed, but_last, is_empty_line, head_lines, has_end, words, is_target, is_version, field_name, is_field_line, Head, is_head, head_of_words, head_of_lines, head_of}
-use Rattle.lab_wire.specs.HeadGrammar.{head_shown, HasHead, GrammarOfHeads}
+use Rattle.lab_wire.specs.Heads.{without_front, is_line_feed, but_last, is_empty_line, head_lines, has_end, words, is_target, is_version, field_name, is_field_line, field_of, head_length, Head, is_head, head_of_words, head_of_lines, head_of}
+use Rattle.lab_wire.specs.HeadGrammar.{field_shown, head_shown, HasHead, IsReadAs, GrammarOfHeads}
 use Rattle.lab_wire.proofs.LineLemmas.{full_line}
-use Rattle.lab_wire.proofs.HeadLemmas.{IsPlain, plain_run, plain_token, return_of, end_split, ended_line, stripped, stripped_back, two_bytes, line_of, ended_line_of, plain_field, next_field, section_lines, avoids, name_of_line, is_token_from, token_from, is_field_line_of, field_from_line}
+use Rattle.lab_wire.proofs.HeadLemmas.{IsPlain, plain_run, plain_token, return_of, end_split, ended_line, stripped, stripped_back, two_bytes, line_of, ended_line_of, plain_field, next_field, section_lines, avoids, name_of_line, value_of_line, end_length, is_token_from, token_from, is_field_line_of, field_from_line}
 
 -- ---- what stands before a head
 
@@ -103,13 +104,15 @@ field_lines_are (f ∷ fields) all =
     and_from _ _ (is_field_line_of f (All-head IsField f fields all))
     (field_lines_are fields (All-tail IsField f fields all))
 
-field_names_are : (fields : List Field) → All IsField fields
-    → map field_name (map line_of fields) ≡ map (λ (f : Field). f.name) fields
-field_names_are [] all = refl
-field_names_are (f ∷ fields) all =
-    let one = name_of_line f (All-head IsField f fields all) in
-    let more = field_names_are fields (All-tail IsField f fields all) in
-    λ i. one i ∷ more i
+fields_are : (fields : List Field) → All IsField fields
+    → map field_of (map line_of fields) ≡ map field_shown fields
+fields_are [] all = refl
+fields_are (f ∷ fields) all =
+    let is = All-head IsField f fields all in
+    let name = name_of_line f is in
+    let value = ap trim_ows (value_of_line f is) in
+    let more = fields_are fields (All-tail IsField f fields all) in
+    λ i. record { name = name i; value = value i } ∷ more i
 
 is_head_of : (h : RequestHead) → IsRequestHead h
     → is_head h.method h.target (print_version h.minor) (map line_of h.fields) ≡ true
@@ -121,11 +124,6 @@ is_head_of h is =
     (is_utf8-from_IsUtf8 h.target is.target_text)))
     (version_is h.minor is.minor))
     (field_lines_are h.fields is.fields)
-
-pub record IsReadAs (text : List ℕ) (h : RequestHead) : Type 0 where
-  pub lines : length (head_lines text) ≡ 1 + length h.fields
-  pub ends : has_end text ≡ true
-  pub head : head_of text ≡ Some (head_shown h)
 
 length-map : (fields : List Field) → length (map ended_line_of fields) ≡ length fields
 length-map [] = refl
@@ -155,34 +153,58 @@ request_text text h rest front x =
         → a ++ 32 ∷ (b ++ 32 ∷ (c ++ r)) ≡ (a ++ 32 ∷ (b ++ 32 ∷ c)) ++ r
     regroup a b c r = sym (append_assoc a (32 ∷ (b ++ 32 ∷ c)) r ∙ ap (λ t. a ++ 32 ∷ t) (append_assoc b (32 ∷ c) r))
 
+-- how many bytes the head takes
+pub record HasLength (text : List ℕ) (h : RequestHead) (rest : List ℕ) : Type 0 where
+  pub read : IsReadAs text h rest
+  pub size : head_length text ≡ length (print_request h)
+
 pub reads_head : (text : List ℕ) (h : RequestHead) (rest : List ℕ) → IsFront text → ReadsRequest text h rest
-    → IsReadAs text h
+    → HasLength text h rest
 unfolding head_of
 reads_head text h rest front x =
     let after : List ℕ = print_section h.fields h.last ++ rest in
     let line : List ℕ = request_line_of h in
     let shape = request_text text h rest front x in
     let section = section_lines h.fields h.last rest x.0.fields in
-    let first = full_line (line ++ (print_end h.line_end ++ after)) (line ++ return_of h.line_end) after
+    let whole : List ℕ = line ++ (print_end h.line_end ++ after) in
+    let first = full_line whole (line ++ return_of h.line_end) after
     (ended_line line h.line_end after (plain_request h x.0)) (two_bytes _ (long_request h x.0)) in
     let lines : head_lines text ≡ (line ++ return_of h.line_end) ∷ map ended_line_of h.fields =
-    ap head_lines shape ∙ first.0 ∙ ap (λ ls. (line ++ return_of h.line_end) ∷ ls) section.0 in
-    let ends : has_end text ≡ true = ap has_end shape ∙ first.1 ∙ section.1 in
+    ap head_lines shape ∙ first.lines ∙ ap (λ ls. (line ++ return_of h.line_end) ∷ ls) section.lines in
+    let ends : has_end text ≡ true = ap has_end shape ∙ first.ends ∙ section.ends in
     let plain : map strip_carriage_return (head_lines text) ≡ line ∷ map line_of h.fields =
     ap (map strip_carriage_return) lines
     ∙ (λ i. stripped line h.line_end (plain_request h x.0) i ∷ stripped_fields h.fields x.0.fields i) in
     let count : length ((line ++ return_of h.line_end) ∷ map ended_line_of h.fields) ≡ 1 + length h.fields =
     omega (arith, length-map h.fields) in
+    let size : head_length text ≡ length (print_request h) =
+    omega (
+      arith,
+      ap head_length shape,
+      ap length shape,
+      first.size,
+      section.size,
+      length-append line (print_end h.line_end ++ after),
+      length-append line (return_of h.line_end),
+      end_length h.line_end after,
+      ap length x.1,
+      length-append (print_request h) rest,
+    ) in
     record {
-      lines = ap length lines ∙ count;
-      ends = ends;
-      head =
-          cond-true (has_end text) (head_of_lines (map strip_carriage_return (head_lines text))) None ends
-          ∙ ap head_of_lines plain
-          ∙ ap (λ ws. head_of_words ws (map line_of h.fields)) (request_words h x.0)
-          ∙ cond-true (is_head h.method h.target (print_version h.minor) (map line_of h.fields)) _ None (is_head_of h x.0)
-          ∙ ap (λ ns. Some (record { method = h.method; target = h.target; version = print_version h.minor; names = ns }))
-          (field_names_are h.fields x.0.fields);
+      read = record {
+        head =
+            cond-true (has_end text) (head_of_lines (map strip_carriage_return (head_lines text))) None ends
+            ∙ ap head_of_lines plain
+            ∙ ap (λ ws. head_of_words ws (map line_of h.fields)) (request_words h x.0)
+            ∙ cond-true (is_head h.method h.target (print_version h.minor) (map line_of h.fields)) _ None (is_head_of h x.0)
+            ∙ ap (λ fs. Some (record { method = h.method; target = h.target; version = print_version h.minor; fields = fs }))
+            (fields_are h.fields x.0.fields);
+        lines = ap length lines ∙ count;
+        rest =
+            ap (λ n. drop n text) size ∙ ap (drop (length (print_request h))) x.1
+            ∙ drop-append_seam (print_request h) rest;
+      };
+      size = size;
     }
 
 -- ---- what is read is a head of the grammar
@@ -329,7 +351,7 @@ words_read (a ∷ b ∷ []) fields k e = absurd (cc)
 words_read (a ∷ b ∷ c ∷ []) fields k e = by (is_head a b c fields) refl e
   where
     by : (t : Bool) → is_head a b c fields ≡ t
-        → (if t then Some (record { method = a; target = b; version = c; names = map field_name fields }) else None) ≡ Some k
+        → (if t then Some (record { method = a; target = b; version = c; fields = map field_of fields }) else None) ≡ Some k
         → (method target version : List ℕ) × ((a ∷ b ∷ c ∷ []) ≡ method ∷ target ∷ version ∷ [])
         × (is_head method target version fields ≡ true)
     by true is e = (a, b, c, refl, is)
@@ -393,7 +415,6 @@ finds_head text k read = by (cases_Bool (has_end text))
 
 pub grammar_law : GrammarOfHeads
 grammar_law bytes = record {
-  reads = λ h rest x. (reads_head (without_front bytes) h rest (front_of bytes) x).head;
-  lines = λ h rest x. (reads_head (without_front bytes) h rest (front_of bytes) x).lines;
+  reads = λ h rest x. (reads_head (without_front bytes) h rest (front_of bytes) x).read;
   only = λ head read. finds_head (without_front bytes) head read;
 }

@@ -12,7 +12,7 @@ use Rattle.std.proofs.lemmas.Grind.{common_steps}
 use Rattle.httparse.specs.Grammar.{is_token_byte, is_token, IsToken, is_value_byte, AllPass, LineEnd, crlf, lf, print_end, Field, print_field, IsField, print_section}
 use Rattle.httparse.specs.Pieces.{is_newline}
 use Rattle.httparse.proofs.PieceLemmas.{colon_ends_token, token_is_no_newline}
-use Rattle.lab_wire.specs.Heads.{is_line_feed, ended_lines, is_empty_line, head_lines, has_end, field_name, is_field_line}
+use Rattle.lab_wire.specs.Heads.{is_line_feed, ended_lines, is_empty_line, head_lines, has_end, head_length, field_name, is_field_line}
 use Rattle.lab_wire.proofs.LineLemmas.{ended_lines_at, full_line, empty_line}
 
 -- ---- bytes
@@ -140,23 +140,46 @@ next_field f fields last rest =
     regroup : (a b c d r : List ℕ) → (((a ++ b) ++ c) ++ d) ++ r ≡ a ++ (b ++ ((c ++ d) ++ r))
     regroup a b c d r = simp append_assoc
 
--- the lines of a section, up to its empty line
+-- the lines of a section, up to its empty line, and how many bytes they take
+pub record IsSection (text rest : List ℕ) (ls : List (List ℕ)) : Type 0 where
+  pub lines : head_lines text ≡ ls
+  pub ends : has_end text ≡ true
+  pub size : head_length text + length rest ≡ length text
+
+pub end_length : (end : LineEnd) (rest : List ℕ)
+    → length (print_end end ++ rest) ≡ length (return_of end) + 1 + length rest
+end_length crlf rest = omega arith
+end_length lf rest = omega arith
+
 pub section_lines : (fields : List Field) (last : LineEnd) (rest : List ℕ) → All IsField fields
-    → (head_lines (print_section fields last ++ rest) ≡ map ended_line_of fields)
-    × (has_end (print_section fields last ++ rest) ≡ true)
+    → IsSection (print_section fields last ++ rest) rest (map ended_line_of fields)
 section_lines [] last rest all =
-    empty_line (print_end last ++ rest) (return_of last) rest
-    (ended_line [] last rest (All-nil (λ b. is_newline b ≡ false))) (empty_return last)
+    let line = empty_line (print_end last ++ rest) (return_of last) rest
+    (ended_line [] last rest (All-nil (λ b. is_newline b ≡ false))) (empty_return last) in
+    record {
+      lines = line.lines;
+      ends = line.ends;
+      size = omega (arith, line.size, end_length last rest);
+    }
 section_lines (f ∷ fields) last rest all =
     let is = All-head IsField f fields all in
     let more = section_lines fields last rest (All-tail IsField f fields all) in
-    let line = full_line (line_of f ++ (print_end f.end ++ (print_section fields last ++ rest)))
-    (ended_line_of f) (print_section fields last ++ rest)
-    (ended_line (line_of f) f.end (print_section fields last ++ rest) (plain_field f is))
-    (two_bytes (ended_line_of f) (long_field f is)) in (
-      ap head_lines (next_field f fields last rest) ∙ line.0 ∙ ap (λ ls. ended_line_of f ∷ ls) more.0,
-      ap has_end (next_field f fields last rest) ∙ line.1 ∙ more.1,
-    )
+    let after : List ℕ = print_section fields last ++ rest in
+    let text : List ℕ = line_of f ++ (print_end f.end ++ after) in
+    let line = full_line text (ended_line_of f) after (ended_line (line_of f) f.end after (plain_field f is))
+    (two_bytes (ended_line_of f) (long_field f is)) in
+    let first : length text ≡ length (ended_line_of f) + 1 + length after =
+    omega (
+      arith,
+      length-append (line_of f) (print_end f.end ++ after),
+      length-append (line_of f) (return_of f.end),
+      end_length f.end after,
+    ) in
+    rw (next_field f fields last rest) (record {
+      lines = line.lines ∙ ap (λ ls. ended_line_of f ∷ ls) more.lines;
+      ends = line.ends ∙ more.ends;
+      size = omega (arith, line.size, more.size, first);
+    })
 
 -- ---- words
 
@@ -184,7 +207,7 @@ pub name_of_line : (f : Field) → IsField f → field_name (line_of f) ≡ f.na
 name_of_line f is =
     ap (λ n. take n (line_of f)) (colon_place f is) ∙ take-append_seam f.name (58 ∷ f.raw)
 
-value_of_line : (f : Field) → IsField f → after_first (λ b. b == 58) (line_of f) ≡ f.raw
+pub value_of_line : (f : Field) → IsField f → after_first (λ b. b == 58) (line_of f) ≡ f.raw
 value_of_line f is =
     ap (λ n. drop (n + 1) (line_of f)) (colon_place f is) ∙ drop-append-add f.name (58 ∷ f.raw) 1
 

@@ -1,8 +1,10 @@
 pub mod AskLemmas
+pub mod BodyLemmas
 pub mod DateLemmas
-pub mod FoundingLemmas
 pub mod HeadLaws
 pub mod HeadLemmas
 pub mod LineLemmas
+pub mod MessageLemmas
 pub mod ReadLemmas
 pub mod ReplyLemmas
+pub mod RouteLemmas

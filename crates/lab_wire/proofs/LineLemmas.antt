@@ -5,7 +5,7 @@ use Rattle.std.specs.List.{list_any, slice_split, position_or_len, before_first,
 use Rattle.std.proofs.lemmas.List.Splits.{slice_split_at, slice_split_first, slice_split_none, length-slice_split}
 use Rattle.std.proofs.lemmas.List.Sums.{take_while-cons, fails_before_first}
 use Rattle.std.proofs.lemmas.Grind.{common_steps}
-use Rattle.lab_wire.specs.Heads.{is_line_feed, but_last, ended_lines, is_empty_line, head_lines, has_end}
+use Rattle.lab_wire.specs.Heads.{is_line_feed, but_last, ended_lines, is_empty_line, head_lines, has_end, lines_length, head_length}
 
 pub but_last-cons : (x : List ℕ) (parts : List (List ℕ)) → 0 < length parts
     → but_last (x ∷ parts) ≡ x ∷ but_last parts
@@ -30,28 +30,40 @@ ended_lines_first text found =
     ∙ but_last-cons (before_first is_line_feed text) _ (parts_some (after_first is_line_feed text))
 
 -- a text that begins with a line that is not empty
+pub record IsFullLine (text line rest : List ℕ) : Type 0 where
+  pub lines : head_lines text ≡ line ∷ head_lines rest
+  pub ends : has_end text ≡ has_end rest
+  pub size : head_length text ≡ length line + 1 + head_length rest
+
 pub full_line : (text line rest : List ℕ) → ended_lines text ≡ line ∷ ended_lines rest
-    → is_empty_line line ≡ false
-    → (head_lines text ≡ line ∷ head_lines rest) × (has_end text ≡ has_end rest)
-unfolding head_lines has_end
-full_line text line rest lines is = (
-  ap (take_while (λ l. not (is_empty_line l))) lines
+    → is_empty_line line ≡ false → IsFullLine text line rest
+unfolding head_lines has_end head_length
+full_line text line rest lines is = record {
+  lines =
+      ap (take_while (λ l. not (is_empty_line l))) lines
       ∙ take_while-cons (λ l. not (is_empty_line l)) line (ended_lines rest)
-      ∙ ap (λ b. cond (not b) (line ∷ head_lines rest) []) is,
-  ap (list_any is_empty_line) lines ∙ ap (λ b. b || has_end rest) is,
-)
+      ∙ ap (λ b. cond (not b) (line ∷ head_lines rest) []) is;
+  ends = ap (list_any is_empty_line) lines ∙ ap (λ b. b || has_end rest) is;
+  size = ap lines_length lines ∙ ap (λ b. length line + 1 + cond b 0 (head_length rest)) is;
+}
 
 -- a text that begins with an empty line
+pub record IsEmptyLine (text line : List ℕ) : Type 0 where
+  pub lines : head_lines text ≡ []
+  pub ends : has_end text ≡ true
+  pub size : head_length text ≡ length line + 1
+
 pub empty_line : (text line rest : List ℕ) → ended_lines text ≡ line ∷ ended_lines rest
-    → is_empty_line line ≡ true
-    → (head_lines text ≡ []) × (has_end text ≡ true)
-unfolding head_lines has_end
-empty_line text line rest lines is = (
-  ap (take_while (λ l. not (is_empty_line l))) lines
+    → is_empty_line line ≡ true → IsEmptyLine text line
+unfolding head_lines has_end head_length
+empty_line text line rest lines is = record {
+  lines =
+      ap (take_while (λ l. not (is_empty_line l))) lines
       ∙ take_while-cons (λ l. not (is_empty_line l)) line (ended_lines rest)
-      ∙ ap (λ b. cond (not b) (line ∷ head_lines rest) []) is,
-  ap (list_any is_empty_line) lines ∙ ap (λ b. b || has_end rest) is,
-)
+      ∙ ap (λ b. cond (not b) (line ∷ head_lines rest) []) is;
+  ends = ap (list_any is_empty_line) lines ∙ ap (λ b. b || has_end rest) is;
+  size = ap lines_length lines ∙ ap (λ b. length line + 1 + cond b 0 (head_length rest)) is ∙ omega arith;
+}
 
 some_place : (p n : ℕ) (b : Bool) (k : ℕ) → nat_lt p n ≡ b → cond b (Some p) None ≡ Some k → (p ≡ k) × (p < n)
 some_place p n true k is e = (cc, grind (arith, common_steps))
@@ -75,14 +87,14 @@ pub first_line_full : (text : List ℕ) (k : ℕ) → position is_line_feed text
 first_line_full text k at is =
     let line = full_line text (take k text) (drop (k + 1) text) (first_line text k at) is in
     let longer : length (take k text ∷ head_lines (drop (k + 1) text)) ≡ 1 + length (head_lines (drop (k + 1) text)) = omega arith in
-    (ap length line.0 ∙ longer, line.1)
+    (ap length line.lines ∙ longer, line.ends)
 
 pub first_line_empty : (text : List ℕ) (k : ℕ) → position is_line_feed text ≡ Some k
     → is_empty_line (take k text) ≡ true
     → (length (head_lines text) ≡ 0) × (has_end text ≡ true)
 first_line_empty text k at is =
     let line = empty_line text (take k text) (drop (k + 1) text) (first_line text k at) is in
-    (ap length line.0, line.1)
+    (ap length line.lines, line.ends)
 
 -- where no line has ended
 pub no_line : (text : List ℕ) → position is_line_feed text ≡ None

@@ -1,7 +1,11 @@
 pub mod Asked
+pub mod Bodies
 pub mod Dates
-pub mod Foundings
 pub mod HeadGrammar
 pub mod Heads
+pub mod Messages
+pub mod Refusals
 pub mod Replies
+pub mod Routes
+pub mod Sending
 pub mod Statuses

@@ -1,50 +1,56 @@
--- The bytes of each reply: an HTTP/1.1 message (RFC 9112, sections 2 to 6) whose body is JSON (RFC 8259)
--- with no blanks and its members in the order of their names.
-use Rattle.std.specs.Prelude.{ℕ, List, [], ◌∷◌, ◌++◌, length, decimal, codes, Option, Some, None}
-use Rattle.http.specs.StatusCode.{status_text}
-use Rattle.json.specs.Print.{quoted}
+-- What each answer says, as JSON (RFC 8259), and its bytes.
+use Rattle.std.specs.Prelude.{ℕ, List, [], ◌∷◌, codes, Some, None}
+use Rattle.serde_json.specs.Data.{Data, object, string, number, unsigned, Members, no_members, put}
+use Rattle.serde_json.specs.Written.{compact_text}
 use Rattle.lab_names.specs.declared.tick.Tick.{Tick}
+use Rattle.lab_names.specs.Faults.{Entry, memory_entry}
 use Rattle.lab_records.specs.declared.command.Reply.{Reply}
-use Rattle.lab_records.specs.declared.command.Reply.TheVariants.{Card, Refused}
-use Rattle.lab_records.specs.Refusals.{number_of, word_of}
-use Rattle.lab_names.specs.Faults.{memory_number, memory_word}
-use Rattle.lab_wire.specs.Dates.{imf_fixdate}
-use Rattle.lab_wire.specs.Statuses.{status_of}
+use Rattle.lab_records.specs.declared.command.Reply.TheVariants as reply
+use Rattle.lab_records.specs.Refusals.{refusal_entry, storage_entry}
+use Rattle.lab_wire.specs.declared.replies.Answer.{Answer}
+use Rattle.lab_wire.specs.declared.replies.Answer.TheVariants.{Replied, Refused, Storage}
+use Rattle.lab_wire.specs.Refusals.{request_entry}
+use Rattle.lab_wire.specs.Statuses.{answer_status, memory_status}
+use Rattle.lab_wire.specs.Messages.{message_text}
 
--- a line of the head ends with CR LF
-abbrev pub line : List ℕ → List ℕ
-line text = text ++ 13 ∷ 10 ∷ []
+-- an object, whose members stand in ascending order of the bytes of their names
+abbrev pub members_from : List (List ℕ × Data) → Members
+members_from [] = no_members
+members_from (one ∷ more) = put one.0 one.1 (members_from more)
 
--- the Date field of a moment, where one is given
-abbrev pub date_field : Option ℕ → List ℕ
-date_field None = []
-date_field (Some moment) = line (codes "Date: " ++ imf_fixdate moment)
+abbrev pub object_from : List (List ℕ × Data) → Data
+object_from members = object (members_from members)
 
--- status line, field lines, an empty line and the body
-unfoldable pub message_text : ℕ → Option ℕ → List ℕ → List ℕ
-message_text status moment body =
-    line (codes "HTTP/1.1 " ++ status_text status) ++ date_field moment
-    ++ line (codes "Content-Type: application/json")
-    ++ line (codes "Content-Length: " ++ decimal (length body))
-    ++ line (codes "Connection: close")
-    ++ line []
-    ++ body
+-- a laboratory's card
+abbrev pub card_data : List ℕ → List ℕ → Data
+card_data lab name =
+    object_from ((codes "lab", string lab) ∷ (codes "name", string name) ∷ [])
 
--- the body of a laboratory's card
-unfoldable pub card_body : List ℕ → List ℕ → List ℕ
-card_body lab name = codes "{\"lab\":" ++ quoted lab ++ codes ",\"name\":" ++ quoted name ++ codes "}"
+-- a refusal
+abbrev pub refusal_data : Entry → Data
+refusal_data entry =
+    object_from (
+      (codes "error", string entry.word)
+      ∷ (codes "number", number (unsigned entry.number))
+      ∷ []
+    )
 
--- the body of a refusal: its word and its number
-unfoldable pub refusal_body : List ℕ → ℕ → List ℕ
-refusal_body word number =
-    codes "{\"error\":" ++ quoted word ++ codes ",\"number\":" ++ decimal number ++ codes "}"
+-- a laboratory's reply
+abbrev pub reply_data : Reply → Data
+reply_data (reply.Card lab name) = card_data lab name
+reply_data (reply.Refused refusal) = refusal_data (refusal_entry refusal)
 
--- the reply at a tick
-unfoldable pub reply_text : Tick → Reply → List ℕ
-reply_text tick (Card lab name) = message_text 200 (Some tick.moment) (card_body lab name)
-reply_text tick (Refused refusal) =
-    message_text (status_of refusal) (Some tick.moment) (refusal_body (word_of refusal) (number_of refusal))
+-- all that is answered
+abbrev pub answer_data : Answer → Data
+answer_data (Replied told) = reply_data told
+answer_data (Refused refusal) = refusal_data (request_entry refusal)
+answer_data Storage = refusal_data storage_entry
+
+-- the bytes of an answer at a tick, its body without blanks
+unfoldable pub reply_text : Tick → Answer → List ℕ
+reply_text tick answer =
+    message_text (answer_status answer) (Some tick.moment) (compact_text (answer_data answer))
 
 -- the reply where memory ran out, which is made beforehand and bears no date
 unfoldable pub memory_text : List ℕ
-memory_text = message_text 503 None (refusal_body memory_word memory_number)
+memory_text = message_text memory_status None (compact_text (refusal_data memory_entry))

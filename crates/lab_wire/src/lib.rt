@@ -2,22 +2,26 @@
 //! (RFC 9110 and RFC 9112), and what the body of a founding says (RFC 8259).
 #![tactic(auto)]
 
-mod founding;
-mod grammar;
-mod head;
-mod reading;
+mod asked;
+mod bodies;
+mod dates;
+mod head_grammar;
+mod heads;
+mod messages;
+mod refusals;
 mod replies;
-mod request;
-mod send;
-mod status;
-
-pub use founding::founding_of;
-pub use grammar::grammar_of_heads;
-pub use lab_records::{Command, Fault, Founding, LabCode, Name, OutOfMemory, Refusal, Reply, Tick};
-pub use reading::ask;
-pub use replies::{memory_reply, reply_bytes};
-pub use request::Ask;
-pub use send::{WriteFault, write_reply};
-
+mod routes;
+mod sending;
+mod statuses;
 #[cfg(test)]
 mod tests;
+
+pub use asked::{Asked, ask};
+pub use bodies::founding_of;
+pub use head_grammar::grammar_of_heads;
+pub use lab_records::{
+    Command, Founding, Instruction, LabCode, Name, OutOfMemory, Refusal, Reply, Tick, Token,
+};
+pub use refusals::{BodyFault, BodyRefusal, RequestFault, RequestRefusal};
+pub use replies::{Answer, memory_reply, reply_bytes};
+pub use sending::{WriteFault, write_reply};

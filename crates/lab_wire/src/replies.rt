@@ -1,114 +1,108 @@
 //! Replies as bytes: HTTP/1.1 messages (RFC 9112) with JSON bodies (RFC 8259).
 
-ghost use Rattle.std.specs.Prelude.{◌≡◌, IfOk, codes, string_bytes};
-ghost use Rattle.serde_json.specs.Data.{object, member, no_members, string, number, unsigned};
+ghost use Rattle.std.specs.Prelude.{◌≡◌, IfOk, false, string_bytes};
 ghost use Rattle.serde_json.specs.View.{view};
-ghost use Rattle.httpdate.specs.Date.{date_text};
-ghost use Rattle.lab_wire.specs.Dates.{imf_fixdate};
-ghost use Rattle.lab_wire.specs.Replies.{date_field, message_text, card_body, refusal_body, reply_text, memory_text};
+ghost use Rattle.serde_json.specs.Written.{compact_text, has_float};
+ghost use Rattle.lab_names.specs.Faults.{memory_entry};
+ghost use Rattle.lab_wire.specs.Replies.{card_data, refusal_data, reply_data, answer_data, reply_text, memory_text};
 
-use crate::status::status_of_refusal;
+use crate::messages::message;
+use crate::refusals::RequestRefusal;
+use crate::statuses::answer_status;
 use http::StatusCode;
-use httpdate::HttpDate;
-use lab_names::{LabCode, Moment, Name, OutOfMemory, Tick};
-use lab_records::Reply;
+use lab_names::{OutOfMemory, Tick};
+use lab_records::{KeeperFault, Reply};
 use serde_json::{Value, json};
-use std::alloc::{AllocError, Global};
+use std::alloc::Global;
 
-/// The bytes of a laboratory's reply at a tick.
-pub fn reply_bytes(alloc: Global, tick: &Tick, reply: &Reply) -> Result<Vec<u8>, OutOfMemory>
-    ensures { IfOk result (λ bytes. bytes.items ≡ reply_text tick.now reply.now) }
+/// What is answered to a request.
+#[derive(Debug, Drop)]
+pub enum Answer {
+    /// The laboratory's reply.
+    Replied(Reply),
+    /// The bytes ask nothing.
+    Refused(RequestRefusal),
+    /// The store refused; nothing was changed.
+    Storage,
+}
+
+/// The bytes of an answer at a tick.
+#[tactic(auto, unfolding(crate::specs::Replies::reply_text))]
+pub fn reply_bytes(alloc: Global, tick: &Tick, answer: &Answer) -> Result<Vec<u8>, OutOfMemory>
+    ensures { IfOk result (λ bytes. bytes.items ≡ reply_text tick.now answer.now) }
 {
-    match reply {
-        Reply::Card { lab, name } => {
-            let body = card(alloc, lab, name)?;
-            message(alloc, StatusCode::OK, Some(tick.moment), &body)
-        }
-        Reply::Refused(refusal) => {
-            let body = refused(alloc, refusal.word(), refusal.number())?;
-            message(alloc, status_of_refusal(refusal), Some(tick.moment), &body)
-        }
-    }
+    let body = answer_body(alloc, answer)?;
+    message(alloc, answer_status(answer), Some(tick.moment), &body)
 }
 
 /// The bytes of the reply that is sent where memory runs out. They are the same always, so that they can be
 /// made beforehand.
+#[tactic(auto, unfolding(crate::specs::Replies::memory_text))]
 pub fn memory_reply(alloc: Global) -> Result<Vec<u8>, OutOfMemory>
     ensures { IfOk result (λ bytes. bytes.items ≡ memory_text) }
 {
-    let body = refused(alloc, OutOfMemory.word(), OutOfMemory.number())?;
+    let body = memory_body(alloc)?;
     message(alloc, StatusCode::SERVICE_UNAVAILABLE, None, &body)
 }
 
-/// The body of a card.
-fn card(alloc: Global, lab: &LabCode, name: &Name) -> Result<String, OutOfMemory>
-    ensures { IfOk result (λ body. string_bytes body ≡ card_body lab.now name.now) }
+#[tactic(auto, using(crate::proofs::ReplyLemmas::refusal_floats))]
+fn memory_body(alloc: Global) -> Result<String, OutOfMemory>
+    ensures { IfOk result (λ body. string_bytes body ≡ compact_text (refusal_data memory_entry)) }
 {
-    let value = card_value(alloc, lab.as_str(), name.as_str())?;
+    let value = refusal_value(alloc, OutOfMemory.number().unwrap_or(0), OutOfMemory.word())?;
     Ok(value.to_string(alloc)?)
 }
 
-fn card_value(alloc: Global, lab: &str, name: &str) -> Result<Value, AllocError>
-    ensures { IfOk result (λ value. view value ≡ object (member (codes "lab") (string lab.now)
-        (member (codes "name") (string name.now) no_members))) }
+#[tactic(auto, using(crate::proofs::ReplyLemmas::answer_floats))]
+fn answer_body(alloc: Global, answer: &Answer) -> Result<String, OutOfMemory>
+    ensures { IfOk result (λ body. string_bytes body ≡ compact_text (answer_data answer.now)) }
 {
-    json!(in alloc; {"lab": lab, "name": name})
-}
-
-/// The body of a refusal.
-fn refused(alloc: Global, word: &str, number: u32) -> Result<String, OutOfMemory>
-    ensures { IfOk result (λ body. string_bytes body ≡ refusal_body word.now number) }
-{
-    let value = refusal_value(alloc, word, number)?;
+    let value = answer_value(alloc, answer)?;
     Ok(value.to_string(alloc)?)
 }
 
-fn refusal_value(alloc: Global, word: &str, code: u32) -> Result<Value, AllocError>
-    ensures { IfOk result (λ value. view value ≡ object (member (codes "error") (string word.now)
-        (member (codes "number") (number (unsigned code)) no_members))) }
+fn answer_value(alloc: Global, answer: &Answer) -> Result<Value, OutOfMemory>
+    ensures { IfOk result (λ value. view value ≡ answer_data answer.now) }
 {
-    json!(in alloc; {"error": word, "number": code})
+    match answer {
+        Answer::Replied(reply) => reply_value(alloc, reply),
+        Answer::Refused(refusal) => {
+            refusal_value(alloc, refusal.number().unwrap_or(0), refusal.word())
+        }
+        Answer::Storage => {
+            let storage = KeeperFault::Storage;
+            refusal_value(alloc, storage.number().unwrap_or(0), storage.word())
+        }
+    }
 }
 
-/// A whole message, with the Date field where a moment is given.
-fn message(
-    alloc: Global,
-    status: StatusCode,
-    moment: Option<Moment>,
-    body: &str,
-) -> Result<Vec<u8>, OutOfMemory>
-    ensures { IfOk result (λ bytes. bytes.items ≡ message_text status moment body.now) }
+fn reply_value(alloc: Global, reply: &Reply) -> Result<Value, OutOfMemory>
+    ensures { IfOk result (λ value. view value ≡ reply_data reply.now) }
 {
-    let date = date_line(alloc, moment)?;
-    let length = body.len();
-    let head = format!(in alloc;
-        "HTTP/1.1 {status}\r\n{date}Content-Type: application/json\r\n\
-        Content-Length: {length}\r\nConnection: close\r\n\r\n{body}"
-    )?;
-    Ok(head.into_bytes())
+    match reply {
+        Reply::Card { lab, name } => card_value(alloc, lab.as_str(), name.as_str()),
+        Reply::Refused(refusal) => {
+            refusal_value(alloc, refusal.number().unwrap_or(0), refusal.word())
+        }
+    }
 }
 
-/// The Date field of a moment, where one is given.
-fn date_line(alloc: Global, moment: Option<Moment>) -> Result<String, OutOfMemory>
-    ensures { IfOk result (λ line. string_bytes line ≡ date_field moment) }
+fn card_value(alloc: Global, lab: &str, name: &str) -> Result<Value, OutOfMemory>
+    ensures { IfOk result (λ value. view value ≡ card_data lab.now name.now) }
 {
-    let Some(moment) = moment else {
-        return Ok(String::new(alloc));
-    };
-    let date = http_date(moment);
-    Ok(format!(in alloc; "Date: {date}\r\n")?)
+    Ok(json!(in alloc; {"lab": lab, "name": name})?)
 }
 
-/// The date of a moment in the form that HTTP has for dates.
-fn http_date(moment: Moment) -> HttpDate
-    ensures { date_text result ≡ imf_fixdate moment }
+fn refusal_value(alloc: Global, code: u32, word: &str) -> Result<Value, OutOfMemory>
+    ensures { IfOk result (λ value. view value ≡ refusal_data (record { number = code; word = word.now })) }
 {
-    HttpDate::from_unix_secs(moment.seconds() as u64).unwrap()
+    Ok(json!(in alloc; {"error": word, "number": code})?)
 }
 
 #[cfg(test)]
 mod tests {
     use super::*;
+    use lab_names::{LabCode, Moment, Name};
     use lab_records::Refusal;
     use std::test::Fail;
 
@@ -119,11 +113,11 @@ mod tests {
         })
     }
 
-    fn card_of(alloc: Global, lab: &str, name: &str) -> Result<Reply, Fail> {
-        Ok(Reply::Card {
+    fn card_of(alloc: Global, lab: &str, name: &str) -> Result<Answer, Fail> {
+        Ok(Answer::Replied(Reply::Card {
             lab: LabCode::parse(alloc, lab)?,
             name: Name::parse(alloc, name)?,
-        })
+        }))
     }
 
     #[test]
@@ -134,7 +128,7 @@ mod tests {
             Content-Type: application/json\r\nContent-Length: 32\r\nConnection: close\r\n\r\n\
             {\"lab\":\"aqua\",\"name\":\"Aqua Lab\"}";
         assert_eq!(rt; card.as_slice(), card_text.as_slice());
-        let missing = reply_bytes(rt.alloc(), &tick, &Reply::Refused(Refusal::NoSuchLab))?;
+        let missing = reply_bytes(rt.alloc(), &tick, &Answer::Replied(Reply::Refused(Refusal::NoSuchLab)))?;
         let missing_text = b"HTTP/1.1 404 Not Found\r\nDate: Thu, 01 Jan 1970 00:01:40 GMT\r\n\
             Content-Type: application/json\r\nContent-Length: 35\r\nConnection: close\r\n\r\n\
             {\"error\":\"no_such_lab\",\"number\":40}";
@@ -154,39 +148,40 @@ mod tests {
     }
 
     #[test]
-    fn dates_are_those_of_the_calendar(rt: HostRuntime) -> Result<(), Fail> {
-        let dates = [
-            (0, "Thu, 01 Jan 1970 00:00:00 GMT"),
-            (784_111_777, "Sun, 06 Nov 1994 08:49:37 GMT"),
-            (951_782_400, "Tue, 29 Feb 2000 00:00:00 GMT"),
-            (4_102_444_800, "Fri, 01 Jan 2100 00:00:00 GMT"),
-            (253_402_300_799, "Fri, 31 Dec 9999 23:59:59 GMT"),
-        ];
-        for (seconds, date) in dates {
-            let line = date_line(rt.alloc(), Some(Moment::from_seconds(seconds)?))?;
-            assert!(rt; line.as_str() == format!(in rt.alloc(); "Date: {date}\r\n")?.as_str());
-        }
-        Ok(())
-    }
-
-    #[test]
-    fn each_refusal_has_its_status(rt: HostRuntime) -> Result<(), Fail> {
-        let refusals = [
-            (Refusal::BadHead, "HTTP/1.1 400 Bad Request\r\n"),
-            (Refusal::BadBody, "HTTP/1.1 400 Bad Request\r\n"),
-            (Refusal::BadName, "HTTP/1.1 400 Bad Request\r\n"),
-            (Refusal::NoRoute, "HTTP/1.1 404 Not Found\r\n"),
-            (Refusal::NoSuchLab, "HTTP/1.1 404 Not Found\r\n"),
+    fn each_refusal_has_its_status_and_its_body(rt: HostRuntime) -> Result<(), Fail> {
+        let answers = [
             (
-                Refusal::HeadTooLong,
-                "HTTP/1.1 431 Request Header Fields Too Large\r\n",
+                Answer::Refused(RequestRefusal::BadHead),
+                "HTTP/1.1 400 Bad Request\r\n",
+                "Content-Length: 32\r\nConnection: close\r\n\r\n{\"error\":\"bad_head\",\"number\":80}",
             ),
-            (Refusal::ClockBehind, "HTTP/1.1 503 Service Unavailable\r\n"),
-            (Refusal::Storage, "HTTP/1.1 503 Service Unavailable\r\n"),
+            (
+                Answer::Refused(RequestRefusal::HeadTooLong),
+                "HTTP/1.1 431 Request Header Fields Too Large\r\n",
+                "Content-Length: 37\r\nConnection: close\r\n\r\n{\"error\":\"head_too_long\",\"number\":81}",
+            ),
+            (
+                Answer::Refused(RequestRefusal::NoRoute),
+                "HTTP/1.1 404 Not Found\r\n",
+                "Content-Length: 32\r\nConnection: close\r\n\r\n{\"error\":\"no_route\",\"number\":86}",
+            ),
+            (
+                Answer::Replied(Reply::Refused(Refusal::ClockBehind)),
+                "HTTP/1.1 503 Service Unavailable\r\n",
+                "Content-Length: 36\r\nConnection: close\r\n\r\n{\"error\":\"clock_behind\",\"number\":41}",
+            ),
+            (
+                Answer::Storage,
+                "HTTP/1.1 503 Service Unavailable\r\n",
+                "Content-Length: 31\r\nConnection: close\r\n\r\n{\"error\":\"storage\",\"number\":63}",
+            ),
         ];
-        for (refusal, line) in refusals {
-            let bytes = reply_bytes(rt.alloc(), &tick_at(100)?, &Reply::Refused(refusal))?;
-            assert!(rt; bytes.as_slice().starts_with(line.as_bytes()));
+        for (answer, line, rest) in answers {
+            let bytes = reply_bytes(rt.alloc(), &tick_at(100)?, &answer)?;
+            let text = format!(in rt.alloc();
+                "{line}Date: Thu, 01 Jan 1970 00:01:40 GMT\r\nContent-Type: application/json\r\n{rest}"
+            )?;
+            assert_eq!(rt; bytes.as_slice(), text.as_bytes());
         }
         Ok(())
     }

@@ -2,6 +2,7 @@ use Rattle.std.proofs.Common.{◌≡◌, ℕ, List, [], ◌∷◌, ◌∙◌, ap
 use Rattle.clap.specs.Words.{fault_of}
 use Rattle.clap.proofs.OnLiterals.{clap_on_literals}
 use Rattle.lab_program.specs.CommandLine.{labdesk_app}
+use Rattle.lab_program.proofs.ExplainLemmas.{explained_by, unexplained}
 use Rattle.lab_program.proofs.ReplayLemmas.{no_replay}
 use Rattle.lab_program.proofs.command_line.labdesk.Goals as goal
 
@@ -10,11 +11,17 @@ unfaulted : (program : List ℕ) → fault_of labdesk_app (program ∷ codes "re
 unfolding clap_on_literals
 unfaulted program = refl
 
-pub returns-in-Err : goal.returns-in-Err
-returns-in-Err g c = λ asks.
+pub returns-in-Err-clause-replayed : goal.returns-in-Err-clause-replayed
+returns-in-Err-clause-replayed g c = λ asks.
     let none = ap (fault_of labdesk_app) asks.1 ∙ unfaulted asks.0 in
     let kind = rw none at c.in-Err.ensures in
     elim kind [
-      | inl memory ↦ let told = c.explain.ensures.memory memory in no_replay _ _ _ _ _ _ told.0 told.1 told.2
+      | inl memory ↦ let told = rw memory at c.explain.ensures in no_replay _ _ _ _ _ _ told.1.0 told.0 told.1.1
       | inr other ↦ absurd other
     ]
+
+pub returns-in-Err-clause-explained : goal.returns-in-Err-clause-explained
+returns-in-Err-clause-explained g c = explained_by _ _ _ _ _ _ _ c.in-Err.ensures c.explain.ensures
+
+pub returns-in-Ok-Replay-clause-explained : goal.returns-in-Ok-Replay-clause-explained
+returns-in-Ok-Replay-clause-explained g c = unexplained _ _ _ _ _ _ c.in-Ok-Replay.ensures

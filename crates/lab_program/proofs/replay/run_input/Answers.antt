@@ -1,8 +1,7 @@
-use Rattle.std.proofs.Common.{◌∙◌, ap}
+use Rattle.std.proofs.Common.{◌∙◌, ap, []}
 use Rattle.std.proofs.KnownBytes.{Keeps-refl}
 use Rattle.std.proofs.lemmas.Result.{err_from_is_err_and}
-use Rattle.lab_desk.specs.Listed.{lab_of}
-use Rattle.lab_program.specs.Replay.{nothing}
+use Rattle.lab_desk.specs.Lists.{world_of}
 use Rattle.lab_program.specs.declared.fault.ReplayFault.TheVariants.{Memory}
 use Rattle.lab_program.proofs.ReplayLemmas.{replays_none, from_nothing, fresh_reader}
 use Rattle.lab_program.proofs.replay.run_input.Goals as goal
@@ -10,12 +9,12 @@ use Rattle.lab_program.proofs.replay.run_input.Goals as goal
 pub returns-in_err-desk : goal.returns-in_err-desk
 returns-in_err-desk g c =
     let p = err_from_is_err_and c.from_residual.result c.from_residual.ensures.1 in
-    record { replayed = (nothing, rw (p.1, p.2) (replays_none Memory ⊥ nothing _ _ _ tt (Keeps-refl _))) }
+    record { replayed = ([], rw (p.1, p.2) (replays_none Memory (world_of []) _ _ _ tt (Keeps-refl _))) }
 
 pub returns-in_err-reader : goal.returns-in_err-reader
 returns-in_err-reader g c =
     let p = err_from_is_err_and c.from_residual-in_err-reader.result c.from_residual-in_err-reader.ensures.1 in
-    record { replayed = (nothing, rw p.1 (replays_none p.0 ⊥ nothing _ _ _ p.2 (Keeps-refl _))) }
+    record { replayed = ([], rw p.1 (replays_none p.0 (world_of []) _ _ _ p.2 (Keeps-refl _))) }
 
 pub returns : goal.returns
 returns g c =
@@ -25,7 +24,7 @@ returns g c =
     let input = ap (λ limited. g.R.Read.remaining limited.reader) c.new-3.ensures in
     record {
       replayed = (
-        lab_of c.run_events.new.desk.keeper,
+        c.run_events.new.desk.keeper,
         from_nothing _ c.in_ok-desk.desk.keeper _ _ _ _ _ none (fresh ∙ input) (c.run_events.ensures.replayed tt tt),
       );
     }

@@ -1,37 +1,54 @@
 -- The run goes on by each event; a write fault ends it within the answer of its last event.
 use Rattle.std.proofs.Common.{rules, ◌≡◌, ◌+◌, [], ◌∷◌, ◌++◌, length}
-use Rattle.std.proofs.KnownBytes.{Appends-trans}
-use Rattle.lab_desk.proofs.Running.{run_more, concat_more}
+use Rattle.lab_desk.specs.Runs.{Handled, Runs}
+use Rattle.lab_desk.proofs.Running.{GoesOn, run_more, run_cut, runs_none}
 use Rattle.lab_desk.proofs.desk.Desk.run.Goals as goal
 
-pub returns-in-Err-clause-cut : goal.returns-in-Err-clause-cut
-returns-in-Err-clause-cut g c = λ honest reached.
-    let before = c.loop-event.invariant.run (c.answer-answered.ensures.honest honest) reached in
-    let here = c.answer-answered.ensures.answered honest (c.loop-event.invariant.reached (c.answer-answered.ensures.honest honest) reached) in
-    let out = rw c.in-Err.is at here.2 in
-    let counted : length c.push.new.self.items ≡ c.loop-event.event-index + 1 = search rules in
-    let pushed : c.push.new.self.items ≡ c.loop-event.taken.items ++ c.answer-answered.result.taken ∷ [] = search rules in (
-      before.0,
-      here.0,
-      rw counted (run_more _ _ c.loop-event.invariant.refusing c.args.events.now c.event-item.result c.loop-event.event-index c.loop-event.taken.items c.answer-answered.result.taken c.push.new.self.items before.0 here.0 _ _ _ c.event-item.is c.loop-event-test.true pushed before.1 here.1),
-      Appends-trans _ _ _ _ _ before.2 out.0,
-      out.1,
-    )
-
-pub loop-event-preserved : goal.loop-event-preserved
-loop-event-preserved g c = record {
-  honest = search rules;
+pub loop-event-init : goal.loop-event-init
+loop-event-init g c = record {
+  passes = search rules;
   reached = search rules;
-  refusing = search rules;
   counted = search rules;
   room = search rules;
   run = λ honest reached.
-      let before = c.loop-event.invariant.run (c.answer-answered.ensures.honest honest) reached in
-      let here = c.answer-answered.ensures.answered honest (c.loop-event.invariant.reached (c.answer-answered.ensures.honest honest) reached) in
-      let out = rw c.in_default.is at here.2 in
-      let pushed : c.push.new.self.items ≡ c.loop-event.taken.items ++ c.answer-answered.result.taken ∷ [] = search rules in (
-        before.0 ++ here.0 ∷ [],
-        run_more _ _ c.loop-event.invariant.refusing c.args.events.now c.event-item.result c.loop-event.event-index c.loop-event.taken.items c.answer-answered.result.taken c.push.new.self.items before.0 here.0 _ _ _ c.event-item.is c.loop-event-test.true pushed before.1 here.1,
-        rw (← concat_more before.0 here.0) (Appends-trans _ _ _ _ _ before.2 out),
-      );
+      rw c.in-Ok.ensures.empty (runs_none (g.S.Keeper.world c.args.self.now.keeper) c.args.events.now (g.W.Write.contents c.args.writer.now));
 }
+
+pub loop-event-preserved : goal.loop-event-preserved
+loop-event-preserved g c = record {
+  passes = search rules;
+  reached = search rules;
+  counted = search rules;
+  room = search rules;
+  run = λ honest reached.
+      let earlier = c.answer-answered.ensures.passes.honest honest in
+      let middle = c.loop-event.invariant.reached earlier reached in
+      let here = c.answer-answered.ensures.answered honest middle in
+      let pushed : c.push.new.self.items ≡ c.loop-event.taken.items ++ c.answer-answered.result.taken ∷ [] = search rules in
+      rw pushed (run_more _ _ _ c.args.events.now c.loop-event.event-index c.loop-event.taken.items _ _ _
+      (record { event = c.event-item.result; taken = c.answer-answered.result.taken; answer = here.0 })
+      (record {
+        so_far = c.loop-event.invariant.run earlier reached;
+        passes = c.loop-event.invariant.passes.refusing;
+        next = here.1;
+        is = c.event-item.is;
+        within = c.loop-event-test.true;
+      }) (rw c.in_default-sent.is at here.2));
+}
+
+pub returns-in-Err-clause-cut : goal.returns-in-Err-clause-cut
+returns-in-Err-clause-cut g c = λ honest reached.
+    let earlier = c.answer-answered.ensures.passes.honest honest in
+    let middle = c.loop-event.invariant.reached earlier reached in
+    let here = c.answer-answered.ensures.answered honest middle in
+    let pushed : c.push.new.self.items ≡ c.loop-event.taken.items ++ c.answer-answered.result.taken ∷ [] = search rules in
+    let counted : length c.push.new.self.items ≡ c.loop-event.event-index + 1 = search rules in
+    run_cut _ _ _ c.args.events.now c.loop-event.event-index c.loop-event.taken.items c.push.new.self.items _ _ _
+    (record { event = c.event-item.result; taken = c.answer-answered.result.taken; answer = here.0 }) _
+    (record {
+      so_far = c.loop-event.invariant.run earlier reached;
+      passes = c.loop-event.invariant.passes.refusing;
+      next = here.1;
+      is = c.event-item.is;
+      within = c.loop-event-test.true;
+    }) pushed counted (rw c.in-Err.is at here.2)

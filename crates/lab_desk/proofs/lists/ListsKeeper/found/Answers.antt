@@ -1,7 +1,8 @@
-use Rattle.std.proofs.Common.{rules, ◌≡◌, [], ◌∷◌, ◌++◌, None}
+-- A laboratory is added at the end of the list; what a crash leaves is the list itself.
+use Rattle.std.proofs.Common.{rules, ◌≡◌, [], ◌∷◌, ◌++◌, None, inr}
 use Rattle.lab_records.specs.Machine.{newborn}
-use Rattle.lab_desk.specs.Listed.{lab_of}
-use Rattle.lab_desk.proofs.Listing.{added_here, added_elsewhere}
+use Rattle.lab_desk.specs.Lists.{lab_of}
+use Rattle.lab_desk.proofs.Listing.{added_meaning, placed_as}
 use Rattle.lab_desk.proofs.lists.ListsKeeper.found.Goals as goal
 
 -- no laboratory of the code was there
@@ -12,7 +13,7 @@ added : (c : goal.In_ok-push) → c.push.new.self.items ≡ c.args.self.now ++ n
 added c = search rules
 
 pub returns-clause-founded : goal.returns-clause-founded
-returns-clause-founded c = λ honest reached. rw (added c) (added_here c.args.self.now (newborn c.args.code.now c.args.tick.now c.args.founding.now) (was_none c))
+returns-clause-founded c = λ honest reached. rw (added c) (added_meaning c.args.self.now (newborn c.args.code.now c.args.tick.now c.args.founding.now) (was_none c))
 
-pub returns-clause-others : goal.returns-clause-others
-returns-clause-others c = λ honest reached other differs. rw (added c) (added_elsewhere c.args.self.now (newborn c.args.code.now c.args.tick.now c.args.founding.now) other differs)
+pub returns-clause-crash : goal.returns-clause-crash
+returns-clause-crash c = λ honest reached held left. inr (placed_as _ _ _ held (returns-clause-founded c honest reached) left)

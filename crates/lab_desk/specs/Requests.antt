@@ -1,0 +1,62 @@
+-- What the desk does of a request: its reply, and what every laboratory is afterwards.
+use Rattle.std.specs.Prelude.{◌≡◌, ◌⊎◌, Bool, true, ℕ, List, Result, Ok, Err, IsOk}
+use Rattle.lab_names.specs.declared.Tick.{Tick}
+use Rattle.lab_records.specs.declared.command.Change.{Change}
+use Rattle.lab_records.specs.Machine.{step, is_idle}
+use Rattle.lab_records.specs.Changes.{ChangesFit, changed_in}
+use Rattle.lab_records.specs.Worlds.{World, Meaning, SameMeaning, SetsOne, Lives, Leaves}
+use Rattle.lab_wire.specs.declared.asked.Asked.{Asked}
+use Rattle.lab_wire.specs.declared.refusals.RequestRefusal.{RequestRefusal}
+use Rattle.lab_wire.specs.declared.replies.Answer.{Answer}
+use Rattle.lab_wire.specs.declared.replies.Answer.TheVariants.{Replied, Refused, Storage}
+use Rattle.lab_wire.specs.Replies.{reply_text, memory_text}
+
+-- what bytes ask, or why they ask nothing
+abbrev pub Asks : Type 0
+Asks = Result Asked RequestRefusal
+
+-- the answer to what bytes ask, over laboratories that mean this
+abbrev pub answer_to : Meaning → Tick → Asks → Answer
+answer_to meaning tick (Err refusal) = Refused refusal
+answer_to meaning tick (Ok asked) = Replied (step (meaning asked.lab) tick asked.instruction).reply
+
+-- whether what bytes ask writes nothing
+abbrev pub is_idle_request : Meaning → Tick → Asks → Bool
+is_idle_request meaning tick (Err refusal) = true
+is_idle_request meaning tick (Ok asked) = is_idle (meaning asked.lab) tick asked.instruction
+
+-- the laboratory that the bytes name took its step, and every other means what it meant
+abbrev pub Steps : Tick → Asks → Meaning → Meaning → Type 0
+Steps tick (Err refusal) old new = SameMeaning old new
+Steps tick (Ok asked) old new =
+    SetsOne asked.lab (step (old asked.lab) tick asked.instruction).after old new
+
+-- the rows moved by changes that fit the laboratory and make its step
+pub record MovesBy (meaning : Meaning) (tick : Tick) (asked : Asked) (moves : List ℕ → List Change → Type 0) : Type 0 where
+  pub changes : List Change
+  pub fit : ChangesFit (meaning asked.lab) changes
+  pub after : changed_in (meaning asked.lab) changes ≡ (step (meaning asked.lab) tick asked.instruction).after
+  pub moved : moves asked.lab changes
+
+-- the rows after what bytes ask: at rest where they ask nothing, and else moved by the step
+abbrev pub MovesFor : Meaning → Tick → Asks → Type 0 → (List ℕ → List Change → Type 0) → Type 0
+MovesFor meaning tick (Err refusal) rests moves = rests
+MovesFor meaning tick (Ok asked) rests moves = MovesBy meaning tick asked moves
+
+-- a request that was taken: its reply is that of the machine of the laboratory that it names, which took its step; and
+-- the keeper was there, where the bytes ask something
+pub record TakesRequest (old new : World) (tick : Tick) (asks : Asks) (reply : List ℕ) : Type 0 where
+  pub replied : reply ≡ reply_text tick (answer_to old.meaning tick asks)
+  pub after : Steps tick asks old.meaning new.meaning
+  pub lives : IsOk asks → Lives old new
+
+-- a reply tells that memory ran out, or that the store refused, where this may be
+abbrev pub IsRefusedReply : Type 0 → Tick → List ℕ → Type 0
+IsRefusedReply may_refuse tick reply =
+    (reply ≡ memory_text) ⊎ (may_refuse × (reply ≡ reply_text tick Storage))
+
+-- a request that was refused: for memory, or by a store that may refuse, which was asked something; every laboratory
+-- means what it meant
+pub record RefusesRequest (old new : World) (tick : Tick) (asks : Asks) (reply : List ℕ) : Type 0 where
+  pub replied : IsRefusedReply (old.may_refuse × IsOk asks) tick reply
+  pub same : Leaves old new

@@ -1,0 +1,38 @@
+//! What happens to an installation: foundings and requests, in order.
+
+ghost use Rattle.std.specs.Prelude.{◌≡◌, IfOk};
+
+use lab_records::{LabCode, OutOfMemory, Series, Tick};
+
+/// One event of an installation.
+#[derive(Clone, Debug, Drop)]
+pub enum Event {
+    /// A laboratory is to be founded.
+    Found {
+        /// The laboratory's code.
+        lab: LabCode,
+        /// The moment, and random words.
+        tick: Tick,
+        /// The founding body, JSON.
+        body: Series<u8>,
+    },
+    /// A request came in.
+    Call {
+        /// The moment, and random words.
+        tick: Tick,
+        /// The bytes of the request.
+        bytes: Series<u8>,
+    },
+}
+
+impl Event {
+    /// A copy.
+    ///
+    /// # Errors
+    /// Only that memory ran out.
+    pub fn copy(&self) -> Result<Event, OutOfMemory>
+        ensures { IfOk result (λ copy. copy ≡ self.now) }
+    {
+        Ok(self.clone()?)
+    }
+}

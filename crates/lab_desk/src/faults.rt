@@ -1,0 +1,103 @@
+//! Why a founding founded nothing, and why a run ended before its last event.
+
+ghost use Rattle.std.specs.Prelude.{◌≡◌, Some};
+ghost use Rattle.lab_desk.specs.Faults.{found_fault_entry, run_fault_number, run_fault_word};
+
+use lab_records::{OutOfMemory, PlacingFault};
+use lab_wire::BodyRefusal;
+use std::fmt;
+use thiserror::Error;
+
+/// Why a founding founded nothing. Nothing was changed. Its text is its word.
+#[derive(Clone, Copy, Debug, PartialEq, Eq, Error)]
+pub enum FoundFault {
+    /// The body is none of a founding.
+    Body(BodyRefusal),
+    /// The keeper founded nothing, or memory ran out before.
+    Placing(PlacingFault),
+}
+
+impl FoundFault {
+    fn entry(&self) -> (Option<u32>, &'static str)
+        ensures number { result.0 ≡ Some (found_fault_entry self.now).number }
+        ensures word { result.1.now ≡ (found_fault_entry self.now).word }
+    {
+        match self {
+            FoundFault::Body(refusal) => (refusal.number(), refusal.word()),
+            FoundFault::Placing(fault) => (fault.number(), fault.word()),
+        }
+    }
+
+    /// The number by which the fault is known.
+    pub fn number(&self) -> Option<u32>
+        ensures { result ≡ Some (found_fault_entry self.now).number }
+    {
+        self.entry().0
+    }
+
+    /// The word by which the fault is known.
+    pub fn word(&self) -> &'static str
+        ensures { result.now ≡ (found_fault_entry self.now).word }
+    {
+        self.entry().1
+    }
+}
+
+impl fmt::Display for FoundFault {
+    ghost use Rattle.std.specs.Prelude.{Some};
+    ghost use Rattle.lab_desk.specs.Faults.{found_fault_entry};
+
+    ghost output = { λ fault. Some (found_fault_entry fault).word };
+
+    fn fmt<W: fmt::Write>(&self, f: &mut fmt::Formatter<W>) -> fmt::Result {
+        f.write_str(self.word())
+    }
+}
+
+/// Why a run ended before its last event. Its text is its word.
+#[derive(Debug, Drop, Error)]
+pub enum RunFault {
+    /// There was no memory for the list that a run answers. Nothing was handled or written.
+    Memory,
+    /// A write failed, or took no byte. The event whose answer was being written stands, and those after it
+    /// were not handled.
+    Write {
+        /// For each event up to and with the one whose answer was cut, whether it was taken.
+        taken: Vec<bool>,
+        /// How many bytes of that answer went out.
+        sent: usize,
+    },
+}
+
+impl RunFault {
+    /// The number by which the fault is known: 90 where memory ran out, none for a write fault.
+    pub fn number(&self) -> Option<u32>
+        ensures { result ≡ run_fault_number self.now }
+    {
+        match self {
+            RunFault::Memory => OutOfMemory.number(),
+            RunFault::Write { .. } => None,
+        }
+    }
+
+    /// The word by which the fault is known.
+    pub fn word(&self) -> &'static str
+        ensures { result.now ≡ run_fault_word self.now }
+    {
+        match self {
+            RunFault::Memory => OutOfMemory.word(),
+            RunFault::Write { .. } => "write_fault",
+        }
+    }
+}
+
+impl fmt::Display for RunFault {
+    ghost use Rattle.std.specs.Prelude.{Some};
+    ghost use Rattle.lab_desk.specs.Faults.{run_fault_word};
+
+    ghost output = { λ fault. Some (run_fault_word fault) };
+
+    fn fmt<W: fmt::Write>(&self, f: &mut fmt::Formatter<W>) -> fmt::Result {
+        f.write_str(self.word())
+    }
+}
