@@ -31,4 +31,5 @@ unfoldable pub is_date : List ℕ → Bool
 is_date text =
     has_hyphens text && is_digits 4 (year_part text) && is_digits 2 (month_part text)
     && is_digits 2 (day_part text)
-    && is_calendar_day (number_of (year_part text)) (number_of (month_part text)) (number_of (day_part text))
+    && is_calendar_day (number_of (year_part text)) (number_of (month_part text))
+    (number_of (day_part text))

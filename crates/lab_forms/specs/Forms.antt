@@ -24,8 +24,8 @@ is_field field = is_kind field.kind
 -- 1 to 60 fields that a form may have, no two with one key
 unfoldable pub is_form : List Field → Bool
 is_form fields =
-    nat_le 1 (length fields) && not (has_text_twice (map key_of fields)) && nat_le (length fields) 60
-    && list_all is_field fields
+    nat_le 1 (length fields) && not (has_text_twice (map key_of fields))
+    && nat_le (length fields) 60 && list_all is_field fields
 
 -- the first thing that is wrong with a list of fields, if it makes no form
 unfoldable pub form_refusal : List Field → Option FormRefusal
@@ -76,7 +76,8 @@ kind_refusal kind text unit =
 -- the first thing that is wrong with a key, a text and a unit at a form, if they give no value
 unfoldable pub value_refusal : List Field → List ℕ → List ℕ → List ℕ → Option FormRefusal
 value_refusal fields key text unit =
-    option_map_or (λ field. kind_refusal field.kind text unit) (field_of fields key) (Some NoSuchField)
+    option_map_or (λ field. kind_refusal field.kind text unit) (field_of fields key)
+    (Some NoSuchField)
 
 -- the fault that a call tells: the first thing that is wrong, and out of memory only where nothing is
 abbrev pub IsTold : Option FormRefusal → FormFault → Type 0

@@ -138,9 +138,11 @@ impl Form {
         text: &str,
         unit: &Unit,
     ) -> Result<Value, FormFault>
-        ensures fits { IfOk result (λ _. IsTrue (fits_form self.now.fields key.now text.now unit.now)) }
+        ensures fits { IfOk result
+            (λ _. IsTrue (fits_form self.now.fields key.now text.now unit.now)) }
         ensures value { IfOk result (λ value. value ≡ text.now) }
-        ensures fault { IfErr result (IsTold (value_refusal self.now.fields key.now text.now unit.now)) }
+        ensures fault { IfErr result
+            (IsTold (value_refusal self.now.fields key.now text.now unit.now)) }
     {
         let Some(field) = self.field(key) else {
             return Err(FormFault::Refused(FormRefusal::NoSuchField));

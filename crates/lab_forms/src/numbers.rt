@@ -40,7 +40,8 @@ fn point_of(text: &[u8]) -> Option<usize>
 // How many millionths a number without a sign is.
 fn read_unsigned(decimals: u32, text: &[u8]) -> Option<u128>
     requires { decimals ≤ 6 }
-    ensures value { result ≡ (if is_unsigned_number decimals text.now then Some (millionths_of text.now) else None) }
+    ensures value { result ≡ (if is_unsigned_number decimals text.now
+        then Some (millionths_of text.now) else None) }
     ensures bound { IfSome result (λ millionths. millionths < 2 ^ 127) }
 {
     let Some(place) = point_of(text) else {
