@@ -4,6 +4,7 @@
 mod faults;
 mod moment;
 mod names;
+mod ordinals;
 mod stamp;
 #[cfg(test)]
 mod tests;
@@ -15,5 +16,6 @@ pub use moment::Moment;
 pub use names::{
     Key, Keys, LabCode, LabCodes, Name, Names, Note, Notes, PersonCode, PersonCodes, Unit, Units,
 };
+pub use ordinals::Ordinal;
 pub use text::{Rule, Text};
 pub use tick::Tick;

@@ -1,5 +1,6 @@
 use crate::{
-    Key, LabCode, Moment, MomentFault, Name, NameFault, Note, OutOfMemory, PersonCode, Tick, Unit,
+    Key, LabCode, Moment, MomentFault, Name, NameFault, Note, Ordinal, OutOfMemory, PersonCode,
+    Tick, Unit,
 };
 use std::test::Fail;
 
@@ -290,4 +291,26 @@ fn a_tick_is_plain(rt: HostRuntime) -> Result<(), Fail> {
     assert_eq!(rt; tick.moment, same.moment);
     assert_eq!(rt; tick.words.as_slice(), same.words.as_slice());
     Ok(())
+}
+
+#[test]
+fn ordinals_are_1_to_1000000000(rt: HostRuntime) {
+    for number in [1, 2, 999_999_999, 1_000_000_000] {
+        let ordinal = Ordinal::new(number);
+        assert_eq!(rt; ordinal.map(Ordinal::get), Some(number));
+        assert_eq!(rt; Ordinal::after(number - 1), ordinal, "{number}");
+    }
+    for number in [0, 1_000_000_001, u32::MAX] {
+        assert_eq!(rt; Ordinal::new(number), None, "{number}");
+    }
+}
+
+#[test]
+fn no_ordinal_comes_after_the_last(rt: HostRuntime) {
+    assert_eq!(rt; Some(Ordinal::FIRST), Ordinal::new(1));
+    assert_eq!(rt; Ordinal::FIRST.next(), Ordinal::new(2));
+    assert_eq!(rt; Ordinal::new(1_000_000_000).and_then(Ordinal::next), None);
+    for count in [1_000_000_000, u32::MAX] {
+        assert_eq!(rt; Ordinal::after(count), None, "{count}");
+    }
 }
