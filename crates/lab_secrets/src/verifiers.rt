@@ -3,10 +3,11 @@ ghost use Rattle.std.specs.Prelude.{◌≡◌, ◌≤◌, ◌↔◌, IsTrue};
 ghost use Rattle.lab_secrets.specs.Verifiers.{verifier_of, Accepts};
 
 use crate::pbkdf2;
+use std::fmt;
 use std::marker::Model;
 
-/// What a verifier is made of.
-#[derive(Clone, Copy, Debug)]
+/// What a verifier is made of. It isn't printed.
+#[derive(Clone, Copy)]
 pub struct VerifierParts {
     /// The salt of the password.
     pub salt: [u8; 16],
@@ -18,8 +19,8 @@ pub struct VerifierParts {
 
 /// What is kept of a password in its place.
 ///
-/// A contract sees its parts.
-#[derive(Clone, Copy, Debug)]
+/// A contract sees its parts. `Debug` prints none of them.
+#[derive(Clone, Copy)]
 pub struct Verifier {
     kept: VerifierParts,
 }
@@ -35,6 +36,16 @@ impl Model for Verifier {
     ghost invariant = { λ verifier. 1 ≤ verifier.kept.rounds };
 
     ghost inverse = { λ parts. record { kept = parts } };
+}
+
+impl fmt::Debug for Verifier {
+    ghost use Rattle.std.specs.Prelude.{Some, codes};
+
+    ghost debug_output = { λ _. Some (codes "Verifier") };
+
+    fn fmt<W: fmt::Write>(&self, f: &mut fmt::Formatter<W>) -> fmt::Result {
+        f.write_str("Verifier")
+    }
 }
 
 impl Verifier {
