@@ -1,6 +1,6 @@
 //! What is kept of a password, and by which it is known again.
-ghost use Rattle.std.specs.Prelude.{◌≡◌, ◌≤◌, ◌↔◌, IsTrue};
-ghost use Rattle.lab_secrets.specs.Verifiers.{verifier_of, Accepts};
+ghost use Rattle.std.specs.Prelude.{◌≡◌, ◌≤◌};
+ghost use Rattle.lab_secrets.specs.Verifiers.{verifier_of, is_verified};
 
 use crate::pbkdf2;
 use std::fmt;
@@ -82,9 +82,9 @@ impl Verifier {
 
     /// Whether this is a verifier of the password.
     pub fn accepts(&self, password: &[u8]) -> bool
-        ensures { IsTrue result ↔ Accepts self.now password.now }
+        ensures { result ≡ is_verified self.now password.now }
     {
         let parts = self.parts();
-        pbkdf2(password, &parts.salt, parts.rounds) == parts.bytes
+        parts.bytes == pbkdf2(password, &parts.salt, parts.rounds)
     }
 }

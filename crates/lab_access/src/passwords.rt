@@ -1,6 +1,6 @@
 //! What is kept of a person's password.
 ghost use Rattle.std.specs.Prelude.{◌≡◌};
-ghost use Rattle.lab_access.specs.Passwords.{is_password, chosen, is_verified, are_verified, accepts, is_set, is_due};
+ghost use Rattle.lab_access.specs.Passwords.{is_password, chosen_password, are_verified, accepts, is_set, is_due};
 
 use crate::times::{days_since, seconds_since};
 use lab_names::Moment;
@@ -24,8 +24,8 @@ const SECONDS_OF_ONE_TIME_WORD: u64 = 604_800;
 /// The bytes of a half of a one-time word, as it is written.
 const HALF_LEN: usize = 32;
 
-/// What is kept of a person's password.
-#[derive(Clone, Copy, Debug)]
+/// What is kept of a person's password. It can't be printed.
+#[derive(Clone, Copy)]
 pub enum Password {
     /// The person never had one.
     Unset,
@@ -36,8 +36,8 @@ pub enum Password {
         /// When it was chosen.
         changed: Moment,
     },
-    /// A one-time word, of two halves that two administrators were given. It opens sessions for seven days, in which nothing
-    /// can be done before another password is chosen.
+    /// A one-time word, of two halves that two administrators were given. It opens sessions for seven days, in which another
+    /// password has to be chosen before all else.
     OneTime {
         /// By which the first half is known again.
         first: Verifier,
@@ -59,7 +59,7 @@ impl Password {
 
     /// The password that is chosen at the moment, kept with the salt. Whether the text may be chosen is for the caller to ask.
     pub fn choose(text: &str, salt: [u8; 16], moment: Moment) -> Password
-        ensures { result ≡ chosen text.now salt moment }
+        ensures { result ≡ chosen_password text.now salt moment }
     {
         Password::Chosen {
             verifier: Verifier::make(text.as_bytes(), salt, ROUNDS),
@@ -74,7 +74,7 @@ impl Password {
     {
         match self {
             Password::Unset => false,
-            Password::Chosen { verifier, .. } => is_verified_by(verifier, text.as_bytes()),
+            Password::Chosen { verifier, .. } => verifier.accepts(text.as_bytes()),
             Password::OneTime {
                 first,
                 second,
@@ -104,12 +104,6 @@ impl Password {
     }
 }
 
-fn is_verified_by(verifier: &Verifier, text: &[u8]) -> bool
-    ensures { result ≡ is_verified verifier.now text.now }
-{
-    verifier.accepts(text)
-}
-
 // Whether the text has 64 bytes, and each half has its verifier.
 fn are_verified_by(first: &Verifier, second: &Verifier, text: &[u8]) -> bool
     ensures { result ≡ are_verified first.now second.now text.now }
@@ -118,5 +112,5 @@ fn are_verified_by(first: &Verifier, second: &Verifier, text: &[u8]) -> bool
         return false;
     }
     let (first_half, second_half) = text.split_at(HALF_LEN);
-    is_verified_by(first, first_half) && is_verified_by(second, second_half)
+    first.accepts(first_half) && second.accepts(second_half)
 }

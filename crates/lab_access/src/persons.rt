@@ -1,12 +1,13 @@
 //! One person of a laboratory.
 ghost use Rattle.std.specs.Prelude.{◌≡◌, IfOk, option_copied};
-ghost use Rattle.lab_access.specs.Persons.{is_locked, unlocked, standing};
+ghost use Rattle.lab_access.specs.Persons.{is_locked, unlocked_person, standing_ask};
 
-use crate::password::Password;
+use crate::passwords::Password;
 use crate::roles::Roles;
 use crate::times::seconds_since;
 use lab_names::{Moment, Name, OutOfMemory, PersonCode};
 use lab_secrets::Verifier;
+use std::fmt;
 
 /// The seconds for which a lock lasts.
 const SECONDS_OF_LOCK: u64 = 1800;
@@ -14,8 +15,8 @@ const SECONDS_OF_LOCK: u64 = 1800;
 /// The most seconds for which it stands what an administrator asked for.
 const SECONDS_OF_ASK: u64 = 604_800;
 
-/// A person of a laboratory, with the account.
-#[derive(Debug, Drop)]
+/// A person of a laboratory, with the account. Printed for whoever mends a program, it is its code alone.
+#[derive(Clone, Drop)]
 pub struct Person {
     /// The code, which is never given to another.
     pub code: PersonCode,
@@ -36,7 +37,7 @@ pub struct Person {
 }
 
 /// A one-time word that one administrator asked for, and another is to confirm.
-#[derive(Debug, Drop)]
+#[derive(Clone, Drop)]
 pub struct Ask {
     /// Who asked.
     pub asker: PersonCode,
@@ -47,37 +48,20 @@ pub struct Ask {
 }
 
 impl Ask {
-    /// The same once more. The only error is want of memory.
+    /// A copy. The only error is out of memory.
     pub fn copy(&self) -> Result<Ask, OutOfMemory>
         ensures { IfOk result (λ copy. copy ≡ self.now) }
     {
-        Ok(Ask {
-            asker: self.asker.copy()?,
-            asked: self.asked,
-            first: self.first,
-        })
+        Ok(self.clone()?)
     }
 }
 
 impl Person {
-    /// The same person once more. The only error is want of memory.
+    /// A copy. The only error is out of memory.
     pub fn copy(&self) -> Result<Person, OutOfMemory>
         ensures { IfOk result (λ copy. copy ≡ self.now) }
     {
-        let ask = match &self.ask {
-            Some(ask) => Some(ask.copy()?),
-            None => None,
-        };
-        Ok(Person {
-            code: self.code.copy()?,
-            name: self.name.copy()?,
-            roles: self.roles,
-            retired: self.retired,
-            failures: self.failures,
-            locked: self.locked,
-            password: self.password,
-            ask,
-        })
+        Ok(self.clone()?)
     }
 
     /// Whether the account is locked at the moment: for 1,800 seconds from the fifth failed password on.
@@ -92,7 +76,7 @@ impl Person {
 
     /// What an administrator asked for, while it stands: for seven days.
     pub fn standing_ask(&self, moment: Moment) -> Option<&Ask>
-        ensures { option_copied result ≡ standing self.now.ask moment }
+        ensures { option_copied result ≡ standing_ask self.now.ask moment }
     {
         let ask = self.ask.as_ref()?;
         if seconds_since(ask.asked, moment) > SECONDS_OF_ASK {
@@ -103,12 +87,24 @@ impl Person {
 
     /// The person with no failed password and no lock.
     pub fn unlocked(self) -> Person
-        ensures { result ≡ unlocked self }
+        ensures { result ≡ unlocked_person self }
     {
         Person {
             failures: 0,
             locked: None,
             ..self
         }
+    }
+}
+
+impl fmt::Debug for Person {
+    ghost use Rattle.std.specs.Prelude.{Some, ◌++◌, codes};
+
+    ghost debug_output = { λ person. Some (codes "Person(" ++ person.code ++ codes ")") };
+
+    fn fmt<W: fmt::Write>(&self, f: &mut fmt::Formatter<W>) -> fmt::Result {
+        f.write_str("Person(")?;
+        f.write_str(self.code.as_str())?;
+        f.write_str(")")
     }
 }
