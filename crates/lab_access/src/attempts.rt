@@ -2,8 +2,8 @@
 ghost use Rattle.std.specs.Prelude.{◌≡◌, option_copied};
 ghost use Rattle.lab_access.specs.Attempts.{attempt_of, signing_attempt, is_own_code, attempt_by, failure_of};
 
-use crate::refusals::Failure;
 use crate::persons::Person;
+use crate::refusals::Failure;
 use lab_names::{Moment, PersonCode};
 
 /// The failed passwords of which the last locks.
@@ -51,12 +51,7 @@ fn is_own(code: Option<&PersonCode>, person: &Person) -> bool
 }
 
 #[tactic(auto, unfolding(crate::specs::Attempts::attempt_by))]
-fn try_password(
-    person: Person,
-    is_own: bool,
-    text: &str,
-    moment: Moment,
-) -> Result<Person, Failure>
+fn try_password(person: Person, is_own: bool, text: &str, moment: Moment) -> Result<Person, Failure>
     ensures { result ≡ attempt_by person is_own text.now moment }
 {
     if person.retired || !person.password.is_set() {

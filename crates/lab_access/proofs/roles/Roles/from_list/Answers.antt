@@ -1,5 +1,5 @@
 -- What the rest of the list adds to the roles so far.
-use Rattle.std.proofs.Common.{◌≡◌, ◌<◌, ◌+◌, ℕ, suc, Bool, true, false, cond, List, [], ◌∷◌, length, drop, Option, Some, None, refl, sym, ap, ◌∙◌, get_or, drop-cons, slice_index_or, arith}
+use Rattle.std.proofs.Common.{◌≡◌, ◌<◌, ◌+◌, ℕ, suc, Bool, true, false, cond, List, length, drop, Option, Some, None, refl, sym, ap, ◌∙◌, get_or, drop-cons, arith}
 use Rattle.std.proofs.Math.Seq.{drop-length}
 use Rattle.lab_access.specs.declared.roles.Role.{Role}
 use Rattle.lab_access.specs.declared.roles.Role.TheVariants.{Analyst}
@@ -49,5 +49,5 @@ loop-role-preserved c =
 pub returns : goal.returns
 returns c =
     let last : length c.args.list.now ≡ c.loop-role.role-index =
-        omega (arith, c.loop-role-test.false, c.loop-role.auto.role-index-end) in
+    omega (arith, c.loop-role-test.false, c.loop-role.auto.role-index-end) in
     sym (c.loop-role.invariant ∙ at_end c.loop-role.roles c.args.list.now c.loop-role.role-index last)
