@@ -47,13 +47,15 @@ numbered_opening (Some number) code tick person = Ok (new_opening number code ti
 
 -- what follows on the password that was given, where the laboratory gave so many numbers of sessions before, and where one of
 -- its sessions has the tick's token, or none has
-abbrev pub opening_by : Result Person Failure → List ℕ → Tick → ℕ → Option Session → Result Opened PeopleFault
+abbrev pub opening_by : Result Person Failure → List ℕ → Tick → ℕ → Option Session
+    → Result Opened PeopleFault
 opening_by (Err failure) code tick sessions repeated = Err (Failed failure)
 opening_by (Ok person) code tick sessions repeated =
     if is_some repeated then Err (Refused RandomRepeated)
     else numbered_opening (ordinal_of (sessions + 1)) code tick person
 
 -- a session is opened by a code, whose person was looked up, and a password
-unfoldable pub opening : List ℕ → Option Person → List ℕ → Tick → ℕ → Option Session → Result Opened PeopleFault
+unfoldable pub opening : List ℕ → Option Person → List ℕ → Tick → ℕ → Option Session
+    → Result Opened PeopleFault
 opening code person text tick sessions repeated =
     opening_by (attempt_of person text tick.moment) code tick sessions repeated

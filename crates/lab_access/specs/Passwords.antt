@@ -33,7 +33,8 @@ half_len = 32
 -- a text as long as a one-time word (`one_time_word` of lab_secrets), of which each half has a verifier of its own
 abbrev pub are_verified : VerifierParts → VerifierParts → List ℕ → Bool
 are_verified first second text =
-    (length text == 2 * half_len) && is_verified first (take half_len text) && is_verified second (drop half_len text)
+    (length text == 2 * half_len) && is_verified first (take half_len text)
+    && is_verified second (drop half_len text)
 
 -- the seconds for which a one-time word serves after it was confirmed: seven days
 abbrev pub word_span : ℕ
@@ -47,7 +48,8 @@ serves confirmed moment = nat_le (moment - confirmed) word_span
 unfoldable pub accepts : Password → List ℕ → ℕ → Bool
 accepts Unset text moment = false
 accepts (Chosen verifier changed) text moment = is_verified verifier text
-accepts (OneTime first second confirmed) text moment = serves confirmed moment && are_verified first second text
+accepts (OneTime first second confirmed) text moment =
+    serves confirmed moment && are_verified first second text
 
 -- there is a password, chosen or for one time
 abbrev pub is_set : Password → Bool

@@ -22,7 +22,13 @@ has_role roles Inspector = roles.inspector
 
 -- no role
 abbrev pub no_roles : Roles
-no_roles = record { analyst = false; reviewer = false; manager = false; administrator = false; inspector = false }
+no_roles = record {
+  analyst = false;
+  reviewer = false;
+  manager = false;
+  administrator = false;
+  inspector = false;
+}
 
 -- one role more
 abbrev pub with_role : Roles → Role → Roles
@@ -43,7 +49,8 @@ role_list roles = filter (has_role roles) all_roles
 -- roles and those of a list, of which none is among them and none stands twice; else none
 abbrev pub with_each : Roles → List Role → Option Roles
 with_each roles [] = Some roles
-with_each roles (role ∷ others) = if has_role roles role then None else with_each (with_role roles role) others
+with_each roles (role ∷ others) =
+    if has_role roles role then None else with_each (with_role roles role) others
 
 -- the roles of a list, in which none stands twice
 abbrev pub role_set : List Role → Option Roles

@@ -8,7 +8,8 @@ use Rattle.lab_access.specs.declared.sessions.Closing.TheVariants.{Nothing, All,
 -- the session whose token has the digest, open or closed, among those of a laboratory
 abbrev pub session_of : List Session → List ℕ → Option Session
 session_of [] digest = None
-session_of (one ∷ others) digest = if bytes_eq one.token digest then Some one else session_of others digest
+session_of (one ∷ others) digest =
+    if bytes_eq one.token digest then Some one else session_of others digest
 
 -- a session has the token of that digest
 abbrev pub has_token : List Session → List ℕ → Bool
@@ -43,7 +44,8 @@ signed_session session = record session { signed = true }
 abbrev pub is_closed_by : Closing → List ℕ → Session → Bool
 is_closed_by Nothing person session = false
 is_closed_by All person session = bytes_eq session.person person
-is_closed_by (Others number) person session = bytes_eq session.person person && not (session.number == number)
+is_closed_by (Others number) person session =
+    bytes_eq session.person person && not (session.number == number)
 
 -- one session after that
 abbrev pub session_after : Closing → List ℕ → Session → Session

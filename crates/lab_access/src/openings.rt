@@ -45,7 +45,8 @@ pub fn open_session(
     sessions: u32,
     repeated: Option<&Session>,
 ) -> Result<Opened, PeopleFault>
-    ensures { result ≡ opening code person password.now tick.now sessions (option_copied repeated.entry) }
+    ensures { result ≡ opening code person password.now tick.now sessions
+        (option_copied repeated.entry) }
 {
     let person = attempt(person, password, tick.moment)?;
     if repeated.is_some() {

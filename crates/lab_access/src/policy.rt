@@ -132,7 +132,8 @@ impl Rule {
 #[tactic(auto, unfolding(crate::specs::Policy::denial))]
 pub fn allowed(person: &Person, rule: Rule, tick: &Tick) -> Result<(), PeopleRefusal>
     ensures allowed { OnOk result (denial person.now rule tick.now.moment ≡ None) }
-    ensures refused { IfErr result (λ refusal. denial person.now rule tick.now.moment ≡ Some refusal) }
+    ensures refused { IfErr result (λ refusal.
+        denial person.now rule tick.now.moment ≡ Some refusal) }
 {
     if rule.is_barred_by_due() && person.password.is_due(tick.moment) {
         return Err(PeopleRefusal::PasswordDue);

@@ -102,7 +102,8 @@ impl Closing {
 /// `NoSession`, where it is closed or its time has passed.
 pub fn live(session: &Session, tick: &Tick) -> Result<(), PeopleRefusal>
     ensures live { OnOk result (is_live session.now tick.now.moment ≡ true) }
-    ensures refused { IfErr result (λ refusal. (refusal ≡ NoSession) × (is_live session.now tick.now.moment ≡ false)) }
+    ensures refused { IfErr result (λ refusal.
+        (refusal ≡ NoSession) × (is_live session.now tick.now.moment ≡ false)) }
 {
     if session.is_live(tick.moment) {
         Ok(())

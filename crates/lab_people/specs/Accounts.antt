@@ -30,7 +30,8 @@ with_new_password person session new tick = record {
 }
 
 -- what follows on the old password that was given
-abbrev pub changing_by : Result Person Failure → Session → List ℕ → List ℕ → Tick → Result PasswordChanged PeopleFault
+abbrev pub changing_by : Result Person Failure → Session → List ℕ → List ℕ → Tick
+    → Result PasswordChanged PeopleFault
 changing_by (Err failure) session old new tick = Err (Failed failure)
 changing_by (Ok person) session old new tick =
     if not (is_password new) then Err (Refused BadPassword)
@@ -38,8 +39,10 @@ changing_by (Ok person) session old new tick =
     else Ok (with_new_password person session new tick))
 
 -- a person changes the own password in a session, by the old one
-unfoldable pub changing : Person → Session → List ℕ → List ℕ → Tick → Result PasswordChanged PeopleFault
-changing person session old new tick = changing_by (attempt_of (Some person) old tick.moment) session old new tick
+unfoldable pub changing : Person → Session → List ℕ → List ℕ → Tick
+    → Result PasswordChanged PeopleFault
+changing person session old new tick =
+    changing_by (attempt_of (Some person) old tick.moment) session old new tick
 
 -- Enrolment.
 
@@ -78,7 +81,8 @@ person_meant caller (Some person) =
     else Ok person)
 
 -- what follows where somebody is meant
-abbrev pub meant_then : {A : Type 0} → Result Person PeopleRefusal → (Person → Result A PeopleRefusal) → Result A PeopleRefusal
+abbrev pub meant_then : {A : Type 0} → Result Person PeopleRefusal
+    → (Person → Result A PeopleRefusal) → Result A PeopleRefusal
 meant_then (Ok person) next = next person
 meant_then (Err refusal) next = Err refusal
 

@@ -48,7 +48,10 @@ asking caller person tick =
 -- a person for whom it was confirmed what was asked: the one-time word stands in place of the password
 abbrev pub with_one_time_word : Tick → Ask → Person → Issued
 with_one_time_word tick ask person = record {
-  person = record person { password = OneTime ask.first (half_verifier tick) tick.moment; ask = None };
+  person = record person {
+    password = OneTime ask.first (half_verifier tick) tick.moment;
+    ask = None;
+  };
   half = half_of tick.words;
   closing = All;
 }

@@ -28,7 +28,8 @@ person_left (Err failure) = failure_person failure
 abbrev pub person_after : Person → List Try → Option Person
 person_after person [] = Some person
 person_after person (one ∷ others) =
-    option_and_then (λ left. person_after left others) (person_left (attempt_of (Some person) one.text one.moment))
+    option_and_then (λ left. person_after left others)
+    (person_left (attempt_of (Some person) one.text one.moment))
 
 -- a person who has a password and isn't retired
 pub record HasAccount (person : Person) : Type 0 where
@@ -53,7 +54,8 @@ IsNewToken digest sessions = AllByRecursion (λ session. session.token ≢ diges
 
 -- One administrator asked for a one-time word for somebody, and another confirmed it for the person whom this left. A tick has
 -- eight random words.
-pub record IsWordGiven (person : Option Person) (caller other : List ℕ) (tick later : Tick) (asked confirmed : Issued) : Type 0 where
+pub record IsWordGiven (person : Option Person) (caller other : List ℕ) (tick later : Tick)
+    (asked confirmed : Issued) : Type 0 where
   pub asks : asking caller person tick ≡ Ok asked
   pub eight_words : length tick.words ≡ 8
   pub confirms : confirming other (Some asked.person) later ≡ Ok confirmed
@@ -70,4 +72,5 @@ IsRefused (Err refusal) = Unit {0}
 
 -- all of the person's sessions are closed
 abbrev pub AreClosed : List ℕ → List Session → Type 0
-AreClosed person sessions = AllByRecursion (λ session. session.person ≡ person → session.closed ≡ true) sessions
+AreClosed person sessions =
+    AllByRecursion (λ session. session.person ≡ person → session.closed ≡ true) sessions

@@ -22,15 +22,16 @@ ghost use Rattle.lab_people.specs.Issues.{asking, confirming};
 
 /// Law: a code is given to one person only, also where that one is retired.
 pub fn a_code_is_given_once()
-    ensures { (persons : List AnyPerson) (code name : List ℕ) (roles : AnyRoles) (person : AnyPerson) →
+    ensures { (persons : List AnyPerson) (code name : List ℕ) (roles : AnyRoles)
+        (person : AnyPerson) →
         enrolling code name roles (person_of persons code) (length persons) ≡ Ok person →
         (person.code ≡ code) × IsNewCode person.code persons }
 {}
 
 /// Law: no two sessions of a laboratory have a token of one digest, also where one is closed.
 pub fn a_token_is_given_once()
-    ensures { (sessions : List AnySession) (code text : List ℕ) (person : Option AnyPerson) (tick : AnyTick)
-        (opened : AnyOpened) →
+    ensures { (sessions : List AnySession) (code text : List ℕ) (person : Option AnyPerson)
+        (tick : AnyTick) (opened : AnyOpened) →
         opening code person text tick (length sessions) (session_of sessions (token_digest tick))
         ≡ Ok opened → IsNewToken opened.session.token sessions }
 {}
@@ -49,8 +50,9 @@ pub fn accounts_are_kept_by_others()
 pub fn a_one_time_word_takes_two()
     ensures refused { (person : AnyPerson) (ask : AnyAsk) (tick : AnyTick) → person.ask ≡ Some ask →
         IsRefused (confirming ask.asker (Some person) tick) }
-    ensures same_person { (person : AnyPerson) (ask : AnyAsk) (tick : AnyTick) → person.ask ≡ Some ask →
-        person.retired ≡ false → person.code ≢ ask.asker → stands ask tick.moment ≡ true →
+    ensures same_person { (person : AnyPerson) (ask : AnyAsk) (tick : AnyTick) →
+        person.ask ≡ Some ask → person.retired ≡ false → person.code ≢ ask.asker →
+        stands ask tick.moment ≡ true →
         confirming ask.asker (Some person) tick ≡ Err SamePerson }
 {}
 
@@ -58,23 +60,26 @@ pub fn a_one_time_word_takes_two()
 /// for nobody, and is changed by no command. Nothing revives a session that is closed: no request, no signing, no change of the
 /// password, and no closing.
 pub fn retirement_is_for_good()
-    ensures leaves { (caller : List ℕ) (person : AnyPerson) (effect : AnyEffect) (sessions : List AnySession) →
-        retiring caller (Some person) ≡ Ok effect → (effect.person ≡ record person { retired = true })
+    ensures leaves { (caller : List ℕ) (person : AnyPerson) (effect : AnyEffect)
+        (sessions : List AnySession) → retiring caller (Some person) ≡ Ok effect →
+        (effect.person ≡ record person { retired = true })
         × AreClosed person.code (sessions_after effect.closing person.code sessions) }
-    ensures no_password { (person : AnyPerson) (session : AnySession) (code text new : List ℕ) (given : Option (List ℕ))
-        (tick : AnyTick) (sessions : ℕ) (repeated : Option AnySession) → person.retired ≡ true →
+    ensures no_password { (person : AnyPerson) (session : AnySession) (code text new : List ℕ)
+        (given : Option (List ℕ)) (tick : AnyTick) (sessions : ℕ) (repeated : Option AnySession) →
+        person.retired ≡ true →
         (signing_attempt person given text tick.moment ≡ Err Stray)
         × (opening code (Some person) text tick sessions repeated ≡ Err (Failed Stray))
         × (changing person session text new tick ≡ Err (Failed Stray)) }
-    ensures no_command { (person : AnyPerson) (caller : List ℕ) (tick : AnyTick) (roles : AnyRoles) →
-        person.retired ≡ true →
+    ensures no_command { (person : AnyPerson) (caller : List ℕ) (tick : AnyTick)
+        (roles : AnyRoles) → person.retired ≡ true →
         (asking caller (Some person) tick ≡ Err NoSuchPerson)
         × (confirming caller (Some person) tick ≡ Err NoSuchPerson)
         × (setting_roles caller (Some person) roles ≡ Err NoSuchPerson)
         × (retiring caller (Some person) ≡ Err NoSuchPerson)
         × (unlocking caller (Some person) ≡ Err NoSuchPerson) }
-    ensures closed { (closing : AnyClosing) (code new : List ℕ) (person : AnyPerson) (session : AnySession)
-        (tick : AnyTick) (moment : ℕ) → session.closed ≡ true → (is_live session moment ≡ false)
+    ensures closed { (closing : AnyClosing) (code new : List ℕ) (person : AnyPerson)
+        (session : AnySession) (tick : AnyTick) (moment : ℕ) → session.closed ≡ true →
+        (is_live session moment ≡ false)
         × ((session_after closing code session).closed ≡ true)
         × ((touched_session moment session).closed ≡ true)
         × ((signed_session session).closed ≡ true)

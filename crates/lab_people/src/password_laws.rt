@@ -18,8 +18,8 @@ ghost use Rattle.lab_access.specs.Sessions.{sessions_after};
 
 /// Law: wrong passwords that follow one another are counted, and the one with which five count locks. No earlier one does.
 pub fn the_fifth_failure_locks()
-    ensures earlier { (person : AnyPerson) (tries : List Try) → HasAccount person → person.locked ≡ None →
-        AreWrong person tries → person.failures + length tries < 5 →
+    ensures earlier { (person : AnyPerson) (tries : List Try) → HasAccount person →
+        person.locked ≡ None → AreWrong person tries → person.failures + length tries < 5 →
         person_after person tries ≡ Some (counted_person (person.failures + length tries) person) }
     ensures fifth { (person : AnyPerson) (before : List Try) (last : Try) → HasAccount person →
         person.locked ≡ None → AreWrong person before → person.failures + length before ≡ 4 →
@@ -27,14 +27,16 @@ pub fn the_fifth_failure_locks()
         person_after person (before ++ (last ∷ [])) ≡ Some (locked_person last.moment person) }
     ensures locking { (person : AnyPerson) (last : Try) → HasAccount person → person.locked ≡ None →
         person.failures ≡ 4 → IsWrong person last →
-        attempt_of (Some person) last.text last.moment ≡ Err (Locking (locked_person last.moment person)) }
+        attempt_of (Some person) last.text last.moment
+        ≡ Err (Locking (locked_person last.moment person)) }
 {}
 
 /// Law: an attempt that locks a person, at an opening, a signing or a change of the password, leaves none of the person's
 /// sessions open.
 pub fn a_lock_closes_all_sessions()
-    ensures { (person after : AnyPerson) (is_own : Bool) (text : List ℕ) (moment : ℕ) (failure : AnyFailure)
-        (sessions : List AnySession) → attempt_by person is_own text moment ≡ Err failure →
+    ensures { (person after : AnyPerson) (is_own : Bool) (text : List ℕ) (moment : ℕ)
+        (failure : AnyFailure) (sessions : List AnySession) →
+        attempt_by person is_own text moment ≡ Err failure →
         failure_person failure ≡ Some after →
         is_locked person.locked moment ≡ false → is_locked after.locked moment ≡ true →
         AreClosed person.code (sessions_after (failure_closing failure) person.code sessions) }
@@ -42,21 +44,23 @@ pub fn a_lock_closes_all_sessions()
 
 /// Law: a lock lasts 1,800 seconds, to the second. Then a right password is accepted, and a wrong one is the first again.
 pub fn a_lock_lasts_half_an_hour()
-    ensures locked { (since seconds : ℕ) → is_locked (Some since) (since + seconds) ≡ nat_lt seconds 1800 }
+    ensures locked { (since seconds : ℕ) →
+        is_locked (Some since) (since + seconds) ≡ nat_lt seconds 1800 }
     ensures accepted { (person : AnyPerson) (text : List ℕ) (since moment : ℕ) → HasAccount person →
         person.locked ≡ Some since → is_locked (Some since) moment ≡ false →
         accepts person.password text moment ≡ true →
         attempt_of (Some person) text moment ≡ Ok (unlocked_person person) }
     ensures first { (person : AnyPerson) (one : Try) (since : ℕ) → HasAccount person →
-        person.locked ≡ Some since → is_locked (Some since) one.moment ≡ false → IsWrong person one →
+        person.locked ≡ Some since → is_locked (Some since) one.moment ≡ false →
+        IsWrong person one →
         person_after person (one ∷ []) ≡ Some (counted_person 1 person) }
 {}
 
 /// Law: whatever is given as the password of a person who is locked, with whichever code, it is refused and leaves the person,
 /// count and lock, as before.
 pub fn an_attempt_leaves_a_lock()
-    ensures { (person : AnyPerson) (is_own : Bool) (text : List ℕ) (moment : ℕ) → HasAccount person →
-        is_locked person.locked moment ≡ true →
+    ensures { (person : AnyPerson) (is_own : Bool) (text : List ℕ) (moment : ℕ) →
+        HasAccount person → is_locked person.locked moment ≡ true →
         attempt_by person is_own text moment ≡ Err (AlreadyLocked person) }
 {}
 
