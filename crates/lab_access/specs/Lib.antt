@@ -1,5 +1,6 @@
 pub mod Passwords
 pub mod Persons
+pub mod Roles
 pub mod Policy
 pub mod Refusals
 pub mod Sessions

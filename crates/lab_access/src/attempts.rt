@@ -1,10 +1,9 @@
 //! Passwords that are given.
 ghost use Rattle.std.specs.Prelude.{◌≡◌, option_copied};
-ghost use Rattle.lab_access.specs.Refusals.{Answers};
-ghost use Rattle.lab_access.specs.Attempts.{attempted, signing_attempted, is_own_code, tried, failed};
+ghost use Rattle.lab_access.specs.Attempts.{attempt_of, signing_attempt, is_own_code, attempt_by, failure_of};
 
-use crate::fault::{Failure, PeopleFault};
-use crate::person::Person;
+use crate::persons::Person;
+use crate::refusals::Failure;
 use lab_names::{Moment, PersonCode};
 
 /// The failed passwords of which the last locks.
@@ -14,13 +13,13 @@ const FAILURES_TO_LOCK: u32 = 5;
 /// lock.
 ///
 /// # Errors
-/// `Failed` with what comes of it, or want of memory.
-pub fn attempt(person: Option<&Person>, text: &str, moment: Moment) -> Result<Person, PeopleFault>
-    ensures { Answers (attempted (option_copied person.entry) text.now moment) result }
+/// What comes of a text that isn't accepted.
+pub fn attempt(person: Option<Person>, text: &str, moment: Moment) -> Result<Person, Failure>
+    ensures { result ≡ attempt_of person text.now moment }
 {
     match person {
         Some(person) => try_password(person, true, text, moment),
-        None => Err(Failure::Stray.into()),
+        None => Err(Failure::Stray),
     }
 }
 
@@ -28,16 +27,16 @@ pub fn attempt(person: Option<&Person>, text: &str, moment: Moment) -> Result<Pe
 /// as a failed password of the one who signs. It answers the person with no failed password and no lock.
 ///
 /// # Errors
-/// `Failed` with what comes of it, or want of memory.
+/// What comes of a code or a text that isn't accepted.
 pub fn attempt_signing(
-    person: &Person,
+    person: Person,
     code: Option<&PersonCode>,
     text: &str,
     moment: Moment,
-) -> Result<Person, PeopleFault>
-    ensures { Answers (signing_attempted person.now (option_copied code.entry) text.now moment) result }
+) -> Result<Person, Failure>
+    ensures { result ≡ signing_attempt person (option_copied code.entry) text.now moment }
 {
-    let is_own = is_own(code, person);
+    let is_own = is_own(code, &person);
     try_password(person, is_own, text, moment)
 }
 
@@ -51,31 +50,25 @@ fn is_own(code: Option<&PersonCode>, person: &Person) -> bool
     }
 }
 
-#[tactic(auto, unfolding(crate::specs::Attempts::tried))]
-fn try_password(
-    person: &Person,
-    is_own: bool,
-    text: &str,
-    moment: Moment,
-) -> Result<Person, PeopleFault>
-    ensures { Answers (tried person.now is_own text.now moment) result }
+#[tactic(auto, unfolding(crate::specs::Attempts::attempt_by))]
+fn try_password(person: Person, is_own: bool, text: &str, moment: Moment) -> Result<Person, Failure>
+    ensures { result ≡ attempt_by person is_own text.now moment }
 {
     if person.retired || !person.password.is_set() {
-        return Err(Failure::Stray.into());
+        return Err(Failure::Stray);
     }
     if person.is_locked(moment) {
-        return Err(Failure::AlreadyLocked(person.copy()?).into());
+        return Err(Failure::AlreadyLocked(person));
     }
-    let person = person.copy()?;
     if is_own && person.password.accepts(text, moment) {
         return Ok(person.unlocked());
     }
-    Err(fail(person, moment).into())
+    Err(fail(person, moment))
 }
 
 // One failed password more; the fifth locks.
 fn fail(person: Person, moment: Moment) -> Failure
-    ensures { result ≡ failed person moment }
+    ensures { result ≡ failure_of person moment }
 {
     let before = match person.locked {
         Some(_) => 0,

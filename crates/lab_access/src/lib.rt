@@ -3,24 +3,20 @@
 #![tactic(auto)]
 
 mod attempts;
-mod fault;
-mod password;
-mod person;
+mod openings;
+mod passwords;
+mod persons;
 mod policy;
-mod refusal;
+mod refusals;
 mod roles;
-mod session;
 mod sessions;
-#[cfg(test)]
-mod tests;
 mod times;
 
 pub use attempts::{attempt, attempt_signing};
-pub use fault::{Failure, PeopleFault};
-pub use password::{Password, ROUNDS};
-pub use person::{Ask, Person};
-pub use policy::allowed;
-pub use refusal::PeopleRefusal;
-pub use roles::{Role, Roles, Rule};
-pub use session::{Closing, Session};
-pub use sessions::{Opened, live, open_session};
+pub use openings::{Opened, open_session};
+pub use passwords::{Password, ROUNDS};
+pub use persons::{Ask, Person};
+pub use policy::{Rule, allowed};
+pub use refusals::{Failure, PeopleFault, PeopleRefusal};
+pub use roles::{Role, Roles};
+pub use sessions::{Closing, Session, live};

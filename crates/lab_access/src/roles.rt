@@ -1,6 +1,9 @@
-//! The roles that a person may have, and the rules that ask for them.
-ghost use Rattle.std.specs.Prelude.{◌≡◌};
-ghost use Rattle.lab_access.specs.Policy.{has_role, role_word, with_role, no_roles, is_open_to, is_barred_by_due, rule_word};
+//! The roles that a person may have.
+ghost use Rattle.std.specs.Prelude.{◌≡◌, IfOk};
+ghost use Rattle.lab_access.specs.Roles.{has_role, role_word, with_role, no_roles, role_list, role_set};
+
+use lab_names::OutOfMemory;
+use std::alloc::Global;
 
 /// What a person may be in a laboratory.
 #[derive(Clone, Copy, Debug, PartialEq, Eq)]
@@ -110,117 +113,31 @@ impl Roles {
             Role::Inspector => self.inspector,
         }
     }
-}
 
-/// A rule of the policy: one for each thing that a person in a session may do.
-#[derive(Clone, Copy, Debug, PartialEq, Eq)]
-pub enum Rule {
-    /// Close the own session.
-    CloseSession,
-    /// Change the own password.
-    ChangePassword,
-    /// Enrol a person.
-    Enrol,
-    /// See the persons.
-    ReadPersons,
-    /// Ask for a one-time word for another person.
-    AskIssue,
-    /// Confirm what another administrator asked for.
-    ConfirmIssue,
-    /// Set another person's roles.
-    SetRoles,
-    /// Retire another person.
-    Retire,
-    /// Unlock another person.
-    Unlock,
-    /// Make a form, or a form's next version.
-    MakeForm,
-    /// Read a form.
-    ReadForm,
-    /// Open a record.
-    OpenRecord,
-    /// Enter an observation.
-    Enter,
-    /// Amend a record.
-    Amend,
-    /// Sign as author.
-    SignAuthorship,
-    /// Sign as reviewer.
-    SignReview,
-    /// Reject.
-    SignRejection,
-    /// Read a record.
-    ReadRecord,
-    /// Read a version of a record.
-    ReadVersion,
-    /// See a range of records.
-    ReadRecords,
-    /// See a range of the trail.
-    ReadTrail,
-    /// Take an inspection copy.
-    TakeCopy,
-}
-
-impl Rule {
-    /// Whether a person of these roles may do it.
-    pub fn is_open_to(self, roles: &Roles) -> bool
-        ensures { result ≡ is_open_to self roles.now }
+    /// The roles as a list, in the order in which they are told. The only error is out of memory.
+    pub fn list(&self, alloc: Global) -> Result<Vec<Role>, OutOfMemory>
+        ensures { IfOk result (λ list. list.items ≡ role_list self.now) }
     {
-        match self {
-            Rule::CloseSession | Rule::ChangePassword => true,
-            Rule::Enrol
-            | Rule::AskIssue
-            | Rule::ConfirmIssue
-            | Rule::SetRoles
-            | Rule::Retire
-            | Rule::Unlock => roles.administrator,
-            Rule::ReadPersons | Rule::ReadTrail => {
-                roles.administrator || roles.manager || roles.inspector
+        let mut list = Vec::new(alloc);
+        for role in Role::ALL {
+            if self.has(role) {
+                list.push(role)?;
             }
-            Rule::MakeForm => roles.manager,
-            Rule::ReadForm | Rule::ReadRecord | Rule::ReadVersion | Rule::ReadRecords => {
-                roles.analyst || roles.reviewer || roles.manager || roles.inspector
-            }
-            Rule::OpenRecord | Rule::Enter | Rule::Amend | Rule::SignAuthorship => roles.analyst,
-            Rule::SignReview | Rule::SignRejection => roles.reviewer,
-            Rule::TakeCopy => roles.manager || roles.inspector,
         }
+        Ok(list)
     }
 
-    /// Whether it has to wait until a due password is changed.
-    pub fn is_barred_by_due(self) -> bool
-        ensures { result ≡ is_barred_by_due self }
+    /// The roles of a list, in any order; none where one stands twice.
+    pub fn from_list(list: &[Role]) -> Option<Roles>
+        ensures { result ≡ role_set list.now }
     {
-        !matches!(self, Rule::CloseSession | Rule::ChangePassword)
-    }
-
-    /// The word by which a refusal names the rule.
-    pub fn word(self) -> &'static str
-        ensures { result.now ≡ rule_word self }
-    {
-        match self {
-            Rule::CloseSession => "P1",
-            Rule::ChangePassword => "P2",
-            Rule::Enrol => "P3",
-            Rule::ReadPersons => "P4",
-            Rule::AskIssue => "P5",
-            Rule::ConfirmIssue => "P6",
-            Rule::SetRoles => "P7",
-            Rule::Retire => "P8",
-            Rule::Unlock => "P9",
-            Rule::MakeForm => "P10",
-            Rule::ReadForm => "P11",
-            Rule::OpenRecord => "P12",
-            Rule::Enter => "P13",
-            Rule::Amend => "P14",
-            Rule::SignAuthorship => "P15",
-            Rule::SignReview => "P16",
-            Rule::SignRejection => "P17",
-            Rule::ReadRecord => "P18",
-            Rule::ReadVersion => "P19",
-            Rule::ReadRecords => "P20",
-            Rule::ReadTrail => "P21",
-            Rule::TakeCopy => "P22",
+        let mut roles = Roles::none();
+        for role in list {
+            if roles.has(*role) {
+                return None;
+            }
+            roles = roles.with(*role);
         }
+        Some(roles)
     }
 }

@@ -1,87 +1,99 @@
-//! Sessions, as they are opened and found.
-ghost use Rattle.std.specs.Prelude.{◌≡◌, true, false, option_copied, OnOk, IfOk, IfErr};
-ghost use Rattle.lab_access.specs.declared.refusal.PeopleRefusal.TheVariants.{NoSession};
-ghost use Rattle.lab_access.specs.Refusals.{Answers};
-ghost use Rattle.lab_access.specs.Sessions.{is_live};
-ghost use Rattle.lab_access.specs.Openings.{opening};
+//! One session of a person, and which sessions a change of the account closes.
+ghost use Rattle.std.specs.Prelude.{◌≡◌, true, false, IfOk, OnOk, IfErr};
+ghost use Rattle.lab_access.specs.declared.refusals.PeopleRefusal.TheVariants.{NoSession};
+ghost use Rattle.lab_access.specs.Sessions.{is_live, is_closed_by, touched_session, closed_session, signed_session};
 
-use crate::attempts::attempt;
-use crate::fault::PeopleFault;
-use crate::person::Person;
-use crate::refusal::PeopleRefusal;
-use crate::session::Session;
-use lab_names::{OutOfMemory, Tick};
-use lab_secrets::Token;
+use crate::refusals::PeopleRefusal;
+use crate::times::seconds_since;
+use lab_names::{Moment, Ordinal, OutOfMemory, PersonCode, Tick};
+use lab_secrets::Digest;
 
-/// The most numbers of sessions that a laboratory gives.
-const SESSIONS_LIMIT: u32 = 1_000_000_000;
+/// The most seconds since its last request at which a session lives.
+const SECONDS_OF_REST: u64 = 900;
 
-/// A session that was opened.
-#[derive(Drop)]
-pub struct Opened {
-    /// The person, whose failed passwords are forgotten.
-    pub person: Person,
-    /// The new session.
-    pub session: Session,
-    /// The session's token, which is told once and not kept.
-    pub token: Token,
-    /// Whether the password is due to be changed.
-    pub due: bool,
+/// The most seconds since its opening at which a session lives.
+const SECONDS_OF_SESSION: u64 = 28_800;
+
+/// One continuous period in which a person works.
+#[derive(Clone, Debug, Drop)]
+pub struct Session {
+    /// The session's number in the laboratory.
+    pub number: Ordinal,
+    /// Whose session it is.
+    pub person: PersonCode,
+    /// The SHA-256 digest of the session's token, by which requests name it.
+    pub token: Digest,
+    /// When it was opened.
+    pub opened: Moment,
+    /// When its last request came.
+    pub last: Moment,
+    /// Whether it is closed.
+    pub closed: bool,
+    /// Whether something was signed in it, so that the code needn't be given again.
+    pub signed: bool,
 }
 
-impl Opened {
-    /// The same once more. The only error is want of memory.
-    pub fn copy(&self) -> Result<Opened, OutOfMemory>
+impl Session {
+    /// A copy. The only error is out of memory.
+    pub fn copy(&self) -> Result<Session, OutOfMemory>
         ensures { IfOk result (λ copy. copy ≡ self.now) }
     {
-        Ok(Opened {
-            person: self.person.copy()?,
-            session: self.session.copy()?,
-            token: self.token,
-            due: self.due,
-        })
+        Ok(self.clone()?)
+    }
+
+    // Whether it lives at the moment.
+    fn is_live(&self, moment: Moment) -> bool
+        ensures { result ≡ is_live self.now moment }
+    {
+        !self.closed
+            && seconds_since(self.last, moment) <= SECONDS_OF_REST
+            && seconds_since(self.opened, moment) <= SECONDS_OF_SESSION
+    }
+
+    /// Takes note of a request at the moment.
+    pub fn touch(&mut self, moment: Moment)
+        ensures { self.new ≡ touched_session moment self.old }
+    {
+        self.last = moment;
+    }
+
+    /// Closes the session.
+    pub fn close(&mut self)
+        ensures { self.new ≡ closed_session self.old }
+    {
+        self.closed = true;
+    }
+
+    /// Takes note of an accepted signing.
+    pub fn mark_signed(&mut self)
+        ensures { self.new ≡ signed_session self.old }
+    {
+        self.signed = true;
     }
 }
 
-/// Opens a session by a code, by which the person was looked up, and a password. The laboratory gave so many numbers of
-/// sessions before, and has a session whose token is the tick's or has none.
-///
-/// # Errors
-/// In this order: `Failed`, `RandomRepeated`, `LabFull`; or want of memory.
-#[tactic(auto, unfolding(crate::specs::Openings::opening))]
-pub fn open_session(
-    person: Option<&Person>,
-    password: &str,
-    tick: &Tick,
-    sessions: u32,
-    has_token: bool,
-) -> Result<Opened, PeopleFault>
-    ensures { Answers (opening (option_copied person.entry) password.now tick.now sessions has_token) result }
-{
-    let person = attempt(person, password, tick.moment)?;
-    if has_token {
-        return Err(PeopleRefusal::RandomRepeated.into());
+/// Which sessions of a person are closed by a change of the account.
+#[derive(Clone, Copy, Debug, PartialEq, Eq)]
+pub enum Closing {
+    /// None.
+    Nothing,
+    /// All of the person's.
+    All,
+    /// All of the person's but the one of this number.
+    Others(Ordinal),
+}
+
+impl Closing {
+    /// Whether it closes the session, the person's code being this one.
+    pub fn closes(&self, person: &PersonCode, session: &Session) -> bool
+        ensures { result ≡ is_closed_by self.now person.now session.now }
+    {
+        match self {
+            Closing::Nothing => false,
+            Closing::All => session.person == *person,
+            Closing::Others(number) => session.person == *person && session.number != *number,
+        }
     }
-    if sessions >= SESSIONS_LIMIT {
-        return Err(PeopleRefusal::LabFull.into());
-    }
-    let token = Token::from_words(&tick.words);
-    let session = Session {
-        number: sessions + 1,
-        person: person.code.copy()?,
-        token: token.digest(),
-        opened: tick.moment,
-        last: tick.moment,
-        closed: false,
-        signed: false,
-    };
-    let due = person.password.is_due(tick.moment);
-    Ok(Opened {
-        person,
-        session,
-        token,
-        due,
-    })
 }
 
 /// Lets a session be used at a tick, or refuses it. It takes no memory.
@@ -90,7 +102,8 @@ pub fn open_session(
 /// `NoSession`, where it is closed or its time has passed.
 pub fn live(session: &Session, tick: &Tick) -> Result<(), PeopleRefusal>
     ensures live { OnOk result (is_live session.now tick.now.moment ≡ true) }
-    ensures refused { IfErr result (λ refusal. (refusal ≡ NoSession) × (is_live session.now tick.now.moment ≡ false)) }
+    ensures refused { IfErr result (λ refusal.
+        (refusal ≡ NoSession) × (is_live session.now tick.now.moment ≡ false)) }
 {
     if session.is_live(tick.moment) {
         Ok(())

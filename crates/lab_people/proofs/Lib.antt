@@ -1,2 +1,3 @@
+mod KnownValues
 mod LawLemmas
 mod WordLemmas

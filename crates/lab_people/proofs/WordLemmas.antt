@@ -8,18 +8,17 @@ use Rattle.hex.proofs.HexLemmas.{length-encode_with}
 use Rattle.lab_names.specs.declared.tick.Tick.{Tick}
 use Rattle.lab_secrets.specs.Words.{big_endian, half_of, one_time_word}
 use Rattle.lab_secrets.specs.Pbkdf2.{pbkdf2_block}
-use Rattle.lab_secrets.specs.Verifiers.{verifier_of}
+use Rattle.lab_secrets.specs.Verifiers.{verifier_of, is_verified}
 use Rattle.lab_secrets.specs.declared.verifiers.VerifierParts.{VerifierParts}
-use Rattle.lab_access.specs.declared.password.Password.TheVariants.{OneTime}
-use Rattle.lab_access.specs.declared.person.Person.{Person}
-use Rattle.lab_access.specs.declared.person.Ask.{Ask}
-use Rattle.lab_access.specs.declared.fault.PeopleFault.{PeopleFault}
-use Rattle.lab_access.specs.declared.fault.PeopleFault.TheVariants.{Refused}
-use Rattle.lab_access.specs.declared.refusal.PeopleRefusal.TheVariants.{NoSuchPerson, OwnIssue, IssueOpen, SamePerson}
-use Rattle.lab_access.specs.Refusals.{and_then}
-use Rattle.lab_access.specs.Passwords.{is_verified, are_verified, serves, accepts}
-use Rattle.lab_access.specs.Persons.{stands, standing}
-use Rattle.lab_people.specs.Accounts.{person_meant, half_verifier, is_anothers, with_ask, asking, with_one_time_word, confirmed_by, confirming}
+use Rattle.lab_access.specs.declared.passwords.Password.TheVariants.{OneTime}
+use Rattle.lab_access.specs.declared.persons.Person.{Person}
+use Rattle.lab_access.specs.declared.persons.Ask.{Ask}
+use Rattle.lab_access.specs.declared.refusals.PeopleRefusal.{PeopleRefusal}
+use Rattle.lab_access.specs.declared.refusals.PeopleRefusal.TheVariants.{NoSuchPerson, OwnIssue, IssueOpen, SamePerson}
+use Rattle.lab_access.specs.Passwords.{are_verified, serves, accepts}
+use Rattle.lab_access.specs.Persons.{stands, standing_ask}
+use Rattle.lab_people.specs.Accounts.{person_meant, meant_then}
+use Rattle.lab_people.specs.Issues.{half_verifier, is_anothers, new_ask, with_ask, asking, with_one_time_word, confirming_of, confirming}
 use Rattle.lab_people.specs.declared.issues.Issued.{Issued}
 use Rattle.lab_people.specs.Laws.{IsWordGiven}
 
@@ -73,24 +72,21 @@ short_accepted first second text confirmed moment h =
 
 -- What an ask leaves.
 
-abbrev ask_of : List ℕ → Tick → Ask
-ask_of caller tick = record { asker = caller; asked = tick.moment; first = half_verifier tick }
-
 abbrev IsAsked : List ℕ → Tick → Issued → Type 0
-IsAsked caller tick asked = (asked.half ≡ half_of tick.words) × (asked.person.ask ≡ Some (ask_of caller tick))
+IsAsked caller tick asked = (asked.half ≡ half_of tick.words) × (asked.person.ask ≡ Some (new_ask caller tick))
 
 asked_unless : (bars : Bool) (caller : List ℕ) (tick : Tick) (person : Person) (asked : Issued)
-    → cond bars (Err (Refused IssueOpen)) (Ok (with_ask caller tick person)) ≡ Ok asked → IsAsked caller tick asked
+    → cond bars (Err IssueOpen) (Ok (with_ask caller tick person)) ≡ Ok asked → IsAsked caller tick asked
 asked_unless true caller tick person asked h = absurd (cc)
 asked_unless false caller tick person asked h =
     let same : with_ask caller tick person ≡ asked = cc in
     subst (λ one. IsAsked caller tick one) same (refl, refl)
 
-asked_of : (meant : Result Person PeopleFault) (caller : List ℕ) (tick : Tick) (asked : Issued)
-    → and_then meant (λ found. cond (is_anothers caller (standing found.ask tick.moment)) (Err (Refused IssueOpen)) (Ok (with_ask caller tick found))) ≡ Ok asked
+asked_of : (meant : Result Person PeopleRefusal) (caller : List ℕ) (tick : Tick) (asked : Issued)
+    → meant_then meant (λ found. cond (is_anothers caller (standing_ask found.ask tick.moment)) (Err IssueOpen) (Ok (with_ask caller tick found))) ≡ Ok asked
     → IsAsked caller tick asked
-asked_of (Ok found) caller tick asked h = asked_unless (is_anothers caller (standing found.ask tick.moment)) caller tick found asked h
-asked_of (Err fault) caller tick asked h = absurd (cc)
+asked_of (Ok found) caller tick asked h = asked_unless (is_anothers caller (standing_ask found.ask tick.moment)) caller tick found asked h
+asked_of (Err refusal) caller tick asked h = absurd (cc)
 
 is_asked : (caller : List ℕ) (person : Option Person) (tick : Tick) (asked : Issued) → asking caller person tick ≡ Ok asked
     → IsAsked caller tick asked
@@ -104,26 +100,26 @@ IsConfirmed ask tick confirmed =
     (confirmed.half ≡ half_of tick.words) × (confirmed.person.password ≡ OneTime ask.first (half_verifier tick) tick.moment)
 
 confirmed_unless : (own : Bool) (ask : Ask) (tick : Tick) (person : Person) (confirmed : Issued)
-    → cond own (Err (Refused SamePerson)) (Ok (with_one_time_word tick ask person)) ≡ Ok confirmed → IsConfirmed ask tick confirmed
+    → cond own (Err SamePerson) (Ok (with_one_time_word tick ask person)) ≡ Ok confirmed → IsConfirmed ask tick confirmed
 confirmed_unless true ask tick person confirmed h = absurd (cc)
 confirmed_unless false ask tick person confirmed h =
     let same : with_one_time_word tick ask person ≡ confirmed = cc in
     subst (λ one. IsConfirmed ask tick one) same (refl, refl)
 
 confirmed_while : (still : Bool) (caller : List ℕ) (ask : Ask) (tick : Tick) (person : Person) (confirmed : Issued)
-    → confirmed_by caller tick person (cond still (Some ask) None) ≡ Ok confirmed → IsConfirmed ask tick confirmed
+    → confirming_of caller tick person (cond still (Some ask) None) ≡ Ok confirmed → IsConfirmed ask tick confirmed
 confirmed_while true caller ask tick person confirmed h = confirmed_unless (bytes_eq ask.asker caller) ask tick person confirmed h
 confirmed_while false caller ask tick person confirmed h = absurd (cc)
 
 confirmed_of : (one : Option Ask) (caller : List ℕ) (ask : Ask) (tick : Tick) (person : Person) (confirmed : Issued) → one ≡ Some ask
-    → confirmed_by caller tick person (standing one tick.moment) ≡ Ok confirmed → IsConfirmed ask tick confirmed
+    → confirming_of caller tick person (standing_ask one tick.moment) ≡ Ok confirmed → IsConfirmed ask tick confirmed
 confirmed_of one caller ask tick person confirmed is h =
     confirmed_while (stands ask tick.moment) caller ask tick person confirmed
-    (ap (λ left. confirmed_by caller tick person (standing left tick.moment)) (sym is) ∙ h)
+    (ap (λ left. confirming_of caller tick person (standing_ask left tick.moment)) (sym is) ∙ h)
 
 meant_confirmed : (retired own : Bool) (caller : List ℕ) (ask : Ask) (tick : Tick) (person : Person) (confirmed : Issued) → person.ask ≡ Some ask
-    → and_then (cond retired (Err (Refused NoSuchPerson)) (cond own (Err (Refused OwnIssue)) (Ok person)))
-    (λ found. confirmed_by caller tick found (standing found.ask tick.moment)) ≡ Ok confirmed
+    → meant_then (cond retired (Err NoSuchPerson) (cond own (Err OwnIssue) (Ok person)))
+    (λ found. confirming_of caller tick found (standing_ask found.ask tick.moment)) ≡ Ok confirmed
     → IsConfirmed ask tick confirmed
 meant_confirmed true own caller ask tick person confirmed is h = absurd (cc)
 meant_confirmed false true caller ask tick person confirmed is h = absurd (cc)
@@ -140,10 +136,10 @@ is_confirmed caller ask tick person confirmed is h =
 -- the halves are those of the ticks, and the password was made of them
 given_of : (person : Option Person) (caller other : List ℕ) (tick later : Tick) (asked confirmed : Issued)
     → IsWordGiven person caller other tick later asked confirmed
-    → (asked.half ≡ half_of tick.words) × IsConfirmed (ask_of caller tick) later confirmed
+    → (asked.half ≡ half_of tick.words) × IsConfirmed (new_ask caller tick) later confirmed
 given_of person caller other tick later asked confirmed h =
     let first = is_asked caller person tick asked h.asks in
-    (first.0, is_confirmed other (ask_of caller tick) later asked.person confirmed first.1 h.confirms)
+    (first.0, is_confirmed other (new_ask caller tick) later asked.person confirmed first.1 h.confirms)
 
 -- the halves together are accepted while the word serves
 pub halves_together : (person : Option Person) (caller other : List ℕ) (tick later : Tick) (asked confirmed : Issued) (moment : ℕ)
@@ -167,6 +163,6 @@ pub halves_alone : (person : Option Person) (caller other : List ℕ) (tick late
     × (accepts confirmed.person.password (encode_lower confirmed.half) moment ≡ false)
 halves_alone person caller other tick later asked confirmed moment h =
     let given = given_of person caller other tick later asked confirmed h in (
-      half_refused confirmed (ask_of caller tick) tick later asked.half moment given.1 given.0 h.eight_words,
-      half_refused confirmed (ask_of caller tick) later later confirmed.half moment given.1 given.1.0 h.eight_later_words,
+      half_refused confirmed (new_ask caller tick) tick later asked.half moment given.1 given.0 h.eight_words,
+      half_refused confirmed (new_ask caller tick) later later confirmed.half moment given.1 given.1.0 h.eight_later_words,
     )

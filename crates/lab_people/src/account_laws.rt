@@ -1,54 +1,87 @@
 //! Laws of accounts, which users rely on. Each function does nothing: its contract says the law, for all persons, sessions and
 //! moments.
-ghost use Rattle.std.specs.Prelude.{◌≡◌, ℕ, Bool, List, length, true, false, Some, Ok};
+ghost use Rattle.std.specs.Prelude.{◌≡◌, ◌≢◌, ℕ, Bool, List, length, true, false, Option, Some, Ok, Err};
 ghost use Rattle.lab_names.specs.declared.tick.Tick.{Tick as AnyTick};
-ghost use Rattle.lab_access.specs.declared.person.Person.{Person as AnyPerson};
-ghost use Rattle.lab_access.specs.declared.person.Ask.{Ask as AnyAsk};
-ghost use Rattle.lab_access.specs.declared.session.Session.{Session as AnySession};
+ghost use Rattle.lab_access.specs.declared.persons.Person.{Person as AnyPerson};
+ghost use Rattle.lab_access.specs.declared.persons.Ask.{Ask as AnyAsk};
+ghost use Rattle.lab_access.specs.declared.sessions.Session.{Session as AnySession};
+ghost use Rattle.lab_access.specs.declared.openings.Opened.{Opened as AnyOpened};
 ghost use Rattle.lab_access.specs.declared.roles.Roles.{Roles as AnyRoles};
-ghost use Rattle.lab_access.specs.declared.session.Closing.{Closing as AnyClosing};
+ghost use Rattle.lab_access.specs.declared.sessions.Closing.{Closing as AnyClosing};
+ghost use Rattle.lab_access.specs.declared.refusals.Failure.TheVariants.{Stray};
+ghost use Rattle.lab_access.specs.declared.refusals.PeopleFault.TheVariants.{Failed};
+ghost use Rattle.lab_access.specs.declared.refusals.PeopleRefusal.TheVariants.{SamePerson, NoSuchPerson};
 ghost use Rattle.lab_people.specs.declared.accounts.Effect.{Effect as AnyEffect};
-ghost use Rattle.lab_people.specs.Laws.{IsNewCode, IsRefused, AreClosed};
-ghost use Rattle.lab_access.specs.Sessions.{is_live, closed_by, sessions_after, touched, marked_signed};
-ghost use Rattle.lab_access.specs.Attempts.{tried};
-ghost use Rattle.lab_access.specs.Openings.{opening};
-ghost use Rattle.lab_people.specs.Accounts.{changing, with_new_password, has_code, enrolling, asking, confirming, setting_roles, retiring, unlocking};
+ghost use Rattle.lab_people.specs.Laws.{IsNewCode, IsNewToken, IsRefused, AreClosed, own_refusal};
+ghost use Rattle.lab_access.specs.Persons.{person_of, stands};
+ghost use Rattle.lab_access.specs.Sessions.{is_live, session_of, session_after, sessions_after, touched_session, signed_session};
+ghost use Rattle.lab_access.specs.Attempts.{attempt_by, signing_attempt};
+ghost use Rattle.lab_access.specs.Openings.{opening, token_digest};
+ghost use Rattle.lab_people.specs.Accounts.{changing, with_new_password, enrolling, setting_roles, retiring, unlocking};
+ghost use Rattle.lab_people.specs.Issues.{asking, confirming};
 
 /// Law: a code is given to one person only, also where that one is retired.
 pub fn a_code_is_given_once()
-    ensures { (persons : List AnyPerson) (code name : List ℕ) (roles : AnyRoles) (person : AnyPerson) →
-        enrolling code name roles (has_code persons code) (length persons) ≡ Ok person →
-        IsNewCode person.code persons }
+    ensures { (persons : List AnyPerson) (code name : List ℕ) (roles : AnyRoles)
+        (person : AnyPerson) →
+        enrolling code name roles (person_of persons code) (length persons) ≡ Ok person →
+        (person.code ≡ code) × IsNewCode person.code persons }
+{}
+
+/// Law: no two sessions of a laboratory have a token of one digest, also where one is closed.
+pub fn a_token_is_given_once()
+    ensures { (sessions : List AnySession) (code text : List ℕ) (person : Option AnyPerson)
+        (tick : AnyTick) (opened : AnyOpened) →
+        opening code person text tick (length sessions) (session_of sessions (token_digest tick))
+        ≡ Ok opened → IsNewToken opened.session.token sessions }
 {}
 
 /// Law: nobody asks, confirms, sets roles, retires or unlocks for the own account.
 pub fn accounts_are_kept_by_others()
     ensures { (person : AnyPerson) (tick : AnyTick) (roles : AnyRoles) →
-        IsRefused (asking person.code (Some person) tick) × IsRefused (confirming person.code (Some person) tick)
-        × IsRefused (setting_roles person.code (Some person) roles) × IsRefused (retiring person.code (Some person))
-        × IsRefused (unlocking person.code (Some person)) }
+        (asking person.code (Some person) tick ≡ Err (own_refusal person))
+        × (confirming person.code (Some person) tick ≡ Err (own_refusal person))
+        × (setting_roles person.code (Some person) roles ≡ Err (own_refusal person))
+        × (retiring person.code (Some person) ≡ Err (own_refusal person))
+        × (unlocking person.code (Some person) ≡ Err (own_refusal person)) }
 {}
 
-/// Law: who asked for a one-time word doesn't confirm it.
+/// Law: who asked for a one-time word for another doesn't confirm it, and is told so while it stands.
 pub fn a_one_time_word_takes_two()
-    ensures { (person : AnyPerson) (ask : AnyAsk) (tick : AnyTick) → person.ask ≡ Some ask →
+    ensures refused { (person : AnyPerson) (ask : AnyAsk) (tick : AnyTick) → person.ask ≡ Some ask →
         IsRefused (confirming ask.asker (Some person) tick) }
+    ensures same_person { (person : AnyPerson) (ask : AnyAsk) (tick : AnyTick) →
+        person.ask ≡ Some ask → person.retired ≡ false → person.code ≢ ask.asker →
+        stands ask tick.moment ≡ true →
+        confirming ask.asker (Some person) tick ≡ Err SamePerson }
 {}
 
-/// Law: who is retired is left without an open session. A retired person opens none, has no password accepted, and is changed by
-/// no command. Nothing revives a session that is closed: no request, no signing, no change of the password, and no closing.
+/// Law: who is retired is left without an open session. A retired person opens none and has no password accepted, which counts
+/// for nobody, and is changed by no command. Nothing revives a session that is closed: no request, no signing, no change of the
+/// password, and no closing.
 pub fn retirement_is_for_good()
-    ensures leaves { (caller : List ℕ) (person : AnyPerson) (effect : AnyEffect) (sessions : List AnySession) →
-        retiring caller (Some person) ≡ Ok effect → (effect.person ≡ record person { retired = true })
+    ensures leaves { (caller : List ℕ) (person : AnyPerson) (effect : AnyEffect)
+        (sessions : List AnySession) → retiring caller (Some person) ≡ Ok effect →
+        (effect.person ≡ record person { retired = true })
         × AreClosed person.code (sessions_after effect.closing person.code sessions) }
-    ensures stays { (person : AnyPerson) (session : AnySession) (caller text new : List ℕ) (tick : AnyTick) (roles : AnyRoles)
-        (sessions : ℕ) (has_token is_own : Bool) → person.retired ≡ true →
-        IsRefused (tried person is_own text tick.moment) × IsRefused (opening (Some person) text tick sessions has_token)
-        × IsRefused (changing person session text new tick) × IsRefused (asking caller (Some person) tick)
-        × IsRefused (confirming caller (Some person) tick) × IsRefused (setting_roles caller (Some person) roles)
-        × IsRefused (retiring caller (Some person)) × IsRefused (unlocking caller (Some person)) }
-    ensures closed { (closing : AnyClosing) (code new : List ℕ) (person : AnyPerson) (session : AnySession) (tick : AnyTick)
-        (moment : ℕ) → session.closed ≡ true → (is_live session moment ≡ false)
-        × ((closed_by closing code session).closed ≡ true) × ((touched moment session).closed ≡ true)
-        × ((marked_signed session).closed ≡ true) × ((with_new_password person session new tick).session.closed ≡ true) }
+    ensures no_password { (person : AnyPerson) (session : AnySession) (code text new : List ℕ)
+        (given : Option (List ℕ)) (tick : AnyTick) (sessions : ℕ) (repeated : Option AnySession) →
+        person.retired ≡ true →
+        (signing_attempt person given text tick.moment ≡ Err Stray)
+        × (opening code (Some person) text tick sessions repeated ≡ Err (Failed Stray))
+        × (changing person session text new tick ≡ Err (Failed Stray)) }
+    ensures no_command { (person : AnyPerson) (caller : List ℕ) (tick : AnyTick)
+        (roles : AnyRoles) → person.retired ≡ true →
+        (asking caller (Some person) tick ≡ Err NoSuchPerson)
+        × (confirming caller (Some person) tick ≡ Err NoSuchPerson)
+        × (setting_roles caller (Some person) roles ≡ Err NoSuchPerson)
+        × (retiring caller (Some person) ≡ Err NoSuchPerson)
+        × (unlocking caller (Some person) ≡ Err NoSuchPerson) }
+    ensures closed { (closing : AnyClosing) (code new : List ℕ) (person : AnyPerson)
+        (session : AnySession) (tick : AnyTick) (moment : ℕ) → session.closed ≡ true →
+        (is_live session moment ≡ false)
+        × ((session_after closing code session).closed ≡ true)
+        × ((touched_session moment session).closed ≡ true)
+        × ((signed_session session).closed ≡ true)
+        × ((with_new_password person session new tick).session.closed ≡ true) }
 {}

@@ -1,6 +1,5 @@
 //! What is done to persons' accounts.
 ghost use Rattle.std.specs.Prelude.{◌≡◌, IfOk, option_copied};
-ghost use Rattle.lab_access.specs.Refusals.{Answers};
 ghost use Rattle.lab_people.specs.Accounts.{changing, enrolling, person_meant, setting_roles, retiring, unlocking};
 
 use lab_access::{Closing, Password, PeopleFault, PeopleRefusal, Person, Roles, Session, attempt};
@@ -11,7 +10,7 @@ use lab_secrets::salt;
 const PERSONS_LIMIT: u32 = 500;
 
 /// A password that was changed.
-#[derive(Drop)]
+#[derive(Clone, Drop)]
 pub struct PasswordChanged {
     /// The person, with the new password.
     pub person: Person,
@@ -22,20 +21,16 @@ pub struct PasswordChanged {
 }
 
 impl PasswordChanged {
-    /// The same once more. The only error is want of memory.
+    /// A copy. The only error is out of memory.
     pub fn copy(&self) -> Result<PasswordChanged, OutOfMemory>
         ensures { IfOk result (λ copy. copy ≡ self.now) }
     {
-        Ok(PasswordChanged {
-            person: self.person.copy()?,
-            session: self.session.copy()?,
-            closing: self.closing,
-        })
+        Ok(self.clone()?)
     }
 }
 
 /// A change of a person's account by an administrator.
-#[derive(Drop)]
+#[derive(Clone, Drop)]
 pub struct Effect {
     /// The person, changed.
     pub person: Person,
@@ -44,15 +39,11 @@ pub struct Effect {
 }
 
 impl Effect {
-    /// The same once more. The only error is want of memory.
+    /// A copy. The only error is out of memory.
     pub fn copy(&self) -> Result<Effect, OutOfMemory>
         ensures { IfOk result (λ copy. copy ≡ self.now) }
     {
-        let person = self.person.copy()?;
-        Ok(Effect {
-            person,
-            closing: self.closing,
-        })
+        Ok(self.clone()?)
     }
 }
 
@@ -60,16 +51,16 @@ impl Effect {
 /// left as before its first signature, and the person's others are closed.
 ///
 /// # Errors
-/// In this order: `Failed`, `BadPassword`, `SamePassword`; or want of memory.
+/// In this order: `Failed`, `BadPassword`, `SamePassword`.
 #[tactic(auto, unfolding(crate::specs::Accounts::changing))]
 pub fn change_password(
-    person: &Person,
-    session: &Session,
+    person: Person,
+    session: Session,
     old: &str,
     new: &str,
     tick: &Tick,
 ) -> Result<PasswordChanged, PeopleFault>
-    ensures { Answers (changing person.now session.now old.now new.now tick.now) result }
+    ensures { result ≡ changing person session old.now new.now tick.now }
 {
     let person = attempt(Some(person), old, tick.moment)?;
     if !Password::admits(new) {
@@ -78,6 +69,7 @@ pub fn change_password(
     if new == old {
         return Err(PeopleRefusal::SamePassword.into());
     }
+    let closing = Closing::Others(session.number);
     Ok(PasswordChanged {
         person: Person {
             password: Password::choose(new, salt(&tick.words), tick.moment),
@@ -85,14 +77,14 @@ pub fn change_password(
         },
         session: Session {
             signed: false,
-            ..session.copy()?
+            ..session
         },
-        closing: Closing::Others(session.number),
+        closing,
     })
 }
 
-/// Enrols a person, who has no password yet. Whether somebody has or had the code is handed in, and how many persons the
-/// laboratory has, those who are retired among them. It takes no memory.
+/// Enrols a person, who has no password yet. Who has or had the code was looked up, and the laboratory has so many persons,
+/// those who are retired among them.
 ///
 /// # Errors
 /// In this order: `CodeTaken`, `LabFull`.
@@ -101,12 +93,12 @@ pub fn enrol(
     code: PersonCode,
     name: Name,
     roles: Roles,
-    is_taken: bool,
+    holder: Option<&Person>,
     persons: u32,
 ) -> Result<Person, PeopleRefusal>
-    ensures { result ≡ enrolling code name roles is_taken persons }
+    ensures { result ≡ enrolling code name roles (option_copied holder.entry) persons }
 {
-    if is_taken {
+    if holder.is_some() {
         return Err(PeopleRefusal::CodeTaken);
     }
     if persons >= PERSONS_LIMIT {
@@ -127,33 +119,33 @@ pub fn enrol(
 // Whom a command of the caller is about: somebody who is there, and isn't the caller.
 pub(crate) fn person_meant_by(
     caller: &PersonCode,
-    person: Option<&Person>,
-) -> Result<Person, PeopleFault>
-    ensures { Answers (person_meant caller.now (option_copied person.entry)) result }
+    person: Option<Person>,
+) -> Result<Person, PeopleRefusal>
+    ensures { result ≡ person_meant caller.now person }
 {
     let Some(person) = person else {
-        return Err(PeopleRefusal::NoSuchPerson.into());
+        return Err(PeopleRefusal::NoSuchPerson);
     };
     if person.retired {
-        return Err(PeopleRefusal::NoSuchPerson.into());
+        return Err(PeopleRefusal::NoSuchPerson);
     }
     if person.code == *caller {
-        return Err(PeopleRefusal::OwnIssue.into());
+        return Err(PeopleRefusal::OwnIssue);
     }
-    Ok(person.copy()?)
+    Ok(person)
 }
 
 /// Sets the roles of a person, who was looked up.
 ///
 /// # Errors
-/// In this order: `NoSuchPerson`, `OwnIssue`; or want of memory.
+/// In this order: `NoSuchPerson`, `OwnIssue`.
 #[tactic(auto, unfolding(crate::specs::Accounts::setting_roles))]
 pub fn set_roles(
     caller: &PersonCode,
-    person: Option<&Person>,
+    person: Option<Person>,
     roles: Roles,
-) -> Result<Effect, PeopleFault>
-    ensures { Answers (setting_roles caller.now (option_copied person.entry) roles) result }
+) -> Result<Effect, PeopleRefusal>
+    ensures { result ≡ setting_roles caller.now person roles }
 {
     let person = person_meant_by(caller, person)?;
     Ok(Effect {
@@ -165,10 +157,10 @@ pub fn set_roles(
 /// Retires a person, who was looked up, for good. All of the person's sessions are closed.
 ///
 /// # Errors
-/// In this order: `NoSuchPerson`, `OwnIssue`; or want of memory.
+/// In this order: `NoSuchPerson`, `OwnIssue`.
 #[tactic(auto, unfolding(crate::specs::Accounts::retiring))]
-pub fn retire(caller: &PersonCode, person: Option<&Person>) -> Result<Effect, PeopleFault>
-    ensures { Answers (retiring caller.now (option_copied person.entry)) result }
+pub fn retire(caller: &PersonCode, person: Option<Person>) -> Result<Effect, PeopleRefusal>
+    ensures { result ≡ retiring caller.now person }
 {
     let person = person_meant_by(caller, person)?;
     Ok(Effect {
@@ -183,10 +175,10 @@ pub fn retire(caller: &PersonCode, person: Option<&Person>) -> Result<Effect, Pe
 /// Unlocks a person, who was looked up: no failed password counts any more.
 ///
 /// # Errors
-/// In this order: `NoSuchPerson`, `OwnIssue`; or want of memory.
+/// In this order: `NoSuchPerson`, `OwnIssue`.
 #[tactic(auto, unfolding(crate::specs::Accounts::unlocking))]
-pub fn unlock(caller: &PersonCode, person: Option<&Person>) -> Result<Effect, PeopleFault>
-    ensures { Answers (unlocking caller.now (option_copied person.entry)) result }
+pub fn unlock(caller: &PersonCode, person: Option<Person>) -> Result<Effect, PeopleRefusal>
+    ensures { result ≡ unlocking caller.now person }
 {
     let person = person_meant_by(caller, person)?;
     Ok(Effect {

@@ -1,17 +1,15 @@
 //! One-time words, which two administrators give a person, each a half.
-ghost use Rattle.std.specs.Prelude.{◌≡◌, IfOk, option_copied};
-ghost use Rattle.lab_access.specs.Refusals.{Answers};
-ghost use Rattle.lab_access.specs.Persons.{standing};
+ghost use Rattle.std.specs.Prelude.{◌≡◌, IfOk};
 ghost use Rattle.lab_secrets.specs.Words.{half_of};
-ghost use Rattle.lab_people.specs.Accounts.{half_verifier, asking, confirming};
+ghost use Rattle.lab_people.specs.Issues.{half_verifier, asking, confirming};
 
 use crate::accounts::person_meant_by;
-use lab_access::{Ask, Closing, Password, PeopleFault, PeopleRefusal, Person, ROUNDS};
+use lab_access::{Ask, Closing, Password, PeopleRefusal, Person, ROUNDS};
 use lab_names::{OutOfMemory, PersonCode, Tick};
 use lab_secrets::{Half, Verifier, salt};
 
 /// A half of a one-time word that was issued.
-#[derive(Drop)]
+#[derive(Clone, Drop)]
 pub struct Issued {
     /// The person for whom.
     pub person: Person,
@@ -22,15 +20,11 @@ pub struct Issued {
 }
 
 impl Issued {
-    /// The same once more. The only error is want of memory.
+    /// A copy. The only error is out of memory.
     pub fn copy(&self) -> Result<Issued, OutOfMemory>
         ensures { IfOk result (λ copy. copy ≡ self.now) }
     {
-        Ok(Issued {
-            person: self.person.copy()?,
-            half: self.half,
-            closing: self.closing,
-        })
+        Ok(self.clone()?)
     }
 }
 
@@ -46,24 +40,24 @@ fn verifier_of_half(half: &Half, tick: &Tick) -> Verifier
 /// what has lapsed, is replaced.
 ///
 /// # Errors
-/// In this order: `NoSuchPerson`, `OwnIssue`, `IssueOpen`; or want of memory.
-#[tactic(auto, unfolding(crate::specs::Accounts::asking))]
+/// In this order: `NoSuchPerson`, `OwnIssue`, `IssueOpen`.
+#[tactic(auto, unfolding(crate::specs::Issues::asking))]
 pub fn ask_issue(
-    caller: &PersonCode,
-    person: Option<&Person>,
+    caller: PersonCode,
+    person: Option<Person>,
     tick: &Tick,
-) -> Result<Issued, PeopleFault>
-    ensures { Answers (asking caller.now (option_copied person.entry) tick.now) result }
+) -> Result<Issued, PeopleRefusal>
+    ensures { result ≡ asking caller person tick.now }
 {
-    let person = person_meant_by(caller, person)?;
+    let person = person_meant_by(&caller, person)?;
     if let Some(ask) = person.standing_ask(tick.moment)
-        && ask.asker != *caller
+        && ask.asker != caller
     {
-        return Err(PeopleRefusal::IssueOpen.into());
+        return Err(PeopleRefusal::IssueOpen);
     }
     let half = Half::from_words(&tick.words);
     let ask = Ask {
-        asker: caller.copy()?,
+        asker: caller,
         asked: tick.moment,
         first: verifier_of_half(&half, tick),
     };
@@ -81,25 +75,26 @@ pub fn ask_issue(
 /// person's password, and all of the person's sessions are closed; failed passwords and a lock stay.
 ///
 /// # Errors
-/// In this order: `NoSuchPerson`, `OwnIssue`, `NoIssue`, `SamePerson`; or want of memory.
-#[tactic(auto, unfolding(crate::specs::Accounts::confirming))]
+/// In this order: `NoSuchPerson`, `OwnIssue`, `NoIssue`, `SamePerson`.
+#[tactic(auto, unfolding(crate::specs::Issues::confirming))]
 pub fn confirm_issue(
     caller: &PersonCode,
-    person: Option<&Person>,
+    person: Option<Person>,
     tick: &Tick,
-) -> Result<Issued, PeopleFault>
-    ensures { Answers (confirming caller.now (option_copied person.entry) tick.now) result }
+) -> Result<Issued, PeopleRefusal>
+    ensures { result ≡ confirming caller.now person tick.now }
 {
     let person = person_meant_by(caller, person)?;
     let Some(ask) = person.standing_ask(tick.moment) else {
-        return Err(PeopleRefusal::NoIssue.into());
+        return Err(PeopleRefusal::NoIssue);
     };
     if ask.asker == *caller {
-        return Err(PeopleRefusal::SamePerson.into());
+        return Err(PeopleRefusal::SamePerson);
     }
+    let first = ask.first;
     let half = Half::from_words(&tick.words);
     let password = Password::OneTime {
-        first: ask.first,
+        first,
         second: verifier_of_half(&half, tick),
         confirmed: tick.moment,
     };

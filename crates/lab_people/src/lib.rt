@@ -1,17 +1,26 @@
 //! Persons' accounts: passwords that are changed, persons who are enrolled, given one-time words by two administrators, given
-//! roles, unlocked and retired. Each call answers the changed values, or the first refusal (21 CFR 11.100(a) and 11.300).
+//! roles, unlocked and retired. Each call answers the changed values, or the first refusal, and takes no memory (21 CFR
+//! 11.100(a) and 11.300).
 #![tactic(auto)]
 
 mod account_laws;
+#[cfg(test)]
+mod account_tests;
 mod accounts;
+#[cfg(test)]
+mod attempt_tests;
 mod issues;
 mod password_laws;
+#[cfg(test)]
+mod policy_tests;
+#[cfg(test)]
+mod session_tests;
 #[cfg(test)]
 mod tests;
 
 pub use account_laws::{
-    a_code_is_given_once, a_one_time_word_takes_two, accounts_are_kept_by_others,
-    retirement_is_for_good,
+    a_code_is_given_once, a_one_time_word_takes_two, a_token_is_given_once,
+    accounts_are_kept_by_others, retirement_is_for_good,
 };
 pub use accounts::{Effect, PasswordChanged, change_password, enrol, retire, set_roles, unlock};
 pub use issues::{Issued, ask_issue, confirm_issue};
@@ -19,9 +28,11 @@ pub use lab_access::{
     Ask, Closing, Failure, Opened, Password, PeopleFault, PeopleRefusal, Person, ROUNDS, Role,
     Roles, Rule, Session, allowed, attempt, attempt_signing, live, open_session,
 };
-pub use lab_names::{Moment, MomentFault, Name, NameFault, OutOfMemory, PersonCode, Tick};
-pub use lab_secrets::{Digest, Half, Token, Verifier, VerifierParts, salt};
+pub use lab_names::{
+    Moment, MomentFault, Name, NameFault, Ordinal, OutOfMemory, PersonCode, Tick,
+};
+pub use lab_secrets::{Digest, Half, Token, Verifier, VerifierParts, founder_salts, salt};
 pub use password_laws::{
-    a_lock_lasts_half_an_hour, an_attempt_leaves_a_lock, another_code_is_a_wrong_password,
-    the_fifth_failure_locks, the_halves_make_the_word,
+    a_lock_closes_all_sessions, a_lock_lasts_half_an_hour, an_attempt_leaves_a_lock,
+    another_code_is_a_wrong_password, the_fifth_failure_locks, the_halves_make_the_word,
 };

@@ -1,2 +1,4 @@
+pub mod DigitsLemmas
+pub mod KnownValues
 pub mod StretchingLemmas
 pub mod WordsLemmas

@@ -1,3 +1,4 @@
+pub mod Digits
 pub mod Hmac
 pub mod Keyed
 pub mod Pbkdf2

@@ -1,7 +1,9 @@
 //! The digests of SHA-256.
-ghost use Rattle.std.specs.Prelude.{◌≡◌, length};
+ghost use Rattle.std.specs.Prelude.{◌≡◌, ◌↔◌, length, IsSome, IfSome};
 ghost use Rattle.hex.specs.Hex.{encode_lower, IsBytes};
+ghost use Rattle.lab_secrets.specs.Digits.{AreLowerDigits, bytes_of_digits};
 
+use crate::hexadecimal::{bytes_of_digits, write_digits};
 use std::marker::Model;
 
 /// A digest of SHA-256 (FIPS 180-4), 32 bytes.
@@ -30,6 +32,16 @@ impl Digest {
         Digest { sum: bytes }
     }
 
+    /// The digest that has these 64 lower hexadecimal digits.
+    pub fn from_digits(digits: &[u8]) -> Option<Digest>
+        ensures value { result ≡ bytes_of_digits 32 digits.now }
+        ensures exact { IsSome result ↔ AreLowerDigits 64 digits.now }
+        ensures spelled { IfSome result (λ digest. digits.now ≡ encode_lower digest) }
+    {
+        let bytes = bytes_of_digits(digits)?;
+        Some(Digest::from_bytes(bytes))
+    }
+
     /// The digest's bytes.
     pub fn bytes(&self) -> [u8; 32]
         ensures { result ≡ self.now }
@@ -43,9 +55,7 @@ impl Digest {
         ensures bytes { (length self.now ≡ 32) × IsBytes self.now }
     {
         let mut digits = [0; 64];
-        match hex::encode_to_slice(self.bytes(), &mut digits) {
-            Ok(()) => digits,
-            Err(_) => unreachable!(),
-        }
+        write_digits(&self.bytes(), &mut digits);
+        digits
     }
 }

@@ -4,6 +4,7 @@
 
 mod digests;
 mod hashing;
+mod hexadecimal;
 mod keyed;
 mod stretching;
 #[cfg(test)]
@@ -16,4 +17,4 @@ pub use hashing::digest;
 pub use keyed::hmac;
 pub use stretching::pbkdf2;
 pub use verifiers::{Verifier, VerifierParts};
-pub use words::{Half, Token, salt};
+pub use words::{Half, Token, founder_salts, salt};

@@ -1,4 +1,4 @@
-use crate::{Digest, Half, Token, Verifier, digest, hmac, pbkdf2, salt};
+use crate::{Digest, Half, Token, Verifier, digest, founder_salts, hmac, pbkdf2, salt};
 use std::test::Fail;
 
 // The bytes that 64 hexadecimal digits stand for.
@@ -190,26 +190,78 @@ fn verifiers_accept_their_password_alone(rt: HostRuntime) -> Result<(), Fail> {
     Ok(())
 }
 
+// Whoever prints a verifier, as a part of something else too, shows no secret.
+#[test]
+fn verifiers_print_no_secret(rt: HostRuntime) -> Result<(), Fail> {
+    let verifier = Verifier::make(b"correct horse 1", SALT, 2);
+    let printed = format!(in rt.alloc(); "{verifier:?}")?;
+    assert_eq!(rt; printed.as_str(), "Verifier");
+    Ok(())
+}
+
+const WORDS: [u64; 8] = [1, 2, 3, 4, 0x0102_0304_0506_0708, u64::MAX, 7, 8];
+
+const TOKEN: &[u8; 64] = b"0000000000000001000000000000000200000000000000030000000000000004";
+
 // The digest of the token is the one that `sha256sum` gives of its 32 bytes.
 #[test]
-fn words_go_high_byte_first(rt: HostRuntime) -> Result<(), Fail> {
-    let words = [1, 2, 3, 4, 0x0102_0304_0506_0708, u64::MAX, 7, 8];
-    let token = Token::from_words(&words);
+fn a_token_is_the_first_four_words(rt: HostRuntime) -> Result<(), Fail> {
+    let token = Token::from_words(&WORDS);
     let bytes = bytes_of("0000000000000001000000000000000200000000000000030000000000000004")?;
     assert_eq!(rt; token.bytes(), bytes);
     assert_eq!(rt; Token::from_bytes(bytes).bytes(), bytes);
+    assert_eq!(rt; token.digits(), *TOKEN);
     let known = bytes_of("7236c00c170036c6de133a878210ddd58567aa1d0619a0f70f69e38ae6f916e9")?;
     assert_eq!(rt; token.digest().bytes(), known);
-    let half = Half::from_words(&words);
-    assert_eq!(rt;
-        half.digits().as_slice(),
-        b"00000000000000010000000000000002".as_slice()
-    );
-    assert_eq!(rt;
-        salt(&words),
-        [
-            1, 2, 3, 4, 5, 6, 7, 8, 255, 255, 255, 255, 255, 255, 255, 255
-        ]
-    );
     Ok(())
+}
+
+#[test]
+fn halves_and_salts_are_words_high_byte_first(rt: HostRuntime) -> Result<(), Fail> {
+    let half = Half::from_words(&WORDS);
+    assert_eq!(rt; half.digits(), *b"00000000000000010000000000000002");
+    let [first, second, third] = founder_salts(&WORDS);
+    assert_eq!(rt; first, [0, 0, 0, 0, 0, 0, 0, 1, 0, 0, 0, 0, 0, 0, 0, 2]);
+    assert_eq!(rt; second, [0, 0, 0, 0, 0, 0, 0, 3, 0, 0, 0, 0, 0, 0, 0, 4]);
+    let last = [
+        1, 2, 3, 4, 5, 6, 7, 8, 255, 255, 255, 255, 255, 255, 255, 255,
+    ];
+    assert_eq!(rt; third, last);
+    assert_eq!(rt; salt(&WORDS), last);
+    Ok(())
+}
+
+#[test]
+fn digests_are_read_of_their_digits(rt: HostRuntime) {
+    let digits = b"ba7816bf8f01cfea414140de5dae2223b00361a396177a9cb410ff61f20015ad";
+    assert_eq!(rt; Digest::from_digits(digits), Some(digest(b"abc")));
+    assert_eq!(rt; digest(b"abc").digits(), *digits);
+}
+
+#[test]
+fn tokens_are_read_of_their_digits(rt: HostRuntime) {
+    let read = Token::from_digits(TOKEN);
+    assert_eq!(rt;
+        read.map(|token| token.bytes()),
+        Some(Token::from_words(&WORDS).bytes())
+    );
+}
+
+// One digit fewer or more, an upper one, one past `f`, a sign and a space are no digits of 32 bytes.
+const OTHER_DIGITS: [&[u8]; 7] = [
+    b"",
+    b"000000000000000100000000000000020000000000000003000000000000000",
+    b"00000000000000010000000000000002000000000000000300000000000000040",
+    b"000000000000000100000000000000020000000000000003000000000000000A",
+    b"000000000000000100000000000000020000000000000003000000000000000g",
+    b"+000000000000001000000000000000200000000000000030000000000000004",
+    b" 000000000000001000000000000000200000000000000030000000000000004",
+];
+
+#[test]
+fn other_digits_are_refused(rt: HostRuntime) {
+    for digits in OTHER_DIGITS {
+        assert_eq!(rt; Digest::from_digits(digits), None);
+        assert!(rt; Token::from_digits(digits).is_none());
+    }
 }

@@ -1,12 +1,13 @@
 //! What is kept of a password, and by which it is known again.
-ghost use Rattle.std.specs.Prelude.{◌≡◌, ◌≤◌, ◌↔◌, IsTrue};
-ghost use Rattle.lab_secrets.specs.Verifiers.{verifier_of, Accepts};
+ghost use Rattle.std.specs.Prelude.{◌≡◌, ◌≤◌};
+ghost use Rattle.lab_secrets.specs.Verifiers.{verifier_of, is_verified};
 
 use crate::pbkdf2;
+use std::fmt;
 use std::marker::Model;
 
-/// What a verifier is made of.
-#[derive(Clone, Copy, Debug)]
+/// What a verifier is made of. It isn't printed.
+#[derive(Clone, Copy)]
 pub struct VerifierParts {
     /// The salt of the password.
     pub salt: [u8; 16],
@@ -18,8 +19,8 @@ pub struct VerifierParts {
 
 /// What is kept of a password in its place.
 ///
-/// A contract sees its parts.
-#[derive(Clone, Copy, Debug)]
+/// A contract sees its parts. `Debug` prints none of them.
+#[derive(Clone, Copy)]
 pub struct Verifier {
     kept: VerifierParts,
 }
@@ -35,6 +36,16 @@ impl Model for Verifier {
     ghost invariant = { λ verifier. 1 ≤ verifier.kept.rounds };
 
     ghost inverse = { λ parts. record { kept = parts } };
+}
+
+impl fmt::Debug for Verifier {
+    ghost use Rattle.std.specs.Prelude.{Some, codes};
+
+    ghost debug_output = { λ _. Some (codes "Verifier") };
+
+    fn fmt<W: fmt::Write>(&self, f: &mut fmt::Formatter<W>) -> fmt::Result {
+        f.write_str("Verifier")
+    }
 }
 
 impl Verifier {
@@ -71,9 +82,9 @@ impl Verifier {
 
     /// Whether this is a verifier of the password.
     pub fn accepts(&self, password: &[u8]) -> bool
-        ensures { IsTrue result ↔ Accepts self.now password.now }
+        ensures { result ≡ is_verified self.now password.now }
     {
         let parts = self.parts();
-        pbkdf2(password, &parts.salt, parts.rounds) == parts.bytes
+        parts.bytes == pbkdf2(password, &parts.salt, parts.rounds)
     }
 }

@@ -1,9 +1,11 @@
 //! What is made of the random words of a tick: tokens, halves of one-time words, and salts.
-ghost use Rattle.std.specs.Prelude.{◌≡◌, ◌*◌, length};
+ghost use Rattle.std.specs.Prelude.{◌≡◌, ◌↔◌, ◌<◌, ◌*◌, length, IsSome, IfSome};
 ghost use Rattle.hex.specs.Hex.{encode_lower};
 ghost use Rattle.sha2.specs.Sha256.{sha256};
-ghost use Rattle.lab_secrets.specs.Words.{big_endian, token_of, half_of, salt_of};
+ghost use Rattle.lab_secrets.specs.Digits.{AreLowerDigits, bytes_of_digits};
+ghost use Rattle.lab_secrets.specs.Words.{big_endian, token_of, half_of, salt_at, salt_of, founder_salts};
 
+use crate::hexadecimal::{bytes_of_digits, write_digits};
 use crate::{Digest, digest};
 use std::marker::Model;
 
@@ -42,11 +44,30 @@ impl Token {
         Token { secret: bytes }
     }
 
+    /// The token that has these 64 lower hexadecimal digits, as a request names its session.
+    pub fn from_digits(digits: &[u8]) -> Option<Token>
+        ensures value { result ≡ bytes_of_digits 32 digits.now }
+        ensures exact { IsSome result ↔ AreLowerDigits 64 digits.now }
+        ensures spelled { IfSome result (λ token. digits.now ≡ encode_lower token) }
+    {
+        let bytes = bytes_of_digits(digits)?;
+        Some(Token::from_bytes(bytes))
+    }
+
     /// The token's bytes.
     pub fn bytes(&self) -> [u8; 32]
         ensures { result ≡ self.now }
     {
         self.secret
+    }
+
+    /// The token as 64 lower hexadecimal digits.
+    pub fn digits(&self) -> [u8; 64]
+        ensures { result ≡ encode_lower self.now }
+    {
+        let mut digits = [0; 64];
+        write_digits(&self.secret, &mut digits);
+        digits
     }
 
     /// The SHA-256 digest of the token's bytes, by which it is known without being kept.
@@ -90,10 +111,8 @@ impl Half {
         ensures { result ≡ encode_lower self.now }
     {
         let mut digits = [0; 32];
-        match hex::encode_to_slice(self.bytes, &mut digits) {
-            Ok(()) => digits,
-            Err(_) => unreachable!(),
-        }
+        write_digits(&self.bytes, &mut digits);
+        digits
     }
 }
 
@@ -101,8 +120,23 @@ impl Half {
 pub fn salt(words: &[u64; 8]) -> [u8; 16]
     ensures { result ≡ salt_of words.now }
 {
+    salt_at(words, 2)
+}
+
+/// The salts of the three founders of a laboratory: words 0 and 1, words 2 and 3, and words 4 and 5 of a tick.
+pub fn founder_salts(words: &[u64; 8]) -> [[u8; 16]; 3]
+    ensures { result ≡ founder_salts words.now }
+{
+    [salt_at(words, 0), salt_at(words, 1), salt_at(words, 2)]
+}
+
+// The salt that is the words of this pair.
+fn salt_at(words: &[u64; 8], pair: usize) -> [u8; 16]
+    requires { pair < 4 }
+    ensures { result ≡ salt_at words.now pair }
+{
     let mut bytes = [0; 16];
-    write_words(&words[4..6], &mut bytes);
+    write_words(&words[2 * pair..2 * pair + 2], &mut bytes);
     bytes
 }
 

@@ -1,23 +1,33 @@
+use Rattle.std.proofs.Common.{ap}
 use Rattle.std.specs.Prelude.{Some, true}
-use Rattle.lab_access.specs.Openings.{opening}
-use Rattle.lab_people.specs.Accounts.{changing, asking, confirming, setting_roles, retiring, unlocking, person_meant}
-use Rattle.lab_people.proofs.LawLemmas.{retired_leaves, retired_tried, retired_meant, refused_then}
+use Rattle.lab_access.specs.declared.refusals.PeopleRefusal.TheVariants.{NoSuchPerson}
+use Rattle.lab_access.specs.Attempts.{is_own_code}
+use Rattle.lab_access.specs.Openings.{opening, opening_by}
+use Rattle.lab_people.specs.Accounts.{changing, changing_by, setting_roles, retiring, unlocking, person_meant}
+use Rattle.lab_people.specs.Issues.{asking, confirming}
+use Rattle.lab_people.proofs.LawLemmas.{retired_leaves, retired_attempt, retired_meant, refused_then}
 use Rattle.lab_people.proofs.account_laws.retirement_is_for_good.Goals as goal
 
 pub returns-clause-leaves : goal.returns-clause-leaves
 returns-clause-leaves c = retired_leaves
 
-pub returns-clause-stays : goal.returns-clause-stays
-unfolding opening changing asking confirming setting_roles retiring unlocking
-returns-clause-stays c person session caller text new tick roles sessions has_token is_own retired =
+pub returns-clause-no_password : goal.returns-clause-no_password
+unfolding opening changing
+returns-clause-no_password c person session code text new given tick sessions repeated retired =
+    let stray = retired_attempt person true text tick.moment retired in (
+      retired_attempt person (is_own_code given person) text tick.moment retired,
+      ap (λ one. opening_by one code tick sessions repeated) stray,
+      ap (λ one. changing_by one session text new tick) stray,
+    )
+
+pub returns-clause-no_command : goal.returns-clause-no_command
+unfolding asking confirming setting_roles retiring unlocking
+returns-clause-no_command c person caller tick roles retired =
     let none = retired_meant caller person retired in
     let meant = person_meant caller (Some person) in (
-      retired_tried person is_own text tick.moment retired,
-      refused_then _ _ (retired_tried person true text tick.moment retired),
-      refused_then _ _ (retired_tried person true text tick.moment retired),
-      refused_then meant _ none,
-      refused_then meant _ none,
-      refused_then meant _ none,
-      refused_then meant _ none,
-      refused_then meant _ none,
+      refused_then meant _ NoSuchPerson none,
+      refused_then meant _ NoSuchPerson none,
+      refused_then meant _ NoSuchPerson none,
+      refused_then meant _ NoSuchPerson none,
+      refused_then meant _ NoSuchPerson none,
     )

@@ -1,0 +1,320 @@
+//! Accounts, as they are changed by their persons and by administrators. Refusals in their order, and answers whole.
+
+use crate::tests::{
+    RIGHT, WORD, WRONG, asked, assert_failure, assert_person, assert_session, bytes_of, chosen,
+    code, counted, moment, one_time, person, session, tick,
+};
+use crate::{
+    Ask, Closing, Effect, Failure, Issued, Name, Password, PasswordChanged, PeopleFault,
+    PeopleRefusal, Person, Role, Roles, Session, Tick, Verifier, ask_issue, change_password,
+    confirm_issue, enrol, retire, set_roles, unlock,
+};
+use std::alloc::Global;
+use std::process::Abort;
+use std::test::Fail;
+
+// What is kept of `WRONG` where it is chosen at a tick of the words 1 to 8.
+fn renewed(seconds: i64) -> Result<Password, Fail> {
+    let bytes = bytes_of("01ba514661d9162df5018bbddb86bc72cd8719bea5968ed155803dc550ee84a9")?;
+    let salt = [0, 0, 0, 0, 0, 0, 0, 5, 0, 0, 0, 0, 0, 0, 0, 6];
+    Ok(Password::Chosen {
+        verifier: Verifier::from_parts(salt, 10_000, bytes),
+        changed: moment(seconds)?,
+    })
+}
+
+// What changing dan's password in dan's session at the words 1 to 8 gives: `WRONG` is the new one.
+fn assert_changed(
+    rt: &impl Abort,
+    alloc: Global,
+    found: &PasswordChanged,
+    seconds: i64,
+) -> Result<(), Fail> {
+    let wanted = person(alloc, renewed(seconds)?)?;
+    assert_person(rt, &found.person, &wanted);
+    let mut four = session(alloc, 600, 650)?;
+    four.signed = false;
+    assert_session(rt, &found.session, &four);
+    assert_eq!(rt; found.closing, Closing::Others(four.number));
+    Ok(())
+}
+
+// A change forgets failed passwords, a lapsed lock and the session's mark.
+#[test]
+fn a_password_is_changed_by_the_old_one(rt: HostRuntime) -> Result<(), Fail> {
+    let now = tick(2500, 1)?;
+    for (failures, locked) in [(3, None), (5, Some(700))] {
+        let four = session(rt.alloc(), 600, 650)?;
+        let dan = counted(rt.alloc(), failures, locked)?;
+        let changed = change_password(dan, four, RIGHT, WRONG, &now)?;
+        assert_changed(&rt, rt.alloc(), &changed, 2500)?;
+    }
+    Ok(())
+}
+
+// Who was issued a one-time word gets in by it, and chooses a password.
+#[test]
+fn a_one_time_word_is_changed(rt: HostRuntime) -> Result<(), Fail> {
+    let (now, word) = (tick(2500, 1)?, one_time(1000)?);
+    let four = session(rt.alloc(), 600, 650)?;
+    let dan = person(rt.alloc(), word)?;
+    let changed = change_password(dan, four, WORD, WRONG, &now)?;
+    assert_changed(&rt, rt.alloc(), &changed, 2500)
+}
+
+// The new password has 12 to 128 bytes, and isn't the old one as it was given: HMAC fills a short key with zero bytes, so the
+// old one is accepted with a NUL at its end too. A bad password comes before the same.
+#[test]
+fn a_new_password_is_another(rt: HostRuntime) -> Result<(), Fail> {
+    let now = tick(700, 1)?;
+    for (old, new, refusal) in [
+        (RIGHT, "eleven byte", Some(PeopleRefusal::BadPassword)),
+        (RIGHT, "twelve bytes", None),
+        (RIGHT, RIGHT, Some(PeopleRefusal::SamePassword)),
+        (RIGHT, "Dan password 1", None),
+        ("dan password 1\0", RIGHT, None),
+        (RIGHT, "dan password 1\0", None),
+        ("dan password 1\0", "dan password 1\0", Some(PeopleRefusal::SamePassword)),
+    ] {
+        let four = session(rt.alloc(), 600, 650)?;
+        let dan = counted(rt.alloc(), 0, None)?;
+        match change_password(dan, four, old, new, &now) {
+            Ok(changed) => {
+                assert_eq!(rt; refusal, None, "{new:?}");
+                assert!(rt; changed.person.password.accepts(new, now.moment), "{new:?}");
+            }
+            Err(PeopleFault::Refused(found)) => assert_eq!(rt; Some(found), refusal, "{new:?}"),
+            Err(PeopleFault::Failed(_)) => assert!(rt; false, "a failed password"),
+        }
+    }
+    Ok(())
+}
+
+// A wrong old password comes before a bad new one, and is counted: the fifth locks, and a lock stays.
+#[test]
+fn a_wrong_old_password_is_counted(rt: HostRuntime) -> Result<(), Fail> {
+    let now = tick(2500, 1)?;
+    for (failures, locked, wanted) in [
+        (3, None, Failure::Counted(counted(rt.alloc(), 4, None)?)),
+        (4, None, Failure::Locking(counted(rt.alloc(), 5, Some(2500))?)),
+        (5, Some(701), Failure::AlreadyLocked(counted(rt.alloc(), 5, Some(701))?)),
+        (5, Some(700), Failure::Counted(counted(rt.alloc(), 1, None)?)),
+    ] {
+        let four = session(rt.alloc(), 600, 650)?;
+        let dan = counted(rt.alloc(), failures, locked)?;
+        match change_password(dan, four, WRONG, "eleven byte", &now) {
+            Err(PeopleFault::Failed(found)) => assert_failure(&rt, &found, &wanted),
+            _ => assert!(rt; false, "a failed password"),
+        }
+    }
+    Ok(())
+}
+
+// What the code's holder and the number of persons make of an enrolment.
+#[test]
+fn a_code_is_given_once(rt: HostRuntime) -> Result<(), Fail> {
+    let dan = counted(rt.alloc(), 0, None)?;
+    for (holder, persons, refusal) in [
+        (None, 500, PeopleRefusal::LabFull),
+        (Some(&dan), 499, PeopleRefusal::CodeTaken),
+        (Some(&dan), 500, PeopleRefusal::CodeTaken),
+    ] {
+        let ours = code(rt.alloc(), "dan")?;
+        let name = Name::parse(rt.alloc(), "Dan Dorn")?;
+        match enrol(ours, name, Roles::none(), holder, persons) {
+            Err(found) => assert_eq!(rt; found, refusal),
+            Ok(_) => assert!(rt; false, "a person"),
+        }
+    }
+    Ok(())
+}
+
+// Who is enrolled has no password, and no roles but those given.
+#[test]
+fn a_newcomer_has_no_password(rt: HostRuntime) -> Result<(), Fail> {
+    let ours = code(rt.alloc(), "dan")?;
+    let name = Name::parse(rt.alloc(), "Dan Dorn")?;
+    let dan = enrol(ours, name, Roles::none().with(Role::Analyst), None, 499)?;
+    assert_person(&rt, &dan, &person(rt.alloc(), Password::Unset)?);
+    Ok(())
+}
+
+// What is kept of the half that the words 31 and 32 make.
+fn second_half() -> Result<Verifier, Fail> {
+    let bytes = bytes_of("af6c197ee992d0a69a7d73edb8c9daee852fbe077650ec880daf5dbca688cc3b")?;
+    let salt = [0, 0, 0, 0, 0, 0, 0, 35, 0, 0, 0, 0, 0, 0, 0, 36];
+    Ok(Verifier::from_parts(salt, 10_000, bytes))
+}
+
+// dan, for whom the caller asked at the tick of the words 31 to 38.
+fn newly_asked(alloc: Global, asker: &str, tick: &Tick) -> Result<Person, Fail> {
+    let first = second_half()?;
+    let asker = code(alloc, asker)?;
+    let dan = counted(alloc, 0, None)?;
+    Ok(Person {
+        ask: Some(Ask {
+            asker,
+            asked: tick.moment,
+            first,
+        }),
+        ..dan
+    })
+}
+
+fn assert_issued(rt: &impl Abort, found: &Issued, wanted: &Person, closing: Closing) {
+    assert_person(rt, &found.person, wanted);
+    assert_eq!(rt; &found.half.digits(), b"000000000000001f0000000000000020");
+    assert_eq!(rt; found.closing, closing);
+}
+
+// What bob asked for at 1000 stands for seven days: he asks anew in it, ann after it, and whole.
+#[test]
+fn an_ask_is_replaced_whole(rt: HostRuntime) -> Result<(), Fail> {
+    for (caller, seconds) in [("bob", 1000), ("bob", 605_800), ("ann", 605_801)] {
+        let now = tick(seconds, 31)?;
+        let ours = code(rt.alloc(), caller)?;
+        let dan = asked(rt.alloc(), "bob", 1000)?;
+        let issued = ask_issue(ours, Some(dan), &now)?;
+        assert_issued(&rt, &issued, &newly_asked(rt.alloc(), caller, &now)?, Closing::Nothing);
+    }
+    Ok(())
+}
+
+// Two administrators give a person a one-time word, each a half of it. Failed passwords and a lock stay.
+#[test]
+fn a_one_time_word_takes_two_administrators(rt: HostRuntime) -> Result<(), Fail> {
+    let now = tick(605_800, 31)?;
+    let ann = code(rt.alloc(), "ann")?;
+    let mut dan = asked(rt.alloc(), "bob", 1000)?;
+    dan.failures = 4;
+    dan.locked = Some(now.moment);
+    let issued = confirm_issue(&ann, Some(dan), &now)?;
+    let Password::OneTime { first, .. } = one_time(1000)? else {
+        assert!(rt; false, "a one-time word");
+        return Ok(());
+    };
+    let word = Password::OneTime {
+        first,
+        second: second_half()?,
+        confirmed: now.moment,
+    };
+    let mut wanted = person(rt.alloc(), word)?;
+    wanted.failures = 4;
+    wanted.locked = Some(now.moment);
+    assert_issued(&rt, &issued, &wanted, Closing::All);
+    Ok(())
+}
+
+// The answer is the refusal, if one is wanted; else it is no refusal.
+fn assert_answers<T: Drop>(
+    rt: &impl Abort,
+    found: Result<T, PeopleRefusal>,
+    wanted: Option<PeopleRefusal>,
+) {
+    assert_eq!(rt; found.err(), wanted);
+}
+
+// Who asks again, and who confirms, on both sides of seven days.
+#[test]
+fn asks_and_confirmations_are_refused_in_order(rt: HostRuntime) -> Result<(), Fail> {
+    let (open, same) = (Some(PeopleRefusal::IssueOpen), Some(PeopleRefusal::SamePerson));
+    let (own, none) = (Some(PeopleRefusal::OwnIssue), Some(PeopleRefusal::NoIssue));
+    for (caller, seconds, asking, confirming) in [
+        ("ann", 605_800, open, None),
+        ("bob", 605_800, None, same),
+        ("ann", 605_801, None, none),
+        ("bob", 605_801, None, none),
+        ("dan", 605_800, own, own),
+        ("dan", 605_801, own, own),
+    ] {
+        let now = tick(seconds, 31)?;
+        let ours = code(rt.alloc(), caller)?;
+        let dan = asked(rt.alloc(), "bob", 1000)?;
+        let copy = dan.copy()?;
+        assert_answers(&rt, confirm_issue(&ours, Some(copy), &now), confirming);
+        assert_answers(&rt, ask_issue(ours, Some(dan), &now), asking);
+    }
+    Ok(())
+}
+
+// What is asked about nobody, about a retired person and about oneself.
+#[test]
+fn commands_are_about_others_who_are_there(rt: HostRuntime) -> Result<(), Fail> {
+    let now = tick(700, 31)?;
+    let dan = code(rt.alloc(), "dan")?;
+    let missing = Some(PeopleRefusal::NoSuchPerson);
+    assert_answers(&rt, confirm_issue(&dan, None, &now), missing);
+    assert_answers(&rt, set_roles(&dan, None, Roles::none()), missing);
+    assert_answers(&rt, retire(&dan, None), missing);
+    assert_answers(&rt, unlock(&dan, None), missing);
+    for (is_retired, refusal) in [
+        (true, PeopleRefusal::NoSuchPerson),
+        (false, PeopleRefusal::OwnIssue),
+    ] {
+        let mut one = counted(rt.alloc(), 0, None)?;
+        one.retired = is_retired;
+        let (two, three) = (one.copy()?, one.copy()?);
+        assert_answers(&rt, set_roles(&dan, Some(one), Roles::none()), Some(refusal));
+        assert_answers(&rt, retire(&dan, Some(two)), Some(refusal));
+        assert_answers(&rt, unlock(&dan, Some(three)), Some(refusal));
+    }
+    assert_answers(&rt, ask_issue(dan, None, &now), missing);
+    Ok(())
+}
+
+fn assert_effect(rt: &impl Abort, found: &Effect, wanted: &Person, closing: Closing) {
+    assert_person(rt, &found.person, wanted);
+    assert_eq!(rt; found.closing, closing);
+}
+
+// Roles are set, an administrator's too, and nothing else is changed.
+#[test]
+fn roles_are_set(rt: HostRuntime) -> Result<(), Fail> {
+    let ann = code(rt.alloc(), "ann")?;
+    for roles in [
+        Roles::none(),
+        Roles::none().with(Role::Administrator),
+        Roles::none().with(Role::Reviewer).with(Role::Manager),
+    ] {
+        let mut dan = counted(rt.alloc(), 5, Some(600))?;
+        dan.roles = Roles::none().with(Role::Administrator);
+        let effect = set_roles(&ann, Some(dan), roles)?;
+        let mut wanted = counted(rt.alloc(), 5, Some(600))?;
+        wanted.roles = roles;
+        assert_effect(&rt, &effect, &wanted, Closing::Nothing);
+    }
+    Ok(())
+}
+
+// A person is retired, an administrator too, with all sessions closed.
+#[test]
+fn a_person_is_retired(rt: HostRuntime) -> Result<(), Fail> {
+    let ann = code(rt.alloc(), "ann")?;
+    for role in [Role::Analyst, Role::Administrator] {
+        let mut dan = counted(rt.alloc(), 5, Some(600))?;
+        dan.roles = Roles::none().with(role);
+        let mut wanted = dan.copy()?;
+        wanted.retired = true;
+        let effect = retire(&ann, Some(dan))?;
+        assert_effect(&rt, &effect, &wanted, Closing::All);
+    }
+    Ok(())
+}
+
+// A person is unlocked, also one who isn't locked, or has no password.
+#[test]
+fn a_person_is_unlocked(rt: HostRuntime) -> Result<(), Fail> {
+    let ann = code(rt.alloc(), "ann")?;
+    for (password, failures, locked) in [
+        (chosen(500)?, 5, Some(moment(600)?)),
+        (chosen(500)?, 3, None),
+        (Password::Unset, 0, None),
+    ] {
+        let mut dan = person(rt.alloc(), password)?;
+        dan.failures = failures;
+        dan.locked = locked;
+        let effect = unlock(&ann, Some(dan))?;
+        assert_effect(&rt, &effect, &person(rt.alloc(), password)?, Closing::Nothing);
+    }
+    Ok(())
+}
