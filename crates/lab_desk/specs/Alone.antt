@@ -1,4 +1,5 @@
--- One laboratory's run by itself: its own events, and what its machine makes of them. No other event enters.
+-- One laboratory's run by itself: its own events, and what its machine makes of them. No other
+-- event enters.
 use Rattle.std.specs.Prelude.{ℕ, List, [], ◌∷◌, Option, Some, None, Ok, Err, bytes_eq, if◌then◌else◌}
 use Rattle.lab_names.specs.declared.Tick.{Tick}
 use Rattle.lab_records.specs.declared.lab.Lab.{Lab}
@@ -21,7 +22,8 @@ pub data Own : Type 0 where
 -- a call as the laboratory's own, where its bytes name the laboratory
 abbrev pub own_call : List ℕ → Tick → Asks → Option Own
 own_call code tick (Err refusal) = None
-own_call code tick (Ok asked) = if bytes_eq asked.lab code then Some (Obeys tick asked.instruction) else None
+own_call code tick (Ok asked) = if bytes_eq asked.lab code then Some
+    (Obeys tick asked.instruction) else None
 
 -- an event as the laboratory's own, where it is its own and not another's or nobody's
 abbrev pub own_of : List ℕ → Event → Option Own
@@ -30,13 +32,15 @@ own_of code (Call tick bytes) = own_call code tick (asked bytes)
 
 -- the laboratory after one of its own events
 abbrev pub after_own : List ℕ → Option Lab → Own → Option Lab
-after_own code lab (Founds tick body) = after_birth lab (born_of lab code tick (founding_named body))
+after_own code lab (Founds tick body) = after_birth lab
+    (born_of lab code tick (founding_named body))
 after_own code lab (Obeys tick instruction) = (step lab tick instruction).after
 
 -- what it answers to one of its own events
 abbrev pub answer_own : List ℕ → Option Lab → Own → List ℕ
 answer_own code lab (Founds tick body) = line_of code (born_of lab code tick (founding_named body))
-answer_own code lab (Obeys tick instruction) = reply_text tick (Replied (step lab tick instruction).reply)
+answer_own code lab (Obeys tick instruction) = reply_text tick
+    (Replied (step lab tick instruction).reply)
 
 -- the laboratory after all of its own events
 abbrev pub alone_after : List ℕ → Option Lab → List Own → Option Lab
@@ -46,4 +50,5 @@ alone_after code lab (own ∷ owns) = alone_after code (after_own code lab own) 
 -- its answers to all of its own events, in order
 abbrev pub alone_answers : List ℕ → Option Lab → List Own → List (List ℕ)
 alone_answers code lab [] = []
-alone_answers code lab (own ∷ owns) = answer_own code lab own ∷ alone_answers code (after_own code lab own) owns
+alone_answers code lab (own ∷ owns) = answer_own code lab own ∷ alone_answers code
+    (after_own code lab own) owns

@@ -17,8 +17,8 @@ abbrev pub found_fault_entry : FoundFault → Entry
 found_fault_entry (OfBody refusal) = body_entry refusal
 found_fault_entry (Placing fault) = placing_fault_entry fault
 
--- the body's refusal where it is that; and where the body reads, that the laboratory exists where it does, and the store's
--- where it may refuse
+-- the body's refusal where it is that; and where the body reads, that the laboratory exists where
+-- it does, and the store's where it may refuse
 abbrev pub FoundFaultFits : Type 0 → Type 0 → Body → FoundFault → Type 0
 FoundFaultFits may_refuse exists body (OfBody refusal) = body ≡ Err refusal
 FoundFaultFits may_refuse exists body (Placing LabExists) = IsOk body × exists
@@ -31,7 +31,8 @@ OnBody (Ok _) P = Unit {0}
 OnBody (Err (OfBody refusal)) P = P
 OnBody (Err (Placing fault)) P = Unit {0}
 
--- a fact on a founding that the keeper answered by what it keeps: it founded, or the laboratory exists
+-- a fact on a founding that the keeper answered by what it keeps: it founded, or the laboratory
+-- exists
 abbrev pub OnKept : Result (Unit {0}) FoundFault → Type 0 → Type 0
 OnKept (Ok _) P = P
 OnKept (Err (OfBody refusal)) P = Unit {0}

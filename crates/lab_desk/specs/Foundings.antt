@@ -1,5 +1,5 @@
--- What the desk does of a founding: what every laboratory is afterwards, and the line that answers it (docs/FORMATS.md has
--- the lines).
+-- What the desk does of a founding: what every laboratory is afterwards, and the line that answers
+-- it (docs/FORMATS.md has the lines).
 use Rattle.std.specs.Prelude.{◌≡◌, ◌⊎◌, ℕ, List, ◌++◌, Option, Some, None, Result, Ok, Err, IsOk, codes, decimal}
 use Rattle.lab_names.specs.Faults.{Entry, memory_entry}
 use Rattle.lab_names.specs.declared.Tick.{Tick}
@@ -31,13 +31,16 @@ abbrev pub after_birth : Option Lab → Result Lab Entry → Option Lab
 after_birth before (Ok lab) = Some lab
 after_birth before (Err refusal) = before
 
--- the laboratory of the code is born, where its body reads and there was none, and every other means what it meant
+-- the laboratory of the code is born, where its body reads and there was none, and every other
+-- means what it meant
 abbrev pub Births : List ℕ → Tick → Body → Meaning → Meaning → Type 0
 Births code tick body old new =
     SetsOne code (after_birth (old code) (born_of (old code) code tick body)) old new
 
--- a laboratory that was founded from its body: there was none before, and the rows are as they were but for it
-pub record Founds (old new : World) (places : Lab → Type 0) (code : List ℕ) (tick : Tick) (body : Body) : Type 0 where
+-- a laboratory that was founded from its body: there was none before, and the rows are as they were
+-- but for it
+pub record Founds (old new : World) (places : Lab → Type 0) (code : List ℕ) (tick : Tick)
+    (body : Body) : Type 0 where
   pub founding : Founding
   pub read : body ≡ Ok founding
   pub placed : Places (newborn code tick founding) old.meaning new.meaning
@@ -51,7 +54,8 @@ founded_line code = codes "founded " ++ code ++ codes "\n"
 
 -- `refused <number> <word>`
 abbrev pub refused_line : Entry → List ℕ
-refused_line entry = codes "refused " ++ decimal entry.number ++ codes " " ++ entry.word ++ codes "\n"
+refused_line entry = codes "refused " ++ decimal entry.number ++ codes " " ++ entry.word ++ codes
+    "\n"
 
 abbrev pub line_of : List ℕ → Result Lab Entry → List ℕ
 line_of code (Ok lab) = founded_line code
@@ -68,9 +72,10 @@ abbrev pub shown : Option (List ℕ) → List ℕ
 shown None = memory_line
 shown (Some line) = line
 
--- a founding that was taken: its line is that of the laboratory's birth, or of the refusal that comes first; and the keeper
--- was there, where the body reads
-pub record TakesFounding (old new : World) (code : List ℕ) (tick : Tick) (body : Body) (line : List ℕ) : Type 0 where
+-- a founding that was taken: its line is that of the laboratory's birth, or of the refusal that
+-- comes first; and the keeper was there, where the body reads
+pub record TakesFounding (old new : World) (code : List ℕ) (tick : Tick) (body : Body)
+    (line : List ℕ) : Type 0 where
   pub answered : line ≡ line_of code (born_of (old.meaning code) code tick body)
   pub after : Births code tick body old.meaning new.meaning
   pub lives : IsOk body → Lives old new
@@ -79,8 +84,8 @@ pub record TakesFounding (old new : World) (code : List ℕ) (tick : Tick) (body
 abbrev pub IsRefusedLine : Type 0 → List ℕ → Type 0
 IsRefusedLine may_refuse line = (line ≡ memory_line) ⊎ (may_refuse × (line ≡ storage_line))
 
--- a founding that was refused: for memory, or by a store that may refuse, which was handed a body that reads; every
--- laboratory means what it meant
+-- a founding that was refused: for memory, or by a store that may refuse, which was handed a body
+-- that reads; every laboratory means what it meant
 pub record RefusesFounding (old new : World) (body : Body) (line : List ℕ) : Type 0 where
   pub answered : IsRefusedLine (old.may_refuse × IsOk body) line
   pub same : Leaves old new

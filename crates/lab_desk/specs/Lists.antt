@@ -1,4 +1,5 @@
--- What a plain list of laboratories means for each code, what changes do to the list, and what is known of it as a keeper.
+-- What a plain list of laboratories means for each code, what changes do to the list, and what is
+-- known of it as a keeper.
 use Rattle.std.specs.Prelude.{◌≡◌, ℕ, List, Option, Bool, find, slice_get, slice_set, bytes_eq, MatchOption}
 use Rattle.std.specs.List.{position_or_len}
 use Rattle.lab_records.specs.declared.lab.Lab.{Lab}
@@ -18,7 +19,8 @@ lab_of labs code = find (has_code code) labs
 abbrev pub ChangesInPlace : List Lab → List Lab → List ℕ → List Change → Type 0
 ChangesInPlace old new code changes =
     let place = position_or_len (has_code code) old in
-    MatchOption (slice_get old place) (new ≡ old) (λ lab. new ≡ slice_set old place (changed lab changes))
+    MatchOption (slice_get old place) (new ≡ old)
+    (λ lab. new ≡ slice_set old place (changed lab changes))
 
 -- a list is always honest, live and well kept, never refuses, and a crash leaves the list itself
 abbrev pub world_of : List Lab → World

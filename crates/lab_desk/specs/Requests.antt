@@ -32,10 +32,12 @@ Steps tick (Ok asked) old new =
     SetsOne asked.lab (step (old asked.lab) tick asked.instruction).after old new
 
 -- the rows moved by changes that fit the laboratory and make its step
-pub record MovesBy (meaning : Meaning) (tick : Tick) (asked : Asked) (moves : List ℕ → List Change → Type 0) : Type 0 where
+pub record MovesBy (meaning : Meaning) (tick : Tick) (asked : Asked)
+    (moves : List ℕ → List Change → Type 0) : Type 0 where
   pub changes : List Change
   pub fit : ChangesFit (meaning asked.lab) changes
-  pub after : changed_in (meaning asked.lab) changes ≡ (step (meaning asked.lab) tick asked.instruction).after
+  pub after : changed_in (meaning asked.lab) changes ≡
+      (step (meaning asked.lab) tick asked.instruction).after
   pub moved : moves asked.lab changes
 
 -- the rows after what bytes ask: at rest where they ask nothing, and else moved by the step
@@ -43,9 +45,10 @@ abbrev pub MovesFor : Meaning → Tick → Asks → Type 0 → (List ℕ → Lis
 MovesFor meaning tick (Err refusal) rests moves = rests
 MovesFor meaning tick (Ok asked) rests moves = MovesBy meaning tick asked moves
 
--- a request that was taken: its reply is that of the machine of the laboratory that it names, which took its step; and
--- the keeper was there, where the bytes ask something
-pub record TakesRequest (old new : World) (tick : Tick) (asks : Asks) (reply : List ℕ) : Type 0 where
+-- a request that was taken: its reply is that of the machine of the laboratory that it names, which
+-- took its step; and the keeper was there, where the bytes ask something
+pub record TakesRequest (old new : World) (tick : Tick) (asks : Asks)
+    (reply : List ℕ) : Type 0 where
   pub replied : reply ≡ reply_text tick (answer_to old.meaning tick asks)
   pub after : Steps tick asks old.meaning new.meaning
   pub lives : IsOk asks → Lives old new
@@ -55,8 +58,9 @@ abbrev pub IsRefusedReply : Type 0 → Tick → List ℕ → Type 0
 IsRefusedReply may_refuse tick reply =
     (reply ≡ memory_text) ⊎ (may_refuse × (reply ≡ reply_text tick Storage))
 
--- a request that was refused: for memory, or by a store that may refuse, which was asked something; every laboratory
--- means what it meant
-pub record RefusesRequest (old new : World) (tick : Tick) (asks : Asks) (reply : List ℕ) : Type 0 where
+-- a request that was refused: for memory, or by a store that may refuse, which was asked something;
+-- every laboratory means what it meant
+pub record RefusesRequest (old new : World) (tick : Tick) (asks : Asks)
+    (reply : List ℕ) : Type 0 where
   pub replied : IsRefusedReply (old.may_refuse × IsOk asks) tick reply
   pub same : Leaves old new

@@ -1,5 +1,5 @@
--- A run of an installation: which events were taken, what was answered, and that each laboratory's answers and what it means
--- are those of its run alone.
+-- A run of an installation: which events were taken, what was answered, and that each laboratory's
+-- answers and what it means are those of its run alone.
 use Rattle.std.specs.Prelude.{◌≡◌, ◌<◌, ◌++◌, ℕ, List, [], ◌∷◌, Bool, true, false, All, Option, None, Result, Ok, Err, IsOk, IfErr, MatchResult, filter_map, if◌then◌else◌, length, map, option_map, take}
 use Rattle.std.specs.Io.KnownBytes.{Appends}
 use Rattle.std.specs.List.{concat}
@@ -17,7 +17,8 @@ use Rattle.lab_desk.specs.Requests.{Asks, IsRefusedReply}
 use Rattle.lab_desk.specs.Foundings.{IsRefusedLine}
 use Rattle.lab_desk.specs.Alone.{Own, own_of, alone_after, alone_answers}
 
--- an event, whether it was taken, and what was answered to it: it is taken unless memory ran out or the store refused
+-- an event, whether it was taken, and what was answered to it: it is taken unless memory ran out or
+-- the store refused
 pub record Handled : Type 0 where
   pub event : Event
   pub taken : Bool
@@ -27,17 +28,21 @@ pub record Handled : Type 0 where
 
 -- bytes that ask nothing are answered from themselves and the tick alone
 abbrev pub IsAnswerToNobody : Tick → Asks → List ℕ → Type 0
-IsAnswerToNobody tick asks answer = IfErr asks (λ refusal. answer ≡ reply_text tick (Refused refusal))
+IsAnswerToNobody tick asks answer = IfErr asks
+    (λ refusal. answer ≡ reply_text tick (Refused refusal))
 
 -- the answer to a taken event that belongs to no laboratory
 abbrev pub IsNobodys : Event → List ℕ → Type 0
 IsNobodys (Found lab tick body) answer = Unit {0}
 IsNobodys (Call tick bytes) answer = IsAnswerToNobody tick (asked bytes) answer
 
--- the answer to an event that was refused for memory, or by a store that may refuse, which was asked something
+-- the answer to an event that was refused for memory, or by a store that may refuse, which was
+-- asked something
 abbrev pub IsRefusal : Type 0 → Event → List ℕ → Type 0
-IsRefusal may_refuse (Found lab tick body) answer = IsRefusedLine (may_refuse × IsOk (founding_named body)) answer
-IsRefusal may_refuse (Call tick bytes) answer = IsRefusedReply (may_refuse × IsOk (asked bytes)) tick answer
+IsRefusal may_refuse (Found lab tick body) answer = IsRefusedLine
+    (may_refuse × IsOk (founding_named body)) answer
+IsRefusal may_refuse (Call tick bytes) answer = IsRefusedReply
+    (may_refuse × IsOk (asked bytes)) tick answer
 
 abbrev pub IsAnswerBy : Type 0 → Bool → Event → List ℕ → Type 0
 IsAnswerBy may_refuse true event answer = IsNobodys event answer
@@ -69,8 +74,9 @@ abbrev pub AreAlone : Meaning → List Handled → Type 0
 AreAlone start handled = (code : List ℕ) →
     own_answers code handled ≡ alone_answers code (start code) (own_events code handled)
 
--- a run: each event is answered as it may be; and from what the keeper told at its start, as from what it kept, each
--- laboratory's answers, and what the keeper tells of it at its end, are those of its run alone
+-- a run: each event is answered as it may be; and from what the keeper told at its start, as from
+-- what it kept, each laboratory's answers, and what the keeper tells of it at its end, are those of
+-- its run alone
 pub record IsRun (old new : World) (handled : List Handled) : Type 0 where
   pub each : All (IsAnswer old.may_refuse) handled
   pub alone : (start : Meaning) → Tells old start → AreAlone start handled
@@ -88,19 +94,24 @@ abbrev pub answers_of : List Handled → List ℕ
 answers_of handled = concat (map (λ (one : Handled). one.answer) handled)
 
 -- an answer went out whole, or its first bytes did and then the writer failed
-abbrev pub Sends : List ℕ → Result (Unit {0}) WriteFault → Option (List ℕ) → Option (List ℕ) → Type 0
+abbrev pub Sends : List ℕ → Result (Unit {0}) WriteFault → Option (List ℕ) → Option (List ℕ) →
+    Type 0
 Sends answer (Ok _) before after = Appends before after answer
-Sends answer (Err fault) before after = Appends before after (take fault.sent answer) × (fault.sent < length answer)
+Sends answer (Err fault) before after = Appends before after (take fault.sent answer) ×
+    (fault.sent < length answer)
 
 -- all events were handled, and their answers were written, and nothing else
-pub record Runs (old new : World) (events : List Event) (taken : List Bool) (before after : Option (List ℕ)) : Type 0 where
+pub record Runs (old new : World) (events : List Event) (taken : List Bool)
+    (before after : Option (List ℕ)) : Type 0 where
   pub handled : List Handled
   pub told : IsTold events taken handled
   pub run : IsRun old new handled
   pub written : Appends before after (answers_of handled)
 
--- the first events were handled, and their answers were written, the last of them cut to its first bytes
-pub record RunsCut (old new : World) (events : List Event) (taken : List Bool) (sent : ℕ) (before after : Option (List ℕ)) : Type 0 where
+-- the first events were handled, and their answers were written, the last of them cut to its first
+-- bytes
+pub record RunsCut (old new : World) (events : List Event) (taken : List Bool) (sent : ℕ)
+    (before after : Option (List ℕ)) : Type 0 where
   pub handled : List Handled
   pub last : Handled
   pub told : IsTold (take (length taken) events) taken (handled ++ last ∷ [])

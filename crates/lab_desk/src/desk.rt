@@ -38,8 +38,8 @@ impl<S> Model for Desk<S> {
     ghost Value = { Served S };
 
     ghost view = { λ desk. record {
-        keeper = desk.keeper;
-        reply = unwrap_or (option_map (λ reply. reply.items) desk.last) desk.memory.items;
+      keeper = desk.keeper;
+      reply = unwrap_or (option_map (λ reply. reply.items) desk.last) desk.memory.items;
     } };
 
     ghost invariant = { λ desk. desk.memory.items ≡ memory_text };
@@ -63,38 +63,48 @@ impl<S: Keeper + Drop> Desk<S> {
         })
     }
 
-    /// Handles a request: `reply` has its reply, and the keeper what became of its laboratory. Answers whether the
-    /// request was taken: it was, unless memory ran out or the store refused; then the reply says so and nothing
-    /// is changed.
+    /// Handles a request: `reply` has its reply, and the keeper what became of its laboratory.
+    /// Answers whether the request was taken: it was, unless memory ran out or the store refused;
+    /// then the reply says so and nothing is changed.
     pub fn handle(&mut self, tick: &Tick, bytes: &[u8]) -> bool
         ensures taken { Given (S.world self.old.keeper) (S.world self.new.keeper) (result ≡ true →
-            TakesRequest (S.world self.old.keeper) (S.world self.new.keeper) tick.now (asked bytes.now) self.new.reply) }
-        ensures refused { Given (S.world self.old.keeper) (S.world self.new.keeper) (result ≡ false →
-            RefusesRequest (S.world self.old.keeper) (S.world self.new.keeper) tick.now (asked bytes.now) self.new.reply) }
+            TakesRequest (S.world self.old.keeper) (S.world self.new.keeper) tick.now
+            (asked bytes.now) self.new.reply) }
+        ensures refused { Given (S.world self.old.keeper) (S.world self.new.keeper)
+            (result ≡ false →
+            RefusesRequest (S.world self.old.keeper) (S.world self.new.keeper) tick.now
+            (asked bytes.now) self.new.reply) }
 
         // The rows:
         ensures rows { Given (S.world self.old.keeper) (S.world self.new.keeper) (result ≡ true →
             MovesFor (S.world self.old.keeper).meaning tick.now (asked bytes.now)
             (S.rests self.old.keeper self.new.keeper) (S.moves self.old.keeper self.new.keeper)) }
-        ensures rows_refused { Given (S.world self.old.keeper) (S.world self.new.keeper) (result ≡ false →
+        ensures rows_refused { Given (S.world self.old.keeper) (S.world self.new.keeper)
+            (result ≡ false →
             (S.world self.new.keeper).is_live → S.rests self.old.keeper self.new.keeper) }
 
         // Bytes that ask nothing:
         ensures untouched { (refusal : OneRefusal) → asked bytes.now ≡ Err refusal →
             self.new.keeper ≡ self.old.keeper }
         ensures nobodys { (refusal : OneRefusal) → asked bytes.now ≡ Err refusal →
-            (self.new.reply ≡ reply_text tick.now (RefusedAnswer refusal)) ⊎ (self.new.reply ≡ memory_text) }
+            (self.new.reply ≡ reply_text tick.now (RefusedAnswer refusal)) ⊎
+            (self.new.reply ≡ memory_text) }
 
         // What a crash may leave:
         ensures crash { Given (S.world self.old.keeper) (S.world self.new.keeper)
-            (CommitsAs (Steps tick.now (asked bytes.now)) (S.world self.old.keeper) (S.world self.new.keeper)) }
-        ensures quiet { IsTrue (is_idle_request (S.world self.old.keeper).meaning tick.now (asked bytes.now)) →
+            (CommitsAs (Steps tick.now (asked bytes.now)) (S.world self.old.keeper)
+            (S.world self.new.keeper)) }
+        ensures quiet { IsTrue (is_idle_request (S.world self.old.keeper).meaning tick.now
+            (asked bytes.now)) →
             Given (S.world self.old.keeper) (S.world self.new.keeper)
             (Quiet (S.world self.old.keeper) (S.world self.new.keeper)) }
-        ensures settled { IsFalse (is_idle_request (S.world self.old.keeper).meaning tick.now (asked bytes.now)) →
-            Given (S.world self.old.keeper) (S.world self.new.keeper) (result ≡ true → IsSettled (S.world self.new.keeper)) }
+        ensures settled { IsFalse (is_idle_request (S.world self.old.keeper).meaning tick.now
+            (asked bytes.now)) →
+            Given (S.world self.old.keeper) (S.world self.new.keeper)
+            (result ≡ true → IsSettled (S.world self.new.keeper)) }
 
-        ensures reached { Given (S.world self.old.keeper) (S.world self.new.keeper) (S.world self.new.keeper).is_reached }
+        ensures reached { Given (S.world self.old.keeper) (S.world self.new.keeper)
+            (S.world self.new.keeper).is_reached }
         ensures passes { Passes (S.world self.old.keeper) (S.world self.new.keeper) }
     {
         let asked = match ask(self.alloc, bytes) {
@@ -137,18 +147,21 @@ impl<S: Keeper + Drop> Desk<S> {
     /// Founds a laboratory from its body.
     ///
     /// # Errors
-    /// The body's refusals, that the laboratory is there, the store's refusal, and that memory ran out. After each
-    /// of them every laboratory means what it meant.
+    /// The body's refusals, that the laboratory is there, the store's refusal, and that memory ran
+    /// out. After each of them every laboratory means what it meant.
     pub fn found(&mut self, lab: &LabCode, tick: &Tick, body: &[u8]) -> Result<(), FoundFault>
         ensures founded { Given (S.world self.old.keeper) (S.world self.new.keeper) (OnOk result
-            (Founds (S.world self.old.keeper) (S.world self.new.keeper) (S.places self.old.keeper self.new.keeper)
+            (Founds (S.world self.old.keeper) (S.world self.new.keeper)
+            (S.places self.old.keeper self.new.keeper)
             lab.now tick.now (founding_named body.now))) }
         ensures err { Given (S.world self.old.keeper) (S.world self.new.keeper)
             (OnErr result (Leaves (S.world self.old.keeper) (S.world self.new.keeper))) }
         ensures rows_err { Given (S.world self.old.keeper) (S.world self.new.keeper)
-            (OnErr result ((S.world self.new.keeper).is_live → S.rests self.old.keeper self.new.keeper)) }
+            (OnErr result ((S.world self.new.keeper).is_live →
+            S.rests self.old.keeper self.new.keeper)) }
         ensures fault { IfErr result (FoundFaultFits (S.world self.old.keeper).may_refuse
-            (Given (S.world self.old.keeper) (S.world self.new.keeper) (IsSome ((S.world self.old.keeper).meaning lab.now)))
+            (Given (S.world self.old.keeper) (S.world self.new.keeper)
+            (IsSome ((S.world self.old.keeper).meaning lab.now)))
             (founding_named body.now)) }
         ensures lives { Given (S.world self.old.keeper) (S.world self.new.keeper)
             (OnKept result (Lives (S.world self.old.keeper) (S.world self.new.keeper))) }
@@ -164,7 +177,8 @@ impl<S: Keeper + Drop> Desk<S> {
         ensures settled { Given (S.world self.old.keeper) (S.world self.new.keeper)
             (OnOk result (IsSettled (S.world self.new.keeper))) }
 
-        ensures reached { Given (S.world self.old.keeper) (S.world self.new.keeper) (S.world self.new.keeper).is_reached }
+        ensures reached { Given (S.world self.old.keeper) (S.world self.new.keeper)
+            (S.world self.new.keeper).is_reached }
         ensures passes { Passes (S.world self.old.keeper) (S.world self.new.keeper) }
     {
         let founding = match founding_of(self.alloc, body) {
@@ -180,13 +194,16 @@ impl<S: Keeper + Drop> Desk<S> {
 
     /// Founds a laboratory, and says so in a line, which is built before anything is changed.
     pub(crate) fn answer_founding(&mut self, lab: &LabCode, tick: &Tick, body: &[u8]) -> Line
-        ensures taken { Given (S.world self.old.keeper) (S.world self.new.keeper) (result.taken ≡ true →
+        ensures taken { Given (S.world self.old.keeper) (S.world self.new.keeper)
+            (result.taken ≡ true →
             TakesFounding (S.world self.old.keeper) (S.world self.new.keeper) lab.now tick.now
             (founding_named body.now) (shown (option_map (λ line. line.items) result.text))) }
-        ensures refused { Given (S.world self.old.keeper) (S.world self.new.keeper) (result.taken ≡ false →
+        ensures refused { Given (S.world self.old.keeper) (S.world self.new.keeper)
+            (result.taken ≡ false →
             RefusesFounding (S.world self.old.keeper) (S.world self.new.keeper)
             (founding_named body.now) (shown (option_map (λ line. line.items) result.text))) }
-        ensures reached { Given (S.world self.old.keeper) (S.world self.new.keeper) (S.world self.new.keeper).is_reached }
+        ensures reached { Given (S.world self.old.keeper) (S.world self.new.keeper)
+            (S.world self.new.keeper).is_reached }
         ensures passes { Passes (S.world self.old.keeper) (S.world self.new.keeper) }
     {
         let Ok(line) = founded(self.alloc, lab) else {

@@ -59,8 +59,8 @@ impl fmt::Display for FoundFault {
 pub enum RunFault {
     /// There was no memory for the list that a run answers. Nothing was handled or written.
     Memory,
-    /// A write failed, or took no byte. The event whose answer was being written stands, and those after it
-    /// were not handled.
+    /// A write failed, or took no byte. The event whose answer was being written stands, and those
+    /// after it were not handled.
     Write {
         /// For each event up to and with the one whose answer was cut, whether it was taken.
         taken: Vec<bool>,

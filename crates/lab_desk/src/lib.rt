@@ -1,5 +1,5 @@
-//! The desk: requests and foundings in, reply bytes out, over any keeper of laboratories. Each laboratory's
-//! answers and rows are those of its own small machine, run over its own events alone.
+//! The desk: requests and foundings in, reply bytes out, over any keeper of laboratories. Each
+//! laboratory's answers and rows are those of its own small machine, run over its own events alone.
 #![tactic(auto)]
 
 mod desk;

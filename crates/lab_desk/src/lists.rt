@@ -71,7 +71,12 @@ impl Keeper for Lists {
         Ok(())
     }
 
-    fn found(&mut self, code: &LabCode, founding: &Founding, tick: &Tick) -> Result<(), PlacingFault> {
+    fn found(
+        &mut self,
+        code: &LabCode,
+        founding: &Founding,
+        tick: &Tick,
+    ) -> Result<(), PlacingFault> {
         if lab_named(&self.labs, code).is_some() {
             return Err(PlacingFault::LabExists);
         }

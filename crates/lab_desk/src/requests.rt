@@ -1,5 +1,5 @@
-//! How a laboratory is asked over any keeper: its part is loaded, the machine decides, the reply is built whole,
-//! and only then does the keeper make the changes, as the last thing.
+//! How a laboratory is asked over any keeper: its part is loaded, the machine decides, the reply is
+//! built whole, and only then does the keeper make the changes, as the last thing.
 
 ghost use Rattle.std.specs.Prelude.{◌≡◌, Ok, IsTrue, IsFalse, IfOk, IfErr, OnOk, OnErr};
 ghost use Rattle.lab_records.specs.Machine.{step, is_idle};
@@ -19,13 +19,16 @@ pub(crate) fn answer_asked<S: Keeper>(
     asked: Asked,
 ) -> Result<Vec<u8>, KeeperFault>
     ensures reply { Given (S.world keeper.old) (S.world keeper.new) (IfOk result (λ reply.
-        reply.items ≡ reply_text tick.now (answer_to (S.world keeper.old).meaning tick.now (Ok asked)))) }
+        reply.items ≡ reply_text tick.now
+        (answer_to (S.world keeper.old).meaning tick.now (Ok asked)))) }
     ensures after { Given (S.world keeper.old) (S.world keeper.new)
-        (OnOk result (Steps tick.now (Ok asked) (S.world keeper.old).meaning (S.world keeper.new).meaning)) }
+        (OnOk result (Steps tick.now (Ok asked) (S.world keeper.old).meaning
+        (S.world keeper.new).meaning)) }
     ensures err { Given (S.world keeper.old) (S.world keeper.new)
         (OnErr result (Leaves (S.world keeper.old) (S.world keeper.new))) }
     ensures rows { Given (S.world keeper.old) (S.world keeper.new)
-        (OnOk result (MovesBy (S.world keeper.old).meaning tick.now asked (S.moves keeper.old keeper.new))) }
+        (OnOk result (MovesBy (S.world keeper.old).meaning tick.now asked
+        (S.moves keeper.old keeper.new))) }
     ensures rows_err { Given (S.world keeper.old) (S.world keeper.new)
         (OnErr result ((S.world keeper.new).is_live → S.rests keeper.old keeper.new)) }
     ensures lives { Given (S.world keeper.old) (S.world keeper.new)
@@ -33,11 +36,16 @@ pub(crate) fn answer_asked<S: Keeper>(
     ensures fault { IfErr result (KeeperFaultFits (S.world keeper.old).may_refuse) }
     ensures crash { Given (S.world keeper.old) (S.world keeper.new)
         (CommitsAs (Steps tick.now (Ok asked)) (S.world keeper.old) (S.world keeper.new)) }
-    ensures quiet { IsTrue (is_idle ((S.world keeper.old).meaning asked.lab) tick.now asked.instruction) →
-        Given (S.world keeper.old) (S.world keeper.new) (Quiet (S.world keeper.old) (S.world keeper.new)) }
-    ensures settled { IsFalse (is_idle ((S.world keeper.old).meaning asked.lab) tick.now asked.instruction) →
-        Given (S.world keeper.old) (S.world keeper.new) (OnOk result (IsSettled (S.world keeper.new))) }
-    ensures reached { Given (S.world keeper.old) (S.world keeper.new) (S.world keeper.new).is_reached }
+    ensures quiet { IsTrue (is_idle ((S.world keeper.old).meaning asked.lab) tick.now
+        asked.instruction) →
+        Given (S.world keeper.old) (S.world keeper.new)
+        (Quiet (S.world keeper.old) (S.world keeper.new)) }
+    ensures settled { IsFalse (is_idle ((S.world keeper.old).meaning asked.lab) tick.now
+        asked.instruction) →
+        Given (S.world keeper.old) (S.world keeper.new)
+        (OnOk result (IsSettled (S.world keeper.new))) }
+    ensures reached { Given (S.world keeper.old) (S.world keeper.new)
+        (S.world keeper.new).is_reached }
     ensures passes { Passes (S.world keeper.old) (S.world keeper.new) }
 {
     let Asked { lab, instruction } = asked;

@@ -1,5 +1,5 @@
-//! A whole run of an installation. Each laboratory's answers and rows are those of its own small machine, run
-//! over its own events alone.
+//! A whole run of an installation. Each laboratory's answers and rows are those of its own small
+//! machine, run over its own events alone.
 
 ghost use Rattle.std.specs.Prelude.{◌≡◌, ℕ, List, [], ◌∷◌, IfOk, IfErr};
 ghost use Rattle.std.specs.Io.KnownBytes.{Keeps};
@@ -22,25 +22,30 @@ struct Answered {
 }
 
 impl<S: Keeper + Drop> Desk<S> {
-    /// Handles events in order, writes each answer in turn, and tells for each event whether it was taken.
-    /// An event is taken unless memory ran out or the store refused, which change nothing. Each laboratory's
-    /// answers, byte for byte, and what the keeper means by it in the end are those of its own small machine,
-    /// run over its own taken events alone; every event has one answer, in order, and nothing else is
-    /// written. The answers are so also where a fault shut the store.
+    /// Handles events in order, writes each answer in turn, and tells for each event whether it was
+    /// taken. An event is taken unless memory ran out or the store refused, which change nothing.
+    /// Each laboratory's answers, byte for byte, and what the keeper means by it in the end are
+    /// those of its own small machine, run over its own taken events alone; every event has one
+    /// answer, in order, and nothing else is written. The answers are so also where a fault shut
+    /// the store.
     ///
     /// # Errors
-    /// That memory ran out for the list that is told, made first: nothing is handled or written. A write fault:
-    /// the events up to it stand, their answers went out, the last of them cut to its first bytes.
+    /// That memory ran out for the list that is told, made first: nothing is handled or written. A
+    /// write fault: the events up to it stand, their answers went out, the last of them cut to its
+    /// first bytes.
     pub fn run<W: Write>(&mut self, events: &[Event], writer: &mut W) -> Result<Vec<bool>, RunFault>
-        ensures alone { Given (S.world self.old.keeper) (S.world self.new.keeper) (IfOk result (λ taken.
+        ensures alone { Given (S.world self.old.keeper) (S.world self.new.keeper)
+            (IfOk result (λ taken.
             Runs (S.world self.old.keeper) (S.world self.new.keeper) events.now taken.items
             (W.contents writer.old) (W.contents writer.new))) }
-        ensures cut { Given (S.world self.old.keeper) (S.world self.new.keeper) (IfErr result (IfWrite (λ taken sent.
+        ensures cut { Given (S.world self.old.keeper) (S.world self.new.keeper)
+            (IfErr result (IfWrite (λ taken sent.
             RunsCut (S.world self.old.keeper) (S.world self.new.keeper) events.now taken sent
             (W.contents writer.old) (W.contents writer.new)))) }
         ensures memory { IfErr result (IfMemory
             ((self.new ≡ self.old) × Keeps (W.contents writer.old) (W.contents writer.new))) }
-        ensures reached { Given (S.world self.old.keeper) (S.world self.new.keeper) (S.world self.new.keeper).is_reached }
+        ensures reached { Given (S.world self.old.keeper) (S.world self.new.keeper)
+            (S.world self.new.keeper).is_reached }
         ensures passes { Passes (S.world self.old.keeper) (S.world self.new.keeper) }
     {
         let Ok(mut taken) = self.room_for(events) else {
@@ -61,11 +66,13 @@ impl<S: Keeper + Drop> Desk<S> {
 
     /// Handles one event, and writes its answer.
     fn answer<W: Write>(&mut self, event: &Event, writer: &mut W) -> Answered
-        ensures answered { Given (S.world self.old.keeper) (S.world self.new.keeper) ((answer : List ℕ)
+        ensures answered { Given (S.world self.old.keeper) (S.world self.new.keeper)
+            ((answer : List ℕ)
             × IsRun (S.world self.old.keeper) (S.world self.new.keeper)
             (record { event = event.now; taken = result.taken; answer = answer } ∷ [])
             × Sends answer result.sent (W.contents writer.old) (W.contents writer.new)) }
-        ensures reached { Given (S.world self.old.keeper) (S.world self.new.keeper) (S.world self.new.keeper).is_reached }
+        ensures reached { Given (S.world self.old.keeper) (S.world self.new.keeper)
+            (S.world self.new.keeper).is_reached }
         ensures passes { Passes (S.world self.old.keeper) (S.world self.new.keeper) }
     {
         match event {

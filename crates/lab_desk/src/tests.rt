@@ -39,8 +39,7 @@ const NO_ROUTE_REPLY: &[u8] = b"HTTP/1.1 404 Not Found\r\nDate: Thu, 01 Jan 1970
     Content-Type: application/json\r\nContent-Length: 32\r\nConnection: close\r\n\r\n\
     {\"error\":\"no_route\",\"number\":86}";
 
-const BAD_HEAD_REPLY: &[u8] =
-    b"HTTP/1.1 400 Bad Request\r\nDate: Thu, 01 Jan 1970 00:01:40 GMT\r\n\
+const BAD_HEAD_REPLY: &[u8] = b"HTTP/1.1 400 Bad Request\r\nDate: Thu, 01 Jan 1970 00:01:40 GMT\r\n\
     Content-Type: application/json\r\nContent-Length: 32\r\nConnection: close\r\n\r\n\
     {\"error\":\"bad_head\",\"number\":80}";
 
@@ -107,12 +106,12 @@ impl Keeper for Moody {
     ghost use Rattle.std.specs.Prelude.{None};
 
     ghost world = { λ _. record {
-        meaning = λ _. None;
-        is_honest = ⊥;
-        is_live = ⊥;
-        is_reached = ⊥;
-        may_refuse = Unit {0};
-        may_leave = λ _. ⊥;
+      meaning = λ _. None;
+      is_honest = ⊥;
+      is_live = ⊥;
+      is_reached = ⊥;
+      may_refuse = Unit {0};
+      may_leave = λ _. ⊥;
     } };
 
     ghost rests = { λ _ _. Unit {0} };
@@ -257,7 +256,11 @@ fn faults_of_foundings_have_their_numbers_and_words(rt: HostRuntime) -> Result<(
     for (fault, number, word) in [
         (FoundFault::Body(BodyRefusal::BadName), 1, "bad_name"),
         (FoundFault::Placing(PlacingFault::Storage), 63, "storage"),
-        (FoundFault::Placing(PlacingFault::LabExists), 64, "lab_exists"),
+        (
+            FoundFault::Placing(PlacingFault::LabExists),
+            64,
+            "lab_exists",
+        ),
         (FoundFault::Body(BodyRefusal::BadBody), 88, "bad_body"),
         (FoundFault::Placing(PlacingFault::Memory), 90, "memory"),
     ] {
@@ -295,8 +298,10 @@ fn a_run_answers_in_order_and_tells_what_was_taken(rt: HostRuntime) -> Result<()
     let mut out = Vec::new(rt.alloc());
     let taken = desk.run(&events, &mut out)?;
     assert_eq!(rt; taken.as_slice(), [true; 5].as_slice());
-    let mut wanted = b"founded aqua\nrefused 64 lab_exists\nrefused 1 bad_name\nrefused 88 bad_body\n"
-        .to_vec(rt.alloc())?;
+    let mut wanted =
+        b"founded aqua\nrefused 64 lab_exists\nrefused 1 bad_name\nrefused 88 bad_body\n".to_vec(
+            rt.alloc(),
+        )?;
     wanted.extend_from_slice(CARD_REPLY)?;
     assert_eq!(rt; out.as_slice(), wanted.as_slice());
     Ok(())
@@ -356,7 +361,10 @@ fn foundings_that_are_refused_found_nothing(rt: HostRuntime) -> Result<(), Fail>
     ];
     let mut out = Vec::new(rt.alloc());
     let taken = desk.run(&events, &mut out)?;
-    assert_eq!(rt; taken.as_slice(), [true, false, true, false, true].as_slice());
+    assert_eq!(rt;
+        taken.as_slice(),
+        [true, false, true, false, true].as_slice()
+    );
     let wanted: &[u8] = b"founded aqua\nrefused 90 memory\nrefused 64 lab_exists\n\
         refused 63 storage\nfounded brick\n";
     assert_eq!(rt; out.as_slice(), wanted);

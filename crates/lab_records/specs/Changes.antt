@@ -28,9 +28,11 @@ ChangesFit (Some lab) changes = Unit {0}
 ChangesFit None [] = Unit {0}
 ChangesFit None (one ∷ others) = ⊥
 
--- an outcome that is the step of a laboratory: the reply is its reply, the changes fit the laboratory and make of
--- it what it is after the step, and there are none where the step writes nothing, and there alone
-pub record Decides (lab : Option Lab) (tick : Tick) (instruction : Instruction) (outcome : Outcome) : Type 0 where
+-- an outcome that is the step of a laboratory: the reply is its reply, the changes fit the
+-- laboratory and make of it what it is after the step, and there are none where the step writes
+-- nothing, and there alone
+pub record Decides (lab : Option Lab) (tick : Tick) (instruction : Instruction)
+    (outcome : Outcome) : Type 0 where
   pub reply : outcome.reply ≡ (step lab tick instruction).reply
   pub fit : ChangesFit lab outcome.changes
   pub after : changed_in lab outcome.changes ≡ (step lab tick instruction).after

@@ -1,5 +1,6 @@
--- The small machine: one laboratory by itself, what it replies to an instruction and what it is afterwards, and
--- how it is born. It knows no other laboratory, no bytes and no tables (ISO/IEC 17025:2017, 7.5.1 and 8.4.2).
+-- The small machine: one laboratory by itself, what it replies to an instruction and what it is
+-- afterwards, and how it is born. It knows no other laboratory, no bytes and no tables (ISO/IEC
+-- 17025:2017, 7.5.1 and 8.4.2).
 use Rattle.std.specs.Prelude.{ℕ, Bool, true, List, Option, Some, None, Result, Ok, Err, nat_lt, if◌then◌else◌}
 use Rattle.lab_names.specs.declared.Tick.{Tick}
 use Rattle.lab_records.specs.declared.lab.Lab.{Lab}
@@ -22,7 +23,8 @@ pub record Stepped : Type 0 where
 abbrev pub answered : Lab → Command → Stepped
 answered lab AsksCard = record { reply = Card lab.code lab.name; after = Some lab }
 
--- one step: no laboratory, a moment before the last one, and then the command; a refusal changes nothing
+-- one step: no laboratory, a moment before the last one, and then the command; a refusal changes
+-- nothing
 abbrev pub step : Option Lab → Tick → Instruction → Stepped
 step None tick instruction = record { reply = Refused NoSuchLab; after = None }
 step (Some lab) tick instruction =
@@ -33,7 +35,8 @@ step (Some lab) tick instruction =
 abbrev pub only_reads : Command → Bool
 only_reads AsksCard = true
 
--- whether a step writes nothing: no laboratory, a moment before the last one, or a command that only reads
+-- whether a step writes nothing: no laboratory, a moment before the last one, or a command that
+-- only reads
 abbrev pub is_idle : Option Lab → Tick → Instruction → Bool
 is_idle None tick instruction = true
 is_idle (Some lab) tick instruction =

@@ -1,4 +1,5 @@
--- What is known of a keeper of laboratories at a moment, and the words for what a call of it makes and passes on.
+-- What is known of a keeper of laboratories at a moment, and the words for what a call of it makes
+-- and passes on.
 use Rattle.std.specs.Prelude.{◌≡◌, ◌≢◌, ◌⊎◌, ℕ, List, Option, Some, None, Result, Ok, Err}
 use Rattle.lab_records.specs.declared.lab.Lab.{Lab}
 use Rattle.lab_records.specs.declared.command.Change.{Change}
@@ -52,13 +53,15 @@ pub record Places (lab : Lab) (old new : Meaning) : Type 0 where
 
 -- ---- what every call passes on
 
--- what is honest, or live, after a call was so before it; and a keeper that never refuses doesn't begin to
+-- what is honest, or live, after a call was so before it; and a keeper that never refuses doesn't
+-- begin to
 pub record Passes (old new : World) : Type 0 where
   pub honest : new.is_honest → old.is_honest
   pub live : new.is_honest → new.is_live → old.is_live
   pub refusing : new.may_refuse → old.may_refuse
 
--- the premises of a call: the keeper is honest at its end, and its tables were well kept at its start
+-- the premises of a call: the keeper is honest at its end, and its tables were well kept at its
+-- start
 abbrev pub Given : World → World → Type 0 → Type 0
 Given old new P = new.is_honest → old.is_reached → P
 
@@ -102,7 +105,8 @@ PlacingFaultFits may_refuse exists LabExists = exists
 PlacingFaultFits may_refuse exists NotStored = may_refuse
 PlacingFaultFits may_refuse exists NoMemory = Unit {0}
 
--- a fact on a founding that ended with what is kept: the laboratory is founded, or it exists already
+-- a fact on a founding that ended with what is kept: the laboratory is founded, or it exists
+-- already
 abbrev pub OnPlaced : Result (Unit {0}) PlacingFault → Type 0 → Type 0
 OnPlaced (Ok _) P = P
 OnPlaced (Err LabExists) P = P

@@ -1,4 +1,5 @@
-//! What a laboratory can be asked, what it replies, and what passes between a decision and a keeper.
+//! What a laboratory can be asked, what it replies, and what passes between a decision and a
+//! keeper.
 
 ghost use Rattle.std.specs.Prelude.{◌≡◌, IfOk};
 

@@ -20,8 +20,8 @@ pub fn needs(_tick: &Tick, instruction: &Instruction) -> Need
     }
 }
 
-/// Decides an instruction from the part of a laboratory that it needs. Nothing is changed here: the changes are
-/// for a keeper to make. A refusal is a reply.
+/// Decides an instruction from the part of a laboratory that it needs. Nothing is changed here: the
+/// changes are for a keeper to make. A refusal is a reply.
 ///
 /// # Errors
 /// Only that memory ran out, and none where nothing is to be written.
@@ -32,9 +32,11 @@ pub fn decide(
     instruction: Instruction,
 ) -> Result<Outcome, OutOfMemory>
     // For any laboratory of which the slice is the part that the instruction needs:
-    ensures decides { (lab : Option WholeLab) → part_of (need_of tick.now instruction) lab ≡ Some slice →
+    ensures decides { (lab : Option WholeLab) → part_of
+        (need_of tick.now instruction) lab ≡ Some slice →
         IfOk result (Decides lab tick.now instruction) }
-    ensures idle { (lab : Option WholeLab) → part_of (need_of tick.now instruction) lab ≡ Some slice →
+    ensures idle { (lab : Option WholeLab) → part_of
+        (need_of tick.now instruction) lab ≡ Some slice →
         IsTrue (is_idle lab tick.now instruction) → IsOk result }
 {
     let changes = Series::new(alloc);

@@ -1,4 +1,5 @@
-//! Why a keeper gave no answer: its store refused, memory ran out, or the laboratory to be founded is there.
+//! Why a keeper gave no answer: its store refused, memory ran out, or the laboratory to be founded
+//! is there.
 
 ghost use Rattle.std.specs.Prelude.{◌≡◌, Some};
 ghost use Rattle.lab_records.specs.declared.fault.KeeperFault.TheVariants.{Memory};

@@ -1,6 +1,7 @@
-//! Who keeps laboratories: a list in memory, or the tables of a database. One body of the desk serves every
-//! keeper, so what a keeper promises is said here: of the meaning of each laboratory, of the keeper's own
-//! rows, of what passes from one call to the next, and of what a crash may leave.
+//! Who keeps laboratories: a list in memory, or the tables of a database. One body of the desk
+//! serves every keeper, so what a keeper promises is said here: of the meaning of each laboratory,
+//! of the keeper's own rows, of what passes from one call to the next, and of what a crash may
+//! leave.
 
 ghost use Rattle.std.specs.Prelude.{◌≡◌, ◌≢◌, ℕ, List, [], Option, Some, Err, IsSome, IfOk, IfErr, OnOk, OnErr};
 ghost use Rattle.lab_records.specs.declared.lab.Lab.{Lab as WholeLab};
@@ -33,28 +34,34 @@ pub trait Keeper {
     fn load(&mut self, code: &LabCode, need: &Need) -> Result<Option<Slice>, KeeperFault>
         ensures part { Given (world self.old) (world self.new)
             (IfOk result (λ found. found ≡ part_of need.now ((world self.old).meaning code.now))) }
-        ensures same { Given (world self.old) (world self.new) (Leaves (world self.old) (world self.new)) }
+        ensures same { Given (world self.old) (world self.new)
+            (Leaves (world self.old) (world self.new)) }
         ensures rows { Given (world self.old) (world self.new)
             ((world self.new).is_live → rests self.old self.new) }
         ensures lives { Given (world self.old) (world self.new)
             (OnOk result (Lives (world self.old) (world self.new))) }
         ensures fault { IfErr result (KeeperFaultFits (world self.old).may_refuse) }
-        ensures crash { Given (world self.old) (world self.new) (Quiet (world self.old) (world self.new)) }
+        ensures crash { Given (world self.old) (world self.new)
+            (Quiet (world self.old) (world self.new)) }
         ensures reached { Given (world self.old) (world self.new) (world self.new).is_reached }
         ensures passes { Passes (world self.old) (world self.new) };
 
-    /// Makes changes of one laboratory, all or none, by one commit; by none where there is no change.
+    /// Makes changes of one laboratory, all or none, by one commit; by none where there is no
+    /// change.
     fn apply(&mut self, code: &LabCode, changes: &[Change]) -> Result<(), KeeperFault>
         // Where the changes fit:
         ensures changed { ChangesFit ((world self.old).meaning code.now) changes.now →
             Given (world self.old) (world self.new)
-            (OnOk result (Changes code.now changes.now (world self.old).meaning (world self.new).meaning)) }
+            (OnOk result (Changes code.now changes.now (world self.old).meaning
+                (world self.new).meaning)) }
         ensures rows { ChangesFit ((world self.old).meaning code.now) changes.now →
-            Given (world self.old) (world self.new) (OnOk result (moves self.old self.new code.now changes.now)) }
+            Given (world self.old) (world self.new)
+                (OnOk result (moves self.old self.new code.now changes.now)) }
         ensures crash { ChangesFit ((world self.old).meaning code.now) changes.now →
             Given (world self.old) (world self.new)
             (CommitsAs (Changes code.now changes.now) (world self.old) (world self.new)) }
-        ensures settled { ChangesFit ((world self.old).meaning code.now) changes.now → changes.now ≢ [] →
+        ensures settled { ChangesFit ((world self.old).meaning code.now) changes.now →
+            changes.now ≢ [] →
             Given (world self.old) (world self.new) (OnOk result (IsSettled (world self.new))) }
         ensures reached { ChangesFit ((world self.old).meaning code.now) changes.now →
             Given (world self.old) (world self.new) (world self.new).is_reached }
@@ -69,7 +76,8 @@ pub trait Keeper {
         ensures fault { IfErr result (KeeperFaultFits (world self.old).may_refuse) }
         ensures quiet { changes.now ≡ [] →
             Given (world self.old) (world self.new) (Quiet (world self.old) (world self.new)) }
-        ensures reached_err { Given (world self.old) (world self.new) (OnErr result (world self.new).is_reached) }
+        ensures reached_err { Given (world self.old) (world self.new)
+            (OnErr result (world self.new).is_reached) }
         ensures passes { Passes (world self.old) (world self.new) };
 
     /// Founds a laboratory by one commit, where there is none of that code.
@@ -91,10 +99,13 @@ pub trait Keeper {
         ensures lives { Given (world self.old) (world self.new)
             (OnPlaced result (Lives (world self.old) (world self.new))) }
         ensures fault { IfErr result (PlacingFaultFits (world self.old).may_refuse
-            (Given (world self.old) (world self.new) (IsSome ((world self.old).meaning code.now)))) }
+            (Given (world self.old) (world self.new) (IsSome ((world self.old).meaning code.now))))
+                }
         ensures crash { Given (world self.old) (world self.new)
-            (CommitsAs (Places (newborn code.now tick.now founding.now)) (world self.old) (world self.new)) }
-        ensures settled { Given (world self.old) (world self.new) (OnOk result (IsSettled (world self.new))) }
+            (CommitsAs (Places (newborn code.now tick.now founding.now)) (world self.old)
+                (world self.new)) }
+        ensures settled { Given (world self.old) (world self.new)
+            (OnOk result (IsSettled (world self.new))) }
         ensures quiet { result ≡ Err LabExists →
             Given (world self.old) (world self.new) (Quiet (world self.old) (world self.new)) }
         ensures reached { Given (world self.old) (world self.new) (world self.new).is_reached }
@@ -109,10 +120,12 @@ pub trait Keeper {
     ghost still: { (keeper : Self) → rests keeper keeper };
 
     /// Rows that stay as they were stay so over two calls.
-    ghost rests_on: { (first next last : Self) → rests first next → rests next last → rests first last };
+    ghost rests_on: { (first next last : Self) → rests first next → rests next last →
+        rests first last };
 
     /// Rows that stay as they were have made no change.
-    ghost rests_unchanged: { (first next : Self) (code : List ℕ) → rests first next → moves first next code [] };
+    ghost rests_unchanged: { (first next : Self) (code : List ℕ) → rests first next →
+        moves first next code [] };
 
     /// Changes after a call that left the rows are the same changes of the rows before it.
     ghost moves_on: { (first next last : Self) (code : List ℕ) (changes : List OneChange) →

@@ -1,6 +1,6 @@
-//! One laboratory as a small machine: what it holds, what it can be asked, what it replies, and what each
-//! instruction changes (ISO/IEC 17025:2017, 7.5 and 8.4). It knows no bytes and no tables: those who keep
-//! laboratories are a `Keeper`.
+//! One laboratory as a small machine: what it holds, what it can be asked, what it replies, and
+//! what each instruction changes (ISO/IEC 17025:2017, 7.5 and 8.4). It knows no bytes and no
+//! tables: those who keep laboratories are a `Keeper`.
 #![tactic(auto)]
 
 mod command;

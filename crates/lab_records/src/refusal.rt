@@ -1,4 +1,5 @@
-//! What a laboratory's machine refuses: each refusal has a number and a word, which customers and programs rely on.
+//! What a laboratory's machine refuses: each refusal has a number and a word, which customers and
+//! programs rely on.
 
 ghost use Rattle.std.specs.Prelude.{◌≡◌, Some, IfOk};
 ghost use Rattle.lab_records.specs.Refusals.{refusal_entry, birth_entry};

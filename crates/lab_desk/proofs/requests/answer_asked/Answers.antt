@@ -8,8 +8,8 @@ returns-in_err-apply-clause-rows_err g c = λ honest reached.
     let between = c.apply.ensures.passes in
     let loaded = c.load.ensures.reached (between.honest honest) reached in
     let rested : (g.S.Keeper.world c.apply.new.self).is_live → g.S.Keeper.rests c.args.keeper.now c.apply.new.self = λ live.
-        g.met.S.Keeper.rests_on _ _ _ (c.load.ensures.rows (between.honest honest) reached (between.live honest live))
-        (rw c.in_err-apply.was at (c.apply.ensures.rows_err honest loaded) live) in
+    g.met.S.Keeper.rests_on _ _ _ (c.load.ensures.rows (between.honest honest) reached (between.live honest live))
+    (rw c.in_err-apply.was at (c.apply.ensures.rows_err honest loaded) live) in
     search rules
 
 pub returns-clause-rows : goal.returns-clause-rows
