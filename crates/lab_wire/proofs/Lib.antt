@@ -3,6 +3,7 @@ pub mod BodyLemmas
 pub mod DateLemmas
 pub mod HeadLaws
 pub mod HeadLemmas
+pub mod KnownValues
 pub mod LineLemmas
 pub mod MessageLemmas
 pub mod ReadLemmas

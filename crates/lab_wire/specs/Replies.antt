@@ -30,9 +30,9 @@ card_data lab name =
 abbrev pub refusal_data : Entry → Data
 refusal_data entry =
     object_from (
-      (codes "error", string entry.word)
-      ∷ (codes "number", number (unsigned entry.number))
-      ∷ []
+    (codes "error", string entry.word)
+    ∷ (codes "number", number (unsigned entry.number))
+    ∷ []
     )
 
 -- a laboratory's reply

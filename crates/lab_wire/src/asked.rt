@@ -21,10 +21,7 @@ pub struct Asked {
 }
 
 impl Asked {
-    /// A copy.
-    ///
-    /// # Errors
-    /// Only that memory ran out.
+    /// A copy. Its only error is that memory ran out.
     pub fn copy(&self) -> Result<Asked, OutOfMemory>
         ensures { IfOk result (λ copy. copy ≡ self.now) }
     {

@@ -4,12 +4,11 @@
 ghost use Rattle.std.specs.Prelude.{◌≡◌, Some};
 ghost use Rattle.lab_wire.specs.Refusals.{request_entry, body_entry, request_fault_entry, body_fault_entry};
 
-use lab_names::OutOfMemory;
 use std::fmt;
 use thiserror::Error;
 
-/// Why the bytes of a request ask nothing. Its text is its word.
-#[derive(Clone, Copy, Debug, PartialEq, Eq, Error)]
+/// Why the bytes of a request ask nothing.
+#[derive(Clone, Copy, Debug, PartialEq, Eq)]
 pub enum RequestRefusal {
     /// They begin with no whole request head, or with one without exactly one Host.
     BadHead,
@@ -46,19 +45,8 @@ impl RequestRefusal {
     }
 }
 
-impl fmt::Display for RequestRefusal {
-    ghost use Rattle.std.specs.Prelude.{Some};
-    ghost use Rattle.lab_wire.specs.Refusals.{request_entry};
-
-    ghost output = { λ told. Some (request_entry told).word };
-
-    fn fmt<W: fmt::Write>(&self, f: &mut fmt::Formatter<W>) -> fmt::Result {
-        f.write_str(self.word())
-    }
-}
-
-/// Why a body says nothing of its kind. Its text is its word.
-#[derive(Clone, Copy, Debug, PartialEq, Eq, Error)]
+/// Why a body says nothing of its kind.
+#[derive(Clone, Copy, Debug, PartialEq, Eq)]
 pub enum BodyRefusal {
     /// It is not of the form that is asked for.
     BadBody,
@@ -89,17 +77,6 @@ impl BodyRefusal {
         ensures { result.now ≡ (body_entry self.now).word }
     {
         self.entry().1
-    }
-}
-
-impl fmt::Display for BodyRefusal {
-    ghost use Rattle.std.specs.Prelude.{Some};
-    ghost use Rattle.lab_wire.specs.Refusals.{body_entry};
-
-    ghost output = { λ told. Some (body_entry told).word };
-
-    fn fmt<W: fmt::Write>(&self, f: &mut fmt::Formatter<W>) -> fmt::Result {
-        f.write_str(self.word())
     }
 }
 
@@ -149,28 +126,6 @@ impl fmt::Display for RequestFault {
     }
 }
 
-impl From<OutOfMemory> for RequestFault {
-    ghost use Rattle.std.specs.Prelude.{◌≡◌};
-    ghost use Rattle.lab_wire.specs.declared.refusals.RequestFault.TheVariants.{Memory};
-
-    ghost from_gives = { λ _ fault. fault ≡ Memory };
-
-    fn from(_error: OutOfMemory) -> RequestFault {
-        RequestFault::Memory
-    }
-}
-
-impl From<RequestRefusal> for RequestFault {
-    ghost use Rattle.std.specs.Prelude.{◌≡◌};
-    ghost use Rattle.lab_wire.specs.declared.refusals.RequestFault.TheVariants.{Refused};
-
-    ghost from_gives = { λ refusal fault. fault ≡ Refused refusal };
-
-    fn from(refusal: RequestRefusal) -> RequestFault {
-        RequestFault::Refused(refusal)
-    }
-}
-
 /// Why a body was not read. Its text is its word.
 #[derive(Clone, Copy, Debug, PartialEq, Eq, Error)]
 pub enum BodyFault {
@@ -217,64 +172,42 @@ impl fmt::Display for BodyFault {
     }
 }
 
-impl From<OutOfMemory> for BodyFault {
-    ghost use Rattle.std.specs.Prelude.{◌≡◌};
-    ghost use Rattle.lab_wire.specs.declared.refusals.BodyFault.TheVariants.{Memory};
-
-    ghost from_gives = { λ _ fault. fault ≡ Memory };
-
-    fn from(_error: OutOfMemory) -> BodyFault {
-        BodyFault::Memory
-    }
-}
-
-impl From<BodyRefusal> for BodyFault {
-    ghost use Rattle.std.specs.Prelude.{◌≡◌};
-    ghost use Rattle.lab_wire.specs.declared.refusals.BodyFault.TheVariants.{Refused};
-
-    ghost from_gives = { λ refusal fault. fault ≡ Refused refusal };
-
-    fn from(refusal: BodyRefusal) -> BodyFault {
-        BodyFault::Refused(refusal)
-    }
-}
-
 #[cfg(test)]
 mod tests {
     use super::*;
 
     #[test]
-    fn refusals_of_requests_have_their_numbers_and_words(rt: HostRuntime) {
-        for (refusal, number, word) in [
-            (RequestRefusal::BadHead, 80, "bad_head"),
-            (RequestRefusal::HeadTooLong, 81, "head_too_long"),
-            (RequestRefusal::NoRoute, 86, "no_route"),
+    fn faults_of_requests_have_their_numbers_and_words(rt: HostRuntime) {
+        for (fault, number, word) in [
+            (
+                RequestFault::Refused(RequestRefusal::BadHead),
+                80,
+                "bad_head",
+            ),
+            (
+                RequestFault::Refused(RequestRefusal::HeadTooLong),
+                81,
+                "head_too_long",
+            ),
+            (
+                RequestFault::Refused(RequestRefusal::NoRoute),
+                86,
+                "no_route",
+            ),
+            (RequestFault::Memory, 90, "memory"),
         ] {
-            assert_eq!(rt; refusal.number(), Some(number));
-            assert_eq!(rt; refusal.word(), word);
-            assert_eq!(rt; RequestFault::from(refusal).number(), Some(number));
-            assert_eq!(rt; RequestFault::from(refusal).word(), word);
+            assert_eq!(rt; (fault.number(), fault.word()), (Some(number), word));
         }
     }
 
     #[test]
-    fn refusals_of_bodies_have_their_numbers_and_words(rt: HostRuntime) {
-        for (refusal, number, word) in [
-            (BodyRefusal::BadBody, 88, "bad_body"),
-            (BodyRefusal::BadName, 1, "bad_name"),
+    fn faults_of_bodies_have_their_numbers_and_words(rt: HostRuntime) {
+        for (fault, number, word) in [
+            (BodyFault::Refused(BodyRefusal::BadBody), 88, "bad_body"),
+            (BodyFault::Refused(BodyRefusal::BadName), 1, "bad_name"),
+            (BodyFault::Memory, 90, "memory"),
         ] {
-            assert_eq!(rt; refusal.number(), Some(number));
-            assert_eq!(rt; refusal.word(), word);
-            assert_eq!(rt; BodyFault::from(refusal).number(), Some(number));
-            assert_eq!(rt; BodyFault::from(refusal).word(), word);
+            assert_eq!(rt; (fault.number(), fault.word()), (Some(number), word));
         }
-    }
-
-    #[test]
-    fn out_of_memory_is_known_by_90(rt: HostRuntime) {
-        let request = RequestFault::from(OutOfMemory);
-        assert_eq!(rt; (request.number(), request.word()), (Some(90), "memory"));
-        let body = BodyFault::from(OutOfMemory);
-        assert_eq!(rt; (body.number(), body.word()), (Some(90), "memory"));
     }
 }

@@ -128,7 +128,11 @@ mod tests {
             Content-Type: application/json\r\nContent-Length: 32\r\nConnection: close\r\n\r\n\
             {\"lab\":\"aqua\",\"name\":\"Aqua Lab\"}";
         assert_eq!(rt; card.as_slice(), card_text.as_slice());
-        let missing = reply_bytes(rt.alloc(), &tick, &Answer::Replied(Reply::Refused(Refusal::NoSuchLab)))?;
+        let missing = reply_bytes(
+            rt.alloc(),
+            &tick,
+            &Answer::Replied(Reply::Refused(Refusal::NoSuchLab)),
+        )?;
         let missing_text = b"HTTP/1.1 404 Not Found\r\nDate: Thu, 01 Jan 1970 00:01:40 GMT\r\n\
             Content-Type: application/json\r\nContent-Length: 35\r\nConnection: close\r\n\r\n\
             {\"error\":\"no_such_lab\",\"number\":40}";
@@ -149,38 +153,29 @@ mod tests {
 
     #[test]
     fn each_refusal_has_its_status_and_its_body(rt: HostRuntime) -> Result<(), Fail> {
-        let answers = [
+        let behind = Answer::Replied(Reply::Refused(Refusal::ClockBehind));
+        let [bad, long] = [RequestRefusal::BadHead, RequestRefusal::HeadTooLong];
+        let no_route = Answer::Refused(RequestRefusal::NoRoute);
+        for (answer, status, word, number) in [
+            (Answer::Refused(bad), "400 Bad Request", "bad_head", 80),
             (
-                Answer::Refused(RequestRefusal::BadHead),
-                "HTTP/1.1 400 Bad Request\r\n",
-                "Content-Length: 32\r\nConnection: close\r\n\r\n{\"error\":\"bad_head\",\"number\":80}",
+                Answer::Refused(long),
+                "431 Request Header Fields Too Large",
+                "head_too_long",
+                81,
             ),
-            (
-                Answer::Refused(RequestRefusal::HeadTooLong),
-                "HTTP/1.1 431 Request Header Fields Too Large\r\n",
-                "Content-Length: 37\r\nConnection: close\r\n\r\n{\"error\":\"head_too_long\",\"number\":81}",
-            ),
-            (
-                Answer::Refused(RequestRefusal::NoRoute),
-                "HTTP/1.1 404 Not Found\r\n",
-                "Content-Length: 32\r\nConnection: close\r\n\r\n{\"error\":\"no_route\",\"number\":86}",
-            ),
-            (
-                Answer::Replied(Reply::Refused(Refusal::ClockBehind)),
-                "HTTP/1.1 503 Service Unavailable\r\n",
-                "Content-Length: 36\r\nConnection: close\r\n\r\n{\"error\":\"clock_behind\",\"number\":41}",
-            ),
-            (
-                Answer::Storage,
-                "HTTP/1.1 503 Service Unavailable\r\n",
-                "Content-Length: 31\r\nConnection: close\r\n\r\n{\"error\":\"storage\",\"number\":63}",
-            ),
-        ];
-        for (answer, line, rest) in answers {
-            let bytes = reply_bytes(rt.alloc(), &tick_at(100)?, &answer)?;
+            (no_route, "404 Not Found", "no_route", 86),
+            (behind, "503 Service Unavailable", "clock_behind", 41),
+            (Answer::Storage, "503 Service Unavailable", "storage", 63),
+        ] {
+            let body = format!(in rt.alloc(); "{{\"error\":\"{word}\",\"number\":{number}}}")?;
             let text = format!(in rt.alloc();
-                "{line}Date: Thu, 01 Jan 1970 00:01:40 GMT\r\nContent-Type: application/json\r\n{rest}"
+                "HTTP/1.1 {status}\r\nDate: Thu, 01 Jan 1970 00:01:40 GMT\r\n\
+                Content-Type: application/json\r\nContent-Length: {}\r\n\
+                Connection: close\r\n\r\n{body}",
+                body.len()
             )?;
+            let bytes = reply_bytes(rt.alloc(), &tick_at(100)?, &answer)?;
             assert_eq!(rt; bytes.as_slice(), text.as_bytes());
         }
         Ok(())
