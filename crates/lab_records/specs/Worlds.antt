@@ -77,16 +77,16 @@ Tells world meaning = world.is_live → SameMeaning meaning world.meaning
 abbrev pub Leaves : World → World → Type 0
 Leaves old new = Tells new old.meaning
 
--- ---- what a crash may leave
+-- ---- what a crash may leave, after a call of a keeper that no fault had shut
 
 -- no more than before the call
 abbrev pub Quiet : World → World → Type 0
-Quiet old new = (held : Meaning) → new.may_leave held → old.may_leave held
+Quiet old new = old.is_live → (held : Meaning) → new.may_leave held → old.may_leave held
 
 -- no more than before the call, or what its commit makes of what was kept
 abbrev pub CommitsAs : (Meaning → Meaning → Type 0) → World → World → Type 0
 CommitsAs Makes old new =
-    (held : Meaning) → new.may_leave held → old.may_leave held ⊎ Makes old.meaning held
+    old.is_live → (held : Meaning) → new.may_leave held → old.may_leave held ⊎ Makes old.meaning held
 
 -- only what is kept
 abbrev pub IsSettled : World → Type 0

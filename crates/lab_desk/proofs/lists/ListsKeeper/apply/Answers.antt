@@ -26,7 +26,7 @@ returns-clause-changed c = λ fits honest reached.
     rw (c.in_ok-lab.ensures, ← c.self.view_is) (changed_meaning c.self.inside.labs.items c.args.code.now c.in-Some.place c.index.result.now c.args.changes.now (stood c) c.index.ensures)
 
 pub returns-clause-crash : goal.returns-clause-crash
-returns-clause-crash c = λ fits honest reached held left.
+returns-clause-crash c = λ fits honest reached live held left.
     inr (left_as c.args.code.now c.args.changes.now _ _ held (returns-clause-changed c fits honest reached) left)
 
 pub returns-clause-rows : goal.returns-clause-rows

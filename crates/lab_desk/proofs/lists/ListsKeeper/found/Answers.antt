@@ -16,4 +16,4 @@ pub returns-clause-founded : goal.returns-clause-founded
 returns-clause-founded c = λ honest reached. rw (added c) (added_meaning c.args.self.now (newborn c.args.code.now c.args.tick.now c.args.founding.now) (was_none c))
 
 pub returns-clause-crash : goal.returns-clause-crash
-returns-clause-crash c = λ honest reached held left. inr (placed_as _ _ _ held (returns-clause-founded c honest reached) left)
+returns-clause-crash c = λ honest reached live held left. inr (placed_as _ _ _ held (returns-clause-founded c honest reached) left)
