@@ -1,6 +1,6 @@
 -- Runs join: a run, and a run from where it ended, are one run; and one event is a run.
-use Rattle.std.proofs.Common.{◌≡◌, ◌≢◌, ℕ, Bool, true, false, cond, List, [], ◌∷◌, ◌++◌, Option, Some, None, Result, Ok, Err, refl, sym, ◌∙◌, ap, subst, append_assoc, append-nil, inl, inr, ◌+◌, ◌<◌, length, take, map, get_or, option_map, filter_map, All, IsOk}
-use Rattle.std.specs.Prelude.{bytes_eq, ◌⊎◌, OnOk, IfErr, MatchResult}
+use Rattle.std.proofs.Common.{◌≡◌, ◌≢◌, ℕ, Bool, true, false, cond, List, [], ◌∷◌, ◌++◌, Option, Some, None, Result, Ok, Err, refl, sym, ◌∙◌, ap, subst, append-nil, inl, inr, ◌+◌, ◌<◌, length, take, map, get_or, option_map, All, IsOk}
+use Rattle.std.specs.Prelude.{bytes_eq, ◌⊎◌, OnOk, IfErr}
 use Rattle.std.proofs.lemmas.Bool.{false≢true}
 use Rattle.std.specs.List.{cons_option}
 use Rattle.std.specs.List.{concat}
@@ -14,7 +14,7 @@ use Rattle.std.proofs.lemmas.List.{map-append}
 use Rattle.lab_names.specs.declared.Tick.{Tick}
 use Rattle.lab_records.specs.declared.lab.Lab.{Lab}
 use Rattle.lab_records.specs.Machine.{step}
-use Rattle.lab_records.specs.Worlds.{World, Meaning, SetsOne, Tells, Leaves, Lives, Passes}
+use Rattle.lab_records.specs.Worlds.{World, Meaning, Tells, Leaves}
 use Rattle.lab_wire.specs.declared.sending.WriteFault.{WriteFault}
 use Rattle.lab_wire.specs.declared.asked.Asked.{Asked}
 use Rattle.lab_wire.specs.declared.replies.Answer.TheVariants.{Replied, Storage}
@@ -23,10 +23,10 @@ use Rattle.lab_wire.specs.Bodies.{founding_named}
 use Rattle.lab_wire.specs.Replies.{reply_text, memory_text}
 use Rattle.lab_desk.specs.declared.events.Event.{Event}
 use Rattle.lab_desk.specs.declared.events.Event.TheVariants.{Found, Call}
-use Rattle.lab_desk.specs.Requests.{Asks, Steps, TakesRequest, RefusesRequest, IsRefusedReply, answer_to}
-use Rattle.lab_desk.specs.Foundings.{Body, Births, born_of, after_birth, line_of, TakesFounding, RefusesFounding, IsRefusedLine, memory_line, storage_line}
-use Rattle.lab_desk.specs.Alone.{Own, Founds, Obeys, own_call, own_of, after_own, answer_own, alone_after, alone_answers}
-use Rattle.lab_desk.specs.Runs.{Handled, IsRun, IsTold, IsAnswer, IsAnswerBy, IsAnswerToNobody, IsNobodys, IsRefusal, AreAlone, own_in, own_events, own_answers, after_run, answers_of, Sends, Runs, RunsCut}
+use Rattle.lab_desk.specs.Requests.{Asks, TakesRequest, RefusesRequest}
+use Rattle.lab_desk.specs.Foundings.{Body, born_of, after_birth, line_of, TakesFounding, RefusesFounding, memory_line, storage_line}
+use Rattle.lab_desk.specs.Alone.{Own, Founds, Obeys, own_call, after_own, answer_own, alone_after, alone_answers}
+use Rattle.lab_desk.specs.Runs.{Handled, IsRun, IsTold, IsAnswer, IsAnswerBy, IsAnswerToNobody, AreAlone, own_in, own_events, own_answers, after_run, answers_of, Sends, Runs, RunsCut}
 
 -- ---- runs join
 

@@ -1,5 +1,5 @@
 -- Why a founding founded nothing, and why a run ended before its last event.
-use Rattle.std.specs.Prelude.{◌≡◌, ℕ, List, Bool, Option, Some, None, Result, Ok, Err, IsOk, codes, option_map}
+use Rattle.std.specs.Prelude.{◌≡◌, ℕ, List, Bool, Option, Some, None, Result, Ok, Err, IsOk, codes}
 use Rattle.lab_names.specs.Faults.{Entry, memory_entry}
 use Rattle.lab_records.specs.Refusals.{placing_fault_entry}
 use Rattle.lab_records.specs.declared.fault.PlacingFault.TheVariants.{LabExists, Storage, Memory as NoMemory}

@@ -8,7 +8,7 @@ use Rattle.lab_records.specs.declared.command.Founding.{Founding}
 use Rattle.lab_records.specs.declared.refusal.BirthRefusal.{BirthRefusal}
 use Rattle.lab_records.specs.Machine.{born, newborn}
 use Rattle.lab_records.specs.Refusals.{birth_entry, storage_entry}
-use Rattle.lab_records.specs.Worlds.{World, Meaning, SameMeaning, SetsOne, Places, Lives, Leaves}
+use Rattle.lab_records.specs.Worlds.{World, Meaning, SetsOne, Places, Lives, Leaves}
 use Rattle.lab_wire.specs.declared.refusals.BodyRefusal.{BodyRefusal}
 use Rattle.lab_wire.specs.Refusals.{body_entry}
 

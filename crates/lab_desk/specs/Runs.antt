@@ -1,10 +1,9 @@
 -- A run of an installation: which events were taken, what was answered, and that each laboratory's
 -- answers and what it means are those of its run alone.
-use Rattle.std.specs.Prelude.{◌≡◌, ◌<◌, ◌++◌, ℕ, List, [], ◌∷◌, Bool, true, false, All, Option, None, Result, Ok, Err, IsOk, IfErr, MatchResult, filter_map, if◌then◌else◌, length, map, option_map, take}
+use Rattle.std.specs.Prelude.{◌≡◌, ◌<◌, ◌++◌, ℕ, List, [], ◌∷◌, Bool, true, false, All, Option, None, Result, Ok, Err, IsOk, IfErr, filter_map, if◌then◌else◌, length, map, option_map, take}
 use Rattle.std.specs.Io.KnownBytes.{Appends}
 use Rattle.std.specs.List.{concat}
 use Rattle.lab_names.specs.declared.Tick.{Tick}
-use Rattle.lab_records.specs.declared.lab.Lab.{Lab}
 use Rattle.lab_records.specs.Worlds.{World, Meaning, Tells}
 use Rattle.lab_wire.specs.declared.sending.WriteFault.{WriteFault}
 use Rattle.lab_wire.specs.declared.replies.Answer.TheVariants.{Refused}

@@ -229,7 +229,9 @@ replays_none fault old input before after h kept = record {
 -- a desk without laboratories, over a fresh reader
 pub from_nothing : (labs kept : List Lab) (input now before after : Option (List ℕ)) (ending : Result (Unit {0}) ReplayFault)
     → kept ≡ [] → now ≡ input → Replays (world_of kept) (world_of labs) now before after ending → Replays (world_of []) (world_of labs) input before after ending
-from_nothing labs kept input now before after ending none same replays = rw (← none, ← same) replays
+from_nothing labs kept input now before after ending none same replays =
+    let empty : Replays (world_of []) (world_of labs) now before after ending = subst (λ (k : List Lab). Replays (world_of k) (world_of labs) now before after ending) none replays in
+    subst (λ i. Replays (world_of []) (world_of labs) i before after ending) same empty
 
 prepend_nothing : (known : Option (List ℕ)) → prepend_known [] known ≡ known
 prepend_nothing None = refl

@@ -1,10 +1,9 @@
 -- Values of the definitions, computed: a card at, before and after the last moment, and a founding.
-use Rattle.std.proofs.Common.{◌≡◌, ℕ, List, [], ◌∷◌, Option, Some, None, Ok, Err, true, refl, codes}
+use Rattle.std.proofs.Common.{◌≡◌, ℕ, [], ◌∷◌, Some, None, Ok, Err, true, refl, codes}
 use Rattle.lab_names.specs.declared.Tick.{Tick}
 use Rattle.lab_records.specs.declared.lab.Lab.{Lab}
 use Rattle.lab_records.specs.declared.command.Command.TheVariants.{Card as AsksCard}
 use Rattle.lab_records.specs.declared.command.Instruction.{Instruction}
-use Rattle.lab_records.specs.declared.command.Founding.{Founding}
 use Rattle.lab_records.specs.declared.command.Change.TheVariants.{Last}
 use Rattle.lab_records.specs.declared.command.Reply.TheVariants.{Card, Refused}
 use Rattle.lab_records.specs.declared.refusal.Refusal.TheVariants.{NoSuchLab, ClockBehind}

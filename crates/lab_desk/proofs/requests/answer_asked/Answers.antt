@@ -1,5 +1,5 @@
 -- The rows: they rest over the load, and then they rest, or move by the changes that were decided.
-use Rattle.std.proofs.Common.{rules, ◌≡◌, Some}
+use Rattle.std.proofs.Common.{rules}
 use Rattle.lab_records.specs.Changes.{ChangesFit, Decides}
 use Rattle.lab_desk.proofs.requests.answer_asked.Goals as goal
 

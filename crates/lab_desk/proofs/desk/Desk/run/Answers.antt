@@ -1,7 +1,6 @@
 -- The run goes on by each event; a write fault ends it within the answer of its last event.
 use Rattle.std.proofs.Common.{rules, ◌≡◌, ◌+◌, [], ◌∷◌, ◌++◌, length}
-use Rattle.lab_desk.specs.Runs.{Handled, Runs}
-use Rattle.lab_desk.proofs.Running.{GoesOn, run_more, run_cut, runs_none}
+use Rattle.lab_desk.proofs.Running.{run_more, run_cut, runs_none}
 use Rattle.lab_desk.proofs.desk.Desk.run.Goals as goal
 
 pub loop-event-init : goal.loop-event-init

@@ -1,7 +1,6 @@
 -- A list is changed in the place where the search ended; what a crash leaves is the list itself.
-use Rattle.std.proofs.Common.{◌≡◌, List, Some, None, refl, sym, ◌∙◌, ap, position, inl, inr}
+use Rattle.std.proofs.Common.{◌≡◌, List, Some, None, refl, sym, ◌∙◌, ap, position, inr}
 use Rattle.lab_records.specs.declared.lab.Lab.{Lab}
-use Rattle.lab_records.specs.Worlds.{Changes}
 use Rattle.lab_desk.specs.Lists.{has_code, lab_of}
 use Rattle.lab_desk.specs.ListLaws.{unchanged_in_place}
 use Rattle.lab_desk.proofs.Listing.{StandsAt, stands_at, changed_meaning, unchanged_meaning, changed_in_place, no_changes, not_placed, left_as}
