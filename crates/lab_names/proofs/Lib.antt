@@ -5,4 +5,4 @@ pub mod StampLemmas
 pub mod MomentLemmas
 pub mod StampOfDate
 pub mod ParseLemmas
-pub mod StandardFacts
+pub mod KnownValues

@@ -1,27 +1,34 @@
 -- The numbers and words by which the interface of the laboratories tells what was wrong with a name or a moment, and when
--- a name is at fault.
+-- a name is at fault. Every part of the system has such a table for its own faults.
 use Rattle.std.specs.Prelude.{ℕ, Bool, List, IsTrue, IsFalse, codes}
 use Rattle.lab_names.specs.declared.faults.NameFault.{NameFault}
 use Rattle.lab_names.specs.declared.faults.NameFault.TheVariants.{BadName, Memory}
+use Rattle.lab_names.specs.declared.faults.MomentFault.{MomentFault}
+use Rattle.lab_names.specs.declared.faults.MomentFault.TheVariants.{BadMoment}
 
--- the number and the word of want of memory, in every part of the system
+-- a row of a table of faults
+pub record Entry : Type 0 where
+  pub number : ℕ
+  pub word : List ℕ
+
+-- out of memory, in every part of the system
+abbrev pub memory_entry : Entry
+memory_entry = record { number = 90; word = codes "memory" }
+
 abbrev pub memory_number : ℕ
-memory_number = 90
+memory_number = memory_entry.number
 
 abbrev pub memory_word : List ℕ
-memory_word = codes "memory"
+memory_word = memory_entry.word
 
--- the fault's number
-abbrev pub name_fault_number : NameFault → ℕ
-name_fault_number BadName = 1
-name_fault_number (Memory _) = memory_number
+abbrev pub name_fault_entry : NameFault → Entry
+name_fault_entry BadName = record { number = 1; word = codes "bad_name" }
+name_fault_entry (Memory _) = memory_entry
 
--- and its word
-abbrev pub name_fault_word : NameFault → List ℕ
-name_fault_word BadName = codes "bad_name"
-name_fault_word (Memory _) = memory_word
+abbrev pub moment_fault_entry : MomentFault → Entry
+moment_fault_entry BadMoment = record { number = 2; word = codes "bad_moment" }
 
--- the fault of a text that is tried as a name: a bad name where it is not admitted, else want of memory
+-- the fault of a text that is tried as a name: a bad name where it is not admitted, else out of memory
 abbrev pub NameFaultFits : Bool → NameFault → Type 0
 NameFaultFits admitted BadName = IsFalse admitted
 NameFaultFits admitted (Memory _) = IsTrue admitted

@@ -2,4 +2,5 @@ pub mod Calendar
 pub mod Faults
 pub mod Moment
 pub mod Names
+pub mod Ordinals
 pub mod Stamp

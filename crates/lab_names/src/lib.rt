@@ -4,12 +4,18 @@
 mod faults;
 mod moment;
 mod names;
+mod ordinals;
 mod stamp;
 #[cfg(test)]
 mod tests;
+mod text;
 mod tick;
 
 pub use faults::{MomentFault, NameFault, OutOfMemory};
 pub use moment::Moment;
-pub use names::{Key, LabCode, Name, Note, PersonCode, Unit};
+pub use names::{
+    Key, Keys, LabCode, LabCodes, Name, Names, Note, Notes, PersonCode, PersonCodes, Unit, Units,
+};
+pub use ordinals::Ordinal;
+pub use text::{Rule, Text};
 pub use tick::Tick;

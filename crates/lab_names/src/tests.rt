@@ -1,5 +1,6 @@
 use crate::{
-    Key, LabCode, Moment, MomentFault, Name, NameFault, Note, OutOfMemory, PersonCode, Tick, Unit,
+    Key, LabCode, Moment, MomentFault, Name, NameFault, Note, Ordinal, OutOfMemory, PersonCode,
+    Tick, Unit,
 };
 use std::test::Fail;
 
@@ -236,15 +237,48 @@ fn notes_have_1000_bytes_at_most(rt: HostRuntime) -> Result<(), Fail> {
 }
 
 #[test]
-fn faults_have_numbers_and_words(rt: HostRuntime) {
-    assert_eq!(rt; NameFault::BadName.number(), Some(1));
-    assert_eq!(rt; NameFault::BadName.word(), "bad_name");
-    assert_eq!(rt; NameFault::Memory(OutOfMemory).number(), Some(90));
-    assert_eq!(rt; NameFault::Memory(OutOfMemory).word(), "memory");
-    assert_eq!(rt; MomentFault::BadMoment.number(), Some(2));
-    assert_eq!(rt; MomentFault::BadMoment.word(), "bad_moment");
-    assert_eq!(rt; OutOfMemory.number(), 90);
-    assert_eq!(rt; OutOfMemory.word(), "memory");
+fn faults_have_numbers_words_and_texts(rt: HostRuntime) -> Result<(), Fail> {
+    let memory = OutOfMemory;
+    assert_eq!(rt; (memory.number(), memory.word()), (Some(90), "memory"));
+    assert_eq!(rt; memory.to_string(rt.alloc())?.as_str(), "memory");
+    for (fault, number, word) in [
+        (NameFault::BadName, 1, "bad_name"),
+        (NameFault::Memory(OutOfMemory), 90, "memory"),
+    ] {
+        assert_eq!(rt; (fault.number(), fault.word()), (Some(number), word));
+        assert_eq!(rt; fault.to_string(rt.alloc())?.as_str(), word);
+    }
+    let fault = MomentFault::BadMoment;
+    assert_eq!(rt; (fault.number(), fault.word()), (Some(2), "bad_moment"));
+    assert_eq!(rt; fault.to_string(rt.alloc())?.as_str(), "bad_moment");
+    Ok(())
+}
+
+// Python's `sorted` of the same texts as bytes.
+#[test]
+fn codes_stand_in_the_order_of_their_bytes(rt: HostRuntime) -> Result<(), Fail> {
+    let mut codes = Vec::new(rt.alloc());
+    for text in ["bob", "an", "ann", "an-2", "b2", "an2", "ann"] {
+        codes.push(PersonCode::parse(rt.alloc(), text)?)?;
+    }
+    codes.sort()?;
+    let mut texts = Vec::new(rt.alloc());
+    for code in codes.iter() {
+        texts.push(code.as_str())?;
+    }
+    assert_eq!(rt;
+        texts.as_slice(),
+        ["an", "an-2", "an2", "ann", "ann", "b2", "bob"].as_slice()
+    );
+    Ok(())
+}
+
+#[test]
+fn texts_of_one_length_differ(rt: HostRuntime) -> Result<(), Fail> {
+    let code = LabCode::parse(rt.alloc(), "aqua")?;
+    assert_eq!(rt; code == LabCode::parse(rt.alloc(), "aqui")?, false);
+    assert_eq!(rt; code == LabCode::parse(rt.alloc(), "aqua")?, true);
+    Ok(())
 }
 
 #[test]
@@ -257,4 +291,26 @@ fn a_tick_is_plain(rt: HostRuntime) -> Result<(), Fail> {
     assert_eq!(rt; tick.moment, same.moment);
     assert_eq!(rt; tick.words.as_slice(), same.words.as_slice());
     Ok(())
+}
+
+#[test]
+fn ordinals_are_1_to_1000000000(rt: HostRuntime) {
+    for number in [1, 2, 999_999_999, 1_000_000_000] {
+        let ordinal = Ordinal::new(number);
+        assert_eq!(rt; ordinal.map(Ordinal::get), Some(number));
+        assert_eq!(rt; Ordinal::after(number - 1), ordinal, "{number}");
+    }
+    for number in [0, 1_000_000_001, u32::MAX] {
+        assert_eq!(rt; Ordinal::new(number), None, "{number}");
+    }
+}
+
+#[test]
+fn no_ordinal_comes_after_the_last(rt: HostRuntime) {
+    assert_eq!(rt; Some(Ordinal::FIRST), Ordinal::new(1));
+    assert_eq!(rt; Ordinal::FIRST.next(), Ordinal::new(2));
+    assert_eq!(rt; Ordinal::new(1_000_000_000).and_then(Ordinal::next), None);
+    for count in [1_000_000_000, u32::MAX] {
+        assert_eq!(rt; Ordinal::after(count), None, "{count}");
+    }
 }
