@@ -3,4 +3,3 @@ pub mod Faults
 pub mod Moment
 pub mod Names
 pub mod Ordinals
-pub mod Stamp

@@ -5,7 +5,6 @@ mod faults;
 mod moment;
 mod names;
 mod ordinals;
-mod stamp;
 #[cfg(test)]
 mod tests;
 mod text;

@@ -1,16 +1,18 @@
 //! Moments, and the one text that each has.
-ghost use Rattle.std.specs.Prelude.{◌≡◌, ◌≢◌, ℕ, ◌/◌, ◌≤◌, pos, IsTrue, IfOk, IfErr, MatchOption};
-ghost use Rattle.lab_names.specs.Calendar.{year_of, month_of, day_of_month};
-ghost use Rattle.lab_names.specs.Moment.{is_moment, moment_text, IsNoMoment};
-ghost use Rattle.lab_names.specs.Stamp.{stamp_of, IsInWidth};
+ghost use Rattle.std.specs.Prelude.{◌≡◌, ◌≢◌, ℕ, ◌+◌, ◌<◌, ◌≤◌, pos, length, IsTrue, IfOk, IfErr};
+ghost use Rattle.lab_names.specs.Calendar.{day_of, year_of, month_of, day_of_month, two_digits};
+ghost use Rattle.lab_names.specs.Moment.{is_moment, last_day, moment_text, two_at, moment_of, IsNoMoment};
+ghost use Rattle.std.specs.Option.{ok_or};
 
 use crate::MomentFault;
-use crate::stamp::Stamp;
 use jiff_core::civil::{Date, DateTime, Time};
 use std::marker::Model;
 
 /// The seconds of the last moment, 9999-12-31T23:59:59Z.
 const LAST_SECOND: i64 = 253_402_300_799;
+
+/// The bytes of a moment's text.
+const TEXT_LEN: usize = 20;
 
 const SECONDS_IN_DAY: u64 = 86_400;
 
@@ -62,62 +64,96 @@ impl Moment {
 
     /// The whole days since 1970-01-01.
     pub fn day(&self) -> u64
-        ensures value { result ≡ self.now / 86400 }
-        ensures in_range { result ≤ 2932896 }
+        ensures value { result ≡ day_of self.now }
+        ensures in_range { result ≤ last_day }
     {
         self.seconds / SECONDS_IN_DAY
     }
 
     /// Writes the moment as `YYYY-MM-DDTHH:MM:SSZ`.
-    pub fn print(&self, text: &mut [u8; 20])
+    pub fn print(&self, text: &mut [u8; TEXT_LEN])
         ensures written { text.new ≡ moment_text self.now }
         ensures in_range { IsTrue (is_moment self.now) }
     {
-        *text = self.stamp().text();
+        let date = civil_date(self.day());
+        let year = date.year as u16;
+        let [y1, y2] = digits_of((year / 100) as u8);
+        let [y3, y4] = digits_of((year % 100) as u8);
+        let [o1, o2] = digits_of(date.month);
+        let [d1, d2] = digits_of(date.day);
+        let [h1, h2] = digits_of((self.seconds % SECONDS_IN_DAY / 3600) as u8);
+        let [m1, m2] = digits_of((self.seconds % 3600 / 60) as u8);
+        let [s1, s2] = digits_of((self.seconds % 60) as u8);
+        *text = [
+            y1, y2, y3, y4, b'-', o1, o2, b'-', d1, d2, b'T', h1, h2, b':', m1, m2, b':', s1, s2,
+            b'Z',
+        ];
     }
 
     /// Reads the text that `print` writes, and no other text.
     pub fn parse(text: &str) -> Result<Moment, MomentFault>
+        ensures read { result ≡ ok_or (moment_of text.now) MomentFault.BadMoment }
         ensures value { IfOk result (λ moment. IsTrue (is_moment moment) × (text.now ≡ moment_text moment)) }
         ensures printed { (n : ℕ) → IsTrue (is_moment n) → text.now ≡ moment_text n → result ≡ Ok n }
         ensures fault { IfErr result (λ _. IsNoMoment text.now) }
     {
-        let stamp = Stamp::read(text.as_bytes()).ok_or(MomentFault::BadMoment)?;
-        Moment::from_stamp(&stamp).ok_or(MomentFault::BadMoment)
-    }
-
-    fn stamp(&self) -> Stamp
-        ensures value { result ≡ stamp_of self.now }
-        ensures in_width { IsInWidth result }
-        ensures in_range { IsTrue (is_moment self.now) }
-    {
-        let date = civil_date(self.day());
-        let second = self.seconds % SECONDS_IN_DAY;
-        Stamp {
-            year: date.year as u16,
-            month: date.month,
-            day: date.day,
-            hour: (second / 3600) as u8,
-            minute: (second % 3600 / 60) as u8,
-            second: (second % 60) as u8,
-        }
-    }
-
-    // The moment of a stamp, if the calendar has its day and a clock shows its time.
-    fn from_stamp(stamp: &Stamp) -> Option<Moment>
-        requires { IsInWidth stamp.now }
-        ensures { MatchOption result ((n : ℕ) → IsTrue (is_moment n) → stamp.now ≢ stamp_of n)
-            (λ moment. IsTrue (is_moment moment) × (stamp.now ≡ stamp_of moment)) }
-    {
-        let date = Date::new(stamp.year as i16, stamp.month as i8, stamp.day as i8).ok()?;
-        let time = Time::new(stamp.hour as i8, stamp.minute as i8, stamp.second as i8, 0).ok()?;
-        let seconds = DateTime { date, time }.to_second();
-        Moment::from_seconds(seconds).ok()
+        spelled(text.as_bytes()).ok_or(MomentFault::BadMoment)
     }
 }
 
+// The moment that has this text.
+fn spelled(text: &[u8]) -> Option<Moment>
+    ensures { result ≡ moment_of text.now }
+{
+    let moment = told(text)?;
+    let mut printed = [0; TEXT_LEN];
+    moment.print(&mut printed);
+    if printed.as_slice() == text {
+        Some(moment)
+    } else {
+        None
+    }
+}
+
+// The moment that the digits tell, where the text is a moment's.
+fn told(text: &[u8]) -> Option<Moment>
+    ensures { (n : ℕ) → IsTrue (is_moment n) → text.now ≡ moment_text n → result ≡ Some n }
+{
+    if text.len() != TEXT_LEN {
+        return None;
+    }
+    let year = number_at(text, 0) as u16 * 100 + number_at(text, 2) as u16;
+    let (month, day) = (number_at(text, 5), number_at(text, 8));
+    let date = Date::new(year as i16, month as i8, day as i8).ok()?;
+    let (hour, minute, second) = (
+        number_at(text, 11),
+        number_at(text, 14),
+        number_at(text, 17),
+    );
+    let time = Time::new(hour as i8, minute as i8, second as i8, 0).ok()?;
+    Moment::from_seconds(DateTime { date, time }.to_second()).ok()
+}
+
+// The number that two digits at a place show. Of other bytes it is some number below 100.
+fn number_at(text: &[u8], place: usize) -> u8
+    requires { place + 1 < length text.now }
+    ensures shown { two_at text.now place < 100 → result ≡ two_at text.now place }
+    ensures bound { result < 100 }
+{
+    let tens = text[place].saturating_sub(b'0') as u32;
+    let ones = text[place + 1].saturating_sub(b'0') as u32;
+    (tens * 10 + ones).min(99) as u8
+}
+
+fn digits_of(number: u8) -> [u8; 2]
+    requires { number < 100 }
+    ensures { result ≡ two_digits number }
+{
+    [b'0' + number / 10, b'0' + number % 10]
+}
+
 fn civil_date(day: u64) -> Date
-    requires { day ≤ 2932896 }
+    requires { day ≤ last_day }
     ensures year { result.year ≡ pos (year_of day) }
     ensures month { result.month ≡ month_of day }
     ensures day { result.day ≡ day_of_month day }

@@ -3,17 +3,17 @@ use Rattle.std.proofs.Common.{◌≡◌, ℕ, zero, suc, ◌+◌, ◌-◌, ◌*�
 use Rattle.httpdate.specs.Calendar.{days_of_years, days_of_months, days_from_civil, IsCivilDate}
 use Rattle.httpdate.specs.Date.{date_text, unix_secs}
 use Rattle.httpdate.specs.declared.date.HttpDate.{HttpDate}
-use Rattle.lab_names.specs.Calendar.{day_of, days_in_year, days_in_month, year_of, month_of, day_of_month, weekday_of, hour_of, minute_of, second_of}
+use Rattle.lab_names.specs.Calendar.{day_of, days_in_year, days_in_month, days_of_spans, year_of, month_of, day_of_month, weekday_of, hour_of, minute_of, second_of}
 use Rattle.lab_names.proofs.CalendarLemmas.{ymd_of_total}
-use Rattle.lab_names.proofs.SpanLemmas.{total, total-zero, total-last}
+use Rattle.lab_names.proofs.SpanLemmas.{total-zero, total-last}
 use Rattle.lab_wire.specs.Dates.{imf_fixdate}
 
-years-total : (n : ℕ) → days_of_years n ≡ total days_in_year 1970 n
+years-total : (n : ℕ) → days_of_years n ≡ days_of_spans days_in_year 1970 n
 unfolding days_of_years
 years-total zero = sym (total-zero days_in_year 1970)
 years-total (suc n) = omega (arith, years-total n, total-last days_in_year 1970 n)
 
-months-total : (y n : ℕ) → days_of_months y n ≡ total (days_in_month y) 1 n
+months-total : (y n : ℕ) → days_of_months y n ≡ days_of_spans (days_in_month y) 1 n
 unfolding days_of_months
 months-total y zero = sym (total-zero (days_in_month y) 1)
 months-total y (suc n) =
@@ -31,7 +31,7 @@ date_of_civil y m d h =
     let n = y - 1970 in
     let year : 1970 + n ≡ y = omega (arith, h.0.0) in
     let last : d ≤ days_in_month (1970 + n) m = rw year (omega (arith, h.2.1)) in
-    let day : total days_in_year 1970 n + (total (days_in_month (1970 + n)) 1 (m - 1) + (d - 1)) ≡ days_from_civil y m d = rw year (omega (arith, years-total n, months-total y (m - 1))) in
+    let day : days_of_spans days_in_year 1970 n + (days_of_spans (days_in_month (1970 + n)) 1 (m - 1) + (d - 1)) ≡ days_from_civil y m d = rw year (omega (arith, years-total n, months-total y (m - 1))) in
     let date = ymd_of_total n m d (days_from_civil y m d) h.1.0 h.1.1 h.2.0 last day in
     record { year = date.0 ∙ year; month = date.1; day_in_month = date.2 }
 

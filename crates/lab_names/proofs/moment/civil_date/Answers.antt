@@ -17,4 +17,4 @@ pub returns-clause-month : goal.returns-clause-month
 returns-clause-month c = (ymd c).month
 
 pub returns-clause-day : goal.returns-clause-day
-returns-clause-day c = (ymd c).day_of
+returns-clause-day c = (ymd c).day_in_month
