@@ -2,6 +2,7 @@
 use Rattle.std.proofs.Common.{◌≡◌, ◌≢◌, ℕ, suc, ◌+◌, ◌<◌, ◌≤◌, ◌^◌, Bool, true, false, List, [], ◌∷◌, ◌++◌, length, take, drop, Option, Some, None, Result, Ok, Err, ◌==◌, refl, sym, ap, subst, ◌∙◌, arith, append_assoc, length-append, IsTrue, get_or}
 use Rattle.std.specs.Prelude.{decimal, if◌then◌else◌, ◌&&◌, nat_lt, slice_index, MatchResult, option_map}
 use Rattle.std.specs.List.{position}
+use Rattle.std.specs.Option.{ok_or}
 use Rattle.std.specs.Result.{result_ok}
 use Rattle.std.specs.Str.{bytes_eq, is_utf8, IsUtf8}
 use Rattle.std.specs.Str.Parse.{digits_value, ParsesUnsigned}
@@ -198,12 +199,24 @@ number_read digits printed value small prints equal =
 
 -- bytes that are text
 pub read_as_text : {E : Type 0} {T : Type 0} (now : T → List ℕ) (bytes : List ℕ) (r : Result T E) (Q : E → Type 0)
-    → MatchResult r (λ text. IsUtf8 bytes × (now text ≡ bytes)) (λ e. (IsUtf8 bytes → ⊥) × Q e)
+    → MatchResult r (λ text. (now text ≡ bytes) × IsUtf8 bytes) (λ e. (IsUtf8 bytes → ⊥) × Q e)
     → option_map now (result_ok r) ≡ (if is_utf8 bytes then Some bytes else None)
 read_as_text now bytes (Ok text) Q h =
-    ap Some h.1 ∙ sym (cond-true (is_utf8 bytes) (Some bytes) None (is_utf8-from_IsUtf8 bytes h.0))
+    ap Some h.0 ∙ sym (cond-true (is_utf8 bytes) (Some bytes) None (is_utf8-from_IsUtf8 bytes h.1))
 read_as_text now bytes (Err e) Q h = by (is_utf8 bytes) refl
   where
     by : (t : Bool) → is_utf8 bytes ≡ t → None ≡ (if is_utf8 bytes then Some bytes else None)
     by true is = absurd (h.0 (IsUtf8-from_is_utf8 bytes is))
     by false is = sym (cond-false (is_utf8 bytes) (Some bytes) None is)
+
+pub ok_again : {T E : Type 0} (o : Option T) (e : E) → result_ok (ok_or o e) ≡ o
+ok_again None e = refl
+ok_again (Some x) e = refl
+
+pub missing : {T E : Type 0} (o : Option T) (e f : E) → Err f ≡ ok_or o e → (o ≡ None) × (f ≡ e)
+missing None e f h = (refl, cc h)
+missing (Some x) e f h = absurd (cc h)
+
+pub found : {T E : Type 0} (o : Option T) (e : E) (x : T) → Ok x ≡ ok_or o e → o ≡ Some x
+found None e x h = absurd (cc h)
+found (Some y) e x h = cc h

@@ -1,11 +1,10 @@
 -- The reading of a version's text, item by item: what stands at the front of a text, with the rest of the text. No public clause
 -- names these steps; they are proved to read exactly the texts of `version_text`.
-use Rattle.std.specs.Prelude.{◌≡◌, ℕ, zero, suc, ◌+◌, ◌-◌, ◌*◌, ◌^◌, ◌&&◌, ◌==◌, Bool, true, false, nat_lt, if◌then◌else◌, List, [], ◌∷◌, length, take, drop, slice_index, codes, decimal, Option, Some, None, option_and_then, option_map}
+use Rattle.std.specs.Prelude.{ℕ, zero, suc, ◌+◌, ◌^◌, ◌&&◌, ◌==◌, Bool, true, false, nat_lt, if◌then◌else◌, List, [], ◌∷◌, length, take, drop, slice_index, codes, decimal, Option, Some, None, option_and_then, option_map}
 use Rattle.std.specs.List.{position}
 use Rattle.std.specs.Str.{bytes_eq, is_utf8}
 use Rattle.std.specs.Str.Parse.{digits_value}
-use Rattle.lab_names.specs.Calendar.{days_in_year, days_in_month}
-use Rattle.lab_names.specs.Moment.{is_moment, moment_text}
+use Rattle.lab_names.specs.Moment.{moment_of}
 use Rattle.lab_names.specs.Names.{is_lab_code, is_person_code, is_key, is_name, is_note, is_unit}
 use Rattle.lab_names.specs.Ordinals.{ordinal_of}
 use Rattle.lab_secrets.specs.Digits.{bytes_of_digits}
@@ -77,34 +76,6 @@ ordinal_in digits = number_of digits >>= ordinal_of
 abbrev pub reason_in : List ℕ → Option (Option (List ℕ))
 reason_in [] = Some None
 reason_in (b ∷ bs) = text_where is_note (b ∷ bs) >>= (λ note. Some (Some note))
-
--- the days of so many spans from span k on, as years or months are
-unfoldable pub days_of_spans : (ℕ → ℕ) → ℕ → ℕ → ℕ
-days_of_spans days k zero = 0
-days_of_spans days k (suc n) = days k + days_of_spans days (k + 1) n
-
--- the second of a date and a time of day
-abbrev pub second_of_date : ℕ → ℕ → ℕ → ℕ
-second_of_date year month day =
-    (days_of_spans days_in_year 1970 (year - 1970) + days_of_spans (days_in_month year) 1 (month - 1) + (day - 1)) * 86400
-
--- two digits at a place
-abbrev pub two_at : List ℕ → ℕ → ℕ
-two_at text place = (slice_index text place - 48) * 10 + (slice_index text (place + 1) - 48)
-
--- the second that the digits of a moment's text tell
-abbrev pub second_told : List ℕ → ℕ
-second_told text =
-    second_of_date (two_at text 0 * 100 + two_at text 2) (two_at text 5) (two_at text 8)
-    + two_at text 11 * 3600 + two_at text 14 * 60 + two_at text 17
-
--- this moment, if this is its text
-abbrev pub moment_if_spelled : List ℕ → ℕ → Option ℕ
-moment_if_spelled text n = if is_moment n && bytes_eq (moment_text n) text then Some n else None
-
--- the moment that has this text
-unfoldable pub moment_of : List ℕ → Option ℕ
-moment_of text = moment_if_spelled text (second_told text)
 
 -- a moment
 abbrev pub moment_in : List ℕ → Option ℕ

@@ -4,7 +4,8 @@ ghost use Rattle.std.specs.Prelude.{◌≡◌, ◌==◌, if◌then◌else◌, So
 ghost use Rattle.std.specs.List.{position};
 ghost use Rattle.std.specs.Str.{is_utf8};
 ghost use Rattle.lab_secrets.specs.Digits.{bytes_of_digits};
-ghost use Rattle.lab_seal.specs.Reading.{number_of, line_of, first_item, first_as, text_where, this_word, which_word, ordinal_in, reason_in, moment_of, moment_in};
+ghost use Rattle.lab_seal.specs.Reading.{number_of, line_of, first_item, first_as, text_where, this_word, which_word, ordinal_in, reason_in, moment_in};
+ghost use Rattle.lab_names.specs.Moment.{moment_of};
 
 use itoa::Buffer;
 use lab_names::{Moment, NameFault, Notes, Ordinal, OutOfMemory, Rule, Text};
@@ -157,20 +158,18 @@ fn reason_in(bytes: &[u8]) -> Option<Option<&str>>
     Some(Some(admitted_in::<Notes>(bytes)?))
 }
 
-// The seconds of the moment that has this text.
-fn moment_of(text: &str) -> Option<u64>
+// The moment that has this text.
+fn moment_of(text: &str) -> Option<Moment>
     ensures { result ≡ moment_of text.now }
 {
-    match Moment::parse(text) {
-        Ok(moment) => Some(moment.seconds()),
-        Err(_) => None,
-    }
+    Moment::parse(text).ok()
 }
 
 fn moment_in(bytes: &[u8]) -> Option<u64>
     ensures { result ≡ moment_in bytes.now }
 {
-    moment_of(text_in(bytes)?)
+    let moment = moment_of(text_in(bytes)?)?;
+    Some(moment.seconds() as u64)
 }
 
 #[tactic(auto, unfolding(crate::specs::Reading::first_as))]
@@ -182,9 +181,9 @@ pub(crate) fn moment(text: &[u8]) -> Option<(u64, &[u8])>
 }
 
 #[tactic(auto, unfolding(crate::specs::Reading::first_as))]
-pub(crate) fn digest(text: &[u8]) -> Option<(Digest, &[u8])>
+pub(crate) fn digest(text: &[u8]) -> Option<([u8; 32], &[u8])>
     ensures { option_map (λ found. (found.0, found.1.now)) result ≡ first_as (bytes_of_digits 32) text.now }
 {
     let (digits, rest) = bytes(text)?;
-    Some((Digest::from_digits(digits)?, rest))
+    Some((Digest::from_digits(digits)?.bytes(), rest))
 }

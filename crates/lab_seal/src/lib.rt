@@ -11,6 +11,8 @@ mod rows;
 mod sealing;
 mod seals;
 mod states;
+#[cfg(test)]
+mod tests;
 mod versions;
 
 pub use faults::TextFault;

@@ -36,7 +36,7 @@ struct Subject<'a> {
 // What a later version amends, and why.
 #[derive(Clone, Copy)]
 struct Reason<'a> {
-    previous: Digest,
+    previous: [u8; 32],
     reason: &'a str,
 }
 
@@ -291,7 +291,7 @@ fn owned_origin(
 {
     let amendment = match amendment {
         Some(found) => Some(Amendment {
-            previous: found.previous,
+            previous: Digest::from_bytes(found.previous),
             reason: fields::own(alloc, found.reason)?,
         }),
         None => None,
@@ -314,7 +314,7 @@ fn owned_moment(seconds: u64) -> Moment
     requires { IsTrue (is_moment seconds) }
     ensures { result ≡ seconds }
 {
-    match Moment::from_seconds(seconds) {
+    match Moment::from_seconds(seconds as i64) {
         Ok(moment) => moment,
         Err(_) => unreachable!(),
     }
