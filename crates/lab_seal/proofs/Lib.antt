@@ -1,3 +1,4 @@
+pub mod KnownValues
 pub mod ItemLemmas
 pub mod ReadLemmas
 pub mod TextLemmas
