@@ -3,8 +3,8 @@ use Rattle.std.proofs.Common.{◌≡◌, ℕ, zero, suc, ◌+◌, ◌-◌, ◌*�
 use Rattle.httpdate.specs.Calendar.{days_of_years, days_of_months, days_from_civil, IsCivilDate}
 use Rattle.httpdate.specs.Date.{date_text, unix_secs}
 use Rattle.httpdate.specs.declared.date.HttpDate.{HttpDate}
-use Rattle.lab_names.specs.Calendar.{day_of, days_in_year, days_in_month, days_of_spans, year_of, month_of, day_of_month, weekday_of, hour_of, minute_of, second_of}
-use Rattle.lab_names.proofs.CalendarLemmas.{ymd_of_total}
+use Rattle.lab_names.specs.Calendar.{day_of, days_in_year, days_in_month, days_of_spans, day_of_date, year_of, month_of, day_of_month, weekday_of, hour_of, minute_of, second_of}
+use Rattle.lab_names.proofs.CalendarLemmas.{own_date, same_date}
 use Rattle.lab_names.proofs.SpanLemmas.{total-zero, total-last}
 use Rattle.lab_wire.specs.Dates.{imf_fixdate}
 
@@ -28,12 +28,11 @@ pub record IsDateOf (y m d day : ℕ) : Type 0 where
 
 pub date_of_civil : (y m d : ℕ) → IsCivilDate y m d → IsDateOf y m d (days_from_civil y m d)
 date_of_civil y m d h =
-    let n = y - 1970 in
-    let year : 1970 + n ≡ y = omega (arith, h.0.0) in
-    let last : d ≤ days_in_month (1970 + n) m = rw year (omega (arith, h.2.1)) in
-    let day : days_of_spans days_in_year 1970 n + (days_of_spans (days_in_month (1970 + n)) 1 (m - 1) + (d - 1)) ≡ days_from_civil y m d = rw year (omega (arith, years-total n, months-total y (m - 1))) in
-    let date = ymd_of_total n m d (days_from_civil y m d) h.1.0 h.1.1 h.2.0 last day in
-    record { year = date.0 ∙ year; month = date.1; day_in_month = date.2 }
+    let day = days_from_civil y m d in
+    let counted : day_of_date y m d ≡ day = omega (arith, years-total (y - 1970), months-total y (m - 1)) in
+    let same = same_date (year_of day) (month_of day) (day_of_month day) y m d day (own_date day)
+        (record { year_in = h.0.0; month_in = h.1; day_in = h.2; counted = counted }) in
+    record { year = same.year; month = same.month; day_in_month = same.day_in_month }
 
 -- day, hour, minute and second of a moment that is made of them
 pub record IsTimeOf (day hour minute second moment : ℕ) : Type 0 where
