@@ -51,5 +51,5 @@ pub(crate) fn form(alloc: Global, keys: &[&str]) -> Result<Form> {
     for key in keys {
         fields.push(field(alloc, key)?).map_err(OutOfMemory::from)?;
     }
-    Ok(Form::make(fields)?)
+    Ok(Form::make(fields, false)?)
 }

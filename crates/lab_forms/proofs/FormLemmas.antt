@@ -5,20 +5,19 @@ use Rattle.std.specs.List.{list_all}
 use Rattle.std.specs.Option.{option_copied, IfSome}
 use Rattle.std.proofs.lemmas.Bool.Decides.{nat_tests}
 use denote.Ref.{Bor}
-use Rattle.lab_forms.specs.declared.field.Field.{Field}
-use Rattle.lab_forms.specs.declared.fault.FormFault.{FormFault}
-use Rattle.lab_forms.specs.declared.fault.FormFault.TheVariants.{NoSuchField}
+use Rattle.lab_forms.specs.declared.forms.Field.{Field}
+use Rattle.lab_forms.specs.declared.faults.FormRefusal.TheVariants.{NoSuchField}
 use Rattle.lab_forms.specs.Words.{has_text_twice}
 use Rattle.lab_forms.specs.Kinds.{is_kind, fits}
-use Rattle.lab_forms.specs.Forms.{is_form, is_field, key_of, field_of, fits_form, kind_fault, value_fault}
+use Rattle.lab_forms.specs.Forms.{is_form, is_field, key_of, field_of, fits_form, kind_refusal, value_refusal}
 
-pub value_fault-none : (fields : List Field) (key text unit : List ℕ) → field_of fields key ≡ None → value_fault fields key text unit ≡ Some NoSuchField
-unfolding value_fault
-value_fault-none fields key text unit e = rw e refl
+pub value_refusal-none : (fields : List Field) (key text unit : List ℕ) → field_of fields key ≡ None → value_refusal fields key text unit ≡ Some NoSuchField
+unfolding value_refusal
+value_refusal-none fields key text unit e = rw e refl
 
-pub value_fault-some : (fields : List Field) (key text unit : List ℕ) (field : Field) → field_of fields key ≡ Some field → value_fault fields key text unit ≡ kind_fault field.kind text unit
-unfolding value_fault
-value_fault-some fields key text unit field e = rw e refl
+pub value_refusal-some : (fields : List Field) (key text unit : List ℕ) (field : Field) → field_of fields key ≡ Some field → value_refusal fields key text unit ≡ kind_refusal field.kind text unit
+unfolding value_refusal
+value_refusal-some fields key text unit field e = rw e refl
 
 pub fits_form-some : (fields : List Field) (key text unit : List ℕ) (field : Field) → field_of fields key ≡ Some field → fits_form fields key text unit ≡ fits field.kind text unit
 unfolding fits_form

@@ -1,12 +1,12 @@
 -- Values from outside, so that a wrong rule in the definitions does not check.
 use Rattle.std.proofs.Common.{◌≡◌, ℕ, List, [], ◌∷◌, refl, true, false, Option, Some, None, pos, negsuc}
 use Rattle.std.specs.Prelude.{codes}
-use Rattle.lab_forms.specs.declared.field.Field.{Field}
-use Rattle.lab_forms.specs.declared.field.Kind.TheVariants.{Number, Text, Choice, Date, YesNo}
-use Rattle.lab_forms.specs.declared.fault.FormFault.TheVariants.{NoFields, KeyTwice, TooManyFields, BadField, NoSuchField, BadValue, WrongUnit, OutOfRange}
+use Rattle.lab_forms.specs.declared.forms.Field.{Field}
+use Rattle.lab_forms.specs.declared.kinds.Kind.TheVariants.{Number, Text, Choice, Date, YesNo}
+use Rattle.lab_forms.specs.declared.faults.FormRefusal.TheVariants.{NoFields, KeyTwice, TooManyFields, BadField, NoSuchField, BadValue, WrongUnit, OutOfRange}
 use Rattle.lab_forms.specs.Numbers.{is_number, amount, without_comparison, is_digits, number_of, is_unsigned_number, millionths_of, without_sign}
 use Rattle.lab_forms.specs.Dates.{is_date, is_calendar_day}
-use Rattle.lab_forms.specs.Forms.{form_fault, value_fault}
+use Rattle.lab_forms.specs.Forms.{form_refusal, value_refusal}
 use Rattle.lab_names.specs.Names.{is_note}
 use Rattle.std.specs.Str.{is_utf8, chars}
 use lib.Utf8.{encode}
@@ -53,13 +53,13 @@ too_fine = record {
   kind = Number (codes "mg/L") 7 None None;
 }
 
-pub known_forms : (form_fault fields ≡ None) × (form_fault [] ≡ Some NoFields) × (form_fault (lead ∷ lead ∷ []) ≡ Some KeyTwice) × (form_fault (too_fine ∷ []) ≡ Some BadField)
-unfolding form_fault is_number amount is_unsigned_number is_digits without_sign millionths_of number_of
+pub known_forms : (form_refusal fields ≡ None) × (form_refusal [] ≡ Some NoFields) × (form_refusal (lead ∷ lead ∷ []) ≡ Some KeyTwice) × (form_refusal (too_fine ∷ []) ≡ Some BadField)
+unfolding form_refusal is_number amount is_unsigned_number is_digits without_sign millionths_of number_of
 known_forms = (refl, refl, refl, refl)
 
-pub known_faults : (value_fault fields (codes "iron") (codes "7.5") (codes "mg/L") ≡ Some NoSuchField) × (value_fault fields (codes "lead") (codes "7.505") (codes "mg/L") ≡ Some BadValue)
-    × (value_fault fields (codes "lead") (codes "7.5") (codes "mg/l") ≡ Some WrongUnit) × (value_fault fields (codes "lead") (codes "-1") (codes "mg/L") ≡ Some OutOfRange)
-    × (value_fault fields (codes "lead") (codes "<0.05") (codes "mg/L") ≡ None) × (value_fault fields (codes "lead") (codes "-0") (codes "mg/L") ≡ None)
-    × (value_fault fields (codes "note") (codes "clear") [] ≡ None)
-unfolding value_fault is_note is_utf8 chars encode is_number amount is_unsigned_number is_digits without_sign without_comparison millionths_of number_of
-known_faults = (refl, refl, refl, refl, refl, refl, refl)
+pub known_refusals : (value_refusal fields (codes "iron") (codes "7.5") (codes "mg/L") ≡ Some NoSuchField) × (value_refusal fields (codes "lead") (codes "7.505") (codes "mg/L") ≡ Some BadValue)
+    × (value_refusal fields (codes "lead") (codes "7.5") (codes "mg/l") ≡ Some WrongUnit) × (value_refusal fields (codes "lead") (codes "-1") (codes "mg/L") ≡ Some OutOfRange)
+    × (value_refusal fields (codes "lead") (codes "<0.05") (codes "mg/L") ≡ None) × (value_refusal fields (codes "lead") (codes "-0") (codes "mg/L") ≡ None)
+    × (value_refusal fields (codes "note") (codes "clear") [] ≡ None)
+unfolding value_refusal is_note is_utf8 chars encode is_number amount is_unsigned_number is_digits without_sign without_comparison millionths_of number_of
+known_refusals = (refl, refl, refl, refl, refl, refl, refl)

@@ -2,6 +2,7 @@
 -- calendar, from the year 0001 to the year 9999.
 use Rattle.std.specs.Prelude.{ℕ, Bool, ◌&&◌, ◌==◌, nat_le, List, length, slice_index, slice_range}
 use Rattle.lab_names.specs.Calendar.{days_in_month}
+use Rattle.lab_names.specs.Names.{hyphen}
 use Rattle.lab_forms.specs.Numbers.{is_digits, number_of}
 
 -- the year, the month and the day of the month as the text writes them
@@ -17,7 +18,7 @@ day_part text = slice_range text 8 10
 -- ten bytes, with hyphens between the year, the month and the day
 abbrev pub has_hyphens : List ℕ → Bool
 has_hyphens text =
-    (length text == 10) && (slice_index text 4 == 45) && (slice_index text 7 == 45)
+    (length text == 10) && (slice_index text 4 == hyphen) && (slice_index text 7 == hyphen)
 
 -- the calendar has this day in a year from 1 to 9999
 unfoldable pub is_calendar_day : ℕ → ℕ → ℕ → Bool
@@ -30,4 +31,5 @@ unfoldable pub is_date : List ℕ → Bool
 is_date text =
     has_hyphens text && is_digits 4 (year_part text) && is_digits 2 (month_part text)
     && is_digits 2 (day_part text)
-    && is_calendar_day (number_of (year_part text)) (number_of (month_part text)) (number_of (day_part text))
+    && is_calendar_day (number_of (year_part text)) (number_of (month_part text))
+    (number_of (day_part text))

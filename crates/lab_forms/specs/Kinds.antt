@@ -1,9 +1,11 @@
 -- What a field of each kind takes as a value, and which kinds a form may ask for. The rules are this system's own; a date
 -- is one of the proleptic Gregorian calendar (ISO 8601-1:2019).
-use Rattle.std.specs.Prelude.{ℕ, Bool, true, ◌&&◌, ◌||◌, not, nat_le, List, [], length, Option, Some, None, is_some, ℤ, int_le, bytes_eq, codes, option_and_then}
+use Rattle.std.specs.Prelude.{ℕ, Bool, true, false, ◌&&◌, ◌||◌, not, nat_le, ◌==◌, List, [], length, Option, Some, None, is_some, ℤ, int_le, bytes_eq, codes, option_and_then}
+use Rattle.std.specs.Option.{option_eq}
+use Rattle.std.specs.Cmp.Lexicographic.{pointwise}
 use Rattle.lab_names.specs.Names.{is_note}
-use Rattle.lab_forms.specs.declared.field.Kind.{Kind}
-use Rattle.lab_forms.specs.declared.field.Kind.TheVariants.{Number, Text, Choice, Date, YesNo}
+use Rattle.lab_forms.specs.declared.kinds.Kind.{Kind}
+use Rattle.lab_forms.specs.declared.kinds.Kind.TheVariants.{Number, Text, Choice, Date, YesNo}
 use Rattle.lab_forms.specs.Numbers.{is_number, amount_read, without_comparison}
 use Rattle.lab_forms.specs.Dates.{is_date}
 use Rattle.lab_forms.specs.Words.{has_text, has_text_twice}
@@ -68,3 +70,42 @@ is_kind (Choice choices) =
     nat_le 1 (length choices) && nat_le (length choices) 20 && not (has_text_twice choices)
 is_kind Date = true
 is_kind YesNo = true
+
+-- the word of a kind
+abbrev pub kind_word : Kind → List ℕ
+kind_word (Number unit decimals min max) = codes "number"
+kind_word (Text size) = codes "text"
+kind_word (Choice choices) = codes "choice"
+kind_word Date = codes "date"
+kind_word YesNo = codes "yesno"
+
+-- what a kind says beside its word and its unit, where it says it
+abbrev pub decimals_of : Kind → ℕ
+decimals_of (Number unit decimals min max) = decimals
+decimals_of _ = 0
+
+abbrev pub min_of : Kind → Option (List ℕ)
+min_of (Number unit decimals min max) = min
+min_of _ = None
+
+abbrev pub max_of : Kind → Option (List ℕ)
+max_of (Number unit decimals min max) = max
+max_of _ = None
+
+abbrev pub size_of : Kind → ℕ
+size_of (Text size) = size
+size_of _ = 0
+
+abbrev pub choices_of : Kind → List (List ℕ)
+choices_of (Choice choices) = choices
+choices_of _ = []
+
+-- two kinds are equal where all that they say is, byte for byte
+abbrev pub kind_eq : Kind → Kind → Bool
+kind_eq one other =
+    bytes_eq (kind_word one) (kind_word other) && bytes_eq (unit_of one) (unit_of other)
+    && (decimals_of one == decimals_of other)
+    && option_eq bytes_eq (min_of one) (min_of other)
+    && option_eq bytes_eq (max_of one) (max_of other)
+    && (size_of one == size_of other)
+    && pointwise bytes_eq (choices_of one) (choices_of other)

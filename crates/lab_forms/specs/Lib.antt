@@ -4,3 +4,4 @@ pub mod Faults
 pub mod Words
 pub mod Kinds
 pub mod Forms
+pub mod Equality

@@ -4,6 +4,24 @@ use Rattle.std.specs.Prelude.{ℕ, ◌+◌, ◌-◌, ◌*◌, ◌^◌, Bool, tru
 use Rattle.std.specs.List.{list_all, before_first, after_first}
 use Rattle.std.specs.Char.{is_ascii_digit}
 
+abbrev pub zero_digit : ℕ
+zero_digit = 48
+
+abbrev pub point : ℕ
+point = 46
+
+abbrev pub plus : ℕ
+plus = 43
+
+abbrev pub minus : ℕ
+minus = 45
+
+abbrev pub less : ℕ
+less = 60
+
+abbrev pub greater : ℕ
+greater = 62
+
 -- 1 to `most` decimal digits, and nothing else
 unfoldable pub is_digits : ℕ → List ℕ → Bool
 is_digits most text =
@@ -11,11 +29,11 @@ is_digits most text =
 
 -- the number that decimal digits write
 unfoldable pub number_of : List ℕ → ℕ
-number_of digits = fold (λ number digit. number * 10 + (digit - 48)) 0 digits
+number_of digits = fold (λ number digit. number * 10 + (digit - zero_digit)) 0 digits
 
 -- the point between the digits of the whole and those of its fraction
 abbrev pub is_point : ℕ → Bool
-is_point byte = byte == 46
+is_point byte = byte == point
 
 abbrev pub has_point : List ℕ → Bool
 has_point text = is_some (position is_point text)
@@ -39,12 +57,12 @@ millionths_of text =
     + number_of (fraction_part text) * 10 ^ (6 - length (fraction_part text))
 
 abbrev pub is_negative : List ℕ → Bool
-is_negative text = slice_index text 0 == 45
+is_negative text = slice_index text 0 == minus
 
 -- the text behind its plus or minus, if it has one
 unfoldable pub without_sign : List ℕ → List ℕ
 without_sign text =
-    if is_negative text || (slice_index text 0 == 43) then drop 1 text else text
+    if is_negative text || (slice_index text 0 == plus) then drop 1 text else text
 
 -- a number of at most so many decimals
 unfoldable pub is_number : ℕ → List ℕ → Bool
@@ -63,4 +81,4 @@ amount_read decimals text = if is_number decimals text then Some (amount text) e
 -- the text behind its `<` or `>`, which says that the amount is a limit of what can be measured, if it has one
 unfoldable pub without_comparison : List ℕ → List ℕ
 without_comparison text =
-    if (slice_index text 0 == 60) || (slice_index text 0 == 62) then drop 1 text else text
+    if (slice_index text 0 == less) || (slice_index text 0 == greater) then drop 1 text else text

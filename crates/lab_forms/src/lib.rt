@@ -1,20 +1,20 @@
 //! The forms that laboratories fill in: what a field takes, and which texts are its values.
 #![tactic(auto)]
 
-mod date;
-mod fault;
-mod field;
-mod form;
-mod number;
+mod dates;
+mod faults;
+mod forms;
+mod kinds;
+mod numbers;
 #[cfg(test)]
 mod tests;
-mod value;
+mod values;
 mod words;
 
-pub use fault::FormFault;
-pub use field::{Bound, Choices, Field, Kind};
-pub use form::Form;
+pub use faults::{FormFault, FormRefusal};
+pub use forms::{Field, Form};
+pub use kinds::{Bound, Choices, Kind};
 pub use lab_names::{
     Key, LabCode, Moment, MomentFault, Name, NameFault, Note, OutOfMemory, PersonCode, Tick, Unit,
 };
-pub use value::Value;
+pub use values::Value;

@@ -1,0 +1,239 @@
+//! Forms, and the values that they read.
+ghost use Rattle.std.specs.Prelude.{◌≡◌, ◌≢◌, Some, IfSome, IfOk, IfErr, IsTrue, MatchBool};
+ghost use Rattle.std.specs.List.{list_all};
+ghost use Rattle.std.specs.Option.{option_copied};
+ghost use Rattle.std.specs.Cmp.{partial_equiv_from_equiv};
+ghost use Rattle.lab_forms.specs.Forms.{is_form, is_field, form_made, field_eq, form_eq, field_of, fits_form, kind_refusal, value_refusal, IsTold};
+ghost use Rattle.lab_forms.specs.Kinds.{is_kind, fits};
+
+use crate::kinds::Kind;
+use crate::values::Value;
+use crate::words::{Worded, has_word_twice};
+use crate::{FormFault, FormRefusal};
+use lab_names::{Key, Name, NameFault, Note, OutOfMemory, Unit};
+use std::alloc::{AllocError, Global};
+use std::marker::Model;
+
+/// The most fields of a form.
+const FIELDS_LIMIT: usize = 60;
+
+/// A field of a form.
+#[derive(Clone, Debug, Drop)]
+pub struct Field {
+    /// By what it is known in its form.
+    pub key: Key,
+    /// What people read beside it.
+    pub label: Name,
+    /// Whether a record has to have a value of it before it is signed.
+    pub required: bool,
+    /// What it takes.
+    pub kind: Kind,
+}
+
+impl Field {
+    /// A copy.
+    pub fn copy(&self) -> Result<Field, OutOfMemory>
+        ensures { IfOk result (λ copy. copy ≡ self.now) }
+    {
+        Ok(self.clone()?)
+    }
+}
+
+impl PartialEq for Field {
+    ghost use Rattle.lab_forms.specs.Equality.{fields_equiv};
+
+    ghost eq = { field_eq };
+
+    ghost laws = { partial_equiv_from_equiv fields_equiv };
+
+    fn eq(&self, other: &Field) -> bool {
+        self.key == other.key
+            && self.label == other.label
+            && self.required == other.required
+            && self.kind == other.kind
+    }
+}
+
+impl Eq for Field {
+    ghost use Rattle.lab_forms.specs.Equality.{fields_equiv};
+
+    ghost laws = { fields_equiv };
+}
+
+impl Worded for Field {
+    ghost use Rattle.lab_forms.specs.Forms.{key_of};
+
+    ghost text_of = { key_of };
+
+    fn word(&self) -> &str {
+        self.key.as_str()
+    }
+}
+
+/// A form: 1 to 60 fields, no two of one key, and whether what it records wants a third person's approval before it is
+/// released.
+///
+/// A contract sees it as a sheet of the list of its fields and of that wish.
+#[derive(Debug, Drop)]
+pub struct Form {
+    fields: Vec<Field>,
+    approval: bool,
+}
+
+impl Model for Form {
+    ghost use Rattle.std.specs.Prelude.{IsTrue};
+    ghost use Rattle.lab_forms.specs.Forms.{FormSheet, is_form};
+
+    ghost Value = { FormSheet };
+
+    ghost view = { λ form. record { fields = form.fields.items; approval = form.approval } };
+
+    ghost invariant = { λ form. IsTrue (is_form form.fields.items) };
+}
+
+impl Form {
+    /// Makes a form of these fields. The first thing that is wrong is told: `NoFields`, `KeyTwice`, `TooManyFields`,
+    /// `BadField`.
+    #[tactic(auto, unfolding(crate::specs::Forms::is_form, crate::specs::Forms::form_refusal))]
+    pub fn make(fields: Vec<Field>, approval: bool) -> Result<Form, FormRefusal>
+        ensures made { result ≡ form_made fields.items approval }
+        ensures admitted { IfOk result (λ _. IsTrue (is_form fields.items)) }
+    {
+        if fields.is_empty() {
+            return Err(FormRefusal::NoFields);
+        }
+        if has_word_twice(&fields) {
+            return Err(FormRefusal::KeyTwice);
+        }
+        if fields.len() > FIELDS_LIMIT {
+            return Err(FormRefusal::TooManyFields);
+        }
+        if !may_all_be_asked(&fields) {
+            return Err(FormRefusal::BadField);
+        }
+        Ok(Form { fields, approval })
+    }
+
+    /// The fields that the form was made of.
+    pub fn fields(&self) -> &[Field]
+        ensures value { result.now ≡ self.now.fields }
+        ensures admitted { IsTrue (is_form self.now.fields) }
+    {
+        self.fields.as_slice()
+    }
+
+    /// Whether what the form records wants a third person's approval before it is released.
+    pub fn approval(&self) -> bool
+        ensures { result ≡ self.now.approval }
+    {
+        self.approval
+    }
+
+    /// Reads a text as the value of a field. The first that is wrong is told: `NoSuchField`, `BadValue`, `WrongUnit`,
+    /// `OutOfRange`.
+    pub fn read_value(
+        &self,
+        alloc: Global,
+        key: &Key,
+        text: &str,
+        unit: &Unit,
+    ) -> Result<Value, FormFault>
+        ensures fits { IfOk result
+            (λ _. IsTrue (fits_form self.now.fields key.now text.now unit.now)) }
+        ensures value { IfOk result (λ value. value ≡ text.now) }
+        ensures fault { IfErr result
+            (IsTold (value_refusal self.now.fields key.now text.now unit.now)) }
+    {
+        let Some(field) = self.field(key) else {
+            return Err(FormFault::Refused(FormRefusal::NoSuchField));
+        };
+        read_as(&field.kind, alloc, text, unit)
+    }
+
+    // The field of a key, whose kind is one that a form may ask for.
+    fn field(&self, key: &Key) -> Option<&Field>
+        ensures value { option_copied result ≡ field_of self.now.fields key.now }
+        ensures kind { IfSome result (λ field. IsTrue (is_kind field.now.kind)) }
+    {
+        field_among(&self.fields, key)
+    }
+
+    /// A copy.
+    pub fn copy(&self) -> Result<Form, OutOfMemory>
+        ensures { IfOk result (λ copy. copy ≡ self.now) }
+    {
+        Ok(self.clone()?)
+    }
+}
+
+impl Clone for Form {
+    ghost use Rattle.std.specs.Prelude.{◌≡◌};
+
+    ghost is_clone = { λ form copy. copy ≡ form };
+
+    fn clone(&self) -> Result<Form, AllocError> {
+        let fields = self.fields.clone()?;
+        Ok(Form {
+            fields,
+            approval: self.approval,
+        })
+    }
+}
+
+impl PartialEq for Form {
+    ghost use Rattle.lab_forms.specs.Equality.{forms_equiv};
+
+    ghost eq = { form_eq };
+
+    ghost laws = { partial_equiv_from_equiv forms_equiv };
+
+    #[tactic(auto, using(crate::proofs::EqualityLemmas::forms_told))]
+    fn eq(&self, other: &Form) -> bool
+        ensures value { result ≡ form_eq self.now other.now }
+        ensures same { MatchBool result (self.now ≡ other.now) (self.now ≢ other.now) }
+    {
+        self.fields == other.fields && self.approval == other.approval
+    }
+}
+
+impl Eq for Form {
+    ghost use Rattle.lab_forms.specs.Equality.{forms_equiv};
+
+    ghost laws = { forms_equiv };
+}
+
+fn field_among<'a>(fields: &'a [Field], key: &Key) -> Option<&'a Field>
+    ensures { option_copied result ≡ field_of fields.now key.now }
+{
+    fields
+        .iter()
+        .find(|field| field.key.as_str() == key.as_str())
+}
+
+fn may_all_be_asked(fields: &[Field]) -> bool
+    ensures { result ≡ list_all is_field fields.now }
+{
+    fields.iter().all(|field| field.kind.may_be_asked())
+}
+
+fn read_as(kind: &Kind, alloc: Global, text: &str, unit: &Unit) -> Result<Value, FormFault>
+    requires { IsTrue (is_kind kind.now) }
+    ensures fits { IfOk result (λ _. IsTrue (fits kind.now text.now unit.now)) }
+    ensures value { IfOk result (λ value. value ≡ text.now) }
+    ensures fault { IfErr result (IsTold (kind_refusal kind.now text.now unit.now)) }
+{
+    if !kind.takes(text) {
+        return Err(FormFault::Refused(FormRefusal::BadValue));
+    }
+    if unit.as_str() != kind.unit() {
+        return Err(FormFault::Refused(FormRefusal::WrongUnit));
+    }
+    if !kind.ranges_over(text) {
+        return Err(FormFault::Refused(FormRefusal::OutOfRange));
+    }
+    match Note::parse(alloc, text) {
+        Ok(note) => Ok(Value::of_note(note)),
+        Err(NameFault::BadName) => Err(FormFault::Refused(FormRefusal::BadValue)),
+        Err(NameFault::Memory(fault)) => Err(FormFault::Memory(fault)),
+    }
+}

@@ -1,0 +1,346 @@
+//! What the fields of a form take as values.
+ghost use Rattle.std.specs.Prelude.{◌≡◌, ◌≤◌, IfOk, IsTrue, List, ℕ, nat_eq, bytes_eq, string_bytes};
+ghost use Rattle.std.specs.Cmp.Lexicographic.{pointwise, nat_list_eq_equiv, lists_equiv};
+ghost use Rattle.std.specs.Cmp.{partial_equiv_from_equiv};
+ghost use Rattle.lab_forms.specs.Kinds.{bound_amount, is_bound, is_at_most};
+
+use crate::dates::is_date_text;
+use crate::numbers::{DECIMALS_LIMIT, read_amount, uncompared};
+use crate::words::{Worded, has_word, has_word_twice};
+use lab_names::{Name, Notes, OutOfMemory, Rule, Unit};
+use std::alloc::AllocError;
+use std::marker::Model;
+
+/// The most bytes of a text.
+const SIZE_LIMIT: u32 = 1000;
+
+/// The most choices of a field.
+const CHOICES_LIMIT: usize = 20;
+
+/// The least or the greatest amount of a number, as it is written. Any text may stand here: whether it is a number is
+/// tested where a form is made.
+///
+/// A contract sees it as the list of its bytes.
+#[derive(Debug, Drop)]
+pub struct Bound {
+    text: String,
+}
+
+impl Model for Bound {
+    ghost use Rattle.std.specs.Prelude.{List, ℕ, string_bytes};
+
+    ghost Value = { List ℕ };
+
+    ghost view = { λ bound. string_bytes bound.text };
+}
+
+impl Bound {
+    /// The bound that the text writes.
+    pub fn new(text: String) -> Bound
+        ensures { result ≡ string_bytes text }
+    {
+        Bound { text }
+    }
+
+    /// The bound's text.
+    pub fn as_str(&self) -> &str
+        ensures { result.now ≡ self.now }
+    {
+        self.text.as_str()
+    }
+
+    /// A copy.
+    pub fn copy(&self) -> Result<Bound, OutOfMemory>
+        ensures { IfOk result (λ copy. copy ≡ self.now) }
+    {
+        Ok(self.clone()?)
+    }
+}
+
+impl Clone for Bound {
+    ghost use Rattle.std.specs.Prelude.{◌≡◌};
+
+    ghost is_clone = { λ bound copy. copy ≡ bound };
+
+    fn clone(&self) -> Result<Bound, AllocError> {
+        let text = self.text.clone()?;
+        Ok(Bound { text })
+    }
+}
+
+impl PartialEq for Bound {
+    ghost eq = { pointwise nat_eq };
+
+    ghost laws = { partial_equiv_from_equiv nat_list_eq_equiv };
+
+    fn eq(&self, other: &Bound) -> bool {
+        self.text == other.text
+    }
+}
+
+impl Eq for Bound {
+    ghost laws = { nat_list_eq_equiv };
+}
+
+/// The names among which a value is chosen, in their order.
+///
+/// A contract sees them as the list of the names.
+#[derive(Debug, Drop)]
+pub struct Choices {
+    names: Vec<Name>,
+}
+
+impl Model for Choices {
+    ghost use Rattle.std.specs.Prelude.{List, ℕ};
+
+    ghost Value = { List (List ℕ) };
+
+    ghost view = { λ choices. choices.names.items };
+}
+
+impl Choices {
+    /// The choices that the list has.
+    pub fn new(names: Vec<Name>) -> Choices
+        ensures { result ≡ names.items }
+    {
+        Choices { names }
+    }
+
+    /// The names.
+    pub fn names(&self) -> &[Name]
+        ensures { result.now ≡ self.now }
+    {
+        self.names.as_slice()
+    }
+
+    /// Gives the list back.
+    pub fn into_names(self) -> Vec<Name>
+        ensures { result.items ≡ self }
+    {
+        let Choices { names: list } = self;
+        list
+    }
+
+    /// A copy.
+    pub fn copy(&self) -> Result<Choices, OutOfMemory>
+        ensures { IfOk result (λ copy. copy ≡ self.now) }
+    {
+        Ok(self.clone()?)
+    }
+}
+
+impl Clone for Choices {
+    ghost use Rattle.std.specs.Prelude.{◌≡◌};
+
+    ghost is_clone = { λ choices copy. copy ≡ choices };
+
+    fn clone(&self) -> Result<Choices, AllocError> {
+        let names = self.names.clone()?;
+        Ok(Choices { names })
+    }
+}
+
+impl PartialEq for Choices {
+    ghost eq = { pointwise (pointwise nat_eq) };
+
+    ghost laws = { partial_equiv_from_equiv (lists_equiv nat_list_eq_equiv) };
+
+    fn eq(&self, other: &Choices) -> bool {
+        self.names == other.names
+    }
+}
+
+impl Eq for Choices {
+    ghost laws = { lists_equiv nat_list_eq_equiv };
+}
+
+impl Worded for Name {
+    ghost text_of = { λ name. name };
+
+    fn word(&self) -> &str {
+        self.as_str()
+    }
+}
+
+/// What a field takes as a value.
+#[derive(Clone, Debug, Drop)]
+pub enum Kind {
+    /// A number of at most so many decimals, 0 to 6, in the unit, from the least to the greatest where they are there.
+    Number {
+        unit: Unit,
+        decimals: u32,
+        min: Option<Bound>,
+        max: Option<Bound>,
+    },
+    /// A note of at most so many bytes, 1 to 1,000.
+    Text {
+        size: u32,
+    },
+    /// One of 1 to 20 different names.
+    Choice {
+        choices: Choices,
+    },
+    /// A date `YYYY-MM-DD` of the Gregorian calendar, from the year 0001 to the year 9999.
+    Date,
+    /// `yes` or `no`.
+    YesNo,
+}
+
+fn bound_of(decimals: u32, bound: &Option<Bound>) -> Option<i128>
+    requires { decimals ≤ 6 }
+    ensures { result ≡ bound_amount decimals bound.now }
+{
+    match bound {
+        Some(bound) => read_amount(decimals, bound.as_str().as_bytes()),
+        None => None,
+    }
+}
+
+fn is_number_bound(decimals: u32, bound: &Option<Bound>) -> bool
+    requires { decimals ≤ 6 }
+    ensures { result ≡ is_bound decimals bound.now }
+{
+    bound.is_none() || bound_of(decimals, bound).is_some()
+}
+
+fn is_not_above(low: Option<i128>, high: Option<i128>) -> bool
+    ensures { result ≡ is_at_most low high }
+{
+    match (low, high) {
+        (Some(low), Some(high)) => low <= high,
+        _ => true,
+    }
+}
+
+impl Kind {
+    ghost use Rattle.lab_forms.specs.Kinds.{has_form, is_value, unit_of, is_in_range, is_kind};
+
+    /// A copy.
+    pub fn copy(&self) -> Result<Kind, OutOfMemory>
+        ensures { IfOk result (λ copy. copy ≡ self.now) }
+    {
+        Ok(self.clone()?)
+    }
+
+    /// Whether a form may ask for this kind.
+    pub(crate) fn may_be_asked(&self) -> bool
+        ensures { result ≡ is_kind self.now }
+    {
+        match self {
+            Kind::Number {
+                decimals,
+                min,
+                max,
+                ..
+            } => {
+                *decimals <= DECIMALS_LIMIT
+                    && is_number_bound(*decimals, min)
+                    && is_number_bound(*decimals, max)
+                    && is_not_above(bound_of(*decimals, min), bound_of(*decimals, max))
+            }
+            Kind::Text { size } => *size >= 1 && *size <= SIZE_LIMIT,
+            Kind::Choice { choices } => {
+                let names = choices.names();
+                !names.is_empty() && names.len() <= CHOICES_LIMIT && !has_word_twice(names)
+            }
+            Kind::Date | Kind::YesNo => true,
+        }
+    }
+
+    /// Whether a text is one that a value of this kind can have.
+    pub(crate) fn takes(&self, text: &str) -> bool
+        requires { IsTrue (is_kind self.now) }
+        ensures { result ≡ is_value self.now text.now }
+    {
+        Notes::admits(text) && self.has_form(text)
+    }
+
+    // Whether a text has the form of a value of this kind.
+    fn has_form(&self, text: &str) -> bool
+        requires { IsTrue (is_kind self.now) }
+        ensures { result ≡ has_form self.now text.now }
+    {
+        match self {
+            Kind::Number { decimals, .. } => {
+                read_amount(*decimals, uncompared(text.as_bytes())).is_some()
+            }
+            Kind::Text { size } => text.len() <= *size as usize,
+            Kind::Choice { choices } => has_word(choices.names(), text),
+            Kind::Date => is_date_text(text.as_bytes()),
+            Kind::YesNo => text == "yes" || text == "no",
+        }
+    }
+
+    /// The unit of the values.
+    pub(crate) fn unit(&self) -> &str
+        ensures { result.now ≡ unit_of self.now }
+    {
+        match self {
+            Kind::Number { unit, .. } => unit.as_str(),
+            _ => "",
+        }
+    }
+
+    /// Whether a value's amount lies between the bounds.
+    pub(crate) fn ranges_over(&self, text: &str) -> bool
+        requires { IsTrue (is_kind self.now) }
+        ensures { result ≡ is_in_range self.now text.now }
+    {
+        match self {
+            Kind::Number {
+                decimals,
+                min,
+                max,
+                ..
+            } => {
+                let amount = read_amount(*decimals, uncompared(text.as_bytes()));
+                is_not_above(bound_of(*decimals, min), amount)
+                    && is_not_above(amount, bound_of(*decimals, max))
+            }
+            _ => true,
+        }
+    }
+}
+
+impl PartialEq for Kind {
+    ghost use Rattle.lab_forms.specs.Kinds.{kind_eq};
+    ghost use Rattle.lab_forms.specs.Equality.{kinds_equiv};
+
+    ghost eq = { kind_eq };
+
+    ghost laws = { partial_equiv_from_equiv kinds_equiv };
+
+    fn eq(&self, other: &Kind) -> bool {
+        match (self, other) {
+            (
+                Kind::Number {
+                    unit,
+                    decimals,
+                    min,
+                    max,
+                },
+                Kind::Number {
+                    unit: other_unit,
+                    decimals: other_decimals,
+                    min: other_min,
+                    max: other_max,
+                },
+            ) => {
+                unit == other_unit
+                    && decimals == other_decimals
+                    && min == other_min
+                    && max == other_max
+            }
+            (Kind::Text { size }, Kind::Text { size: other }) => size == other,
+            (Kind::Choice { choices }, Kind::Choice { choices: other }) => choices == other,
+            (Kind::Date, Kind::Date) | (Kind::YesNo, Kind::YesNo) => true,
+            _ => false,
+        }
+    }
+}
+
+impl Eq for Kind {
+    ghost use Rattle.lab_forms.specs.Equality.{kinds_equiv};
+
+    ghost laws = { kinds_equiv };
+}
