@@ -1,8 +1,8 @@
+pub mod KnownValues
 pub mod ItemLemmas
-pub mod TextLemmas
 pub mod ReadLemmas
-pub mod FieldLemmas
-pub mod DateLemmas
+pub mod TextLemmas
+pub mod PartLemmas
+pub mod SpellingLemmas
 pub mod RowLemmas
 pub mod VersionLemmas
-pub mod SpellingLemmas

@@ -1,19 +1,20 @@
--- The fields at the front of a text are read exactly: what was written is read back, and what is read was written.
-use Rattle.std.proofs.Common.{◌≡◌, ℕ, suc, ◌+◌, ◌<◌, ◌≤◌, ◌^◌, Bool, true, false, List, [], ◌∷◌, ◌++◌, length, take, drop, Option, Some, None, ◌==◌, refl, sym, ap, subst, ◌∙◌, arith, append_assoc, length-append, IsTrue, get_or}
-use Rattle.std.specs.Prelude.{decimal, if◌then◌else◌, ◌&&◌, nat_lt, slice_index}
+-- Numbers, and the item at the front of a text, are read exactly: what was written is read back, and what is read was written.
+use Rattle.std.proofs.Common.{◌≡◌, ◌≢◌, ℕ, suc, ◌+◌, ◌<◌, ◌≤◌, ◌^◌, Bool, true, false, List, [], ◌∷◌, ◌++◌, length, take, drop, Option, Some, None, Result, Ok, Err, ◌==◌, refl, sym, ap, subst, ◌∙◌, arith, append_assoc, length-append, IsTrue, get_or}
+use Rattle.std.specs.Prelude.{decimal, if◌then◌else◌, ◌&&◌, nat_lt, slice_index, MatchResult, option_map}
 use Rattle.std.specs.List.{position}
-use Rattle.std.specs.Str.{bytes_eq}
-use Rattle.std.specs.Str.Parse.{digits_value}
-use Rattle.std.proofs.lemmas.Bool.{and_parts, and_from, cond-true, lt-ltb, ltb-true, eqb-true}
+use Rattle.std.specs.Option.{ok_or}
+use Rattle.std.specs.Result.{result_ok}
+use Rattle.std.specs.Str.{bytes_eq, is_utf8, IsUtf8}
+use Rattle.std.specs.Str.Parse.{digits_value, ParsesUnsigned}
+use Rattle.std.proofs.lemmas.Bool.{and_parts, and_from, cond-true, cond-false, lt-ltb, ltb-true, eqb-true}
 use Rattle.std.proofs.lemmas.Bool.Decides.{nat_tests}
-use Rattle.std.proofs.lemmas.Fmt.{decimal_is_IsNumeral, length-decimal-le}
+use Rattle.std.proofs.lemmas.Fmt.{decimal_is_IsNumeral, length-decimal-le, IsAscii-decimal, parse-decimal}
 use Rattle.std.proofs.lemmas.List.{take-append-drop, drop_more, get_or_at, take_at, drop_at, length-take-le}
 use Rattle.std.proofs.lemmas.Slice.Eq.{bytes_eq-Decides}
-use Rattle.lab_seal.specs.Versions.{item, reason_text, is_number, IsReason}
-use Rattle.lab_seal.specs.Reading.{number_if_spelled, number_of, line_of, first_item, admitted, first_admitted, after_word, first_count, first_number, reason_of, first_reason, ◌>>=◌}
-use Rattle.lab_names.specs.Names.{is_note}
+use Rattle.std.proofs.lemmas.Str.{IsUtf8-from_ascii, is_utf8-from_IsUtf8, IsUtf8-from_is_utf8}
+use Rattle.lab_seal.specs.Versions.{item}
+use Rattle.lab_seal.specs.Reading.{number_if_spelled, number_of, line_of, first_item, ◌>>=◌}
 use Rattle.lab_seal.proofs.ItemLemmas.{item_text, first_colon, around_colon}
-use Rattle.lab_seal.proofs.TextLemmas.{note_short}
 
 -- the steps of a reader that came to something
 pub bind_some : {A B : Type 0} (o : Option A) (f : A → Option B) (y : B) → o >>= f ≡ Some y
@@ -137,138 +138,85 @@ item_complete bytes rest small =
     ∙ ap (line_of (length bytes)) back
     ∙ line_complete bytes rest
 
--- ---- items that a test admits
+-- ---- what the code's steps come to
 
--- such an item stands at the front
-pub record HasField (admits : List ℕ → Bool) (text bytes rest : List ℕ) : Type 0 where
-  pub admitted : IsTrue (admits bytes)
-  pub short : length bytes < 2 ^ 64
-  pub text_is : text ≡ item bytes ++ rest
+-- what a result that was made an option says
+pub ok_said : {T E : Type 0} (P : T → Type 0) (Q : E → Type 0) (r : Result T E) (x : T) → result_ok r ≡ Some x
+    → MatchResult r P Q → P x
+ok_said P Q (Ok y) x e h = let same : Some y ≡ Some x = e in let is : y ≡ x = cc in subst P is h
+ok_said P Q (Err y) x e h = let never : None ≡ Some x = e in absurd (cc)
 
-pub admitted_sound : (admits : List ℕ → Bool) (text : List ℕ) (found : List ℕ × List ℕ)
-    → first_admitted admits text ≡ Some found → HasField admits text found.0 found.1
-unfolding first_admitted
-admitted_sound admits text found e =
-    let step = bind_some (first_item text) (admitted admits) found e in
-    let x : List ℕ × List ℕ = step.0 in
-    let both = when_some (admits x.0) x found step.2 in
-    let whole = item_sound text x.0 x.1 step.1 in
-    let P : List ℕ × List ℕ → Type 0 = λ p. HasField admits text p.0 p.1 in
-    subst P both.1 (record { admitted = both.0; short = whole.0; text_is = whole.1 })
+pub err_said : {T E : Type 0} (P : T → Type 0) (Q : E → Type 0) (r : Result T E) → result_ok r ≡ None
+    → MatchResult r P Q → (y : E) × Q y
+err_said P Q (Ok x) e h = let never : Some x ≡ None = e in absurd (cc)
+err_said P Q (Err y) e h = (y, h)
 
-pub admitted_complete : (admits : List ℕ → Bool) (bytes rest : List ℕ) → IsTrue (admits bytes) → length bytes < 2 ^ 64
-    → first_admitted admits (item bytes ++ rest) ≡ Some (bytes, rest)
-unfolding first_admitted
-admitted_complete admits bytes rest is small =
-    ap (λ o. o >>= admitted admits) (item_complete bytes rest small)
-    ∙ cond-true (admits bytes) (Some (bytes, rest)) None is
+-- ---- numbers
 
-pub word_sound : (word text rest : List ℕ) → after_word word text ≡ Some rest → text ≡ item word ++ rest
-unfolding after_word
-word_sound word text rest e =
-    let step = bind_some (first_admitted (λ bytes. bytes_eq bytes word) text) _ rest e in
-    let found : List ℕ × List ℕ = step.0 in
-    let has = admitted_sound (λ bytes. bytes_eq bytes word) text found step.1 in
-    let same : found.0 ≡ word = (bytes_eq-Decides found.0 word).0 has.admitted in
-    let behind : found.1 ≡ rest = some_same found.1 rest step.2 in
-    has.text_is ∙ ap (λ l. item l ++ found.1) same ∙ ap (λ l. item word ++ l) behind
+-- digits that are those of no number
+pub number_none : (digits : List ℕ) → ((n : ℕ) → n < 2 ^ 64 → digits ≢ decimal n) → number_of digits ≡ None
+number_none digits none = by (number_of digits) refl
+  where
+    by : (o : Option ℕ) → number_of digits ≡ o → number_of digits ≡ None
+    by None e = e
+    by (Some n) e = let told = number_sound digits n e in absurd (none n told.0 told.1)
 
-pub word_complete : (word rest : List ℕ) → length word < 2 ^ 64 → after_word word (item word ++ rest) ≡ Some rest
-unfolding after_word
-word_complete word rest small =
-    ap (λ (o : Option (List ℕ × List ℕ)). o >>= (λ found. Some found.1))
-    (admitted_complete (λ bytes. bytes_eq bytes word) word rest ((bytes_eq-Decides word word).1 refl) small)
+-- the digits of a number are text
+pub decimal_utf8 : (n : ℕ) → n < 2 ^ 64 → IsUtf8 (decimal n)
+decimal_utf8 n small = IsUtf8-from_ascii (decimal n) (IsAscii-decimal n small)
 
--- ---- numbers as items
+pub number_not_text : (digits : List ℕ) → (IsUtf8 digits → ⊥) → number_of digits ≡ None
+number_not_text digits unfit =
+    number_none digits (λ n small e. let P : List ℕ → Type 0 = λ l. IsUtf8 l in unfit (subst P (sym e) (decimal_utf8 n small)))
 
-pub count_sound : (text : List ℕ) (found : ℕ × List ℕ) → first_count text ≡ Some found
-    → (found.0 < 2 ^ 64) × (text ≡ item (decimal found.0) ++ found.1)
-unfolding first_count
-count_sound text found e =
-    let step = bind_some (first_item text) _ found e in
-    let read : List ℕ × List ℕ = step.0 in
-    let told = bind_some (number_of read.0) _ found step.2 in
-    let n : ℕ = told.0 in
-    let number = number_sound read.0 n told.1 in
-    let whole = item_sound text read.0 read.1 step.1 in
-    let same : (n, read.1) ≡ found = some_same (n, read.1) found told.2 in
-    let P : ℕ × List ℕ → Type 0 = λ p. (p.0 < 2 ^ 64) × (text ≡ item (decimal p.0) ++ p.1) in
-    subst P same (number.0, whole.1 ∙ ap (λ l. item l ++ read.1) number.1)
+-- what the parser of numbers makes of the digits of one
+pub number_unparsed : {E : Type 0} (digits text : List ℕ) (r : Result ℕ E) → text ≡ digits → ParsesUnsigned 64 10 text r
+    → result_ok r ≡ None → number_of digits ≡ None
+number_unparsed {E} digits text r same parses e =
+    number_none digits (λ n small at.
+    let read : r ≡ Ok n = parse-decimal 64 n text r small small (same ∙ at) parses in
+    let never : Some n ≡ None = sym (ap result_ok read) ∙ e in
+    absurd (cc))
 
-pub count_complete : (n : ℕ) (rest : List ℕ) → n < 2 ^ 64 → first_count (item (decimal n) ++ rest) ≡ Some (n, rest)
-unfolding first_count
-count_complete n rest small =
-    ap (λ (o : Option (List ℕ × List ℕ)). o >>= (λ found. number_of found.0 >>= (λ count. Some (count, found.1))))
-    (item_complete (decimal n) rest (decimal_short n small))
-    ∙ ap (λ o. o >>= (λ count. Some (count, rest))) (number_complete n small)
+pub number_other : {E : Type 0} (digits text printed : List ℕ) (r : Result ℕ E) (value : ℕ) → text ≡ digits
+    → ParsesUnsigned 64 10 text r → result_ok r ≡ Some value → printed ≡ decimal value → bytes_eq printed digits ≡ false
+    → number_of digits ≡ None
+number_other {E} digits text printed r value same parses e prints differs =
+    number_none digits (λ n small at.
+    let read : r ≡ Ok n = parse-decimal 64 n text r small small (same ∙ at) parses in
+    let found : Some n ≡ Some value = sym (ap result_ok read) ∙ e in
+    let is : n ≡ value = cc in
+    let equal : bytes_eq printed digits ≡ true =
+    (bytes_eq-Decides printed digits).1 (prints ∙ sym (ap decimal is) ∙ sym at) in
+    let never : true ≡ false = sym equal ∙ differs in
+    absurd (cc))
 
-pub number_at_sound : (text : List ℕ) (found : ℕ × List ℕ) → first_number text ≡ Some found
-    → IsTrue (is_number found.0) × (text ≡ item (decimal found.0) ++ found.1)
-unfolding first_number
-number_at_sound text found e =
-    let step = bind_some (first_count text) _ found e in
-    let read : ℕ × List ℕ = step.0 in
-    let both = when_some (is_number read.0) read found step.2 in
-    let whole = count_sound text read step.1 in
-    let P : ℕ × List ℕ → Type 0 = λ p. IsTrue (is_number p.0) × (text ≡ item (decimal p.0) ++ p.1) in
-    subst P both.1 (both.0, whole.1)
+pub number_read : (digits printed : List ℕ) (value : ℕ) → value < 2 ^ 64 → printed ≡ decimal value
+    → bytes_eq printed digits ≡ true → number_of digits ≡ Some value
+number_read digits printed value small prints equal =
+    let same : printed ≡ digits = (bytes_eq-Decides printed digits).0 equal in
+    ap number_of (sym same ∙ prints) ∙ number_complete value small
 
-number_low : (n : ℕ) → IsTrue (is_number n) → n < 2 ^ 64
-number_low n h = let low : n ≤ 1000000000 = grind (arith, nat_tests) in omega arith
+-- bytes that are text
+pub read_as_text : {E : Type 0} {T : Type 0} (now : T → List ℕ) (bytes : List ℕ) (r : Result T E) (Q : E → Type 0)
+    → MatchResult r (λ text. (now text ≡ bytes) × IsUtf8 bytes) (λ e. (IsUtf8 bytes → ⊥) × Q e)
+    → option_map now (result_ok r) ≡ (if is_utf8 bytes then Some bytes else None)
+read_as_text now bytes (Ok text) Q h =
+    ap Some h.0 ∙ sym (cond-true (is_utf8 bytes) (Some bytes) None (is_utf8-from_IsUtf8 bytes h.1))
+read_as_text now bytes (Err e) Q h = by (is_utf8 bytes) refl
+  where
+    by : (t : Bool) → is_utf8 bytes ≡ t → None ≡ (if is_utf8 bytes then Some bytes else None)
+    by true is = absurd (h.0 (IsUtf8-from_is_utf8 bytes is))
+    by false is = sym (cond-false (is_utf8 bytes) (Some bytes) None is)
 
-pub number_at_complete : (n : ℕ) (rest : List ℕ) → IsTrue (is_number n) → first_number (item (decimal n) ++ rest) ≡ Some (n, rest)
-unfolding first_number
-number_at_complete n rest is =
-    ap (λ (o : Option (ℕ × List ℕ)). o >>= (λ found. if is_number found.0 then Some found else None))
-    (count_complete n rest (number_low n is))
-    ∙ cond-true (is_number n) (Some (n, rest)) None is
+pub ok_again : {T E : Type 0} (o : Option T) (e : E) → result_ok (ok_or o e) ≡ o
+ok_again None e = refl
+ok_again (Some x) e = refl
 
--- ---- reasons
+pub missing : {T E : Type 0} (o : Option T) (e f : E) → Err f ≡ ok_or o e → (o ≡ None) × (f ≡ e)
+missing None e f h = (refl, cc h)
+missing (Some x) e f h = absurd (cc h)
 
-reason_said : (bytes : List ℕ) (reason : Option (List ℕ)) → reason_of bytes ≡ Some reason
-    → IsReason reason × (bytes ≡ reason_text reason)
-reason_said [] reason e =
-    let same : None ≡ reason = some_same None reason e in
-    let P : Option (List ℕ) → Type 0 = λ r. IsReason r × ([] ≡ reason_text r) in
-    subst P same (tt, refl)
-reason_said (b ∷ bs) reason e =
-    let both = when_some (is_note (b ∷ bs)) (Some (b ∷ bs)) reason e in
-    let P : Option (List ℕ) → Type 0 = λ r. IsReason r × ((b ∷ bs) ≡ reason_text r) in
-    subst P both.1 (both.0, refl)
-
-empty_is_no_note : IsTrue (is_note []) → ⊥
-unfolding is_note
-empty_is_no_note h =
-    let never : false ≡ true = (and_parts _ _ (and_parts _ _ (and_parts _ _ h).0).0).1 in
-    absurd (cc never)
-
-reason_back : (reason : Option (List ℕ)) → IsReason reason → reason_of (reason_text reason) ≡ Some reason
-reason_back None is = refl
-reason_back (Some []) is = absurd (empty_is_no_note is)
-reason_back (Some (b ∷ bs)) is = cond-true (is_note (b ∷ bs)) (Some (Some (b ∷ bs))) None is
-
-reason_short : (reason : Option (List ℕ)) → IsReason reason → length (reason_text reason) < 2 ^ 64
-reason_short None is = omega arith
-reason_short (Some reason) is = note_short reason is
-
-pub reason_sound : (text : List ℕ) (found : Option (List ℕ) × List ℕ) → first_reason text ≡ Some found
-    → IsReason found.0 × (text ≡ item (reason_text found.0) ++ found.1)
-unfolding first_reason
-reason_sound text found e =
-    let step = bind_some (first_item text) _ found e in
-    let read : List ℕ × List ℕ = step.0 in
-    let told = bind_some (reason_of read.0) _ found step.2 in
-    let reason : Option (List ℕ) = told.0 in
-    let said = reason_said read.0 reason told.1 in
-    let whole = item_sound text read.0 read.1 step.1 in
-    let same : (reason, read.1) ≡ found = some_same (reason, read.1) found told.2 in
-    let P : Option (List ℕ) × List ℕ → Type 0 = λ p. IsReason p.0 × (text ≡ item (reason_text p.0) ++ p.1) in
-    subst P same (said.0, whole.1 ∙ ap (λ l. item l ++ read.1) said.1)
-
-pub reason_complete : (reason : Option (List ℕ)) (rest : List ℕ) → IsReason reason
-    → first_reason (item (reason_text reason) ++ rest) ≡ Some (reason, rest)
-unfolding first_reason
-reason_complete reason rest is =
-    ap (λ (o : Option (List ℕ × List ℕ)). o >>= (λ found. reason_of found.0 >>= (λ reason. Some (reason, found.1))))
-    (item_complete (reason_text reason) rest (reason_short reason is))
-    ∙ ap (λ o. o >>= (λ reason. Some (reason, rest))) (reason_back reason is)
+pub found : {T E : Type 0} (o : Option T) (e : E) (x : T) → Ok x ≡ ok_or o e → o ≡ Some x
+found None e x h = absurd (cc h)
+found (Some y) e x h = cc h

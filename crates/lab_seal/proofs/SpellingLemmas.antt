@@ -1,230 +1,203 @@
--- A version is read from its text alone, so no two versions share a text, and none is the front of another.
-use Rattle.std.proofs.Common.{◌≡◌, ℕ, ◌<◌, ◌^◌, true, false, List, [], ◌∷◌, ◌++◌, length, Option, Some, None, ◌==◌, refl, sym, ap, subst, ◌∙◌, arith, append_assoc, IsTrue}
-use Rattle.std.specs.Prelude.{All}
-use Rattle.std.specs.List.{flat_map}
+-- What each kind of item is spelled as.
+use Rattle.std.proofs.Common.{◌≡◌, ℕ, ◌<◌, ◌≤◌, ◌^◌, Bool, true, false, List, [], ◌∷◌, length, Option, Some, None, refl, sym, ap, subst, ◌∙◌, arith, IsTrue}
+use Rattle.std.specs.Prelude.{decimal, if◌then◌else◌}
+use Rattle.std.specs.Str.{bytes_eq, is_utf8, IsUtf8}
+use Rattle.std.proofs.lemmas.Bool.{and_parts, cond-true, cond-false}
 use Rattle.std.proofs.lemmas.Bool.Decides.{nat_tests}
-use Rattle.std.proofs.lemmas.List.{append-nil}
-use Rattle.lab_names.specs.Moment.{is_moment}
-use Rattle.lab_names.specs.Names.{is_lab_code, is_person_code, is_key, is_name}
-use Rattle.lab_seal.specs.Faults.{TextFaultFits}
-use Rattle.lab_seal.specs.Versions.{row_text, heading_text, subject_text, origin_text, opening_text, version_text, is_number, AmendsUnlessFirst, IsAmendment, IsRow, IsVersion, IsNoVersion, OneSpelling}
-use Rattle.lab_seal.specs.Reading.{IsUnread, first_heading, first_subject, first_origin, first_opening, first_rows, VersionRead, read_of, first_version}
-use Rattle.lab_seal.specs.declared.faults.TextFault.{TextFault}
-use Rattle.lab_seal.specs.declared.faults.TextFault.TheVariants.{BadText, Memory}
-use Rattle.lab_seal.specs.declared.reading.Heading.{Heading}
-use Rattle.lab_seal.specs.declared.reading.Subject.{Subject}
-use Rattle.lab_seal.specs.declared.reading.Opening.{Opening}
-use Rattle.lab_seal.specs.declared.versions.Amendment.{Amendment}
-use Rattle.lab_seal.specs.declared.versions.EntryRow.{EntryRow}
-use Rattle.lab_seal.specs.declared.versions.VersionParts.{VersionParts}
-use Rattle.lab_seal.proofs.ReadLemmas.{bind_some, some_same}
-use Rattle.lab_seal.proofs.VersionLemmas.{heading_sound, heading_complete, subject_sound, subject_complete, origin_sound, origin_complete, opening_sound, opening_complete, rows_sound, rows_complete}
+use Rattle.std.proofs.lemmas.Slice.Eq.{bytes_eq-Decides}
+use Rattle.std.proofs.lemmas.Str.{is_utf8-from_IsUtf8}
+use Rattle.hex.specs.Hex.{encode_lower, lower_digits}
+use Rattle.hex.proofs.HexLemmas.{length-encode_with}
+use Rattle.lab_names.specs.Moment.{is_moment, moment_text, moment_of}
+use Rattle.lab_names.specs.Names.{is_note}
+use Rattle.lab_names.specs.Ordinals.{is_ordinal, ordinal_of}
+use Rattle.lab_names.proofs.MomentLemmas.{moment_complete, moment_sound}
+use Rattle.lab_secrets.specs.Digits.{bytes_of_digits}
+use Rattle.lab_secrets.proofs.DigitsLemmas.{digits_complete, digits_sound}
+use Rattle.lab_seal.specs.Versions.{reason_text, IsDigest, IsReason}
+use Rattle.lab_seal.specs.Reading.{text_where, this_word, which_word, number_of, ordinal_in, reason_in, moment_in, ◌>>=◌}
+use Rattle.lab_seal.proofs.PartLemmas.{Spelling}
+use Rattle.lab_seal.proofs.ReadLemmas.{bind_some, when_some, some_same, number_sound, number_complete, decimal_short}
+use Rattle.lab_seal.proofs.TextLemmas.{note_utf8, note_short, moment_utf8, moment_short}
 
--- the version of parts that were read one after the other
-pub version_read : (text : List ℕ) (heading : Heading) (subject : Subject) (amendment : Option Amendment) (opening : Opening)
-    (rows : List EntryRow) (second third fourth fifth rest : List ℕ)
-    → first_heading text ≡ Some (heading, second)
-    → first_subject second ≡ Some (subject, third)
-    → first_origin heading.number third ≡ Some (amendment, fourth)
-    → first_opening fourth ≡ Some (opening, fifth)
-    → first_rows opening.rows fifth ≡ Some (rows, rest)
-    → first_version text
-    ≡ Some (
-      record {
-        heading = heading;
-        subject = subject;
-        amendment = amendment;
-        opening = record { opener = opening.opener; opened = opening.opened; rows = length rows };
-        rows = rows;
-      },
-      rest,
-    )
-unfolding first_version
-version_read text heading subject amendment opening rows second third fourth fifth rest a b c d e =
-    let counted : length rows ≡ opening.rows = (rows_sound opening.rows fifth (rows, rest) e).counted in
-    let whole : ℕ → Option (VersionRead × List ℕ) = λ (n : ℕ). Some (
-      record {
-        heading = heading;
-        subject = subject;
-        amendment = amendment;
-        opening = record { opener = opening.opener; opened = opening.opened; rows = n };
-        rows = rows;
-      },
-      rest,
-    ) in
-    rw (a, b, c, d, e) (ap whole (sym counted))
+-- ---- texts
 
--- the text of a version whose rows are a list
-abbrev text_of : VersionRead → List ℕ
-text_of v =
-    heading_text v.heading.lab v.heading.record_number v.heading.number
-    ++ subject_text v.subject.form v.subject.form_version v.subject.sample
-    ++ origin_text v.amendment
-    ++ opening_text v.opening.opener v.opening.opened v.opening.rows
-    ++ flat_map row_text v.rows
+pub text_sound : (admits : List ℕ → Bool) (bytes text : List ℕ) → text_where admits bytes ≡ Some text → IsTrue (admits text) × (bytes ≡ text)
+text_sound admits bytes text e = by (is_utf8 bytes) e
+  where
+    by : (t : Bool) → (if t then (if admits bytes then Some bytes else None) else None) ≡ Some text
+        → IsTrue (admits text) × (bytes ≡ text)
+    by true e =
+        let both = when_some (admits bytes) bytes text e in
+        let P : List ℕ → Type 0 = λ l. IsTrue (admits l) in
+        (subst P both.1 both.0, both.1)
+    by false e = let never : None ≡ Some text = e in absurd (cc)
 
-record HasVersion (text : List ℕ) (v : VersionRead) (rest : List ℕ) : Type 0 where
-  pub lab : IsTrue (is_lab_code v.heading.lab)
-  pub record_number : IsTrue (is_number v.heading.record_number)
-  pub number : IsTrue (is_number v.heading.number)
-  pub form : IsTrue (is_key v.subject.form)
-  pub form_version : IsTrue (is_number v.subject.form_version)
-  pub sample : IsTrue (is_name v.subject.sample)
-  pub order : AmendsUnlessFirst v.heading.number v.amendment
-  pub amendment : IsAmendment v.amendment
-  pub opener : IsTrue (is_person_code v.opening.opener)
-  pub opened : IsTrue (is_moment v.opening.opened)
-  pub rows : All IsRow v.rows
-  pub text_is : text ≡ text_of v ++ rest
+pub text_complete : (admits : List ℕ → Bool) (text : List ℕ) → IsUtf8 text → IsTrue (admits text) → text_where admits text ≡ Some text
+text_complete admits text utf8 is =
+    cond-true (is_utf8 text) (if admits text then Some text else None) None (is_utf8-from_IsUtf8 text utf8)
+    ∙ cond-true (admits text) (Some text) None is
 
-behind_5 : (a b c d e r : List ℕ) → (a ++ b ++ c ++ d ++ e) ++ r ≡ a ++ (b ++ (c ++ (d ++ (e ++ r))))
-behind_5 a b c d e r = simp append_assoc
+abbrev pub text_spelling : (admits : List ℕ → Bool) → ((text : List ℕ) → IsTrue (admits text) → IsUtf8 text)
+    → ((text : List ℕ) → IsTrue (admits text) → length text < 2 ^ 64) → Spelling (List ℕ)
+text_spelling admits utf8 short = record {
+  reads = text_where admits;
+  IsGood = λ text. IsTrue (admits text);
+  bytes_of = λ text. text;
+  sound = text_sound admits;
+  complete = λ text is. text_complete admits text (utf8 text is) is;
+  short = short;
+}
 
-version_sound : (text : List ℕ) (found : VersionRead × List ℕ) → first_version text ≡ Some found → HasVersion text found.0 found.1
-unfolding first_version
-version_sound text found e =
-    let a = bind_some (first_heading text) _ found e in
-    let heading : Heading × List ℕ = a.0 in
-    let b = bind_some (first_subject heading.1) _ found a.2 in
-    let subject : Subject × List ℕ = b.0 in
-    let c = bind_some (first_origin heading.0.number subject.1) _ found b.2 in
-    let amendment : Option Amendment × List ℕ = c.0 in
-    let d = bind_some (first_opening amendment.1) _ found c.2 in
-    let opening : Opening × List ℕ = d.0 in
-    let f = bind_some (first_rows opening.0.rows opening.1) _ found d.2 in
-    let rows : List EntryRow × List ℕ = f.0 in
-    let v : VersionRead = record {
-      heading = heading.0;
-      subject = subject.0;
-      amendment = amendment.0;
-      opening = opening.0;
-      rows = rows.0;
-    } in
-    let same : (v, rows.1) ≡ found = some_same (v, rows.1) found f.2 in
-    let has_heading = heading_sound text heading a.1 in
-    let has_subject = subject_sound heading.1 subject b.1 in
-    let has_origin = origin_sound heading.0.number subject.1 amendment c.1 in
-    let has_opening = opening_sound amendment.1 opening d.1 in
-    let has_rows = rows_sound opening.0.rows opening.1 rows f.1 in
-    let heading_is : List ℕ = heading_text heading.0.lab heading.0.record_number heading.0.number in
-    let subject_is : List ℕ = subject_text subject.0.form subject.0.form_version subject.0.sample in
-    let origin_is : List ℕ = origin_text amendment.0 in
-    let opening_is : List ℕ = opening_text opening.0.opener opening.0.opened opening.0.rows in
-    let whole = has_heading.text_is
-    ∙ ap (λ l. heading_is ++ l) (has_subject.text_is
-    ∙ ap (λ l. subject_is ++ l) (has_origin.text_is
-    ∙ ap (λ l. origin_is ++ l) (has_opening.text_is ∙ ap (λ l. opening_is ++ l) has_rows.text_is)))
-    ∙ sym (behind_5 heading_is subject_is origin_is opening_is (flat_map row_text rows.0) rows.1) in
-    let P : VersionRead × List ℕ → Type 0 = λ p. HasVersion text p.0 p.1 in
-    subst P same (record {
-      lab = has_heading.lab;
-      record_number = has_heading.record_number;
-      number = has_heading.number;
-      form = has_subject.form;
-      form_version = has_subject.form_version;
-      sample = has_subject.sample;
-      order = has_origin.order;
-      amendment = has_origin.amendment;
-      opener = has_opening.opener;
-      opened = has_opening.opened;
-      rows = has_rows.rows_are;
-      text_is = whole;
-    })
+-- ---- words
 
-version_complete : (parts : VersionParts) (rest : List ℕ) → IsVersion parts
-    → first_version (version_text parts ++ rest) ≡ Some (read_of parts, rest)
-unfolding first_version version_text
-version_complete parts rest is =
-    let few : length parts.rows.items < 2 ^ 64 = omega (arith, parts.rows.ok.0, parts.rows.ok.1, parts.rows.small) in
-    let heading_is : List ℕ = heading_text parts.lab parts.record_number parts.number in
-    let subject_is : List ℕ = subject_text parts.form parts.form_version parts.sample in
-    let origin_is : List ℕ = origin_text parts.amendment in
-    let opening_is : List ℕ = opening_text parts.opener parts.opened (length parts.rows.items) in
-    let last : List ℕ = flat_map row_text parts.rows.items ++ rest in
-    let fourth : List ℕ = opening_is ++ last in
-    let third : List ℕ = origin_is ++ fourth in
-    let second : List ℕ = subject_is ++ third in
-    let regroup = behind_5 heading_is subject_is origin_is opening_is (flat_map row_text parts.rows.items) rest in
-    let a = heading_complete parts.lab parts.record_number parts.number second is.lab is.numbers.record_number is.numbers.number in
-    let b = subject_complete parts.form parts.form_version parts.sample third is.form is.numbers.form_version is.sample in
-    let c = origin_complete parts.number parts.amendment fourth is.numbers.order is.amendment in
-    let d = opening_complete parts.opener parts.opened (length parts.rows.items) last is.opener is.opened few in
-    let e = rows_complete parts.rows.items rest is.rows in
-    rw (regroup, a, b, c, d, e) refl
+pub same_word : (word : List ℕ) → bytes_eq word word ≡ true
+same_word word = (bytes_eq-Decides word word).1 refl
 
-pub one_spelling : OneSpelling
-one_spelling one other rest more is_one is_other e =
-    let found : Some (read_of one, rest) ≡ Some (read_of other, more) =
-    sym (version_complete one rest is_one) ∙ ap first_version e ∙ version_complete other more is_other in
-    let same : (read_of one, rest) ≡ (read_of other, more) =
-    some_same (read_of one, rest) (read_of other, more) found in
-    let v : read_of one ≡ read_of other = ap (λ (p : VersionRead × List ℕ). p.0) same in (
-      record {
-        lab = ap (λ (w : VersionRead). w.heading.lab) v;
-        record_number = ap (λ (w : VersionRead). w.heading.record_number) v;
-        number = ap (λ (w : VersionRead). w.heading.number) v;
-        form = ap (λ (w : VersionRead). w.subject.form) v;
-        form_version = ap (λ (w : VersionRead). w.subject.form_version) v;
-        sample = ap (λ (w : VersionRead). w.subject.sample) v;
-        amendment = ap (λ (w : VersionRead). w.amendment) v;
-        opener = ap (λ (w : VersionRead). w.opening.opener) v;
-        opened = ap (λ (w : VersionRead). w.opening.opened) v;
-        rows = ap (λ (w : VersionRead). w.rows) v;
-      },
-      ap (λ (p : VersionRead × List ℕ). p.1) same,
-    )
+abbrev pub word_spelling : (word : List ℕ) → length word < 2 ^ 64 → Spelling (Unit {0})
+word_spelling word short = record {
+  reads = this_word word;
+  IsGood = λ _. Unit {0};
+  bytes_of = λ _. word;
+  sound = λ bytes x e. (tt, (bytes_eq-Decides bytes word).0 (when_some (bytes_eq bytes word) tt x e).0);
+  complete = λ x _. cond-true (bytes_eq word word) (Some tt) None (same_word word);
+  short = λ _ _. short;
+}
 
-no_rest : (rest : List ℕ) → (length rest == 0) ≡ true → rest ≡ []
-no_rest [] h = refl
-no_rest (b ∷ bs) h = absurd (grind (arith, nat_tests))
+abbrev pub picked : List ℕ → List ℕ → Bool → List ℕ
+picked one other true = one
+picked one other false = other
 
--- what was read, where nothing follows it
-pub read_is : (bytes : List ℕ) (parts : VersionParts) (rest : List ℕ) → first_version bytes ≡ Some (read_of parts, rest)
-    → (length rest == 0) ≡ true → IsVersion parts × (version_text parts ≡ bytes)
-unfolding version_text
-read_is bytes parts rest e empty =
-    let has = version_sound bytes (read_of parts, rest) e in
-    let whole : bytes ≡ text_of (read_of parts) ++ rest = has.text_is in (
-      record {
-        numbers = record {
-          record_number = has.record_number;
-          number = has.number;
-          form_version = has.form_version;
-          order = has.order;
-        };
-        lab = has.lab;
-        form = has.form;
-        sample = has.sample;
-        amendment = has.amendment;
-        opener = has.opener;
-        opened = has.opened;
-        rows = has.rows;
-      },
-      sym (whole ∙ ap (λ l. text_of (read_of parts) ++ l) (no_rest rest empty) ∙ append-nil (text_of (read_of parts))),
-    )
+pub choice_sound : (one other bytes : List ℕ) (x : Bool) → which_word one other bytes ≡ Some x → bytes ≡ picked one other x
+choice_sound one other bytes x e = by (bytes_eq bytes one) refl e
+  where
+    by : (t : Bool) → bytes_eq bytes one ≡ t
+        → (if t then Some true else if bytes_eq bytes other then Some false else None) ≡ Some x → bytes ≡ picked one other x
+    by true is e = (bytes_eq-Decides bytes one).0 is ∙ ap (picked one other) (some_same true x e)
+    by false is e =
+        let both = when_some (bytes_eq bytes other) false x e in
+        (bytes_eq-Decides bytes other).0 both.0 ∙ ap (picked one other) both.1
 
-back : (bytes : List ℕ) (parts : VersionParts) → IsVersion parts → version_text parts ≡ bytes
-    → first_version bytes ≡ Some (read_of parts, [])
-back bytes parts is e =
-    ap first_version (sym e ∙ sym (append-nil (version_text parts))) ∙ version_complete parts [] is
+pub choice_complete : (one other : List ℕ) → bytes_eq other one ≡ false → (x : Bool) → which_word one other (picked one other x) ≡ Some x
+choice_complete one other differ true =
+    cond-true (bytes_eq one one) (Some true) (if bytes_eq one other then Some false else None) (same_word one)
+choice_complete one other differ false =
+    cond-false (bytes_eq other one) (Some true) (if bytes_eq other other then Some false else None) differ
+    ∙ cond-true (bytes_eq other other) (Some false) None (same_word other)
 
-not_empty : (rest : List ℕ) → (length rest == 0) ≡ false → rest ≡ [] → ⊥
-not_empty [] longer none = absurd (cc)
-not_empty (b ∷ bs) longer none = absurd (cc)
+pub choice_short : (one other : List ℕ) → length one < 2 ^ 64 → length other < 2 ^ 64 → (x : Bool) → length (picked one other x) < 2 ^ 64
+choice_short one other low small true = low
+choice_short one other low small false = small
 
--- and where something does
-pub read_longer : (bytes : List ℕ) (parts : VersionParts) (rest : List ℕ) → first_version bytes ≡ Some (read_of parts, rest)
-    → (length rest == 0) ≡ false → IsNoVersion bytes
-read_longer bytes parts rest e longer = λ other is at.
-    let same : (read_of parts, rest) ≡ (read_of other, []) =
-    some_same (read_of parts, rest) (read_of other, []) (sym e ∙ back bytes other is at) in
-    not_empty rest longer (ap (λ (p : VersionRead × List ℕ). p.1) same)
+abbrev pub choice_spelling : (one other : List ℕ) → bytes_eq other one ≡ false → length one < 2 ^ 64 → length other < 2 ^ 64 → Spelling Bool
+choice_spelling one other differ low small = record {
+  reads = which_word one other;
+  IsGood = λ _. Unit {0};
+  bytes_of = picked one other;
+  sound = λ bytes x e. (tt, choice_sound one other bytes x e);
+  complete = λ x _. choice_complete one other differ x;
+  short = λ x _. choice_short one other low small x;
+}
 
-none_some : {A : Type 0} (x : A) → None ≡ Some x → ⊥
-none_some x e = absurd (cc)
+-- ---- numbers
 
--- nothing was read
-pub unread_version : (bytes : List ℕ) (fault : TextFault) → IsUnread fault (first_version bytes)
-    → TextFaultFits (IsNoVersion bytes) fault
-unread_version bytes BadText e = λ other is at. none_some (read_of other, []) (sym e ∙ back bytes other is at)
-unread_version bytes (Memory m) e = tt
+abbrev pub count_spelling : Spelling ℕ
+count_spelling = record {
+  reads = number_of;
+  IsGood = λ n. n < 2 ^ 64;
+  bytes_of = decimal;
+  sound = number_sound;
+  complete = number_complete;
+  short = decimal_short;
+}
+
+pub ordinal_low : (n : ℕ) → IsTrue (is_ordinal n) → n < 2 ^ 64
+ordinal_low n h = let low : n ≤ 1000000000 = grind (arith, nat_tests) in omega arith
+
+pub ordinal_sound : (bytes : List ℕ) (n : ℕ) → ordinal_in bytes ≡ Some n → IsTrue (is_ordinal n) × (bytes ≡ decimal n)
+ordinal_sound bytes n e =
+    let a = bind_some (number_of bytes) ordinal_of n e in
+    let m : ℕ = a.0 in
+    let both = when_some (is_ordinal m) m n a.2 in
+    let P : ℕ → Type 0 = λ v. IsTrue (is_ordinal v) × (bytes ≡ decimal v) in
+    subst P both.1 (both.0, (number_sound bytes m a.1).1)
+
+abbrev pub ordinal_spelling : Spelling ℕ
+ordinal_spelling = record {
+  reads = ordinal_in;
+  IsGood = λ n. IsTrue (is_ordinal n);
+  bytes_of = decimal;
+  sound = ordinal_sound;
+  complete = λ n is. ap (λ o. o >>= ordinal_of) (number_complete n (ordinal_low n is)) ∙ cond-true (is_ordinal n) (Some n) None is;
+  short = λ n is. decimal_short n (ordinal_low n is);
+}
+
+-- ---- moments and digests
+
+pub moment_in_sound : (bytes : List ℕ) (n : ℕ) → moment_in bytes ≡ Some n → IsTrue (is_moment n) × (bytes ≡ moment_text n)
+moment_in_sound bytes n e = by (is_utf8 bytes) e
+  where
+    by : (t : Bool) → (if t then moment_of bytes else None) ≡ Some n → IsTrue (is_moment n) × (bytes ≡ moment_text n)
+    by true e = moment_sound bytes n e
+    by false e = let never : None ≡ Some n = e in absurd (cc)
+
+abbrev pub moment_spelling : Spelling ℕ
+moment_spelling = record {
+  reads = moment_in;
+  IsGood = λ n. IsTrue (is_moment n);
+  bytes_of = moment_text;
+  sound = moment_in_sound;
+  complete = λ n is.
+      cond-true (is_utf8 (moment_text n)) (moment_of (moment_text n)) None (is_utf8-from_IsUtf8 (moment_text n) (moment_utf8 n is))
+      ∙ moment_complete n is;
+  short = λ n _. moment_short n;
+}
+
+abbrev pub digest_spelling : Spelling (List ℕ)
+digest_spelling = record {
+  reads = bytes_of_digits 32;
+  IsGood = IsDigest;
+  bytes_of = encode_lower;
+  sound = λ digits digest e. let has = digits_sound 32 digits digest e in ((has.long, has.each), has.spelled);
+  complete = λ digest is. digits_complete 32 digest is.0 is.1;
+  short = λ digest is. omega (arith, is.0, length-encode_with lower_digits digest);
+}
+
+-- ---- reasons
+
+pub reason_sound : (bytes : List ℕ) (reason : Option (List ℕ)) → reason_in bytes ≡ Some reason → IsReason reason × (bytes ≡ reason_text reason)
+reason_sound [] reason e =
+    let P : Option (List ℕ) → Type 0 = λ r. IsReason r × ([] ≡ reason_text r) in
+    subst P (some_same None reason e) (tt, refl)
+reason_sound (b ∷ bs) reason e =
+    let a = bind_some (text_where is_note (b ∷ bs)) _ reason e in
+    let note : List ℕ = a.0 in
+    let has = text_sound is_note (b ∷ bs) note a.1 in
+    let P : Option (List ℕ) → Type 0 = λ r. IsReason r × ((b ∷ bs) ≡ reason_text r) in
+    subst P (some_same (Some note) reason a.2) has
+
+empty_is_no_note : IsTrue (is_note []) → ⊥
+unfolding is_note
+empty_is_no_note h =
+    let never : false ≡ true = (and_parts _ _ (and_parts _ _ (and_parts _ _ h).0).0).1 in
+    absurd (cc never)
+
+pub reason_complete : (reason : Option (List ℕ)) → IsReason reason → reason_in (reason_text reason) ≡ Some reason
+reason_complete None is = refl
+reason_complete (Some []) is = absurd (empty_is_no_note is)
+reason_complete (Some (b ∷ bs)) is =
+    ap (λ (o : Option (List ℕ)). o >>= (λ note. Some (Some note))) (text_complete is_note (b ∷ bs) (note_utf8 (b ∷ bs) is) is)
+
+pub reason_short : (reason : Option (List ℕ)) → IsReason reason → length (reason_text reason) < 2 ^ 64
+reason_short None is = omega arith
+reason_short (Some reason) is = note_short reason is
+
+abbrev pub reason_spelling : Spelling (Option (List ℕ))
+reason_spelling = record {
+  reads = reason_in;
+  IsGood = IsReason;
+  bytes_of = reason_text;
+  sound = reason_sound;
+  complete = reason_complete;
+  short = reason_short;
+}

@@ -1,5 +1,5 @@
 -- What a code, a name, a note, a unit or a moment is written as is UTF-8, and short.
-use Rattle.std.proofs.Common.{◌≡◌, ℕ, ◌+◌, ◌/◌, ◌%◌, ◌^◌, ◌<◌, ◌≤◌, Bool, List, [], ◌∷◌, ◌++◌, length, sym, subst, true, ◌==◌, arith, IsTrue, inl, inr}
+use Rattle.std.proofs.Common.{◌≡◌, ℕ, ◌+◌, ◌/◌, ◌%◌, ◌^◌, ◌<◌, ◌≤◌, Bool, List, [], ◌∷◌, ◌++◌, length, refl, sym, subst, true, ◌==◌, arith, IsTrue, inl, inr}
 use Rattle.std.specs.Prelude.{◌&&◌, nat_le}
 use Rattle.std.specs.List.{list_all}
 use Rattle.std.specs.Str.{IsAscii, IsUtf8}
@@ -7,12 +7,10 @@ use Rattle.std.proofs.lemmas.Bool.{and_parts, or_cases, leb-true, eqb-true}
 use Rattle.std.proofs.lemmas.Bool.Decides.{nat_tests}
 use Rattle.std.proofs.lemmas.Str.{IsAscii-append, IsUtf8-from_ascii, IsUtf8-from_is_utf8, IsUtf8-nil}
 use Rattle.std.proofs.lemmas.Str.Ascii.{IsAscii-nil, IsAscii-cons}
-use Rattle.lab_names.specs.Calendar.{two_digits, four_digits}
-use Rattle.lab_names.specs.Moment.{is_moment, moment_text}
+use Rattle.lab_names.specs.Calendar.{two_digits, four_digits, day_of, year_of, month_of, day_of_month, hour_of, minute_of, second_of}
+use Rattle.lab_names.specs.Moment.{is_moment, date_time_text, moment_text}
 use Rattle.lab_names.specs.Names.{is_code_byte, is_code, is_lab_code, is_person_code, is_key, is_name, is_note, is_unit}
-use Rattle.lab_names.specs.Stamp.{stamp_text, stamp_of, IsInWidth}
-use Rattle.lab_names.specs.declared.stamp.Stamp.{Stamp}
-use Rattle.lab_names.proofs.MomentLemmas.{moment_text-stamp, in_width-stamp_of}
+use Rattle.lab_names.proofs.MomentLemmas.{in_width}
 
 code_byte_ascii : (mark b : ℕ) → mark < 128 → is_code_byte mark b ≡ true → b < 128
 code_byte_ascii mark b low h = grind (arith, nat_tests)
@@ -81,28 +79,28 @@ two_plain n low =
     record { ascii = IsAscii-cons (48 + n / 10) ((48 + n % 10) ∷ []) tens (sign (48 + n % 10) ones).ascii }
 
 four_plain : (n : ℕ) → n < 10000 → Plain (four_digits n)
-four_plain n low =
-    let century : n / 100 < 100 = omega arith in
-    let year : n % 100 < 100 = omega arith in
-    joined (two_plain (n / 100) century) (two_plain (n % 100) year)
+four_plain n low = joined (two_plain (n / 100) (omega arith)) (two_plain (n % 100) (omega arith))
 
-stamp_plain : (s : Stamp) → IsInWidth s → Plain (stamp_text s)
-unfolding stamp_text
-stamp_plain s w =
+date_plain : (y m d h i s : ℕ) → y < 10000 → m < 100 → d < 100 → h < 100 → i < 100 → s < 100
+    → Plain (date_time_text y m d h i s)
+date_plain y m d h i s yl ml dl hl il sl =
     let hyphen = sign 45 (omega arith) in
     let colon = sign 58 (omega arith) in
-    let year = joined (four_plain s.year w.0) hyphen in
-    let month = joined (joined year (two_plain s.month w.1)) hyphen in
-    let day = joined (joined month (two_plain s.day w.2)) (sign 84 (omega arith)) in
-    let hour = joined (joined day (two_plain s.hour w.3)) colon in
-    let minute = joined (joined hour (two_plain s.minute w.4)) colon in
-    joined (joined minute (two_plain s.second w.5)) (sign 90 (omega arith))
+    joined (four_plain y yl) (joined hyphen (joined (two_plain m ml) (joined hyphen (joined (two_plain d dl)
+    (joined (sign 84 (omega arith)) (joined (two_plain h hl) (joined colon (joined (two_plain i il) (joined colon
+    (joined (two_plain s sl) (sign 90 (omega arith))))))))))))
 
 pub moment_utf8 : (n : ℕ) → IsTrue (is_moment n) → IsUtf8 (moment_text n)
+unfolding moment_text
 moment_utf8 n h =
-    let P : List ℕ → Type 0 = λ text. IsUtf8 text in
-    let plain = stamp_plain (stamp_of n) (in_width-stamp_of n h) in
-    subst P (sym (moment_text-stamp n)) (IsUtf8-from_ascii (stamp_text (stamp_of n)) plain.ascii)
+    let w = in_width n h in
+    let plain = date_plain (year_of (day_of n)) (month_of (day_of n)) (day_of_month (day_of n)) (hour_of n) (minute_of n)
+    (second_of n) (omega (arith, w.year)) w.month w.day (omega (arith, w.hour)) (omega (arith, w.minute)) (omega (arith, w.second)) in
+    IsUtf8-from_ascii _ plain.ascii
+
+pub moment_short : (n : ℕ) → length (moment_text n) < 2 ^ 64
+unfolding moment_text
+moment_short n = let size : length (moment_text n) ≡ 20 = refl in omega arith
 
 -- ---- all of these are short
 

@@ -1,413 +1,354 @@
--- The parts of a version are read exactly: what was written is read back, and what is read was written.
-use Rattle.std.proofs.Common.{◌≡◌, ◌≢◌, ℕ, zero, suc, ◌<◌, ◌^◌, Bool, true, false, List, [], ◌∷◌, ◌++◌, length, Option, Some, None, Result, Ok, Err, ◌==◌, refl, sym, ap, subst, ◌∙◌, arith, append_assoc, IsTrue}
-use Rattle.std.specs.Prelude.{codes, decimal, if◌then◌else◌, All}
+-- The parts of a version are read exactly, so a version is read from its text alone: no two versions share a text, and none is
+-- the front of another.
+use Rattle.std.proofs.Common.{◌≡◌, ◌≢◌, ℕ, zero, suc, ◌<◌, ◌^◌, Bool, true, false, List, [], ◌∷◌, ◌++◌, length, Option, Some, None, ◌==◌, refl, sym, ap, subst, ◌∙◌, arith, append_assoc, IsTrue}
+use Rattle.std.specs.Prelude.{codes, decimal, if◌then◌else◌, option_map, All}
 use Rattle.std.specs.List.{flat_map}
-use Rattle.std.specs.Str.{bytes_eq, is_utf8}
-use Rattle.std.proofs.lemmas.Bool.{cond-true, eqb-true}
+use Rattle.std.proofs.lemmas.Bool.{eqb-true}
+use Rattle.std.proofs.lemmas.Bool.Decides.{nat_tests}
+use Rattle.std.proofs.lemmas.List.{append-nil}
 use Rattle.std.proofs.lemmas.List.Elements.{All-nil, All-cons, All-head, All-tail}
-use Rattle.std.proofs.lemmas.Slice.Eq.{bytes_eq-Decides}
-use Rattle.std.proofs.lemmas.Str.{is_utf8-from_IsUtf8}
-use Rattle.hex.specs.Hex.{encode_lower, decode_sized, lower_digits}
-use Rattle.hex.specs.declared.error.FromHexError.{FromHexError}
-use Rattle.hex.proofs.HexLemmas.{decode_of-ok, decode_sized-ok, decode_sized-twice, decode_sized-encode_lower, length-encode_with}
-use Rattle.lab_names.specs.Moment.{is_moment, moment_text}
+use Rattle.lab_names.specs.Moment.{moment_text}
 use Rattle.lab_names.specs.Names.{is_lab_code, is_person_code, is_key, is_name, is_note, is_unit}
-use Rattle.lab_seal.specs.Versions.{item, reason_text, row_text, heading_text, subject_text, origin_text, opening_text, is_number, IsDigest, AmendsUnlessFirst, IsAmendment, IsRow}
-use Rattle.lab_seal.specs.Reading.{after_word, first_item, first_admitted, first_count, first_number, first_reason, digest_decoded, digest_from_digits, moment_of, first_moment, first_heading, first_subject, first_no_amendment, first_amendment, first_origin, first_opening, first_row, first_rows, ◌>>=◌}
-use Rattle.lab_seal.specs.declared.reading.Heading.{Heading}
-use Rattle.lab_seal.specs.declared.reading.Subject.{Subject}
-use Rattle.lab_seal.specs.declared.reading.Opening.{Opening}
-use Rattle.lab_seal.specs.declared.versions.Amendment.{Amendment}
-use Rattle.lab_seal.specs.declared.versions.EntryRow.{EntryRow}
-use Rattle.lab_seal.proofs.DateLemmas.{moment_complete, moment_sound}
-use Rattle.lab_seal.proofs.ReadLemmas.{bind_some, when_some, some_same, item_sound, item_complete, admitted_sound, admitted_complete, word_sound, word_complete, count_sound, count_complete, number_at_sound, number_at_complete, reason_sound, reason_complete}
-use Rattle.lab_seal.proofs.TextLemmas.{lab_code_short, person_code_short, key_short, name_short, note_short, unit_short, moment_utf8}
+use Rattle.lab_seal.specs.Origins.{first_number, AmendsUnlessFirst}
+use Rattle.lab_seal.specs.Versions.{item, format_word, approval_text, reason_text, row_text, heading_text, subject_text, origin_text, opening_text, front_text, version_text, IsAmendment, IsRow, IsFront, IsVersion, IsNoVersion, IsSomeVersion, OneSpelling}
+use Rattle.lab_seal.specs.Reading.{first_as, which_word, text_where, first_heading, first_format, first_subject, first_no_amendment, first_amendment, first_origin, first_opening, first_front, first_row, first_rows, HeadingValue, SubjectValue, OpeningValue, FrontValue, version_of, ◌>>=◌}
+use Rattle.lab_seal.specs.declared.origins.Amendment.{Amendment}
+use Rattle.lab_seal.specs.declared.rows.EntryRow.{EntryRow}
+use Rattle.lab_seal.specs.declared.versions.Format.{Format}
+use Rattle.lab_seal.specs.declared.versions.Format.TheVariants.{One, Two}
+use Rattle.lab_seal.specs.declared.versions.VersionParts.{VersionParts}
+use Rattle.lab_seal.proofs.PartLemmas.{Spelling, Reader, Part, item_reader, part, behind, reader}
+use Rattle.lab_seal.proofs.ReadLemmas.{bind_some, some_same}
+use Rattle.lab_seal.proofs.SpellingLemmas.{text_spelling, word_spelling, picked, choice_spelling, count_spelling, ordinal_spelling, moment_spelling, digest_spelling, reason_spelling}
+use Rattle.lab_seal.proofs.TextLemmas.{lab_code_utf8, person_code_utf8, key_utf8, name_utf8, note_utf8, unit_utf8, lab_code_short, person_code_short, key_short, name_short, note_short, unit_short}
 
--- ---- moments and digests
+-- ---- the same texts, grouped otherwise
 
-pub moment_at_sound : (text : List ℕ) (found : ℕ × List ℕ) → first_moment text ≡ Some found
-    → IsTrue (is_moment found.0) × (text ≡ item (moment_text found.0) ++ found.1)
-unfolding first_moment
-moment_at_sound text found e =
-    let step = bind_some (first_admitted is_utf8 text) _ found e in
-    let read : List ℕ × List ℕ = step.0 in
-    let told = bind_some (moment_of read.0) _ found step.2 in
-    let n : ℕ = told.0 in
-    let moment = moment_sound read.0 n told.1 in
-    let has = admitted_sound is_utf8 text read step.1 in
-    let same : (n, read.1) ≡ found = some_same (n, read.1) found told.2 in
-    let P : ℕ × List ℕ → Type 0 = λ p. IsTrue (is_moment p.0) × (text ≡ item (moment_text p.0) ++ p.1) in
-    subst P same (moment.0, has.text_is ∙ ap (λ l. item l ++ read.1) moment.1)
+right_6 : (a b c d e f : List ℕ) → a ++ (b ++ (c ++ (d ++ (e ++ f)))) ≡ a ++ b ++ c ++ d ++ e ++ f
+right_6 a b c d e f = simp append_assoc
 
-moment_short : (n : ℕ) → length (moment_text n) < 2 ^ 64
-unfolding moment_text
-moment_short n = let size : length (moment_text n) ≡ 20 = refl in omega arith
+right_12 : (a b c d e f g h i j k l : List ℕ)
+    → (a ++ (b ++ (c ++ d))) ++ ((e ++ (f ++ (g ++ h))) ++ (i ++ (j ++ (k ++ l))))
+    ≡ (a ++ b ++ c ++ d) ++ (e ++ f ++ g ++ h) ++ i ++ (j ++ k ++ l)
+right_12 a b c d e f g h i j k l = simp append_assoc
 
-pub moment_at_complete : (n : ℕ) (rest : List ℕ) → IsTrue (is_moment n)
-    → first_moment (item (moment_text n) ++ rest) ≡ Some (n, rest)
-unfolding first_moment
-moment_at_complete n rest is =
-    let utf8 = is_utf8-from_IsUtf8 (moment_text n) (moment_utf8 n is) in
-    ap (λ (o : Option (List ℕ × List ℕ)). o >>= (λ found. moment_of found.0 >>= (λ moment. Some (moment, found.1))))
-    (admitted_complete is_utf8 (moment_text n) rest utf8 (moment_short n))
-    ∙ ap (λ o. o >>= (λ moment. Some (moment, rest))) (moment_complete n is)
+-- ---- items
 
-pub digest_sound : (digits digest : List ℕ) → digest_from_digits digits ≡ Some digest → IsDigest digest × (digits ≡ encode_lower digest)
-unfolding digest_from_digits
-digest_sound digits digest e = by (decode_sized digits 32) refl e
+abbrev lab_part : {R : Type 0} → Part R (List ℕ)
+lab_part = part (item_reader (text_spelling is_lab_code lab_code_utf8 lab_code_short))
+
+abbrev person_part : {R : Type 0} → Part R (List ℕ)
+person_part = part (item_reader (text_spelling is_person_code person_code_utf8 person_code_short))
+
+abbrev key_part : {R : Type 0} → Part R (List ℕ)
+key_part = part (item_reader (text_spelling is_key key_utf8 key_short))
+
+abbrev name_part : {R : Type 0} → Part R (List ℕ)
+name_part = part (item_reader (text_spelling is_name name_utf8 name_short))
+
+abbrev note_part : {R : Type 0} → Part R (List ℕ)
+note_part = part (item_reader (text_spelling is_note note_utf8 note_short))
+
+abbrev unit_part : {R : Type 0} → Part R (List ℕ)
+unit_part = part (item_reader (text_spelling is_unit unit_utf8 unit_short))
+
+abbrev ordinal_part : {R : Type 0} → Part R ℕ
+ordinal_part = part (item_reader ordinal_spelling)
+
+abbrev moment_part : {R : Type 0} → Part R ℕ
+moment_part = part (item_reader moment_spelling)
+
+abbrev newer_spelling : Spelling Bool
+newer_spelling = choice_spelling (codes "labrecord 2") (codes "labrecord 1") refl (omega arith) (omega arith)
+
+abbrev approval_spelling : Spelling Bool
+approval_spelling = choice_spelling (codes "yes") (codes "no") refl (omega arith) (omega arith)
+
+-- ---- headings and subjects
+
+abbrev heading_made : Bool × (List ℕ × (ℕ × ℕ)) → HeadingValue
+heading_made x = (x.0, x.1.0, x.1.1.0, x.1.1.1)
+
+abbrev heading_part : {R : Type 0} → Part R (Bool × (List ℕ × (ℕ × ℕ)))
+heading_part = behind (part (item_reader newer_spelling)) (λ _. behind lab_part (λ _. behind ordinal_part (λ _. ordinal_part)))
+
+heading_same : (text : List ℕ) → first_heading text ≡ heading_part.reads text (λ x rest. Some (heading_made x, rest))
+unfolding first_heading
+heading_same text = refl
+
+abbrev heading_reader : Reader HeadingValue
+heading_reader = reader heading_made (λ y. (y.0, (y.1, (y.2, y.3)))) (λ x. refl) (λ y. refl) heading_part first_heading heading_same
+
+-- whether a format is the newer one
+abbrev is_newer : Format → Bool
+is_newer One = false
+is_newer (Two _) = true
+
+record IsFormat (newer : Bool) (format : Format) : Type 0 where
+  pub told : is_newer format ≡ newer
+
+format_sound : (newer : Bool) (text : List ℕ) (found : Format × List ℕ) → first_format newer text ≡ Some found
+    → IsFormat newer found.0 × (text ≡ approval_text found.0 ++ found.1)
+unfolding first_format
+format_sound false text found e =
+    let P : Format × List ℕ → Type 0 = λ p. IsFormat false p.0 × (text ≡ approval_text p.0 ++ p.1) in
+    subst P (some_same (One, text) found e) (record { told = refl }, refl)
+format_sound true text found e =
+    let a = bind_some (first_as approval_spelling.reads text) _ found e in
+    let approval : Bool × List ℕ = a.0 in
+    let has = (item_reader approval_spelling).sound text approval a.1 in
+    let P : Format × List ℕ → Type 0 = λ p. IsFormat true p.0 × (text ≡ approval_text p.0 ++ p.1) in
+    subst P (some_same (Two approval.0, approval.1) found a.2) (record { told = refl }, has.1 ∙ ap (λ l. l ++ approval.1) (worded approval.0))
   where
-    by : (d : Result (List ℕ) FromHexError) → decode_sized digits 32 ≡ d → digest_decoded digits d ≡ Some digest
-        → IsDigest digest × (digits ≡ encode_lower digest)
-    by (Ok bytes) is e =
-        let both = when_some (bytes_eq (encode_lower bytes) digits) bytes digest e in
-        let same : encode_lower bytes ≡ digits = (bytes_eq-Decides (encode_lower bytes) digits).0 both.0 in
-        let size = decode_sized-ok digits 32 bytes is in
-        let parts = decode_of-ok digits bytes (sym (decode_sized-twice digits 32 size) ∙ is) in
-        let count : length bytes ≡ 32 = omega (arith, size, parts.2) in
-        let P : List ℕ → Type 0 = λ l. IsDigest l × (digits ≡ encode_lower l) in
-        subst P both.1 ((count, parts.3), sym same)
-    by (Err fault) is e = let never : None ≡ Some digest = e in absurd (cc)
+    worded : (approval : Bool) → item (picked (codes "yes") (codes "no") approval) ≡ approval_text (Two approval)
+    worded true = refl
+    worded false = refl
 
-pub digest_complete : (digest : List ℕ) → IsDigest digest → digest_from_digits (encode_lower digest) ≡ Some digest
-unfolding digest_from_digits
-digest_complete digest is =
-    ap (digest_decoded (encode_lower digest)) (decode_sized-encode_lower digest 32 is.0 is.1)
-    ∙ cond-true (bytes_eq (encode_lower digest) (encode_lower digest)) (Some digest) None
-    ((bytes_eq-Decides (encode_lower digest) (encode_lower digest)).1 refl)
+format_complete : (newer : Bool) (format : Format) (rest : List ℕ) → IsFormat newer format
+    → first_format newer (approval_text format ++ rest) ≡ Some (format, rest)
+unfolding first_format
+format_complete false One rest good = refl
+format_complete true (Two true) rest good =
+    ap (λ (o : Option (Bool × List ℕ)). o >>= (λ found. Some (Two found.0, found.1))) ((item_reader approval_spelling).complete true rest tt)
+format_complete true (Two false) rest good =
+    ap (λ (o : Option (Bool × List ℕ)). o >>= (λ found. Some (Two found.0, found.1))) ((item_reader approval_spelling).complete false rest tt)
+format_complete false (Two approval) rest good = let never : true ≡ false = good.told in absurd (cc)
+format_complete true One rest good = let never : false ≡ true = good.told in absurd (cc)
 
-digits_short : (digest : List ℕ) → IsDigest digest → length (encode_lower digest) < 2 ^ 64
-digits_short digest is = omega (arith, is.0, length-encode_with lower_digits digest)
+abbrev format_reader : Bool → Reader Format
+format_reader newer = record {
+  first = first_format newer;
+  IsGood = IsFormat newer;
+  text_of = approval_text;
+  sound = format_sound newer;
+  complete = format_complete newer;
+}
 
--- ---- one text behind another
+abbrev subject_made : List ℕ × (ℕ × (Format × List ℕ)) → SubjectValue
+subject_made x = (x.0, x.1.0, x.1.1.0, x.1.1.1)
 
-behind_2 : (a b r : List ℕ) → (a ++ b) ++ r ≡ a ++ (b ++ r)
-behind_2 a b r = simp append_assoc
+abbrev subject_part : {R : Type 0} → Bool → Part R (List ℕ × (ℕ × (Format × List ℕ)))
+subject_part newer = behind key_part (λ _. behind ordinal_part (λ _. behind (part (format_reader newer)) (λ _. name_part)))
 
-behind_3 : (a b c r : List ℕ) → (a ++ b ++ c) ++ r ≡ a ++ (b ++ (c ++ r))
-behind_3 a b c r = simp append_assoc
+subject_same : (newer : Bool) (text : List ℕ)
+    → first_subject newer text ≡ (subject_part newer).reads text (λ x rest. Some (subject_made x, rest))
+unfolding first_subject
+subject_same newer text = refl
 
-behind_4 : (a b c d r : List ℕ) → (a ++ b ++ c ++ d) ++ r ≡ a ++ (b ++ (c ++ (d ++ r)))
-behind_4 a b c d r = simp append_assoc
-
-behind_6 : (a b c d e f r : List ℕ) → (a ++ b ++ c ++ d ++ e ++ f) ++ r ≡ a ++ (b ++ (c ++ (d ++ (e ++ (f ++ r)))))
-behind_6 a b c d e f r = simp append_assoc
-
--- ---- headings
-
-pub record HasHeading (text : List ℕ) (heading : Heading) (rest : List ℕ) : Type 0 where
-  pub lab : IsTrue (is_lab_code heading.lab)
-  pub record_number : IsTrue (is_number heading.record_number)
-  pub number : IsTrue (is_number heading.number)
-  pub text_is : text ≡ heading_text heading.lab heading.record_number heading.number ++ rest
-
-pub heading_sound : (text : List ℕ) (found : Heading × List ℕ) → first_heading text ≡ Some found
-    → HasHeading text found.0 found.1
-unfolding first_heading heading_text
-heading_sound text found e =
-    let word : List ℕ = codes "labrecord 1" in
-    let a = bind_some (after_word word text) _ found e in
-    let b = bind_some (first_admitted is_lab_code a.0) _ found a.2 in
-    let lab : List ℕ × List ℕ = b.0 in
-    let c = bind_some (first_number lab.1) _ found b.2 in
-    let one : ℕ × List ℕ = c.0 in
-    let d = bind_some (first_number one.1) _ found c.2 in
-    let other : ℕ × List ℕ = d.0 in
-    let heading : Heading = record { lab = lab.0; record_number = one.0; number = other.0 } in
-    let same : (heading, other.1) ≡ found = some_same (heading, other.1) found d.2 in
-    let has_lab = admitted_sound is_lab_code a.0 lab b.1 in
-    let has_one = number_at_sound lab.1 one c.1 in
-    let has_other = number_at_sound one.1 other d.1 in
-    let whole = word_sound word text a.0 a.1
-    ∙ ap (λ l. item word ++ l) (has_lab.text_is
-    ∙ ap (λ l. item lab.0 ++ l) (has_one.1 ∙ ap (λ l. item (decimal one.0) ++ l) has_other.1))
-    ∙ sym (behind_4 (item word) (item lab.0) (item (decimal one.0)) (item (decimal other.0)) other.1) in
-    let P : Heading × List ℕ → Type 0 = λ p. HasHeading text p.0 p.1 in
-    subst P same (record {
-      lab = has_lab.admitted;
-      record_number = has_one.0;
-      number = has_other.0;
-      text_is = whole;
-    })
-
-pub heading_complete : (lab : List ℕ) (one other : ℕ) (rest : List ℕ) → IsTrue (is_lab_code lab) → IsTrue (is_number one)
-    → IsTrue (is_number other)
-    → first_heading (heading_text lab one other ++ rest)
-    ≡ Some (record { lab = lab; record_number = one; number = other }, rest)
-unfolding first_heading heading_text
-heading_complete lab one other rest is_lab is_one is_other =
-    let word : List ℕ = codes "labrecord 1" in
-    let last : List ℕ = item (decimal other) ++ rest in
-    let third : List ℕ = item (decimal one) ++ last in
-    let regroup = behind_4 (item word) (item lab) (item (decimal one)) (item (decimal other)) rest in
-    let a = word_complete word (item lab ++ third) (omega arith) in
-    let b = admitted_complete is_lab_code lab third is_lab (lab_code_short lab is_lab) in
-    let c = number_at_complete one last is_one in
-    let d = number_at_complete other rest is_other in
-    rw (regroup, a, b, c, d) refl
-
--- ---- subjects
-
-pub record HasSubject (text : List ℕ) (subject : Subject) (rest : List ℕ) : Type 0 where
-  pub form : IsTrue (is_key subject.form)
-  pub form_version : IsTrue (is_number subject.form_version)
-  pub sample : IsTrue (is_name subject.sample)
-  pub text_is : text ≡ subject_text subject.form subject.form_version subject.sample ++ rest
-
-pub subject_sound : (text : List ℕ) (found : Subject × List ℕ) → first_subject text ≡ Some found
-    → HasSubject text found.0 found.1
-unfolding first_subject subject_text
-subject_sound text found e =
-    let a = bind_some (first_admitted is_key text) _ found e in
-    let form : List ℕ × List ℕ = a.0 in
-    let b = bind_some (first_number form.1) _ found a.2 in
-    let version : ℕ × List ℕ = b.0 in
-    let c = bind_some (first_admitted is_name version.1) _ found b.2 in
-    let sample : List ℕ × List ℕ = c.0 in
-    let subject : Subject = record { form = form.0; form_version = version.0; sample = sample.0 } in
-    let same : (subject, sample.1) ≡ found = some_same (subject, sample.1) found c.2 in
-    let has_form = admitted_sound is_key text form a.1 in
-    let has_version = number_at_sound form.1 version b.1 in
-    let has_sample = admitted_sound is_name version.1 sample c.1 in
-    let whole = has_form.text_is
-    ∙ ap (λ l. item form.0 ++ l) (has_version.1 ∙ ap (λ l. item (decimal version.0) ++ l) has_sample.text_is)
-    ∙ sym (behind_3 (item form.0) (item (decimal version.0)) (item sample.0) sample.1) in
-    let P : Subject × List ℕ → Type 0 = λ p. HasSubject text p.0 p.1 in
-    subst P same (record {
-      form = has_form.admitted;
-      form_version = has_version.0;
-      sample = has_sample.admitted;
-      text_is = whole;
-    })
-
-pub subject_complete : (form : List ℕ) (version : ℕ) (sample rest : List ℕ) → IsTrue (is_key form)
-    → IsTrue (is_number version) → IsTrue (is_name sample)
-    → first_subject (subject_text form version sample ++ rest)
-    ≡ Some (record { form = form; form_version = version; sample = sample }, rest)
-unfolding first_subject subject_text
-subject_complete form version sample rest is_form is_version is_sample =
-    let last : List ℕ = item sample ++ rest in
-    let second : List ℕ = item (decimal version) ++ last in
-    let regroup = behind_3 (item form) (item (decimal version)) (item sample) rest in
-    let a = admitted_complete is_key form second is_form (key_short form is_form) in
-    let b = number_at_complete version last is_version in
-    let c = admitted_complete is_name sample rest is_sample (name_short sample is_sample) in
-    rw (regroup, a, b, c) refl
+abbrev subject_reader : Bool → Reader SubjectValue
+subject_reader newer =
+    reader subject_made (λ y. (y.0, (y.1, (y.2, y.3)))) (λ x. refl) (λ y. refl) (subject_part newer) (first_subject newer) (subject_same newer)
 
 -- ---- what a version amends
 
-pub record HasOrigin (number : ℕ) (text : List ℕ) (amends : Option Amendment) (rest : List ℕ) : Type 0 where
-  pub order : AmendsUnlessFirst number amends
-  pub amendment : IsAmendment amends
-  pub text_is : text ≡ origin_text amends ++ rest
+abbrev hyphen_spelling : Spelling (Unit {0})
+hyphen_spelling = word_spelling (codes "-") (omega arith)
 
-none_sound : (text : List ℕ) (found : Option Amendment × List ℕ) → first_no_amendment text ≡ Some found
-    → HasOrigin 1 text found.0 found.1
+abbrev empty_spelling : Spelling (Unit {0})
+empty_spelling = word_spelling [] (omega arith)
+
+abbrev amendment_part : {R : Type 0} → Part R (List ℕ × List ℕ)
+amendment_part = behind (part (item_reader digest_spelling)) (λ _. note_part)
+
+abbrev amendment_made : List ℕ × List ℕ → Amendment
+amendment_made x = record { previous = x.0; reason = x.1 }
+
+amendment_same : (text : List ℕ) → first_amendment text ≡ amendment_part.reads text (λ x rest. Some (amendment_made x, rest))
+unfolding first_amendment
+amendment_same text = refl
+
+abbrev amendment_reader : Reader Amendment
+amendment_reader = reader amendment_made (λ y. (y.previous, y.reason)) (λ x. refl) (λ y. refl) amendment_part first_amendment amendment_same
+
+abbrev IsOriginOf : ℕ → Option Amendment → Type 0
+IsOriginOf number amends = AmendsUnlessFirst number amends × IsAmendment amends
+
+first_sound : (number : ℕ) (text : List ℕ) (found : Option Amendment × List ℕ) → number ≡ first_number
+    → first_no_amendment text >>= (λ end. Some (None, end.1)) ≡ Some found
+    → IsOriginOf number found.0 × (text ≡ origin_text found.0 ++ found.1)
 unfolding first_no_amendment origin_text
-none_sound text found e =
-    let a = bind_some (after_word (codes "-") text) _ found e in
-    let b = bind_some (after_word [] a.0) _ found a.2 in
-    let same : (None, b.0) ≡ found = some_same (None, b.0) found b.2 in
-    let whole = word_sound (codes "-") text a.0 a.1 ∙ ap (λ l. item (codes "-") ++ l) (word_sound [] a.0 b.0 b.1)
-    ∙ sym (behind_2 (item (codes "-")) (item []) b.0) in
-    let P : Option Amendment × List ℕ → Type 0 = λ p. HasOrigin 1 text p.0 p.1 in
-    subst P same (record { order = refl; amendment = tt; text_is = whole })
+first_sound number text found is e =
+    let a = bind_some (first_no_amendment text) _ found e in
+    let end : Unit {0} × List ℕ = a.0 in
+    let b = bind_some (first_as hyphen_spelling.reads text) _ end a.1 in
+    let hyphen : Unit {0} × List ℕ = b.0 in
+    let one = (item_reader hyphen_spelling).sound text hyphen b.1 in
+    let other = (item_reader empty_spelling).sound hyphen.1 end b.2 in
+    let P : Option Amendment × List ℕ → Type 0 = λ p. IsOriginOf number p.0 × (text ≡ origin_text p.0 ++ p.1) in
+    subst P (some_same (None, end.1) found a.2)
+    ((is, tt), one.1 ∙ ap (λ l. item (codes "-") ++ l) other.1 ∙ sym (append_assoc (item (codes "-")) (item []) end.1))
 
-some_sound : (number : ℕ) (text : List ℕ) (found : Option Amendment × List ℕ) → number ≢ 1
-    → first_amendment text ≡ Some found → HasOrigin number text found.0 found.1
-unfolding first_amendment origin_text
-some_sound number text found later e =
-    let a = bind_some (first_item text) _ found e in
-    let digits : List ℕ × List ℕ = a.0 in
-    let b = bind_some (digest_from_digits digits.0) _ found a.2 in
-    let previous : List ℕ = b.0 in
-    let c = bind_some (first_admitted is_note digits.1) _ found b.2 in
-    let reason : List ℕ × List ℕ = c.0 in
-    let amendment : Amendment = record { previous = previous; reason = reason.0 } in
-    let same : (Some amendment, reason.1) ≡ found = some_same (Some amendment, reason.1) found c.2 in
-    let has_digits = item_sound text digits.0 digits.1 a.1 in
-    let digest = digest_sound digits.0 previous b.1 in
-    let has_reason = admitted_sound is_note digits.1 reason c.1 in
-    let whole = has_digits.1 ∙ ap (λ l. item l ++ digits.1) digest.1
-    ∙ ap (λ l. item (encode_lower previous) ++ l) has_reason.text_is
-    ∙ sym (behind_2 (item (encode_lower previous)) (item reason.0) reason.1) in
-    let P : Option Amendment × List ℕ → Type 0 = λ p. HasOrigin number text p.0 p.1 in
-    subst P same (record { order = later; amendment = (digest.0, has_reason.admitted); text_is = whole })
+later_sound : (number : ℕ) (text : List ℕ) (found : Option Amendment × List ℕ) → number ≢ first_number
+    → first_amendment text >>= (λ end. Some (Some end.0, end.1)) ≡ Some found
+    → IsOriginOf number found.0 × (text ≡ origin_text found.0 ++ found.1)
+unfolding origin_text
+later_sound number text found later e =
+    let a = bind_some (first_amendment text) _ found e in
+    let end : Amendment × List ℕ = a.0 in
+    let has = amendment_reader.sound text end a.1 in
+    let P : Option Amendment × List ℕ → Type 0 = λ p. IsOriginOf number p.0 × (text ≡ origin_text p.0 ++ p.1) in
+    subst P (some_same (Some end.0, end.1) found a.2) ((later, has.0), has.1)
 
-pub origin_sound : (number : ℕ) (text : List ℕ) (found : Option Amendment × List ℕ) → first_origin number text ≡ Some found
-    → HasOrigin number text found.0 found.1
+origin_sound : (number : ℕ) (text : List ℕ) (found : Option Amendment × List ℕ) → first_origin number text ≡ Some found
+    → IsOriginOf number found.0 × (text ≡ origin_text found.0 ++ found.1)
 unfolding first_origin
-origin_sound number text found e = by (number == 1) refl e
+origin_sound number text found e = by (number == first_number) refl e
   where
-    by : (t : Bool) → (number == 1) ≡ t → (if t then first_no_amendment text else first_amendment text) ≡ Some found
-        → HasOrigin number text found.0 found.1
-    by true is e =
-        let first : number ≡ 1 = eqb-true number 1 is in
-        let P : ℕ → Type 0 = λ n. HasOrigin n text found.0 found.1 in
-        subst P (sym first) (none_sound text found e)
+    by : (t : Bool) → (number == first_number) ≡ t
+        → (if t then first_no_amendment text >>= (λ end. Some (None, end.1)) else first_amendment text >>= (λ end. Some (Some end.0, end.1)))
+        ≡ Some found
+        → IsOriginOf number found.0 × (text ≡ origin_text found.0 ++ found.1)
+    by true is e = first_sound number text found (eqb-true number first_number is) e
     by false is e =
-        some_sound number text found
-        (λ first. let never : true ≡ false = sym (ap (λ n. n == 1) first) ∙ is in absurd (cc)) e
+        later_sound number text found
+        (λ first. let never : true ≡ false = sym (ap (λ n. n == first_number) first) ∙ is in absurd (cc)) e
 
-origin_some : (number : ℕ) → number ≢ 1 → (number == 1) ≡ false
-origin_some number later = by (number == 1) refl
+later_is : (number : ℕ) → number ≢ first_number → (number == first_number) ≡ false
+later_is number later = by (number == first_number) refl
   where
-    by : (t : Bool) → (number == 1) ≡ t → (number == 1) ≡ false
-    by true is = absurd (later (eqb-true number 1 is))
+    by : (t : Bool) → (number == first_number) ≡ t → (number == first_number) ≡ false
+    by true is = absurd (later (eqb-true number first_number is))
     by false is = is
 
-pub origin_complete : (number : ℕ) (amendment : Option Amendment) (rest : List ℕ) → AmendsUnlessFirst number amendment
-    → IsAmendment amendment
-    → first_origin number (origin_text amendment ++ rest) ≡ Some (amendment, rest)
-unfolding first_origin first_no_amendment first_amendment origin_text
-origin_complete number None rest first is =
-    let regroup = behind_2 (item (codes "-")) (item []) rest in
-    let a = word_complete (codes "-") (item [] ++ rest) (omega arith) in
-    let b = word_complete [] rest (omega arith) in
-    rw first (rw (regroup, a, b) refl)
-origin_complete number (Some amendment) rest later is =
-    let last : List ℕ = item amendment.reason ++ rest in
-    let regroup = behind_2 (item (encode_lower amendment.previous)) (item amendment.reason) rest in
-    let a = item_complete (encode_lower amendment.previous) last (digits_short amendment.previous is.0) in
-    let b = digest_complete amendment.previous is.0 in
-    let c = admitted_complete is_note amendment.reason rest is.1 (note_short amendment.reason is.1) in
-    rw (origin_some number later, regroup, a, b, c) refl
+none_back : (rest : List ℕ) → first_no_amendment (origin_text None ++ rest) ≡ Some (tt, rest)
+unfolding first_no_amendment origin_text
+none_back rest =
+    let regroup = append_assoc (item (codes "-")) (item []) rest in
+    let one = (item_reader hyphen_spelling).complete tt (item [] ++ rest) tt in
+    let other = (item_reader empty_spelling).complete tt rest tt in
+    rw (regroup, one, other) refl
 
--- ---- openings
+some_back : (amendment : Amendment) (rest : List ℕ) → IsAmendment (Some amendment)
+    → first_amendment (origin_text (Some amendment) ++ rest) ≡ Some (amendment, rest)
+unfolding origin_text
+some_back amendment rest is = amendment_reader.complete amendment rest is
 
-pub record HasOpening (text : List ℕ) (opening : Opening) (rest : List ℕ) : Type 0 where
-  pub opener : IsTrue (is_person_code opening.opener)
-  pub opened : IsTrue (is_moment opening.opened)
-  pub text_is : text ≡ opening_text opening.opener opening.opened opening.rows ++ rest
+origin_complete : (number : ℕ) (amends : Option Amendment) (rest : List ℕ) → IsOriginOf number amends
+    → first_origin number (origin_text amends ++ rest) ≡ Some (amends, rest)
+unfolding first_origin
+origin_complete number None rest good = rw (good.0, none_back rest) refl
+origin_complete number (Some amendment) rest good = rw (later_is number good.0, some_back amendment rest good.1) refl
 
-pub opening_sound : (text : List ℕ) (found : Opening × List ℕ) → first_opening text ≡ Some found
-    → HasOpening text found.0 found.1
-unfolding first_opening opening_text
-opening_sound text found e =
-    let a = bind_some (first_admitted is_person_code text) _ found e in
-    let opener : List ℕ × List ℕ = a.0 in
-    let b = bind_some (first_moment opener.1) _ found a.2 in
-    let opened : ℕ × List ℕ = b.0 in
-    let c = bind_some (first_count opened.1) _ found b.2 in
-    let rows : ℕ × List ℕ = c.0 in
-    let opening : Opening = record { opener = opener.0; opened = opened.0; rows = rows.0 } in
-    let same : (opening, rows.1) ≡ found = some_same (opening, rows.1) found c.2 in
-    let has_opener = admitted_sound is_person_code text opener a.1 in
-    let has_opened = moment_at_sound opener.1 opened b.1 in
-    let has_rows = count_sound opened.1 rows c.1 in
-    let whole = has_opener.text_is
-    ∙ ap (λ l. item opener.0 ++ l) (has_opened.1 ∙ ap (λ l. item (moment_text opened.0) ++ l) has_rows.1)
-    ∙ sym (behind_3 (item opener.0) (item (moment_text opened.0)) (item (decimal rows.0)) rows.1) in
-    let P : Opening × List ℕ → Type 0 = λ p. HasOpening text p.0 p.1 in
-    subst P same (record { opener = has_opener.admitted; opened = has_opened.0; text_is = whole })
+abbrev origin_reader : ℕ → Reader (Option Amendment)
+origin_reader number = record {
+  first = first_origin number;
+  IsGood = IsOriginOf number;
+  text_of = origin_text;
+  sound = origin_sound number;
+  complete = origin_complete number;
+}
 
-pub opening_complete : (opener : List ℕ) (opened rows : ℕ) (rest : List ℕ) → IsTrue (is_person_code opener)
-    → IsTrue (is_moment opened) → rows < 2 ^ 64
-    → first_opening (opening_text opener opened rows ++ rest)
-    ≡ Some (record { opener = opener; opened = opened; rows = rows }, rest)
-unfolding first_opening opening_text
-opening_complete opener opened rows rest is_opener is_opened few =
-    let last : List ℕ = item (decimal rows) ++ rest in
-    let second : List ℕ = item (moment_text opened) ++ last in
-    let regroup = behind_3 (item opener) (item (moment_text opened)) (item (decimal rows)) rest in
-    let a = admitted_complete is_person_code opener second is_opener (person_code_short opener is_opener) in
-    let b = moment_at_complete opened last is_opened in
-    let c = count_complete rows rest few in
-    rw (regroup, a, b, c) refl
+-- ---- openings and fronts
+
+abbrev opening_made : List ℕ × (ℕ × ℕ) → OpeningValue
+opening_made x = (x.0, x.1.0, x.1.1)
+
+abbrev opening_part : {R : Type 0} → Part R (List ℕ × (ℕ × ℕ))
+opening_part = behind person_part (λ _. behind moment_part (λ _. part (item_reader count_spelling)))
+
+opening_same : (text : List ℕ) → first_opening text ≡ opening_part.reads text (λ x rest. Some (opening_made x, rest))
+unfolding first_opening
+opening_same text = refl
+
+abbrev opening_reader : Reader OpeningValue
+opening_reader = reader opening_made (λ y. (y.0, (y.1, y.2))) (λ x. refl) (λ y. refl) opening_part first_opening opening_same
+
+abbrev FrontParts : Type 0
+FrontParts = HeadingValue × (SubjectValue × (Option Amendment × OpeningValue))
+
+abbrev front_made : FrontParts → FrontValue
+front_made x = record { heading = x.0; subject = x.1.0; amendment = x.1.1.0; opening = x.1.1.1 }
+
+abbrev front_part : {R : Type 0} → Part R FrontParts
+front_part =
+    behind (part heading_reader) (λ heading. behind (part (subject_reader heading.0))
+    (λ _. behind (part (origin_reader heading.3)) (λ _. part opening_reader)))
+
+front_same : (text : List ℕ) → first_front text ≡ front_part.reads text (λ x rest. Some (front_made x, rest))
+unfolding first_front
+front_same text = refl
+
+abbrev front_reader : Reader FrontValue
+front_reader =
+    reader front_made (λ y. (y.heading, (y.subject, (y.amendment, y.opening)))) (λ x. refl) (λ y. refl) front_part first_front front_same
 
 -- ---- rows
+
+abbrev RowParts : Type 0
+RowParts = List ℕ × (List ℕ × (List ℕ × (List ℕ × (ℕ × Option (List ℕ)))))
+
+abbrev row_made : RowParts → EntryRow
+row_made x = record {
+  key = x.0;
+  value = x.1.0;
+  unit = x.1.1.0;
+  person = x.1.1.1.0;
+  moment = x.1.1.1.1.0;
+  reason = x.1.1.1.1.1;
+}
+
+abbrev row_part : {R : Type 0} → Part R RowParts
+row_part =
+    behind key_part (λ _. behind note_part (λ _. behind unit_part (λ _. behind person_part
+    (λ _. behind moment_part (λ _. part (item_reader reason_spelling))))))
+
+row_same : (text : List ℕ) → first_row text ≡ row_part.reads text (λ x rest. Some (row_made x, rest))
+unfolding first_row
+row_same text = refl
+
+abbrev row_reader : Reader EntryRow
+row_reader =
+    reader row_made (λ y. (y.key, (y.value, (y.unit, (y.person, (y.moment, y.reason)))))) (λ x. refl) (λ y. refl) row_part first_row row_same
 
 pub record HasRow (text : List ℕ) (row : EntryRow) (rest : List ℕ) : Type 0 where
   pub row_is : IsRow row
   pub text_is : text ≡ row_text row ++ rest
 
-pub row_sound : (text : List ℕ) (found : EntryRow × List ℕ) → first_row text ≡ Some found → HasRow text found.0 found.1
-unfolding first_row row_text
-row_sound text found e =
-    let a = bind_some (first_admitted is_key text) _ found e in
-    let key : List ℕ × List ℕ = a.0 in
-    let b = bind_some (first_admitted is_note key.1) _ found a.2 in
-    let value : List ℕ × List ℕ = b.0 in
-    let c = bind_some (first_admitted is_unit value.1) _ found b.2 in
-    let unit : List ℕ × List ℕ = c.0 in
-    let d = bind_some (first_admitted is_person_code unit.1) _ found c.2 in
-    let person : List ℕ × List ℕ = d.0 in
-    let f = bind_some (first_moment person.1) _ found d.2 in
-    let moment : ℕ × List ℕ = f.0 in
-    let g = bind_some (first_reason moment.1) _ found f.2 in
-    let reason : Option (List ℕ) × List ℕ = g.0 in
-    let row : EntryRow = record {
-      key = key.0;
-      value = value.0;
-      unit = unit.0;
-      person = person.0;
-      moment = moment.0;
-      reason = reason.0;
-    } in
-    let same : (row, reason.1) ≡ found = some_same (row, reason.1) found g.2 in
-    let has_key = admitted_sound is_key text key a.1 in
-    let has_value = admitted_sound is_note key.1 value b.1 in
-    let has_unit = admitted_sound is_unit value.1 unit c.1 in
-    let has_person = admitted_sound is_person_code unit.1 person d.1 in
-    let has_moment = moment_at_sound person.1 moment f.1 in
-    let has_reason = reason_sound moment.1 reason g.1 in
-    let whole = has_key.text_is
-    ∙ ap (λ l. item key.0 ++ l) (has_value.text_is
-    ∙ ap (λ l. item value.0 ++ l) (has_unit.text_is
-    ∙ ap (λ l. item unit.0 ++ l) (has_person.text_is
-    ∙ ap (λ l. item person.0 ++ l) (has_moment.1
-    ∙ ap (λ l. item (moment_text moment.0) ++ l) has_reason.1))))
-    ∙ sym (behind_6 (item key.0) (item value.0) (item unit.0) (item person.0) (item (moment_text moment.0))
-    (item (reason_text reason.0)) reason.1) in
-    let P : EntryRow × List ℕ → Type 0 = λ p. HasRow text p.0 p.1 in
-    subst P same (record {
+row_grouped : (row : EntryRow) → row_reader.text_of row ≡ row_text row
+unfolding row_text
+row_grouped row =
+    right_6 (item row.key) (item row.value) (item row.unit) (item row.person) (item (moment_text row.moment))
+    (item (reason_text row.reason))
+
+pub row_sound : (text : List ℕ) (row : EntryRow) (rest : List ℕ) → first_row text ≡ Some (row, rest) → HasRow text row rest
+row_sound text row rest e =
+    let has = row_reader.sound text (row, rest) e in
+    let good = has.0 in
+    record {
       row_is = record {
-        key = has_key.admitted;
-        value = has_value.admitted;
-        unit = has_unit.admitted;
-        person = has_person.admitted;
-        moment = has_moment.0;
-        reason = has_reason.0;
+        key = good.0;
+        value = good.1.0;
+        unit = good.1.1.0;
+        person = good.1.1.1.0;
+        moment = good.1.1.1.1.0;
+        reason = good.1.1.1.1.1;
       };
-      text_is = whole;
-    })
+      text_is = has.1 ∙ ap (λ l. l ++ rest) (row_grouped row);
+    }
 
-pub row_complete : (row : EntryRow) (rest : List ℕ) → IsRow row → first_row (row_text row ++ rest) ≡ Some (row, rest)
-unfolding first_row row_text
+row_complete : (row : EntryRow) (rest : List ℕ) → IsRow row → first_row (row_text row ++ rest) ≡ Some (row, rest)
 row_complete row rest is =
-    let last : List ℕ = item (reason_text row.reason) ++ rest in
-    let fifth : List ℕ = item (moment_text row.moment) ++ last in
-    let fourth : List ℕ = item row.person ++ fifth in
-    let third : List ℕ = item row.unit ++ fourth in
-    let second : List ℕ = item row.value ++ third in
-    let regroup = behind_6 (item row.key) (item row.value) (item row.unit) (item row.person) (item (moment_text row.moment))
-    (item (reason_text row.reason)) rest in
-    let a = admitted_complete is_key row.key second is.key (key_short row.key is.key) in
-    let b = admitted_complete is_note row.value third is.value (note_short row.value is.value) in
-    let c = admitted_complete is_unit row.unit fourth is.unit (unit_short row.unit is.unit) in
-    let d = admitted_complete is_person_code row.person fifth is.person (person_code_short row.person is.person) in
-    let f = moment_at_complete row.moment last is.moment in
-    let g = reason_complete row.reason rest is.reason in
-    rw (regroup, a, b, c, d, f, g) refl
+    ap (λ l. first_row (l ++ rest)) (sym (row_grouped row))
+    ∙ row_reader.complete row rest (is.key, (is.value, (is.unit, (is.person, (is.moment, is.reason)))))
 
-pub record HasRows (count : ℕ) (text : List ℕ) (rows : List EntryRow) (rest : List ℕ) : Type 0 where
+record HasRows (count : ℕ) (text : List ℕ) (rows : List EntryRow) (rest : List ℕ) : Type 0 where
   pub rows_are : All IsRow rows
   pub counted : length rows ≡ count
   pub text_is : text ≡ flat_map row_text rows ++ rest
 
-pub rows_sound : (count : ℕ) (text : List ℕ) (found : List EntryRow × List ℕ) → first_rows count text ≡ Some found
+rows_sound : (count : ℕ) (text : List ℕ) (found : List EntryRow × List ℕ) → first_rows count text ≡ Some found
     → HasRows count text found.0 found.1
 unfolding first_rows
 rows_sound zero text found e =
-    let same : ([], text) ≡ found = some_same ([], text) found e in
     let P : List EntryRow × List ℕ → Type 0 = λ p. HasRows zero text p.0 p.1 in
-    subst P same (record { rows_are = All-nil IsRow; counted = refl; text_is = refl })
+    subst P (some_same ([], text) found e) (record { rows_are = All-nil IsRow; counted = refl; text_is = refl })
 rows_sound (suc n) text found e =
     let a = bind_some (first_row text) _ found e in
     let row : EntryRow × List ℕ = a.0 in
     let b = bind_some (first_rows n row.1) _ found a.2 in
     let rows : List EntryRow × List ℕ = b.0 in
     let same : (row.0 ∷ rows.0, rows.1) ≡ found = some_same (row.0 ∷ rows.0, rows.1) found b.2 in
-    let has_row = row_sound text row a.1 in
+    let has_row = row_sound text row.0 row.1 a.1 in
     let has_rows = rows_sound n row.1 rows b.1 in
     let whole = has_row.text_is ∙ ap (λ l. row_text row.0 ++ l) has_rows.text_is
     ∙ sym (append_assoc (row_text row.0) (flat_map row_text rows.0) rows.1) in
@@ -418,7 +359,7 @@ rows_sound (suc n) text found e =
       text_is = whole;
     })
 
-pub rows_complete : (rows : List EntryRow) (rest : List ℕ) → All IsRow rows
+rows_complete : (rows : List EntryRow) (rest : List ℕ) → All IsRow rows
     → first_rows (length rows) (flat_map row_text rows ++ rest) ≡ Some (rows, rest)
 unfolding first_rows
 rows_complete [] rest are = refl
@@ -428,3 +369,184 @@ rows_complete (row ∷ rows) rest are =
     let first = row_complete row more (All-head IsRow row rows are) in
     let others = rows_complete rows rest (All-tail IsRow row rows are) in
     rw (regroup, first, others) refl
+
+-- ---- versions
+
+-- what stands before a version's rows
+abbrev front_value : VersionParts → FrontValue
+front_value parts = record {
+  heading = (is_newer parts.format, parts.lab, parts.record_number, parts.origin.number);
+  subject = (parts.form, parts.form_version, parts.format, parts.sample);
+  amendment = parts.origin.amendment;
+  opening = (parts.opener, parts.opened, length parts.rows);
+}
+
+format_worded : (format : Format) → picked (codes "labrecord 2") (codes "labrecord 1") (is_newer format) ≡ format_word format
+format_worded One = refl
+format_worded (Two approval) = refl
+
+front_written : (parts : VersionParts) → front_reader.text_of (front_value parts) ≡ front_text parts
+unfolding front_text heading_text subject_text opening_text
+front_written parts =
+    ap (λ word. (item word ++ (item parts.lab ++ (item (decimal parts.record_number) ++ item (decimal parts.origin.number))))
+    ++ ((item parts.form ++ (item (decimal parts.form_version) ++ (approval_text parts.format ++ item parts.sample)))
+    ++ (origin_text parts.origin.amendment
+    ++ (item parts.opener ++ (item (moment_text parts.opened) ++ item (decimal (length parts.rows))))))) (format_worded parts.format)
+    ∙ right_12 (item (format_word parts.format)) (item parts.lab) (item (decimal parts.record_number)) (item (decimal parts.origin.number))
+    (item parts.form) (item (decimal parts.form_version)) (approval_text parts.format) (item parts.sample)
+    (origin_text parts.origin.amendment) (item parts.opener) (item (moment_text parts.opened)) (item (decimal (length parts.rows)))
+
+front_good : (parts : VersionParts) → IsFront parts → front_reader.IsGood (front_value parts)
+front_good parts is = (
+  (tt, (is.heading.lab, (is.heading.record_number, is.heading.number))),
+  ((is.subject.form, (is.subject.form_version, (record { told = refl }, is.subject.sample))),
+  ((is.origin.order, is.origin.amendment), (is.opening.opener, (is.opening.opened, is.opening.few)))),
+)
+
+-- the version that was read, part by part
+pub record HasVersion (bytes : List ℕ) (front : FrontValue) (rows : List EntryRow) (rest : List ℕ) : Type 0 where
+  pub version : IsVersion (version_of front rows)
+  pub text_is : bytes ≡ version_text (version_of front rows) ++ rest
+
+pub version_sound : (bytes : List ℕ) (front : FrontValue) (more : List ℕ) (rows : List EntryRow) (rest : List ℕ)
+    → first_front bytes ≡ Some (front, more) → first_rows front.opening.2 more ≡ Some (rows, rest)
+    → HasVersion bytes front rows rest
+unfolding version_text
+version_sound bytes front more rows rest e f =
+    let has = front_reader.sound bytes (front, more) e in
+    let good = has.0 in
+    let all = rows_sound front.opening.2 more (rows, rest) f in
+    let parts : VersionParts = version_of front rows in
+    let newer : front.heading.0 ≡ is_newer parts.format = sym good.1.0.1.1.0.told in
+    let count : front.opening.2 ≡ length rows = sym all.counted in
+    let same : front ≡ front_value parts = λ i. record {
+      heading = (newer i, front.heading.1, front.heading.2, front.heading.3);
+      subject = front.subject;
+      amendment = front.amendment;
+      opening = (front.opening.0, front.opening.1, count i);
+    } in
+    let number : length rows < 2 ^ 64 = subst (λ n. n < 2 ^ 64) count good.1.1.1.1.1 in
+    record {
+      version = record {
+        front = record {
+          heading = record { lab = good.0.1.0; record_number = good.0.1.1.0; number = good.0.1.1.1 };
+          subject = record { form = good.1.0.0; form_version = good.1.0.1.0; sample = good.1.0.1.1.1 };
+          origin = record { order = good.1.1.0.0; amendment = good.1.1.0.1 };
+          opening = record { opener = good.1.1.1.0; opened = good.1.1.1.1.0; few = number };
+        };
+        rows = all.rows_are;
+      };
+      text_is = has.1 ∙ ap (λ f. front_reader.text_of f ++ more) same ∙ ap (λ l. l ++ more) (front_written parts)
+          ∙ ap (λ l. front_text parts ++ l) all.text_is
+          ∙ sym (append_assoc (front_text parts) (flat_map row_text rows) rest);
+    }
+
+-- a version's text is read as its front and its rows
+record IsReadBack (parts : VersionParts) (bytes rest : List ℕ) : Type 0 where
+  pub front : first_front bytes ≡ Some (front_value parts, flat_map row_text parts.rows ++ rest)
+  pub rows : first_rows (length parts.rows) (flat_map row_text parts.rows ++ rest) ≡ Some (parts.rows, rest)
+
+version_complete : (parts : VersionParts) (rest : List ℕ) → IsVersion parts → IsReadBack parts (version_text parts ++ rest) rest
+unfolding version_text
+version_complete parts rest is =
+    let more : List ℕ = flat_map row_text parts.rows ++ rest in
+    record {
+      front = ap first_front (append_assoc (front_text parts) (flat_map row_text parts.rows) rest
+          ∙ ap (λ l. l ++ more) (sym (front_written parts)))
+          ∙ front_reader.complete (front_value parts) more (front_good parts is.front);
+      rows = rows_complete parts.rows rest is.rows;
+    }
+
+pub one_spelling : OneSpelling
+one_spelling one other rest more is_one is_other e =
+    let a = version_complete one rest is_one in
+    let b = version_complete other more is_other in
+    let fronts : (front_value one, flat_map row_text one.rows ++ rest) ≡ (front_value other, flat_map row_text other.rows ++ more) =
+    some_same _ _ (sym a.front ∙ ap first_front e ∙ b.front) in
+    let front : front_value one ≡ front_value other = ap (λ (p : FrontValue × List ℕ). p.0) fronts in
+    let behind_front : flat_map row_text one.rows ++ rest ≡ flat_map row_text other.rows ++ more =
+    ap (λ (p : FrontValue × List ℕ). p.1) fronts in
+    let count : length one.rows ≡ length other.rows = ap (λ (f : FrontValue). f.opening.2) front in
+    let rows : (one.rows, rest) ≡ (other.rows, more) =
+    some_same _ _ (sym a.rows ∙ ap (λ n. first_rows n (flat_map row_text one.rows ++ rest)) count
+    ∙ ap (first_rows (length other.rows)) behind_front ∙ b.rows) in (
+      λ i. version_of (front i) (rows i).0,
+      ap (λ (p : List EntryRow × List ℕ). p.1) rows,
+    )
+
+none_some : {A : Type 0} (x : A) → None ≡ Some x → ⊥
+none_some x e = absurd (cc)
+
+no_rest : (rest : List ℕ) → (length rest == 0) ≡ true → rest ≡ []
+no_rest [] h = refl
+no_rest (b ∷ bs) h = absurd (grind (arith, nat_tests))
+
+not_empty : (rest : List ℕ) → (length rest == 0) ≡ false → rest ≡ [] → ⊥
+not_empty [] longer none = absurd (cc)
+not_empty (b ∷ bs) longer none = absurd (cc)
+
+back : (bytes : List ℕ) (parts : VersionParts) → IsVersion parts → version_text parts ≡ bytes → IsReadBack parts bytes []
+back bytes parts is e =
+    let P : List ℕ → Type 0 = λ l. IsReadBack parts l [] in
+    subst P (append-nil (version_text parts) ∙ e) (version_complete parts [] is)
+
+-- bytes with no front, and bytes with a front and no rows behind it
+pub no_front : (bytes : List ℕ) → first_front bytes ≡ None → IsNoVersion bytes
+no_front bytes none = λ parts is at.
+    none_some (front_value parts, flat_map row_text parts.rows ++ []) (sym none ∙ (back bytes parts is at).front)
+
+-- what follows the rows of a front
+abbrev pub RowsEnd : FrontValue → List ℕ → Option (List ℕ)
+RowsEnd front more = option_map (λ found. found.1) (first_rows front.opening.2 more)
+
+ends : (bytes : List ℕ) (front : FrontValue) (more : List ℕ) → first_front bytes ≡ Some (front, more)
+    → (parts : VersionParts) → IsVersion parts → version_text parts ≡ bytes → RowsEnd front more ≡ Some []
+ends bytes front more e parts is at =
+    let b = back bytes parts is at in
+    let same : (front, more) ≡ (front_value parts, flat_map row_text parts.rows ++ []) = some_same _ _ (sym e ∙ b.front) in
+    ap (λ (p : FrontValue × List ℕ). RowsEnd p.0 p.1) same ∙ ap (option_map (λ found. found.1)) b.rows
+
+pub no_end : (bytes : List ℕ) (front : FrontValue) (more : List ℕ) → first_front bytes ≡ Some (front, more)
+    → RowsEnd front more ≡ None → IsNoVersion bytes
+no_end bytes front more e none = λ parts is at.
+    none_some [] (sym none ∙ ends bytes front more e parts is at)
+
+pub longer_end : (bytes : List ℕ) (front : FrontValue) (more rest : List ℕ) → first_front bytes ≡ Some (front, more)
+    → RowsEnd front more ≡ Some rest → (length rest == 0) ≡ false → IsNoVersion bytes
+longer_end bytes front more rest e end longer = λ parts is at.
+    not_empty rest longer (some_same rest [] (sym end ∙ ends bytes front more e parts is at))
+
+rows_before : (o : Option (List EntryRow × List ℕ)) (rest : List ℕ) → option_map (λ found. found.1) o ≡ Some rest
+    → (rows : List EntryRow) × (o ≡ Some (rows, rest))
+rows_before None rest e = let never : None ≡ Some rest = e in absurd (cc)
+rows_before (Some found) rest e =
+    (found.0, ap (λ l. Some (found.0, l)) (some_same found.1 rest e))
+
+-- bytes that are read to their end
+pub record IsRead (bytes : List ℕ) (front : FrontValue) (more : List ℕ) : Type 0 where
+  pub rows : List EntryRow
+  pub rows_are : first_rows front.opening.2 more ≡ Some (rows, [])
+  pub version : IsVersion (version_of front rows)
+  pub text : version_text (version_of front rows) ≡ bytes
+
+pub read_whole : (bytes : List ℕ) (front : FrontValue) (more rest : List ℕ) → first_front bytes ≡ Some (front, more)
+    → RowsEnd front more ≡ Some rest → (length rest == 0) ≡ true → IsRead bytes front more
+read_whole bytes front more rest e end empty =
+    let none = no_rest rest empty in
+    let before = rows_before (first_rows front.opening.2 more) [] (end ∙ ap Some none) in
+    let rows : List EntryRow = before.0 in
+    let has = version_sound bytes front more rows [] e before.1 in
+    record {
+      rows = rows;
+      rows_are = before.1;
+      version = has.version;
+      text = sym (has.text_is ∙ append-nil (version_text (version_of front rows)));
+    }
+
+pub some_version : {bytes more : List ℕ} {front : FrontValue} → IsRead bytes front more → IsSomeVersion bytes
+some_version {bytes} {more} {front} read = record { parts = version_of front read.rows; version = read.version; text = read.text }
+
+-- the rows that were read, told once more
+pub same_rows : {bytes more : List ℕ} {front : FrontValue} (read : IsRead bytes front more) (rows : List EntryRow)
+    → option_map (λ found. found.0) (first_rows front.opening.2 more) ≡ Some rows → read.rows ≡ rows
+same_rows read rows e = some_same read.rows rows (sym (ap (option_map (λ found. found.0)) read.rows_are) ∙ e)

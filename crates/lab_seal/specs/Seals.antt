@@ -6,7 +6,7 @@ use Rattle.sha2.specs.Sha256.{sha256}
 use Rattle.lab_names.specs.Moment.{moment_text}
 use Rattle.lab_seal.specs.Versions.{item}
 use Rattle.lab_seal.specs.declared.seals.Meaning.{Meaning}
-use Rattle.lab_seal.specs.declared.seals.Meaning.TheVariants.{Authorship, Review, Rejection}
+use Rattle.lab_seal.specs.declared.seals.Meaning.TheVariants.{Authorship, Review, Rejection, Approval}
 use Rattle.lab_seal.specs.declared.seals.SealParts.{SealParts}
 
 -- the word of a meaning
@@ -14,12 +14,14 @@ abbrev pub meaning_word : Meaning → List ℕ
 meaning_word Authorship = codes "authorship"
 meaning_word Review = codes "review"
 meaning_word (Rejection _) = codes "rejection"
+meaning_word Approval = codes "approval"
 
 -- the reason, which only a rejection has
 abbrev pub meaning_reason : Meaning → List ℕ
 meaning_reason Authorship = []
 meaning_reason Review = []
 meaning_reason (Rejection reason) = reason
+meaning_reason Approval = []
 
 -- what is signed, and by whom: the version's digest, the laboratory, the person's code and printed name
 unfoldable pub signer_text : SealParts → List ℕ

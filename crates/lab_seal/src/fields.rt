@@ -1,19 +1,28 @@
-//! Fields: the items at the front of a text, each read as a value of its type: a number, a name, a moment or a digest. The
-//! value comes with the rest of the text.
-ghost use Rattle.std.specs.Prelude.{◌≡◌, ◌==◌, ◌<◌, length, option_map};
+//! Fields: the items at the front of a text, each read as a value of its type: a number, a word, a moment or a digest. The
+//! value comes with the rest of the text. None of them takes memory.
+ghost use Rattle.std.specs.Prelude.{◌≡◌, ◌==◌, if◌then◌else◌, Some, None, IfOk, IsTrue, option_map};
 ghost use Rattle.std.specs.List.{position};
 ghost use Rattle.std.specs.Str.{is_utf8};
-ghost use Rattle.lab_names.specs.Names.{is_lab_code, is_person_code, is_key, is_name, is_note, is_unit};
-ghost use Rattle.lab_seal.specs.Reading.{Gives, number_of, line_of, first_item, first_admitted, after_word, first_count, first_number, first_reason, moment_of, first_moment, digest_from_digits};
+ghost use Rattle.lab_secrets.specs.Digits.{bytes_of_digits};
+ghost use Rattle.lab_seal.specs.Reading.{number_of, line_of, first_item, first_as, text_where, this_word, which_word, ordinal_in, reason_in, moment_in};
+ghost use Rattle.lab_names.specs.Moment.{moment_of};
 
-use crate::TextFault;
 use itoa::Buffer;
-use lab_names::{Key, LabCode, Moment, Name, Note, PersonCode, Unit};
+use lab_names::{Moment, NameFault, Notes, Ordinal, OutOfMemory, Rule, Text};
 use lab_secrets::Digest;
 use std::alloc::Global;
 
-/// The greatest number of a record, a version or a form's version.
-const LAST_NUMBER: usize = 1_000_000_000;
+// A copy of a text that the rule admits.
+pub(crate) fn own<R: Rule>(alloc: Global, text: &str) -> Result<Text<R>, OutOfMemory>
+    requires { IsTrue (R.admits text.now) }
+    ensures { IfOk result (λ copy. copy ≡ text.now) }
+{
+    match Text::parse(alloc, text) {
+        Ok(copy) => Ok(copy),
+        Err(NameFault::Memory(fault)) => Err(fault),
+        Err(NameFault::BadName) => unreachable!(),
+    }
+}
 
 // The number of which these are the decimal digits, without leading zeros.
 fn value_of(digits: &[u8]) -> Option<usize>
@@ -48,7 +57,7 @@ fn line_of(text: &[u8], count: usize) -> Option<(&[u8], &[u8])>
 
 // The bytes of the item at the front.
 #[tactic(auto, unfolding(crate::specs::Reading::first_item))]
-fn first_item(text: &[u8]) -> Option<(&[u8], &[u8])>
+pub(crate) fn bytes(text: &[u8]) -> Option<(&[u8], &[u8])>
     ensures { option_map (λ parts. (parts.0.now, parts.1.now)) result ≡ first_item text.now }
 {
     let colon = first_colon(text)?;
@@ -56,130 +65,125 @@ fn first_item(text: &[u8]) -> Option<(&[u8], &[u8])>
     line_of(&text[colon + 1..], count)
 }
 
-pub(crate) fn bytes(text: &[u8]) -> Result<(&[u8], &[u8]), TextFault>
-    ensures { Gives (λ found. (found.0.now, found.1.now)) result (first_item text.now) }
+// A text that the rule admits.
+#[tactic(auto, unfolding(crate::specs::Reading::first_as))]
+pub(crate) fn text<R: Rule>(front: &[u8]) -> Option<(&str, &[u8])>
+    ensures { option_map (λ found. (found.0.now, found.1.now)) result ≡ first_as (text_where R.admits) front.now }
 {
-    first_item(text).ok_or(TextFault::BadText)
+    let (bytes, rest) = bytes(front)?;
+    Some((admitted_in::<R>(bytes)?, rest))
 }
 
-#[tactic(auto, unfolding(crate::specs::Reading::first_admitted))]
-pub(crate) fn word(text: &[u8]) -> Result<(&str, &[u8]), TextFault>
-    ensures { Gives (λ found. (found.0.now, found.1.now)) result (first_admitted is_utf8 text.now) }
+fn admitted_in<R: Rule>(bytes: &[u8]) -> Option<&str>
+    ensures { option_map (λ text. text.now) result ≡ text_where R.admits bytes.now }
 {
-    let (bytes, rest) = bytes(text)?;
-    match str::from_utf8(bytes) {
-        Ok(word) => Ok((word, rest)),
-        Err(_) => Err(TextFault::BadText),
-    }
+    let text = text_in(bytes)?;
+    if R::admits(text) { Some(text) } else { None }
+}
+
+fn text_in(bytes: &[u8]) -> Option<&str>
+    ensures { option_map (λ text. text.now) result ≡ (if is_utf8 bytes.now then Some bytes.now else None) }
+{
+    str::from_utf8(bytes).ok()
 }
 
 // What follows an item that has these bytes.
-#[tactic(auto, unfolding(crate::specs::Reading::after_word, crate::specs::Reading::first_admitted))]
-pub(crate) fn after<'a>(text: &'a [u8], expected: &[u8]) -> Result<&'a [u8], TextFault>
-    ensures { Gives (λ rest. rest.now) result (after_word expected.now text.now) }
+#[tactic(auto, unfolding(crate::specs::Reading::first_as))]
+pub(crate) fn after<'a>(text: &'a [u8], expected: &[u8]) -> Option<&'a [u8]>
+    ensures { option_map (λ rest. (tt, rest.now)) result ≡ first_as (this_word expected.now) text.now }
 {
     let (bytes, rest) = bytes(text)?;
-    if bytes == expected {
-        Ok(rest)
+    if bytes == expected { Some(rest) } else { None }
+}
+
+// Which of two words the item at the front is.
+#[tactic(auto, unfolding(crate::specs::Reading::first_as))]
+pub(crate) fn choice<'a>(text: &'a [u8], yes: &[u8], no: &[u8]) -> Option<(bool, &'a [u8])>
+    ensures { option_map (λ found. (found.0, found.1.now)) result ≡ first_as (which_word yes.now no.now) text.now }
+{
+    let (bytes, rest) = bytes(text)?;
+    if bytes == yes {
+        Some((true, rest))
+    } else if bytes == no {
+        Some((false, rest))
     } else {
-        Err(TextFault::BadText)
+        None
     }
 }
 
 // The number of a list's elements.
-#[tactic(auto, unfolding(crate::specs::Reading::first_count))]
-pub(crate) fn count(text: &[u8]) -> Result<(usize, &[u8]), TextFault>
-    ensures { Gives (λ found. (found.0, found.1.now)) result (first_count text.now) }
+#[tactic(auto, unfolding(crate::specs::Reading::first_as))]
+pub(crate) fn count(text: &[u8]) -> Option<(usize, &[u8])>
+    ensures { option_map (λ found. (found.0, found.1.now)) result ≡ first_as number_of text.now }
 {
     let (digits, rest) = bytes(text)?;
-    let count = value_of(digits).ok_or(TextFault::BadText)?;
-    Ok((count, rest))
+    let count = value_of(digits)?;
+    Some((count, rest))
 }
 
 // The number of a record, a version or a form's version.
-#[tactic(auto, unfolding(crate::specs::Reading::first_number))]
-pub(crate) fn number(text: &[u8]) -> Result<(u32, &[u8]), TextFault>
-    ensures { Gives (λ found. (found.0, found.1.now)) result (first_number text.now) }
+#[tactic(auto, unfolding(crate::specs::Reading::first_as))]
+pub(crate) fn ordinal(text: &[u8]) -> Option<(u32, &[u8])>
+    ensures { option_map (λ found. (found.0, found.1.now)) result ≡ first_as ordinal_in text.now }
 {
-    let (number, rest) = count(text)?;
-    if number < 1 || number > LAST_NUMBER {
-        return Err(TextFault::BadText);
+    let (digits, rest) = bytes(text)?;
+    Some((ordinal_in(digits)?, rest))
+}
+
+fn ordinal_in(digits: &[u8]) -> Option<u32>
+    ensures { result ≡ ordinal_in digits.now }
+{
+    let number = u32::try_from(value_of(digits)?).ok()?;
+    match Ordinal::new(number) {
+        Some(ordinal) => Some(ordinal.get()),
+        None => None,
     }
-    Ok((number as u32, rest))
-}
-
-pub(crate) fn lab_code(alloc: Global, text: &[u8]) -> Result<(LabCode, &[u8]), TextFault>
-    ensures { Gives (λ found. (found.0, found.1.now)) result (first_admitted is_lab_code text.now) }
-{
-    let (code, rest) = word(text)?;
-    Ok((LabCode::parse(alloc, code)?, rest))
-}
-
-pub(crate) fn person_code(alloc: Global, text: &[u8]) -> Result<(PersonCode, &[u8]), TextFault>
-    ensures { Gives (λ found. (found.0, found.1.now)) result (first_admitted is_person_code text.now) }
-{
-    let (code, rest) = word(text)?;
-    Ok((PersonCode::parse(alloc, code)?, rest))
-}
-
-pub(crate) fn key(alloc: Global, text: &[u8]) -> Result<(Key, &[u8]), TextFault>
-    ensures { Gives (λ found. (found.0, found.1.now)) result (first_admitted is_key text.now) }
-{
-    let (key, rest) = word(text)?;
-    Ok((Key::parse(alloc, key)?, rest))
-}
-
-pub(crate) fn name(alloc: Global, text: &[u8]) -> Result<(Name, &[u8]), TextFault>
-    ensures { Gives (λ found. (found.0, found.1.now)) result (first_admitted is_name text.now) }
-{
-    let (name, rest) = word(text)?;
-    Ok((Name::parse(alloc, name)?, rest))
-}
-
-pub(crate) fn note(alloc: Global, text: &[u8]) -> Result<(Note, &[u8]), TextFault>
-    ensures { Gives (λ found. (found.0, found.1.now)) result (first_admitted is_note text.now) }
-{
-    let (note, rest) = word(text)?;
-    Ok((Note::parse(alloc, note)?, rest))
-}
-
-pub(crate) fn unit(alloc: Global, text: &[u8]) -> Result<(Unit, &[u8]), TextFault>
-    ensures { Gives (λ found. (found.0, found.1.now)) result (first_admitted is_unit text.now) }
-{
-    let (unit, rest) = word(text)?;
-    Ok((Unit::parse(alloc, unit)?, rest))
 }
 
 // A note, or nothing where the item is empty.
-#[tactic(auto, unfolding(crate::specs::Reading::first_reason))]
-pub(crate) fn reason(alloc: Global, text: &[u8]) -> Result<(Option<Note>, &[u8]), TextFault>
-    ensures { Gives (λ found. (found.0, found.1.now)) result (first_reason text.now) }
+#[tactic(auto, unfolding(crate::specs::Reading::first_as))]
+pub(crate) fn reason(text: &[u8]) -> Option<(Option<&str>, &[u8])>
+    ensures { option_map (λ found. (option_map (λ note. note.now) found.0, found.1.now)) result ≡ first_as reason_in text.now }
 {
     let (bytes, rest) = bytes(text)?;
+    Some((reason_in(bytes)?, rest))
+}
+
+fn reason_in(bytes: &[u8]) -> Option<Option<&str>>
+    ensures { option_map (λ reason. option_map (λ note. note.now) reason) result ≡ reason_in bytes.now }
+{
     if bytes.is_empty() {
-        return Ok((None, rest));
+        return Some(None);
     }
-    let (note, rest) = note(alloc, text)?;
-    Ok((Some(note), rest))
+    Some(Some(admitted_in::<Notes>(bytes)?))
 }
 
 // The moment that has this text.
-pub(crate) fn moment(text: &str) -> Option<Moment>
+fn moment_of(text: &str) -> Option<Moment>
     ensures { result ≡ moment_of text.now }
 {
     Moment::parse(text).ok()
 }
 
-/// The digest that has these 64 lower hexadecimal digits.
-pub(crate) fn digest(digits: &[u8]) -> Option<Digest>
-    ensures { result ≡ digest_from_digits digits.now }
+fn moment_in(bytes: &[u8]) -> Option<u64>
+    ensures { result ≡ moment_in bytes.now }
 {
-    let mut bytes = [0; 32];
-    hex::decode_to_slice(digits, &mut bytes).ok()?;
-    let digest = Digest::from_bytes(bytes);
-    if digest.digits().as_slice() == digits {
-        Some(digest)
-    } else {
-        None
-    }
+    let moment = moment_of(text_in(bytes)?)?;
+    Some(moment.seconds() as u64)
+}
+
+#[tactic(auto, unfolding(crate::specs::Reading::first_as))]
+pub(crate) fn moment(text: &[u8]) -> Option<(u64, &[u8])>
+    ensures { option_map (λ found. (found.0, found.1.now)) result ≡ first_as moment_in text.now }
+{
+    let (bytes, rest) = bytes(text)?;
+    Some((moment_in(bytes)?, rest))
+}
+
+#[tactic(auto, unfolding(crate::specs::Reading::first_as))]
+pub(crate) fn digest(text: &[u8]) -> Option<([u8; 32], &[u8])>
+    ensures { option_map (λ found. (found.0, found.1.now)) result ≡ first_as (bytes_of_digits 32) text.now }
+{
+    let (digits, rest) = bytes(text)?;
+    Some((Digest::from_digits(digits)?.bytes(), rest))
 }

@@ -1,5 +1,7 @@
 //! Signatures and their seals.
-ghost use Rattle.std.specs.Prelude.{◌≡◌, IfOk};
+ghost use Rattle.std.specs.Prelude.{◌≡◌, ◌↔◌, IfOk, IsSome, IfSome};
+ghost use Rattle.hex.specs.Hex.{encode_lower};
+ghost use Rattle.lab_secrets.specs.Digits.{AreLowerDigits, bytes_of_digits};
 ghost use Rattle.lab_seal.specs.Seals.{meaning_word, meaning_reason};
 
 use lab_names::{LabCode, Moment, Name, Note, OutOfMemory, PersonCode};
@@ -11,7 +13,7 @@ use std::marker::Model;
 /// A contract sees it as the list of its bytes.
 #[derive(Clone, Copy, Debug, PartialEq, Eq)]
 pub struct Seal {
-    sum: [u8; 32],
+    sum: Digest,
 }
 
 impl Model for Seal {
@@ -29,26 +31,47 @@ impl Seal {
     pub fn from_bytes(bytes: [u8; 32]) -> Seal
         ensures { result ≡ bytes }
     {
-        Seal { sum: bytes }
+        Seal {
+            sum: Digest::from_bytes(bytes),
+        }
+    }
+
+    /// The seal that has these 64 lower hexadecimal digits.
+    pub fn from_digits(digits: &[u8]) -> Option<Seal>
+        ensures value { result ≡ bytes_of_digits 32 digits.now }
+        ensures exact { IsSome result ↔ AreLowerDigits 64 digits.now }
+        ensures spelled { IfSome result (λ seal. digits.now ≡ encode_lower seal) }
+    {
+        let sum = Digest::from_digits(digits)?;
+        Some(Seal { sum })
     }
 
     /// The seal's bytes.
     pub fn bytes(&self) -> [u8; 32]
         ensures { result ≡ self.now }
     {
-        self.sum
+        self.sum.bytes()
+    }
+
+    /// The seal as 64 lower hexadecimal digits.
+    pub fn digits(&self) -> [u8; 64]
+        ensures { result ≡ encode_lower self.now }
+    {
+        self.sum.digits()
     }
 }
 
 /// What a person signs a version as.
-#[derive(Debug, Drop)]
+#[derive(Clone, Debug, Drop)]
 pub enum Meaning {
     /// The author's signature.
     Authorship,
-    /// The second person's signature, which releases the version.
+    /// The second person's signature: it releases the version where its form wants no approval.
     Review,
-    /// The second person's signature that rejects the version, and why.
+    /// The signature that rejects a version, and why.
     Rejection(Note),
+    /// The third person's signature, which releases the version.
+    Approval,
 }
 
 impl Meaning {
@@ -60,6 +83,7 @@ impl Meaning {
             Meaning::Authorship => "authorship",
             Meaning::Review => "review",
             Meaning::Rejection(_) => "rejection",
+            Meaning::Approval => "approval",
         }
     }
 
@@ -68,25 +92,21 @@ impl Meaning {
         ensures { result.now ≡ meaning_reason self.now }
     {
         match self {
-            Meaning::Authorship | Meaning::Review => "",
+            Meaning::Authorship | Meaning::Review | Meaning::Approval => "",
             Meaning::Rejection(reason) => reason.as_str(),
         }
     }
 
-    /// The same meaning once more.
+    /// A copy.
     pub fn copy(&self) -> Result<Meaning, OutOfMemory>
-        ensures { IfOk result (λ meaning. meaning ≡ self.now) }
+        ensures { IfOk result (λ copy. copy ≡ self.now) }
     {
-        match self {
-            Meaning::Authorship => Ok(Meaning::Authorship),
-            Meaning::Review => Ok(Meaning::Review),
-            Meaning::Rejection(reason) => Ok(Meaning::Rejection(reason.copy()?)),
-        }
+        Ok(self.clone()?)
     }
 }
 
 /// A signature, as its seal covers it.
-#[derive(Debug, Drop)]
+#[derive(Clone, Debug, Drop)]
 pub struct SealParts {
     /// The digest of the version that is signed.
     pub version: Digest,
@@ -103,17 +123,10 @@ pub struct SealParts {
 }
 
 impl SealParts {
-    /// The same parts once more.
+    /// A copy.
     pub fn copy(&self) -> Result<SealParts, OutOfMemory>
-        ensures { IfOk result (λ parts. parts ≡ self.now) }
+        ensures { IfOk result (λ copy. copy ≡ self.now) }
     {
-        Ok(SealParts {
-            version: self.version,
-            lab: self.lab.copy()?,
-            person: self.person.copy()?,
-            name: self.name.copy()?,
-            meaning: self.meaning.copy()?,
-            moment: self.moment,
-        })
+        Ok(self.clone()?)
     }
 }

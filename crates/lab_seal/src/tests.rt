@@ -1,7 +1,7 @@
 use crate::{
-    Amendment, Digest, EntryRow, Key, LabCode, Meaning, Moment, Name, Note, OutOfMemory,
-    PersonCode, Seal, SealParts, TextFault, Unit, VersionParts, digest, one_spelling, read_version,
-    seal, write_version,
+    Amendment, EntryRow, EntryRows, Format, Key, LabCode, Meaning, Moment, Name, Note, Ordinal, Origin,
+    OutOfMemory, PersonCode, Seal, SealParts, State, TextFault, Unit, VersionParts, digest, one_spelling,
+    read_version, seal, state_of, write_version,
 };
 use std::alloc::Global;
 use std::process::Abort;
@@ -25,75 +25,104 @@ fn row_of(alloc: Global, value: &str, reason: Option<Note>) -> Result<EntryRow, 
     })
 }
 
-fn version_of(alloc: Global, number: u32, sample: &str) -> Result<VersionParts, Fail> {
+// The origin of a version that amends the digest of `abc`.
+fn amending(rt: &(impl Abort + AllocGlobal), number: u32, reason: &str) -> Result<Origin, Fail> {
+    let amendment = Amendment {
+        previous: digest(b"abc"),
+        reason: Note::parse(rt.alloc(), reason)?,
+    };
+    let Some(number) = Ordinal::new(number) else {
+        panic!(rt; "no number");
+    };
+    match Origin::amending(number, amendment) {
+        Some(origin) => Ok(origin),
+        None => panic!(rt; "no origin"),
+    }
+}
+
+fn version_of(alloc: Global, origin: Origin, sample: &str) -> Result<VersionParts, Fail> {
     Ok(VersionParts {
+        format: Format::One,
         lab: LabCode::parse(alloc, "aqua")?,
-        record_number: 1,
-        number,
+        record_number: Ordinal::FIRST,
+        origin,
         form: Key::parse(alloc, "water")?,
-        form_version: 1,
+        form_version: Ordinal::FIRST,
         sample: Name::parse(alloc, sample)?,
-        amendment: None,
         opener: PersonCode::parse(alloc, "dan")?,
         opened: Moment::from_seconds(1000)?,
-        rows: Vec::new(alloc),
+        rows: EntryRows::new(Vec::new(alloc)),
     })
 }
 
-// The digest is the one that `sha256sum` gives of these 142 bytes.
-#[test]
-fn text_and_digest_of_a_first_version(rt: HostRuntime) -> Result<(), Fail> {
-    let mut version = version_of(rt.alloc(), 1, "S1")?;
-    version.rows.push(row_of(rt.alloc(), "7.50", None)?)?;
-    let text = write_version(rt.alloc(), &version)?;
-    assert_eq!(rt; text.as_slice(), FIRST_VERSION);
-    let known = bytes_of("4de86afe6c7333e1c5bf6582c621445ce648c9d770e46b4ef596f3f9c4699623")?;
-    assert_eq!(rt; digest(&text).bytes(), known);
-    Ok(())
-}
-
-#[test]
-fn text_of_an_amended_version_counts_bytes(rt: HostRuntime) -> Result<(), Fail> {
-    let mut version = version_of(rt.alloc(), 2, "S\u{e9}")?;
-    version.amendment = Some(Amendment {
-        previous: digest(b"abc"),
-        reason: Note::parse(rt.alloc(), "one decimal is meant")?,
-    });
-    let misread = Note::parse(rt.alloc(), "misread scale")?;
-    version.rows.push(row_of(rt.alloc(), "7.50", None)?)?;
-    version
-        .rows
-        .push(row_of(rt.alloc(), "7.5", Some(misread))?)?;
-    let text = write_version(rt.alloc(), &version)?;
-    let expected = b"11:labrecord 1\n4:aqua\n1:1\n1:2\n5:water\n1:1\n3:S\xc3\xa9\n\
-        64:ba7816bf8f01cfea414140de5dae2223b00361a396177a9cb410ff61f20015ad\n\
-        20:one decimal is meant\n3:dan\n20:1970-01-01T00:16:40Z\n1:2\n\
-        4:lead\n4:7.50\n4:mg/L\n3:dan\n20:1970-01-01T00:18:20Z\n0:\n\
-        4:lead\n3:7.5\n4:mg/L\n3:dan\n20:1970-01-01T00:18:20Z\n13:misread scale\n";
-    assert_eq!(rt; text.as_slice(), expected.as_slice());
-    Ok(())
-}
-
-// The bytes of a version with one row, 142 of them.
+// The bytes of a version with one row in format 1, 142 of them.
 const FIRST_VERSION: &[u8] =
     b"11:labrecord 1\n4:aqua\n1:1\n1:1\n5:water\n1:1\n2:S1\n1:-\n0:\n3:dan\n\
     20:1970-01-01T00:16:40Z\n1:1\n4:lead\n4:7.50\n4:mg/L\n3:dan\n20:1970-01-01T00:18:20Z\n0:\n";
 
+// The same in format 2, without an approval (147 bytes) and with one (148).
+const NEWER_VERSION: &[u8] =
+    b"11:labrecord 2\n4:aqua\n1:1\n1:1\n5:water\n1:1\n2:no\n2:S1\n1:-\n0:\n3:dan\n\
+    20:1970-01-01T00:16:40Z\n1:1\n4:lead\n4:7.50\n4:mg/L\n3:dan\n20:1970-01-01T00:18:20Z\n0:\n";
+
+const APPROVED_VERSION: &[u8] =
+    b"11:labrecord 2\n4:aqua\n1:1\n1:1\n5:water\n1:1\n3:yes\n2:S1\n1:-\n0:\n3:dan\n\
+    20:1970-01-01T00:16:40Z\n1:1\n4:lead\n4:7.50\n4:mg/L\n3:dan\n20:1970-01-01T00:18:20Z\n0:\n";
+
+const FORMATS: [(Format, &[u8]); 3] = [
+    (Format::One, FIRST_VERSION),
+    (Format::Two { approval: false }, NEWER_VERSION),
+    (Format::Two { approval: true }, APPROVED_VERSION),
+];
+
 #[test]
-fn a_first_version_is_read_back(rt: HostRuntime) -> Result<(), Fail> {
+fn a_first_version_is_written_in_each_format(rt: HostRuntime) -> Result<(), Fail> {
+    for (format, expected) in FORMATS {
+        let mut version = version_of(rt.alloc(), Origin::first(), "S1")?;
+        let mut rows = Vec::new(rt.alloc());
+        rows.push(row_of(rt.alloc(), "7.50", None)?)?;
+        version.rows = EntryRows::new(rows);
+        version.format = format;
+        assert_eq!(rt; write_version(rt.alloc(), &version)?.as_slice(), expected);
+    }
+    Ok(())
+}
+
+// The digests are those that `sha256sum` gives of the 142 and the 147 bytes.
+#[test]
+fn digests_of_the_first_versions(rt: HostRuntime) -> Result<(), Fail> {
+    let older = bytes_of("4de86afe6c7333e1c5bf6582c621445ce648c9d770e46b4ef596f3f9c4699623")?;
+    assert_eq!(rt; digest(FIRST_VERSION).bytes(), older);
+    let newer = bytes_of("79610b0b80020b06ccc32eb56d5e2930ad6cea239d32569de11013459ebf2b0c")?;
+    assert_eq!(rt; digest(NEWER_VERSION).bytes(), newer);
+    Ok(())
+}
+
+#[test]
+fn each_format_is_read_back(rt: HostRuntime) -> Result<(), Fail> {
+    for (format, text) in FORMATS {
+        let version = read_version(rt.alloc(), text)?;
+        assert_eq!(rt; version.format, format);
+        assert_eq!(rt; write_version(rt.alloc(), &version)?.as_slice(), text);
+        assert_eq!(rt; write_version(rt.alloc(), &version.copy()?)?.as_slice(), text);
+    }
+    Ok(())
+}
+
+#[test]
+fn the_parts_of_a_first_version_are_read(rt: HostRuntime) -> Result<(), Fail> {
     let version = read_version(rt.alloc(), FIRST_VERSION)?;
     assert_eq!(rt; version.lab.as_str(), "aqua");
-    assert_eq!(rt; version.record_number, 1);
-    assert_eq!(rt; version.number, 1);
+    assert_eq!(rt; version.record_number.get(), 1);
+    assert_eq!(rt; version.origin.number().get(), 1);
+    assert!(rt; version.origin.amendment().is_none());
     assert_eq!(rt; version.form.as_str(), "water");
-    assert_eq!(rt; version.form_version, 1);
+    assert_eq!(rt; version.form_version.get(), 1);
     assert_eq!(rt; version.sample.as_str(), "S1");
-    assert!(rt; version.amendment.is_none());
     assert_eq!(rt; version.opener.as_str(), "dan");
     assert_eq!(rt; version.opened.seconds(), 1000);
-    assert_eq!(rt; version.rows.len(), 1);
-    let Some(row) = version.rows.first() else {
-        panic!(rt; "no row");
+    let [row] = version.rows.rows() else {
+        panic!(rt; "not one row");
     };
     assert_eq!(rt; row.key.as_str(), "lead");
     assert_eq!(rt; row.value.as_str(), "7.50");
@@ -104,41 +133,56 @@ fn a_first_version_is_read_back(rt: HostRuntime) -> Result<(), Fail> {
     Ok(())
 }
 
-// A text of many rows is the text of the version that is read from it, and of the copy of that version.
-// Python's `hashlib` gave the digest of the text of these items.
 #[test]
-fn many_rows_are_read_back(rt: HostRuntime) -> Result<(), Fail> {
-    let mut version = version_of(rt.alloc(), 1_000_000_000, "S\u{e9}")?;
-    version.amendment = Some(Amendment {
-        previous: digest(b"abc"),
-        reason: Note::parse(rt.alloc(), "two\nlines")?,
-    });
+fn text_of_an_amended_version_counts_bytes(rt: HostRuntime) -> Result<(), Fail> {
+    let origin = amending(&rt, 2, "one decimal is meant")?;
+    let mut version = version_of(rt.alloc(), origin, "S\u{e9}")?;
+    let misread = Note::parse(rt.alloc(), "misread scale")?;
+    let mut rows = Vec::new(rt.alloc());
+    rows.push(row_of(rt.alloc(), "7.50", None)?)?;
+    rows.push(row_of(rt.alloc(), "7.5", Some(misread))?)?;
+    version.rows = EntryRows::new(rows);
+    let text = write_version(rt.alloc(), &version)?;
+    let expected = b"11:labrecord 1\n4:aqua\n1:1\n1:2\n5:water\n1:1\n3:S\xc3\xa9\n\
+        64:ba7816bf8f01cfea414140de5dae2223b00361a396177a9cb410ff61f20015ad\n\
+        20:one decimal is meant\n3:dan\n20:1970-01-01T00:16:40Z\n1:2\n\
+        4:lead\n4:7.50\n4:mg/L\n3:dan\n20:1970-01-01T00:18:20Z\n0:\n\
+        4:lead\n3:7.5\n4:mg/L\n3:dan\n20:1970-01-01T00:18:20Z\n13:misread scale\n";
+    assert_eq!(rt; text.as_slice(), expected.as_slice());
+    Ok(())
+}
+
+fn many_rows(alloc: Global) -> Result<EntryRows, Fail> {
+    let mut rows = Vec::new(alloc);
     for count in 0..200 {
         let reason = if count % 2 == 0 {
             None
         } else {
-            Some(Note::parse(rt.alloc(), "misread scale")?)
+            Some(Note::parse(alloc, "misread scale")?)
         };
         let value = if count % 3 == 0 { "7.5" } else { "7.50" };
-        version.rows.push(row_of(rt.alloc(), value, reason)?)?;
+        rows.push(row_of(alloc, value, reason)?)?;
     }
+    Ok(EntryRows::new(rows))
+}
+
+// Python's `hashlib` gave the digest of the text of these items.
+#[test]
+fn many_rows_are_read_back(rt: HostRuntime) -> Result<(), Fail> {
+    let mut version = version_of(rt.alloc(), amending(&rt, 1_000_000_000, "two\nlines")?, "S\u{e9}")?;
+    version.format = Format::Two { approval: true };
+    version.rows = many_rows(rt.alloc())?;
     let text = write_version(rt.alloc(), &version)?;
-    assert_eq!(rt; text.len(), 12307);
+    assert_eq!(rt; text.len(), 12313);
     assert_eq!(rt;
         digest(&text).bytes(),
-        bytes_of("208d5a1df4928766daecb22114a50fab34aa9453c2f3c81e190e74916d07eddb")?
+        bytes_of("66288687e3f364aabe76c0ad96d800b2d371a84ee23472c19f162bf94042a680")?
     );
     let back = read_version(rt.alloc(), &text)?;
-    assert_eq!(rt; back.rows.len(), 200);
-    assert_eq!(rt;
-        write_version(rt.alloc(), &back)?.as_slice(),
-        text.as_slice()
-    );
-    let copy = back.copy(rt.alloc())?;
-    assert_eq!(rt;
-        write_version(rt.alloc(), &copy)?.as_slice(),
-        text.as_slice()
-    );
+    assert_eq!(rt; back.rows.rows().len(), 200);
+    let again = write_version(rt.alloc(), &back)?;
+    assert_eq!(rt; again.as_slice(), text.as_slice());
+    assert_eq!(rt; back.rows.into_rows().len(), 200);
     Ok(())
 }
 
@@ -149,9 +193,14 @@ fn refuses(rt: &(impl Abort + AllocGlobal), text: &[u8]) {
     }
 }
 
-// The bytes of a later version with one row, which has a reason, 254 of them, as Python wrote them by the rule of
-// docs/FORMATS.md.
+// The bytes of a later version with one row, which has a reason, in format 1 (254 of them) and format 2 (260), as Python
+// wrote them by the rule of docs/FORMATS.md.
 const LATER_VERSION: &[u8] = b"11:labrecord 1\n4:aqua\n1:1\n1:2\n5:water\n1:1\n2:S1\n\
+    64:ba7816bf8f01cfea414140de5dae2223b00361a396177a9cb410ff61f20015ad\n3:why\n3:dan\n\
+    20:1970-01-01T00:16:40Z\n1:1\n2:ph\n25:7,5 \xc2\xb5S\nafter calibration\n6:\xc2\xb5S/cm\n\
+    5:eve-2\n20:2024-02-29T23:59:59Z\n20:misread: 7.5\nnot 5.7\n";
+
+const LATER_NEWER_VERSION: &[u8] = b"11:labrecord 2\n4:aqua\n1:1\n1:2\n5:water\n1:1\n3:yes\n2:S1\n\
     64:ba7816bf8f01cfea414140de5dae2223b00361a396177a9cb410ff61f20015ad\n3:why\n3:dan\n\
     20:1970-01-01T00:16:40Z\n1:1\n2:ph\n25:7,5 \xc2\xb5S\nafter calibration\n6:\xc2\xb5S/cm\n\
     5:eve-2\n20:2024-02-29T23:59:59Z\n20:misread: 7.5\nnot 5.7\n";
@@ -159,13 +208,30 @@ const LATER_VERSION: &[u8] = b"11:labrecord 1\n4:aqua\n1:1\n1:2\n5:water\n1:1\n2
 #[test]
 fn a_row_that_has_a_reason_is_read(rt: HostRuntime) -> Result<(), Fail> {
     let version = read_version(rt.alloc(), LATER_VERSION)?;
-    assert_eq!(rt; version.rows.len(), 1);
-    let Some(row) = version.rows.first() else {
-        panic!(rt; "no row");
+    let [row] = version.rows.rows() else {
+        panic!(rt; "not one row");
     };
-    is_row_with_a_reason(&rt, row);
-    is_row_with_a_reason(&rt, &row.copy()?);
-    let Some(amendment) = &version.amendment else {
+    let copy = row.copy()?;
+    for row in [row, &copy] {
+        assert_eq!(rt; row.key.as_str(), "ph");
+        assert_eq!(rt; row.value.as_str(), "7,5 \u{b5}S\nafter calibration");
+        assert_eq!(rt; row.unit.as_str(), "\u{b5}S/cm");
+        assert_eq!(rt; row.person.as_str(), "eve-2");
+        assert_eq!(rt; row.moment.seconds(), 1_709_251_199);
+        match &row.reason {
+            Some(reason) => assert_eq!(rt; reason.as_str(), "misread: 7.5\nnot 5.7"),
+            None => panic!(rt; "no reason"),
+        }
+    }
+    Ok(())
+}
+
+#[test]
+fn what_a_later_version_amends_is_read(rt: HostRuntime) -> Result<(), Fail> {
+    let version = read_version(rt.alloc(), LATER_NEWER_VERSION)?;
+    assert_eq!(rt; version.format, Format::Two { approval: true });
+    assert_eq!(rt; version.origin.number().get(), 2);
+    let Some(amendment) = version.origin.amendment() else {
         panic!(rt; "no amendment");
     };
     let copy = amendment.copy()?;
@@ -174,22 +240,22 @@ fn a_row_that_has_a_reason_is_read(rt: HostRuntime) -> Result<(), Fail> {
     Ok(())
 }
 
-// The row of `LATER_VERSION`.
-fn is_row_with_a_reason(rt: &impl Abort, row: &EntryRow) {
-    assert_eq!(rt; row.key.as_str(), "ph");
-    assert_eq!(rt; row.value.as_str(), "7,5 \u{b5}S\nafter calibration");
-    assert_eq!(rt; row.unit.as_str(), "\u{b5}S/cm");
-    assert_eq!(rt; row.person.as_str(), "eve-2");
-    assert_eq!(rt; row.moment.seconds(), 1_709_251_199);
-    match &row.reason {
-        Some(reason) => assert_eq!(rt; reason.as_str(), "misread: 7.5\nnot 5.7"),
-        None => panic!(rt; "no reason"),
-    }
+#[test]
+fn a_first_version_amends_none(rt: HostRuntime) -> Result<(), Fail> {
+    let amendment = Amendment {
+        previous: digest(b"abc"),
+        reason: Note::parse(rt.alloc(), "why")?,
+    };
+    assert!(rt; Origin::amending(Ordinal::FIRST, amendment).is_none());
+    let copy = Origin::first().copy()?;
+    assert_eq!(rt; copy.number(), Ordinal::FIRST);
+    assert!(rt; copy.amendment().is_none());
+    Ok(())
 }
 
 #[test]
 fn every_cut_and_every_longer_text_is_refused(rt: HostRuntime) -> Result<(), Fail> {
-    for whole in [FIRST_VERSION, LATER_VERSION] {
+    for whole in [FIRST_VERSION, NEWER_VERSION, LATER_VERSION, LATER_NEWER_VERSION] {
         for end in 0..whole.len() {
             refuses(&rt, &whole[..end]);
         }
@@ -221,47 +287,59 @@ fn joined(alloc: Global, parts: [&[u8]; 4]) -> Result<Vec<u8>, Fail> {
 }
 
 #[test]
-fn other_spellings_are_refused(rt: HostRuntime) -> Result<(), Fail> {
+fn other_headings_are_refused(rt: HostRuntime) -> Result<(), Fail> {
     let whole = joined(rt.alloc(), [HEADING, SUBJECT, ORIGIN, OPENING])?;
     assert_eq!(rt; whole.as_slice(), FIRST_VERSION);
-    let headings: [&[u8]; 9] = [
+    let headings: [&[u8]; 10] = [
         b"11:labrecord 1\n04:aqua\n1:1\n1:1\n",
         b"11:labrecord 1\n+4:aqua\n1:1\n1:1\n",
         b"11:labrecord 1\n4:Aqua\n1:1\n1:1\n",
         b"11:labrecord 1\n4:aqua\r\n1:1\n1:1\n",
         b"11:labrecord 2\n4:aqua\n1:1\n1:1\n",
+        b"11:labrecord 3\n4:aqua\n1:1\n1:1\n",
         b"11:labrecord 1\n4:aqua\n2:01\n1:1\n",
         b"11:labrecord 1\n4:aqua\n1:0\n1:1\n",
         b"11:labrecord 1\n4:aqua\n10:1000000001\n1:1\n",
         b"11:labrecord 1\n4:aqua\n1:1\n1:2\n",
     ];
     for heading in headings {
-        refuses(
-            &rt,
-            &joined(rt.alloc(), [heading, SUBJECT, ORIGIN, OPENING])?,
-        );
+        refuses(&rt, &joined(rt.alloc(), [heading, SUBJECT, ORIGIN, OPENING])?);
     }
-    let subjects: [&[u8]; 2] = [b"5:water\n1:1\n2: S\n", b"5:water\n1:1\n2:\xc3\x28\n"];
+    Ok(())
+}
+
+#[test]
+fn other_subjects_are_refused(rt: HostRuntime) -> Result<(), Fail> {
+    let subjects: [&[u8]; 3] = [
+        b"5:water\n1:1\n2: S\n",
+        b"5:water\n1:1\n2:\xc3\x28\n",
+        b"5:water\n1:1\n2:no\n2:S1\n",
+    ];
     for subject in subjects {
-        refuses(
-            &rt,
-            &joined(rt.alloc(), [HEADING, subject, ORIGIN, OPENING])?,
-        );
+        refuses(&rt, &joined(rt.alloc(), [HEADING, subject, ORIGIN, OPENING])?);
     }
+    let newer = b"11:labrecord 2\n4:aqua\n1:1\n1:1\n";
+    let subjects: [&[u8]; 3] = [
+        b"5:water\n1:1\n2:S1\n",
+        b"5:water\n1:1\n0:\n2:S1\n",
+        b"5:water\n1:1\n3:Yes\n2:S1\n",
+    ];
+    for subject in subjects {
+        refuses(&rt, &joined(rt.alloc(), [newer, subject, ORIGIN, OPENING])?);
+    }
+    Ok(())
+}
+
+#[test]
+fn other_origins_and_openings_are_refused(rt: HostRuntime) -> Result<(), Fail> {
     let reasoned = b"1:-\n4:lost\n";
-    refuses(
-        &rt,
-        &joined(rt.alloc(), [HEADING, SUBJECT, reasoned, OPENING])?,
-    );
+    refuses(&rt, &joined(rt.alloc(), [HEADING, SUBJECT, reasoned, OPENING])?);
     let openings: [&[u8]; 2] = [
         b"3:dan\n20:1970-01-01T00:16:60Z\n1:0\n",
         b"3:dan\n20:1970-01-01T00:16:40Z\n1:1\n",
     ];
     for opening in openings {
-        refuses(
-            &rt,
-            &joined(rt.alloc(), [HEADING, SUBJECT, ORIGIN, opening])?,
-        );
+        refuses(&rt, &joined(rt.alloc(), [HEADING, SUBJECT, ORIGIN, opening])?);
     }
     Ok(())
 }
@@ -275,82 +353,152 @@ fn later_versions_are_read_exactly(rt: HostRuntime) -> Result<(), Fail> {
         b"64:ba7816bf8f01cfea414140de5dae2223b00361a396177a9cb410ff61f20015ad\n0:\n",
     ];
     for origin in origins {
-        refuses(
-            &rt,
-            &joined(rt.alloc(), [heading, SUBJECT, origin, OPENING])?,
-        );
+        refuses(&rt, &joined(rt.alloc(), [heading, SUBJECT, origin, OPENING])?);
     }
     let origin = b"64:ba7816bf8f01cfea414140de5dae2223b00361a396177a9cb410ff61f20015ad\n3:why\n";
-    let version = read_version(
-        rt.alloc(),
-        &joined(rt.alloc(), [heading, SUBJECT, origin, OPENING])?,
-    )?;
-    assert_eq!(rt; version.record_number, 1_000_000_000);
-    assert_eq!(rt; version.number, 2);
-    match &version.amendment {
-        Some(amendment) => {
-            assert_eq!(rt; amendment.previous, digest(b"abc"));
-            assert_eq!(rt; amendment.reason.as_str(), "why");
-        }
-        None => panic!(rt; "no amendment"),
-    }
+    let text = joined(rt.alloc(), [heading, SUBJECT, origin, OPENING])?;
+    let version = read_version(rt.alloc(), &text)?;
+    assert_eq!(rt; version.record_number.get(), 1_000_000_000);
+    assert_eq!(rt; version.origin.number().get(), 2);
     Ok(())
 }
 
 #[test]
-fn faults_of_texts_have_numbers_and_words(rt: HostRuntime) {
-    assert_eq!(rt; TextFault::BadText.number(), Some(11));
-    assert_eq!(rt; TextFault::BadText.word(), "bad_text");
-    assert_eq!(rt; TextFault::Memory(OutOfMemory).number(), Some(90));
-    assert_eq!(rt; TextFault::Memory(OutOfMemory).word(), "memory");
+fn faults_of_texts_have_numbers_and_words(rt: HostRuntime) -> Result<(), Fail> {
+    let bad = TextFault::BadText;
+    assert_eq!(rt; bad.number(), Some(11));
+    assert_eq!(rt; bad.word(), "bad_text");
+    assert_eq!(rt; format!(in rt.alloc(); "{bad}")?.as_str(), "bad_text");
+    let memory = TextFault::Memory(OutOfMemory);
+    assert_eq!(rt; memory.number(), Some(90));
+    assert_eq!(rt; memory.word(), "memory");
+    assert_eq!(rt; format!(in rt.alloc(); "{memory}")?.as_str(), "memory");
     one_spelling();
+    Ok(())
+}
+
+const MEANINGS: [(&str, &str); 4] = [
+    ("authorship", ""),
+    ("review", ""),
+    ("rejection", "misread scale"),
+    ("approval", ""),
+];
+
+fn meaning_of(alloc: Global, place: usize) -> Result<Meaning, Fail> {
+    match place {
+        0 => Ok(Meaning::Authorship),
+        1 => Ok(Meaning::Review),
+        2 => Ok(Meaning::Rejection(Note::parse(alloc, "misread scale")?)),
+        _ => Ok(Meaning::Approval),
+    }
 }
 
 #[test]
-fn meanings_are_copied(rt: HostRuntime) -> Result<(), Fail> {
-    let meanings = [
-        Meaning::Authorship,
-        Meaning::Review,
-        Meaning::Rejection(Note::parse(rt.alloc(), "misread scale")?),
-    ];
-    let expected = [
-        ("authorship", ""),
-        ("review", ""),
-        ("rejection", "misread scale"),
-    ];
-    for (meaning, (word, reason)) in meanings.iter().zip(expected) {
-        let copy = meaning.copy()?;
-        assert_eq!(rt; copy.word(), word);
-        assert_eq!(rt; copy.reason(), reason);
+fn meanings_have_words_and_reasons(rt: HostRuntime) -> Result<(), Fail> {
+    for (place, (word, reason)) in MEANINGS.iter().enumerate() {
+        let meaning = meaning_of(rt.alloc(), place)?.copy()?;
+        assert_eq!(rt; meaning.word(), *word);
+        assert_eq!(rt; meaning.reason(), *reason);
     }
     Ok(())
+}
+
+// The signatures of each state, as places in `MEANINGS`, without and with an approval.
+const STATES: [(&[usize], [Option<State>; 2]); 6] = [
+    (&[], [Some(State::Open), Some(State::Open)]),
+    (&[0], [Some(State::Signed), Some(State::Signed)]),
+    (&[0, 1], [Some(State::Released), Some(State::Reviewed)]),
+    (&[0, 2], [Some(State::Rejected), Some(State::Rejected)]),
+    (&[0, 1, 3], [None, Some(State::Released)]),
+    (&[0, 1, 2], [None, Some(State::Rejected)]),
+];
+
+fn expected(places: &[usize], column: usize) -> Option<State> {
+    for (known, states) in STATES {
+        if known == places {
+            return states.get(column).copied().flatten();
+        }
+    }
+    None
+}
+
+fn states_of(rt: &(impl Abort + AllocGlobal), places: &[usize]) -> Result<(), Fail> {
+    let mut meanings = Vec::new(rt.alloc());
+    for place in places {
+        meanings.push(meaning_of(rt.alloc(), *place)?)?;
+    }
+    assert_eq!(rt; state_of(&meanings, false), expected(places, 0));
+    assert_eq!(rt; state_of(&meanings, true), expected(places, 1));
+    Ok(())
+}
+
+// Every list of up to three signatures.
+#[test]
+fn states_are_those_of_the_table(rt: HostRuntime) -> Result<(), Fail> {
+    states_of(&rt, &[])?;
+    for first in 0..4 {
+        states_of(&rt, &[first])?;
+        for second in 0..4 {
+            states_of(&rt, &[first, second])?;
+            for third in 0..4 {
+                states_of(&rt, &[first, second, third])?;
+            }
+        }
+    }
+    Ok(())
+}
+
+#[test]
+fn states_have_words(rt: HostRuntime) {
+    let states = [
+        (State::Open, "open", false),
+        (State::Signed, "signed", false),
+        (State::Reviewed, "reviewed", false),
+        (State::Released, "released", true),
+        (State::Rejected, "rejected", true),
+    ];
+    for (state, word, is_settled) in states {
+        assert_eq!(rt; state.word(), word);
+        assert_eq!(rt; state.is_settled(), is_settled);
+    }
+}
+
+fn seal_parts(alloc: Global, person: &str, name: &str, meaning: Meaning, seconds: i64) -> Result<SealParts, Fail> {
+    Ok(SealParts {
+        version: digest(FIRST_VERSION),
+        lab: LabCode::parse(alloc, "aqua")?,
+        person: PersonCode::parse(alloc, person)?,
+        name: Name::parse(alloc, name)?,
+        meaning,
+        moment: Moment::from_seconds(seconds)?,
+    })
 }
 
 // The seals are those that Python's `hashlib` gives of the seven items.
 #[test]
-fn seals_of_the_three_meanings(rt: HostRuntime) -> Result<(), Fail> {
-    let mut parts = SealParts {
-        version: digest(FIRST_VERSION),
-        lab: LabCode::parse(rt.alloc(), "aqua")?,
-        person: PersonCode::parse(rt.alloc(), "dan")?,
-        name: Name::parse(rt.alloc(), "Dan D\u{fc}r")?,
-        meaning: Meaning::Authorship,
-        moment: Moment::from_seconds(1300)?,
-    };
-    let author = bytes_of("9863b66df0088378760b1aaab4eea6128e132387df97bb1dd73dadedbc443a89")?;
-    assert_eq!(rt; seal(&parts).bytes(), author);
-    assert_eq!(rt; Seal::from_bytes(author), seal(&parts.copy()?));
-    parts.person = PersonCode::parse(rt.alloc(), "eve")?;
-    parts.name = Name::parse(rt.alloc(), "Eve Eden")?;
-    parts.moment = Moment::from_seconds(1400)?;
-    parts.meaning = Meaning::Review;
-    let review = bytes_of("283cd999dd2b5ac3e31bcefe8e2e7747896b395c8c15c9777b2debae5f6d6e6b")?;
-    assert_eq!(rt; seal(&parts).bytes(), review);
-    parts.meaning = Meaning::Rejection(Note::parse(rt.alloc(), "misread scale")?);
-    let rejection = bytes_of("e712259c7184fb7dc48eb62e198c3731e152be56999339519e1fb7e49c2b9156")?;
-    assert_eq!(rt; seal(&parts).bytes(), rejection);
-    assert_eq!(rt; seal(&parts.copy()?).bytes(), rejection);
-    assert_eq!(rt; parts.meaning.word(), "rejection");
-    assert_eq!(rt; parts.meaning.reason(), "misread scale");
+fn seals_of_the_four_meanings(rt: HostRuntime) -> Result<(), Fail> {
+    let author = seal_parts(rt.alloc(), "dan", "Dan D\u{fc}r", Meaning::Authorship, 1300)?;
+    let known = bytes_of("9863b66df0088378760b1aaab4eea6128e132387df97bb1dd73dadedbc443a89")?;
+    assert_eq!(rt; seal(&author).bytes(), known);
+    let review = seal_parts(rt.alloc(), "eve", "Eve Eden", Meaning::Review, 1400)?;
+    let known = bytes_of("283cd999dd2b5ac3e31bcefe8e2e7747896b395c8c15c9777b2debae5f6d6e6b")?;
+    assert_eq!(rt; seal(&review).bytes(), known);
+    let reason = Meaning::Rejection(Note::parse(rt.alloc(), "misread scale")?);
+    let rejection = seal_parts(rt.alloc(), "eve", "Eve Eden", reason, 1400)?;
+    let known = bytes_of("e712259c7184fb7dc48eb62e198c3731e152be56999339519e1fb7e49c2b9156")?;
+    assert_eq!(rt; seal(&rejection.copy()?).bytes(), known);
+    let approval = seal_parts(rt.alloc(), "gus", "Gus Gold", Meaning::Approval, 1500)?;
+    let known = bytes_of("fdeb3d3313ae7fdc89ec717d60cedce483f19f19309408619502c4adbf2728b9")?;
+    assert_eq!(rt; seal(&approval).bytes(), known);
+    Ok(())
+}
+
+#[test]
+fn seals_are_read_of_their_digits(rt: HostRuntime) -> Result<(), Fail> {
+    let digits = b"9863b66df0088378760b1aaab4eea6128e132387df97bb1dd73dadedbc443a89";
+    let known = Seal::from_bytes(bytes_of("9863b66df0088378760b1aaab4eea6128e132387df97bb1dd73dadedbc443a89")?);
+    assert_eq!(rt; Seal::from_digits(digits), Some(known));
+    assert_eq!(rt; known.digits(), *digits);
+    assert_eq!(rt; Seal::from_digits(&digits[..63]), None);
     Ok(())
 }

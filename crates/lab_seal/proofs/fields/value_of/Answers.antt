@@ -1,5 +1,5 @@
 use Rattle.std.proofs.Common.{◌<◌, ◌^◌, sym, ◌∙◌, arith}
-use Rattle.lab_seal.proofs.FieldLemmas.{ok_said, err_said, number_not_text, number_unparsed, number_other, number_read}
+use Rattle.lab_seal.proofs.ReadLemmas.{ok_said, err_said, number_not_text, number_unparsed, number_other, number_read}
 use Rattle.lab_seal.proofs.fields.value_of.Goals as goal
 
 pub returns-in_err-text : goal.returns-in_err-text
