@@ -1,4 +1,4 @@
-//! Forms and their parts, made of the texts that the workloads take. The only error is want of memory.
+//! Forms and their parts, made of the texts that the workloads take. The only error is out of memory.
 
 use anyhow::Result;
 use lab_forms::{Bound, Choices, Field, Form, Kind};
@@ -51,5 +51,5 @@ pub(crate) fn form(alloc: Global, keys: &[&str]) -> Result<Form> {
     for key in keys {
         fields.push(field(alloc, key)?).map_err(OutOfMemory::from)?;
     }
-    Ok(Form::make(fields)?)
+    Ok(Form::make(fields, false)?)
 }
