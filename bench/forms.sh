@@ -77,12 +77,9 @@ nanoseconds() {
     awk -v all="$all" -v none="$none" -v calls="$calls" 'BEGIN { printf "%.0f", (all - none) * 1e9 / calls }'
 }
 
-(cd "$root/crates/lab_bench" && rt run -- parse-moments 0) >"$room/built" 2>&1 || {
-    cat "$room/built" >&2
-    exit 1
-}
+bench=$("$root/bench/program" lab_bench)
 for workload in parse-moments print-moments read-values; do
-    ours=$(nanoseconds "$root/crates/lab_bench/out/lab_bench" "$workload")
+    ours=$(nanoseconds "$bench" "$workload")
     our_sum=$(cat "$room/out")
     pythons=$(nanoseconds python3 "$room/calls.py" "$workload")
     python_sum=$(cat "$room/out")

@@ -13,11 +13,7 @@ timed() {
     { time "$bench" "$1" "$2" >"$room/out"; } 2>>"$room/$1-$2"
 }
 
-(cd "$root/crates/lab_bench" && rt run -- parse-moments 0) >"$room/built" 2>&1 || {
-    cat "$room/built" >&2
-    exit 1
-}
-bench=$root/crates/lab_bench/out/lab_bench
+bench=$("$root/bench/program" lab_bench)
 for _ in {1..15}; do
     for workload in open-sessions stretch-passwords; do
         timed "$workload" 0

@@ -24,11 +24,7 @@ timed() {
     { time "$@" >"$room/$name.out"; } 2>>"$room/$name"
 }
 
-(cd "$root/crates/lab_bench" && rt run -- rounds 1 >"$room/built" 2>&1) || {
-    cat "$room/built" >&2
-    exit 1
-}
-ours=$root/crates/lab_bench/out/lab_bench
+ours=$("$root/bench/program" lab_bench)
 for _ in {1..25}; do
     timed ours_base "$ours" rounds 1
     timed theirs_base python3 "$room/rounds.py" 1

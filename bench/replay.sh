@@ -27,8 +27,7 @@ least() {
     done | sort -n | head -n 1
 }
 
-"$root/labdesk" --help >"$room/out"
-program=$root/crates/lab_program/out/lab_program
+program=$("$root/bench/program" lab_program)
 for calls in 1000 100000; do
     stream "$calls" >"$room/in"
     for command in "$program replay" cat; do

@@ -24,11 +24,7 @@ figures() {
     }'
 }
 
-(cd "$root/crates/lab_bench" && rt run -- parse-moments 0) >"$room/built" 2>&1 || {
-    cat "$room/built" >&2
-    exit 1
-}
-bench=$root/crates/lab_bench/out/lab_bench
+bench=$("$root/bench/program" lab_bench)
 for rows in 20 200; do
     "$bench" version-text 1 "$rows" >"$room/text"
     bytes=$(wc -c <"$room/text")

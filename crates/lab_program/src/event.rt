@@ -39,7 +39,13 @@ impl Heading {
 
     /// The event, with its bytes.
     fn event(self, bytes: Vec<u8>) -> Event
-        ensures { event_said result ≡ record { founded = self.founded; moment = self.tick.moment; words = self.tick.words; bytes = bytes.items } }
+        ensures { event_said result
+            ≡ record {
+              founded = self.founded;
+              moment = self.tick.moment;
+              words = self.tick.words;
+              bytes = bytes.items;
+            } }
     {
         let tick = self.tick;
         match self.founded {
@@ -167,7 +173,8 @@ fn heading_of_line(alloc: Global, line: &[u8]) -> Result<Heading, ReplayFault>
 /// Reads until the buffer is full or the input ends, and gives how many bytes were read.
 fn fill<R: Read>(reader: &mut R, buffer: &mut [u8]) -> io::Result<usize>
     ensures within { IfOk result (λ n. n ≤ length buffer.new) }
-    ensures taken { IfOk result (λ n. Consumes (R.remaining reader.old) (R.remaining reader.new) (take n buffer.new)) }
+    ensures taken { IfOk result
+        (λ n. Consumes (R.remaining reader.old) (R.remaining reader.new) (take n buffer.new)) }
     ensures end { IfOk result (λ n. n < length buffer.new → IsAtEnd (R.remaining reader.new)) }
 {
     let mut filled = 0;
@@ -197,7 +204,8 @@ fn bytes<R: Read>(alloc: Global, reader: &mut R, count: usize) -> Result<Vec<u8>
 
 /// Takes the next byte from the input, and `None` at its end.
 fn byte<R: Read>(reader: &mut R) -> Result<Option<u8>, ReplayFault>
-    ensures taken { IfSome (R.remaining reader.old) (λ input. TakesByte input (R.remaining reader.new) result) }
+    ensures taken { IfSome (R.remaining reader.old)
+        (λ input. TakesByte input (R.remaining reader.new) result) }
     ensures fault { IfErr result IsInputFault }
 {
     let mut byte = [0u8];
@@ -210,7 +218,8 @@ fn byte<R: Read>(reader: &mut R) -> Result<Option<u8>, ReplayFault>
 /// Takes the next line from the input, its line feed left off, and `None` at the input's end. What has no line feed
 /// within a line's length is no line, and no more of the input is taken.
 fn line<B: BufRead>(alloc: Global, reader: &mut B) -> Result<Option<Vec<u8>>, ReplayFault>
-    ensures taken { IfSome (B.remaining reader.old) (λ input. TakesLine input (B.remaining reader.new) result) }
+    ensures taken { IfSome (B.remaining reader.old)
+        (λ input. TakesLine input (B.remaining reader.new) result) }
     ensures fault { IfErr result IsInputFault }
     ensures bounded { TakesAtMost 1001 (B.remaining reader.old) (B.remaining reader.new) }
 {

@@ -40,7 +40,8 @@ impl<R: Read> Read for LimitedReader<R> {
 
     fn read(&mut self, buffer: &mut [u8]) -> io::Result<usize>
         ensures bound { ReadsAtMost result buffer.new }
-        ensures bytes { ReadConsumes (R.remaining self.old.reader) (R.remaining self.new.reader) result buffer.new }
+        ensures bytes { ReadConsumes (R.remaining self.old.reader) (R.remaining self.new.reader)
+            result buffer.new }
 
         // Each answer costs an ask while one is left, a failed one too, and none is given back.
         ensures asked { 0 < self.old.asks_left → self.new.asks_left < self.old.asks_left }
