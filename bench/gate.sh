@@ -32,6 +32,6 @@ for name in "${crates[@]}"; do
     check=$(spent rt check --jobs 1)
     rm -rf out/incremental
     whole=$(spent rt check --test --jobs 1)
-    edits=$(find must-fail -name '*.edit' 2>/dev/null | wc -l)
+    edits=$(find . -path './must-fail/*.edit' | wc -l)
     printf '%-14s %8d %8d %8d\n' "$name" "$check" $((whole - check)) "$edits"
 done
