@@ -1,4 +1,5 @@
-//! The calls that take memory. Each has its arguments made for it alone, so that want of memory stops one call and no other.
+//! The calls that take memory. Each has its arguments made for it alone, so that running out of memory stops one call and no
+//! other.
 
 use crate::person_growths::print_person_growths;
 use crate::record_growths::print_record_growths;

@@ -23,17 +23,19 @@ fn person(alloc: Global) -> Result<Person> {
     })
 }
 
-/// Opens so many sessions, and answers the sum of their numbers.
+/// Opens so many sessions of one person, and answers the sum of their numbers.
 pub(crate) fn open_sessions(alloc: Global, calls: u32) -> Result<u64> {
-    let dan = person(alloc)?;
+    let mut dan = person(alloc)?;
     let tick = Tick {
         moment: Moment::from_seconds(900)?,
         words: [1, 2, 3, 4, 5, 6, 7, 8],
     };
     let mut sum = 0u64;
     for call in 0..calls {
-        let opened = open_session(Some(&dan), PASSWORD, &tick, call, false)?;
-        sum = sum.wrapping_add(u64::from(opened.session.number));
+        let code = dan.code.copy()?;
+        let opened = open_session(code, Some(dan), PASSWORD, &tick, call, None)?;
+        sum = sum.wrapping_add(u64::from(opened.session.number.get()));
+        dan = opened.person;
     }
     Ok(sum)
 }

@@ -1,11 +1,13 @@
-//! The calls on versions and seals that take memory. Each has its arguments made for it alone, so that want of memory
-//! stops one call and no other.
+//! The calls on versions and seals that take memory. Each has its arguments made for it alone, so that running out of
+//! memory stops one call and no other.
 
 use crate::growths::print_line;
 use crate::versions::{version, version_text};
-use anyhow::Result;
-use lab_names::{LabCode, Moment, Name, Note, PersonCode};
-use lab_seal::{Amendment, Meaning, SealParts, VersionParts, digest, read_version, write_version};
+use anyhow::{Context, Result};
+use lab_names::{LabCode, Moment, Name, Note, Ordinal, PersonCode};
+use lab_seal::{
+    Amendment, Meaning, Origin, SealParts, VersionParts, digest, read_version, write_version,
+};
 use std::alloc::Global;
 use std::io::{self, Print};
 
@@ -42,9 +44,9 @@ fn later_version(alloc: Global) -> Result<VersionParts> {
         previous: digest(b"abc"),
         reason: Note::parse(alloc, "misread scale")?,
     };
+    let number = Ordinal::FIRST.next().context("a second version")?;
     Ok(VersionParts {
-        number: 2,
-        amendment: Some(amendment),
+        origin: Origin::amending(number, amendment).context("a later version")?,
         ..version(alloc, 1)?
     })
 }
@@ -55,7 +57,7 @@ fn later_read(alloc: Global) -> Result<VersionParts> {
 }
 
 fn copied_version(alloc: Global) -> Result<VersionParts> {
-    Ok(later_version(alloc)?.copy(alloc)?)
+    Ok(later_version(alloc)?.copy()?)
 }
 
 fn copied_seal(alloc: Global) -> Result<SealParts> {

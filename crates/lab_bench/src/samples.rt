@@ -1,4 +1,4 @@
-//! Forms and their parts, made of the texts that the workloads take. The only error is want of memory.
+//! Forms and their parts, made of the texts that the workloads take. The only error is out of memory.
 
 use anyhow::Result;
 use lab_forms::{Bound, Choices, Field, Form, Kind};

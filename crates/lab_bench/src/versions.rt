@@ -1,8 +1,10 @@
 //! Versions of so many rows: their texts, written, read and hashed; and rounds of PBKDF2.
 
 use anyhow::{Result, bail};
-use lab_names::{Key, LabCode, Moment, Name, Note, OutOfMemory, PersonCode, Unit};
-use lab_seal::{EntryRow, VersionParts, digest, pbkdf2, read_version, write_version};
+use lab_names::{Key, LabCode, Moment, Name, Note, Ordinal, OutOfMemory, PersonCode, Unit};
+use lab_seal::{
+    EntryRow, EntryRows, Format, Origin, VersionParts, digest, pbkdf2, read_version, write_version,
+};
 use std::alloc::Global;
 
 fn row(alloc: Global, place: u32) -> Result<EntryRow> {
@@ -23,16 +25,16 @@ pub(crate) fn version(alloc: Global, rows: u32) -> Result<VersionParts> {
         entered.push(row(alloc, place)?).map_err(OutOfMemory::from)?;
     }
     Ok(VersionParts {
+        format: Format::Two { approval: false },
         lab: LabCode::parse(alloc, "aqua")?,
-        record_number: 1,
-        number: 1,
+        record_number: Ordinal::FIRST,
+        origin: Origin::first(),
         form: Key::parse(alloc, "water")?,
-        form_version: 1,
+        form_version: Ordinal::FIRST,
         sample: Name::parse(alloc, "S1")?,
-        amendment: None,
         opener: PersonCode::parse(alloc, "dan")?,
         opened: Moment::from_seconds(1000)?,
-        rows: entered,
+        rows: EntryRows::new(entered),
     })
 }
 
@@ -58,7 +60,7 @@ pub(crate) fn read_versions(alloc: Global, calls: u32, rows: u32) -> Result<u64>
     let mut sum = 0u64;
     for _ in 0..calls {
         let parts = read_version(alloc, text.as_slice())?;
-        sum = sum.wrapping_add(parts.rows.len() as u64);
+        sum = sum.wrapping_add(parts.rows.rows().len() as u64);
     }
     Ok(sum)
 }
