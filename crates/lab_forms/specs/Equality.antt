@@ -16,7 +16,8 @@ kinds_equiv =
     let greatest = on_equiv max_of (options_equiv nat_list_eq_equiv) in
     let sizes = on_equiv size_of nat_eq_equiv in
     let choices = on_equiv choices_of (lists_equiv nat_list_eq_equiv) in
-    let bounds = and_equiv (and_equiv (and_equiv (and_equiv words units) decimals) least) greatest in
+    let numbers = and_equiv (and_equiv words units) decimals in
+    let bounds = and_equiv (and_equiv numbers least) greatest in
     and_equiv (and_equiv bounds sizes) choices
 
 pub fields_equiv : IsEquivalence field_eq

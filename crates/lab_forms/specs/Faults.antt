@@ -1,4 +1,5 @@
--- The numbers and words by which the interface of the laboratories tells what was wrong with a form or a value.
+-- The numbers and words by which the interface of the laboratories tells what was wrong with a form
+-- or a value.
 use Rattle.std.specs.Prelude.{codes}
 use Rattle.lab_names.specs.Faults.{Entry, memory_entry}
 use Rattle.lab_forms.specs.declared.faults.FormRefusal.{FormRefusal}

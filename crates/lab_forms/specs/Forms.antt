@@ -1,5 +1,5 @@
--- Which lists of fields make a form, and which texts a form reads as values: the first thing that is wrong, in a fixed
--- order, is the refusal that is told.
+-- Which lists of fields make a form, and which texts a form reads as values: the first thing that
+-- is wrong, in a fixed order, is the refusal that is told.
 use Rattle.std.specs.Prelude.{◌≡◌, ℕ, Bool, false, ◌&&◌, not, nat_le, ◌==◌, List, length, map, find, Option, Some, None, Result, Ok, Err, bytes_eq, if◌then◌else◌}
 use Rattle.std.specs.List.{list_all}
 use Rattle.std.specs.Option.{option_map_or}
@@ -36,7 +36,8 @@ form_refusal fields =
     else (if not (list_all is_field fields) then Some BadField
     else None)))
 
--- a form: its fields, and whether what it records wants the approval of a third person before it is released
+-- a form: its fields, and whether what it records wants the approval of a third person before it is
+-- released
 pub record FormSheet : Type 0 where
   pub fields : List Field
   pub approval : Bool
@@ -79,7 +80,8 @@ value_refusal fields key text unit =
     option_map_or (λ field. kind_refusal field.kind text unit) (field_of fields key)
     (Some NoSuchField)
 
--- the fault that a call tells: the first thing that is wrong, and out of memory only where nothing is
+-- the fault that a call tells: the first thing that is wrong, and out of memory only where nothing
+-- is
 abbrev pub IsTold : Option FormRefusal → FormFault → Type 0
 IsTold first (Refused refusal) = first ≡ Some refusal
 IsTold first (Memory _) = first ≡ None

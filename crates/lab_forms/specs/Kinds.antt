@@ -1,5 +1,5 @@
--- What a field of each kind takes as a value, and which kinds a form may ask for. The rules are this system's own; a date
--- is one of the proleptic Gregorian calendar (ISO 8601-1:2019).
+-- What a field of each kind takes as a value, and which kinds a form may ask for. The rules are
+-- this system's own; a date is one of the proleptic Gregorian calendar (ISO 8601-1:2019).
 use Rattle.std.specs.Prelude.{ℕ, Bool, true, false, ◌&&◌, ◌||◌, not, nat_le, ◌==◌, List, [], length, Option, Some, None, is_some, ℤ, int_le, bytes_eq, codes, option_and_then}
 use Rattle.std.specs.Option.{option_eq}
 use Rattle.std.specs.Cmp.Lexicographic.{pointwise}
@@ -40,7 +40,8 @@ is_at_most (Some low) (Some high) = int_le low high
 is_at_most (Some low) None = true
 is_at_most None high = true
 
--- an amount lies from the least to the greatest that the field takes; a `<` or `>` is left out of account
+-- an amount lies from the least to the greatest that the field takes; a `<` or `>` is left out of
+-- account
 abbrev pub is_in_range : Kind → List ℕ → Bool
 is_in_range (Number unit decimals min max) text =
     is_at_most (bound_amount decimals min) (amount_read decimals (without_comparison text))
@@ -50,8 +51,8 @@ is_in_range (Choice choices) text = true
 is_in_range Date text = true
 is_in_range YesNo text = true
 
--- A text and a unit fit a field of the kind: the text has its form, the unit is the kind's byte for byte, and the amount is
--- in range.
+-- A text and a unit fit a field of the kind: the text has its form, the unit is the kind's byte for
+-- byte, and the amount is in range.
 abbrev pub fits : Kind → List ℕ → List ℕ → Bool
 fits kind text unit = is_value kind text && bytes_eq unit (unit_of kind) && is_in_range kind text
 
@@ -60,7 +61,8 @@ abbrev pub is_bound : ℕ → Option (List ℕ) → Bool
 is_bound decimals None = true
 is_bound decimals (Some text) = is_number decimals text
 
--- a kind that a form may ask for: the least amount is not above the greatest, and no choice stands twice
+-- a kind that a form may ask for: the least amount is not above the greatest, and no choice stands
+-- twice
 abbrev pub is_kind : Kind → Bool
 is_kind (Number unit decimals min max) =
     nat_le decimals 6 && is_bound decimals min && is_bound decimals max

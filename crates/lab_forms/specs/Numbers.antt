@@ -1,5 +1,6 @@
--- How numbers are written in the values of a form, and the amount of each, in whole millionths. The form is this
--- system's own: a sign or none, 1 to 15 decimal digits, and then a point with 1 to so many digits or none.
+-- How numbers are written in the values of a form, and the amount of each, in whole millionths. The
+-- form is this system's own: a sign or none, 1 to 15 decimal digits, and then a point with 1 to so
+-- many digits or none.
 use Rattle.std.specs.Prelude.{ℕ, ◌+◌, ◌-◌, ◌*◌, ◌^◌, Bool, true, ◌&&◌, ◌||◌, ◌==◌, nat_le, List, length, drop, slice_index, if◌then◌else◌, is_some, ℤ, pos, neg_ℤ, Option, Some, None, fold, position}
 use Rattle.std.specs.List.{list_all, before_first, after_first}
 use Rattle.std.specs.Char.{is_ascii_digit}
@@ -78,7 +79,8 @@ amount text =
 abbrev pub amount_read : ℕ → List ℕ → Option ℤ
 amount_read decimals text = if is_number decimals text then Some (amount text) else None
 
--- the text behind its `<` or `>`, which says that the amount is a limit of what can be measured, if it has one
+-- the text behind its `<` or `>`, which says that the amount is a limit of what can be measured, if
+-- it has one
 unfoldable pub without_comparison : List ℕ → List ℕ
 without_comparison text =
     if (slice_index text 0 == less) || (slice_index text 0 == greater) then drop 1 text else text

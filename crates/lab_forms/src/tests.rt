@@ -380,6 +380,37 @@ fn choices_give_their_names_back(rt: HostRuntime) -> Result<(), Fail> {
 }
 
 #[test]
+fn a_copy_of_a_bound_is_equal(rt: HostRuntime) -> Result<(), Fail> {
+    let bound = Bound::new(String::from_str(rt.alloc(), "-1.50")?);
+    assert_eq!(rt; bound.copy()?, bound);
+    Ok(())
+}
+
+#[test]
+fn a_copy_of_choices_is_equal(rt: HostRuntime) -> Result<(), Fail> {
+    let alloc = rt.alloc();
+    let mut names = Vec::new(alloc);
+    names.push(Name::parse(alloc, "clear")?)?;
+    let choices = Choices::new(names);
+    assert_eq!(rt; choices.copy()?, choices);
+    Ok(())
+}
+
+#[test]
+fn a_copy_of_a_kind_is_equal(rt: HostRuntime) -> Result<(), Fail> {
+    let kind = number(rt.alloc(), 2, "-0", "7.5")?;
+    assert_eq!(rt; kind.copy()?, kind);
+    Ok(())
+}
+
+#[test]
+fn a_copy_of_a_field_is_equal(rt: HostRuntime) -> Result<(), Fail> {
+    let asked = field(rt.alloc(), "one", Kind::Text { size: 12 })?;
+    assert_eq!(rt; asked.copy()?, asked);
+    Ok(())
+}
+
+#[test]
 fn a_copy_of_a_form_is_equal(rt: HostRuntime) -> Result<(), Fail> {
     let kind = number(rt.alloc(), 2, "-0", "7.5")?;
     let form = Form::make(three(rt.alloc(), "one", kind)?, true)?;

@@ -1,5 +1,6 @@
--- The proleptic Gregorian calendar (ISO 8601-1:2019, 4.2.1; the rule of leap years as in RFC 3339, appendix C), for days
--- counted from 1970-01-01, which is day 0, and the time of day in UTC, for seconds counted from 1970-01-01T00:00:00Z.
+-- The proleptic Gregorian calendar (ISO 8601-1:2019, 4.2.1; the rule of leap years as in RFC 3339,
+-- appendix C), for days counted from 1970-01-01, which is day 0, and the time of day in UTC, for
+-- seconds counted from 1970-01-01T00:00:00Z.
 use Rattle.std.specs.Prelude.{ℕ, zero, suc, ◌+◌, ◌-◌, ◌*◌, ◌/◌, ◌%◌, Bool, not, ◌&&◌, ◌||◌, ◌==◌, nat_lt, if◌then◌else◌, List, [], ◌∷◌, ◌++◌}
 
 -- every fourth year, but of the centuries only every fourth
@@ -42,8 +43,9 @@ abbrev pub second_of_date : ℕ → ℕ → ℕ → ℕ → ℕ → ℕ → ℕ
 second_of_date year month day hour minute second =
     day_of_date year month day * seconds_in_day + hour * 3600 + minute * 60 + second
 
--- Spans that follow one another, as years or months do: the span with number k has `days k` days. The number of the span
--- in which a day falls, where days are counted from 0 at the first day of span k; at most n spans are passed.
+-- Spans that follow one another, as years or months do: the span with number k has `days k` days.
+-- The number of the span in which a day falls, where days are counted from 0 at the first day of
+-- span k; at most n spans are passed.
 unfoldable pub span_of : (ℕ → ℕ) → ℕ → ℕ → ℕ → ℕ
 span_of days zero k day = k
 span_of days (suc n) k day =

@@ -1,5 +1,6 @@
--- The numbers and words by which the interface of the laboratories tells what was wrong with a name or a moment, and when
--- a name is at fault. Every part of the system has such a table for its own faults.
+-- The numbers and words by which the interface of the laboratories tells what was wrong with a name
+-- or a moment, and when a name is at fault. Every part of the system has such a table for its own
+-- faults.
 use Rattle.std.specs.Prelude.{ℕ, Bool, List, IsTrue, IsFalse, codes}
 use Rattle.lab_names.specs.declared.faults.NameFault.{NameFault}
 use Rattle.lab_names.specs.declared.faults.NameFault.TheVariants.{BadName, Memory}
@@ -28,7 +29,8 @@ name_fault_entry (Memory _) = memory_entry
 abbrev pub moment_fault_entry : MomentFault → Entry
 moment_fault_entry BadMoment = record { number = 2; word = codes "bad_moment" }
 
--- the fault of a text that is tried as a name: a bad name where it is not admitted, else out of memory
+-- the fault of a text that is tried as a name: a bad name where it is not admitted, else out of
+-- memory
 abbrev pub NameFaultFits : Bool → NameFault → Type 0
 NameFaultFits admitted BadName = IsFalse admitted
 NameFaultFits admitted (Memory _) = IsTrue admitted

@@ -1,4 +1,5 @@
--- The numbers by which records, versions, sessions and rows of a trail are counted: from 1 to 1,000,000,000.
+-- The numbers by which records, versions, sessions and rows of a trail are counted: from 1 to
+-- 1,000,000,000.
 use Rattle.std.specs.Prelude.{ℕ, Bool, ◌&&◌, nat_le, Option, Some, None, if◌then◌else◌}
 
 -- the last of them

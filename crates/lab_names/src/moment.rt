@@ -93,8 +93,10 @@ impl Moment {
     /// Reads the text that `print` writes, and no other text.
     pub fn parse(text: &str) -> Result<Moment, MomentFault>
         ensures read { result ≡ ok_or (moment_of text.now) MomentFault.BadMoment }
-        ensures value { IfOk result (λ moment. IsTrue (is_moment moment) × (text.now ≡ moment_text moment)) }
-        ensures printed { (n : ℕ) → IsTrue (is_moment n) → text.now ≡ moment_text n → result ≡ Ok n }
+        ensures value { IfOk result
+            (λ moment. IsTrue (is_moment moment) × (text.now ≡ moment_text moment)) }
+        ensures printed { (n : ℕ) →
+            IsTrue (is_moment n) → text.now ≡ moment_text n → result ≡ Ok n }
         ensures fault { IfErr result (λ _. IsNoMoment text.now) }
     {
         spelled(text.as_bytes()).ok_or(MomentFault::BadMoment)

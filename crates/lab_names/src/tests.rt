@@ -1,6 +1,6 @@
 use crate::{
     Key, LabCode, Moment, MomentFault, Name, NameFault, Note, Ordinal, OutOfMemory, PersonCode,
-    Tick, Unit,
+    Series, Tick, Unit,
 };
 use std::test::Fail;
 
@@ -313,4 +313,43 @@ fn no_ordinal_comes_after_the_last(rt: HostRuntime) {
     for count in [1_000_000_000, u32::MAX] {
         assert_eq!(rt; Ordinal::after(count), None, "{count}");
     }
+}
+
+#[test]
+fn a_series_has_its_values_in_order(rt: HostRuntime) -> Result<(), Fail> {
+    let mut series = Series::new(rt.alloc());
+    series.push(3)?;
+    series.push(1)?;
+    series.push(2)?;
+    assert_eq!(rt; series.into_vec().as_slice(), [3, 1, 2].as_slice());
+    Ok(())
+}
+
+#[test]
+fn the_last_of_a_series_is_the_one_pushed_last(rt: HostRuntime) -> Result<(), Fail> {
+    let mut series = Series::new(rt.alloc());
+    assert_eq!(rt; series.last().copied(), None);
+    series.push(3)?;
+    series.push(1)?;
+    assert_eq!(rt; series.last().copied(), Some(1));
+    Ok(())
+}
+
+// A record of two parts, one of which is a series.
+#[derive(Clone, Debug, Drop)]
+struct Measured {
+    place: u32,
+    amounts: Series<u32>,
+}
+
+#[test]
+fn a_copy_has_the_values_of_its_series(rt: HostRuntime) -> Result<(), Fail> {
+    let mut amounts = Series::new(rt.alloc());
+    amounts.push(3)?;
+    amounts.push(1)?;
+    let measured = Measured { place: 7, amounts };
+    let copy = measured.clone()?;
+    assert_eq!(rt; copy.place, 7);
+    assert_eq!(rt; copy.amounts.as_slice(), [3, 1].as_slice());
+    Ok(())
 }
