@@ -1,6 +1,6 @@
--- What comes of a password that is given: for a code at an opening, and by a person in a session at a signing and at a change
--- of the password (the guard against attempts at unauthorized use that 21 CFR 11.300(d) asks for; who is told of them, and
--- where they are written down, isn't said here).
+-- What comes of a password that is given: for a code at an opening, and by a person in a session at
+-- a signing and at a change of the password (the guard against attempts at unauthorized use that 21
+-- CFR 11.300(d) asks for; who is told of them, and where they are written down, isn't said here).
 use Rattle.std.specs.Prelude.{ℕ, ◌+◌, Bool, true, not, ◌&&◌, ◌||◌, nat_lt, List, Option, Some, None, Result, Ok, Err, bytes_eq, if◌then◌else◌}
 use Rattle.lab_access.specs.declared.persons.Person.{Person}
 use Rattle.lab_access.specs.declared.refusals.Failure.{Failure}
@@ -32,8 +32,9 @@ failure_of person moment =
     then Counted (counted_person (failure_count person.locked person.failures + 1) person)
     else Locking (locked_person moment person)
 
--- A text is given as a person's password, and a code that may be wrong: the person with no failures, or what comes of it.
--- Nobody is counted where the person is retired or never had a password. A lock stays as it is, whatever is given.
+-- A text is given as a person's password, and a code that may be wrong: the person with no
+-- failures, or what comes of it. Nobody is counted where the person is retired or never had a
+-- password. A lock stays as it is, whatever is given.
 unfoldable pub attempt_by : Person → Bool → List ℕ → ℕ → Result Person Failure
 attempt_by person is_own text moment =
     if person.retired || not (is_set person.password) then Err Stray

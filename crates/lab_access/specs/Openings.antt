@@ -1,5 +1,5 @@
--- Sessions as they are opened, by a code and a password together (21 CFR 11.300(a), "uniqueness of each combined
--- identification code and password").
+-- Sessions as they are opened, by a code and a password together (21 CFR 11.300(a), "uniqueness of
+-- each combined identification code and password").
 use Rattle.std.specs.Prelude.{ℕ, ◌+◌, false, List, Option, Some, None, is_some, Result, Ok, Err, if◌then◌else◌}
 use Rattle.sha2.specs.Sha256.{sha256}
 use Rattle.lab_names.specs.declared.tick.Tick.{Tick}
@@ -45,8 +45,8 @@ abbrev pub numbered_opening : Option ℕ → List ℕ → Tick → Person → Re
 numbered_opening None code tick person = Err (Refused LabFull)
 numbered_opening (Some number) code tick person = Ok (new_opening number code tick person)
 
--- what follows on the password that was given, where the laboratory gave so many numbers of sessions before, and where one of
--- its sessions has the tick's token, or none has
+-- what follows on the password that was given, where the laboratory gave so many numbers of
+-- sessions before, and where one of its sessions has the tick's token, or none has
 abbrev pub opening_by : Result Person Failure → List ℕ → Tick → ℕ → Option Session
     → Result Opened PeopleFault
 opening_by (Err failure) code tick sessions repeated = Err (Failed failure)

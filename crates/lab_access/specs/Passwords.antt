@@ -1,5 +1,6 @@
--- Passwords: which texts a person's password accepts, and until when (21 CFR 11.300(b), "periodically checked, recalled, or
--- revised", and 11.300(d); the spans of time are this system's own).
+-- Passwords: which texts a person's password accepts, and until when (21 CFR 11.300(b),
+-- "periodically checked, recalled, or revised", and 11.300(d); the spans of time are this system's
+-- own).
 use Rattle.std.specs.Prelude.{ℕ, ◌-◌, ◌*◌, Bool, true, false, ◌&&◌, ◌==◌, nat_lt, nat_le, List, length, take, drop}
 use Rattle.lab_names.specs.Calendar.{day_of}
 use Rattle.lab_secrets.specs.declared.verifiers.VerifierParts.{VerifierParts}
@@ -30,7 +31,8 @@ chosen_password text salt moment = Chosen (verifier_of text salt new_rounds) mom
 abbrev pub half_len : ℕ
 half_len = 32
 
--- a text as long as a one-time word (`one_time_word` of lab_secrets), of which each half has a verifier of its own
+-- a text as long as a one-time word (`one_time_word` of lab_secrets), of which each half has a
+-- verifier of its own
 abbrev pub are_verified : VerifierParts → VerifierParts → List ℕ → Bool
 are_verified first second text =
     (length text == 2 * half_len) && is_verified first (take half_len text)
@@ -61,8 +63,8 @@ is_set (OneTime first second confirmed) = true
 abbrev pub password_days : ℕ
 password_days = 90
 
--- a password is due to be changed: one that was chosen more than 90 days ago, by days of the calendar; every one-time word;
--- and where there is none
+-- a password is due to be changed: one that was chosen more than 90 days ago, by days of the
+-- calendar; every one-time word; and where there is none
 abbrev pub is_due : Password → ℕ → Bool
 is_due Unset moment = true
 is_due (Chosen verifier changed) moment = nat_lt password_days (day_of moment - day_of changed)

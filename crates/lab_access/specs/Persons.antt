@@ -1,5 +1,6 @@
--- A person's account: by whose code it is found, when it is locked, and what an administrator asked for that still stands (21
--- CFR 11.300(d), "transaction safeguards to prevent unauthorized use of passwords"; the spans of time are this system's own).
+-- A person's account: by whose code it is found, when it is locked, and what an administrator asked
+-- for that still stands (21 CFR 11.300(d), "transaction safeguards to prevent unauthorized use of
+-- passwords"; the spans of time are this system's own).
 use Rattle.std.specs.Prelude.{ℕ, ◌-◌, Bool, false, nat_lt, nat_le, List, [], ◌∷◌, Option, Some, None, is_some, bytes_eq, if◌then◌else◌}
 use Rattle.lab_access.specs.declared.persons.Person.{Person}
 use Rattle.lab_access.specs.declared.persons.Ask.{Ask}

@@ -1,5 +1,6 @@
--- The policy: by which rule each thing is done, which roles each rule is open to, and which rules a due password bars
--- (21 CFR 11.10(g), "use of authority checks to ensure that only authorized individuals can use the system").
+-- The policy: by which rule each thing is done, which roles each rule is open to, and which rules a
+-- due password bars (21 CFR 11.10(g), "use of authority checks to ensure that only authorized
+-- individuals can use the system").
 use Rattle.std.specs.Prelude.{ℕ, Bool, true, false, not, ◌&&◌, List, [], ◌∷◌, Option, Some, None, codes, if◌then◌else◌}
 use Rattle.std.specs.List.{list_any}
 use Rattle.lab_access.specs.declared.roles.Role.{Role}
@@ -39,7 +40,8 @@ rule_word ReadTrail = codes "P21"
 rule_word TakeCopy = codes "P22"
 rule_word SignApproval = codes "P23"
 
--- the roles of which a rule wants one; none where it is open to everybody, also to a person of no role
+-- the roles of which a rule wants one; none where it is open to everybody, also to a person of no
+-- role
 abbrev pub roles_of : Rule → Option (List Role)
 roles_of CloseSession = None
 roles_of ChangePassword = None

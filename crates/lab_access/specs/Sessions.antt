@@ -1,5 +1,6 @@
--- Sessions: by which token one is found, how long it lives, and which of them a change of its person's account closes (21 CFR
--- 11.200(a)(1)(i), a "single, continuous period of controlled system access"; the spans of time are this system's own).
+-- Sessions: by which token one is found, how long it lives, and which of them a change of its
+-- person's account closes (21 CFR 11.200(a)(1)(i), a "single, continuous period of controlled
+-- system access"; the spans of time are this system's own).
 use Rattle.std.specs.Prelude.{ℕ, ◌-◌, Bool, true, false, not, ◌&&◌, ◌==◌, nat_le, List, [], ◌∷◌, map, Option, Some, None, is_some, bytes_eq, if◌then◌else◌}
 use Rattle.lab_access.specs.declared.sessions.Session.{Session}
 use Rattle.lab_access.specs.declared.sessions.Closing.{Closing}
@@ -15,7 +16,8 @@ session_of (one ∷ others) digest =
 abbrev pub has_token : List Session → List ℕ → Bool
 has_token sessions digest = is_some (session_of sessions digest)
 
--- the seconds that a session lives after its last request, and those after its opening: 15 minutes and 8 hours
+-- the seconds that a session lives after its last request, and those after its opening: 15 minutes
+-- and 8 hours
 abbrev pub rest_span : ℕ
 rest_span = 900
 
@@ -40,7 +42,8 @@ closed_session session = record session { closed = true }
 abbrev pub signed_session : Session → Session
 signed_session session = record session { signed = true }
 
--- which sessions are closed: nothing, all of a person's, or all of a person's but the one of that number
+-- which sessions are closed: nothing, all of a person's, or all of a person's but the one of that
+-- number
 abbrev pub is_closed_by : Closing → List ℕ → Session → Bool
 is_closed_by Nothing person session = false
 is_closed_by All person session = bytes_eq session.person person

@@ -1,5 +1,5 @@
--- What is done to persons' accounts, by themselves and by administrators (21 CFR 11.100(a), a code "shall not be reused by, or
--- reassigned to, anyone else", and 11.300(a)).
+-- What is done to persons' accounts, by themselves and by administrators (21 CFR 11.100(a), a code
+-- "shall not be reused by, or reassigned to, anyone else", and 11.300(a)).
 use Rattle.std.specs.Prelude.{ℕ, Bool, true, false, not, nat_le, List, Option, Some, None, is_some, Result, Ok, Err, bytes_eq, if◌then◌else◌}
 use Rattle.lab_names.specs.declared.tick.Tick.{Tick}
 use Rattle.lab_secrets.specs.Words.{salt_of}
@@ -21,7 +21,8 @@ use Rattle.lab_people.specs.declared.accounts.Effect.{Effect}
 
 -- The own password.
 
--- what a change of the password gives: the session is as before its first signature, and the person's others are closed
+-- what a change of the password gives: the session is as before its first signature, and the
+-- person's others are closed
 abbrev pub with_new_password : Person → Session → List ℕ → Tick → PasswordChanged
 with_new_password person session new tick = record {
   person = record person { password = chosen_password new (salt_of tick.words) tick.moment };
@@ -63,7 +64,8 @@ newcomer code name roles = record {
   ask = None;
 }
 
--- a person is enrolled, where somebody has or had the code or nobody, and where the laboratory has so many persons
+-- a person is enrolled, where somebody has or had the code or nobody, and where the laboratory has
+-- so many persons
 unfoldable pub enrolling : List ℕ → List ℕ → Roles → Option Person → ℕ → Result Person PeopleRefusal
 enrolling code name roles holder persons =
     if is_some holder then Err CodeTaken

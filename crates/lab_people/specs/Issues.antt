@@ -1,5 +1,6 @@
--- One-time words: one administrator asks for one for a person, another confirms it, and each is given a half (21 CFR
--- 11.200(a)(3), use by anyone else "requires collaboration of two or more individuals").
+-- One-time words: one administrator asks for one for a person, another confirms it, and each is
+-- given a half (21 CFR 11.200(a)(3), use by anyone else "requires collaboration of two or more
+-- individuals").
 use Rattle.std.specs.Prelude.{ℕ, Bool, false, not, List, Option, Some, None, Result, Ok, Err, bytes_eq, if◌then◌else◌}
 use Rattle.hex.specs.Hex.{encode_lower}
 use Rattle.lab_names.specs.declared.tick.Tick.{Tick}
@@ -45,7 +46,8 @@ asking caller person tick =
     if is_anothers caller (standing_ask found.ask tick.moment) then Err IssueOpen
     else Ok (with_ask caller tick found))
 
--- a person for whom it was confirmed what was asked: the one-time word stands in place of the password
+-- a person for whom it was confirmed what was asked: the one-time word stands in place of the
+-- password
 abbrev pub with_one_time_word : Tick → Ask → Person → Issued
 with_one_time_word tick ask person = record {
   person = record person {

@@ -1,5 +1,5 @@
--- What users rely on, said of the definitions: runs of failed passwords, codes and one-time words that were given, refusals,
--- and sessions that are closed.
+-- What users rely on, said of the definitions: runs of failed passwords, codes and one-time words
+-- that were given, refusals, and sessions that are closed.
 use Rattle.std.specs.Prelude.{◌≡◌, ◌≢◌, ℕ, true, false, List, [], ◌∷◌, length, Option, Some, None, option_and_then, Result, Ok, Err, if◌then◌else◌}
 use Rattle.std.specs.List.{AllByRecursion}
 use Rattle.lab_names.specs.declared.tick.Tick.{Tick}
@@ -24,7 +24,8 @@ abbrev pub person_left : Result Person Failure → Option Person
 person_left (Ok person) = None
 person_left (Err failure) = failure_person failure
 
--- the person after texts that were given one after the other, where each of them failed and was counted
+-- the person after texts that were given one after the other, where each of them failed and was
+-- counted
 abbrev pub person_after : Person → List Try → Option Person
 person_after person [] = Some person
 person_after person (one ∷ others) =
@@ -52,8 +53,8 @@ IsNewCode code persons = AllByRecursion (λ person. person.code ≢ code) person
 abbrev pub IsNewToken : List ℕ → List Session → Type 0
 IsNewToken digest sessions = AllByRecursion (λ session. session.token ≢ digest) sessions
 
--- One administrator asked for a one-time word for somebody, and another confirmed it for the person whom this left. A tick has
--- eight random words.
+-- One administrator asked for a one-time word for somebody, and another confirmed it for the person
+-- whom this left. A tick has eight random words.
 pub record IsWordGiven (person : Option Person) (caller other : List ℕ) (tick later : Tick)
     (asked confirmed : Issued) : Type 0 where
   pub asks : asking caller person tick ≡ Ok asked

@@ -12,8 +12,6 @@ mod attempt_tests;
 mod issues;
 mod password_laws;
 #[cfg(test)]
-mod policy_tests;
-#[cfg(test)]
 mod session_tests;
 #[cfg(test)]
 mod tests;

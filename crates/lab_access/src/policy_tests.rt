@@ -1,7 +1,9 @@
 //! Roles, the policy's whole table, and the table of refusals.
 
-use crate::tests::{chosen, one_time, person, tick};
-use crate::{Failure, Password, PeopleFault, PeopleRefusal, Role, Roles, Rule, allowed};
+use crate::{Failure, Password, PeopleFault, PeopleRefusal, Person, Role, Roles, Rule, allowed};
+use lab_names::{Moment, Name, PersonCode, Tick};
+use lab_secrets::Verifier;
+use std::alloc::Global;
 use std::test::Fail;
 
 // The policy: each rule's word, the letters of its roles (N analyst, R reviewer, M manager, A administrator, I inspector), and
@@ -61,10 +63,33 @@ fn a_manager_rejects_and_approves(rt: HostRuntime) {
     }
 }
 
+// dan, an analyst, of a password.
+fn analyst(alloc: Global, password: Password) -> Result<Person, Fail> {
+    let code = PersonCode::parse(alloc, "dan")?;
+    let name = Name::parse(alloc, "Dan Dorn")?;
+    Ok(Person {
+        code,
+        name,
+        roles: Roles::none().with(Role::Analyst),
+        retired: false,
+        failures: 0,
+        locked: None,
+        password,
+        ask: None,
+    })
+}
+
 // Second 86,399 is the last of day 0, and 7,862,400 the first of day 91. dan is an analyst.
 #[test]
 fn a_due_password_comes_before_a_role(rt: HostRuntime) -> Result<(), Fail> {
-    let (late, word) = (chosen(86_399)?, one_time(86_399)?);
+    let verifier = Verifier::from_parts([7; 16], 2, [9; 32]);
+    let changed = Moment::from_seconds(86_399)?;
+    let late = Password::Chosen { verifier, changed };
+    let word = Password::OneTime {
+        first: verifier,
+        second: verifier,
+        confirmed: changed,
+    };
     let due = Err(PeopleRefusal::PasswordDue);
     let wanted = Err(PeopleRefusal::RoleWanted(Rule::SignReview));
     for (password, seconds, rule, answer) in [
@@ -77,8 +102,11 @@ fn a_due_password_comes_before_a_role(rt: HostRuntime) -> Result<(), Fail> {
         (word, 86_399, Rule::ReadRecord, due),
         (Password::Unset, 86_399, Rule::SignReview, due),
     ] {
-        let now = tick(seconds, 1)?;
-        let dan = person(rt.alloc(), password)?;
+        let now = Tick {
+            moment: Moment::from_seconds(seconds)?,
+            words: [0; 8],
+        };
+        let dan = analyst(rt.alloc(), password)?;
         assert_eq!(rt; allowed(&dan, rule, &now), answer, "{rule:?} at {seconds}");
     }
     Ok(())
