@@ -1,5 +1,6 @@
 -- Values from outside, so that a wrong rule in the definitions does not check.
 use Rattle.std.proofs.Common.{◌≡◌, refl, ◌∙◌, List, ℕ, [], ◌∷◌, ◌++◌, true, false, Option, Some, None}
+use Rattle.std.specs.Fmt.{digits}
 use Rattle.std.specs.Prelude.{codes}
 use Rattle.lab_names.specs.Calendar.{span_of, place_of, place_in_year, year_of, month_of, day_of_month, hour_of, minute_of, second_of}
 use Rattle.lab_names.specs.Moment.{moment_text}
@@ -41,7 +42,7 @@ pub known_texts : (version_text (version One)
     ≡ codes "11:labrecord 1\n4:aqua\n1:1\n1:1\n5:water\n1:1\n2:S1\n1:-\n0:\n3:dan\n20:1970-01-01T00:16:40Z\n1:1\n4:lead\n4:7.50\n4:mg/L\n3:dan\n20:1970-01-01T00:18:20Z\n0:\n")
     × (version_text (version (Two false))
     ≡ codes "11:labrecord 2\n4:aqua\n1:1\n1:1\n5:water\n1:1\n2:no\n2:S1\n1:-\n0:\n3:dan\n20:1970-01-01T00:16:40Z\n1:1\n4:lead\n4:7.50\n4:mg/L\n3:dan\n20:1970-01-01T00:18:20Z\n0:\n")
-unfolding version_text front_text heading_text subject_text origin_text opening_text row_text item moment_text year_of place_in_year month_of day_of_month hour_of minute_of second_of span_of place_of
+unfolding version_text front_text heading_text subject_text origin_text opening_text row_text item digits moment_text year_of place_in_year month_of day_of_month hour_of minute_of second_of span_of place_of
 known_texts = (refl, refl)
 
 pub known_states : (state_of [] true ≡ Some Open) × (state_of (Authorship ∷ []) false ≡ Some Signed)

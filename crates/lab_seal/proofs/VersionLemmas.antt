@@ -399,8 +399,10 @@ front_written parts =
 front_good : (parts : VersionParts) → IsFront parts → front_reader.IsGood (front_value parts)
 front_good parts is = (
   (tt, (is.heading.lab, (is.heading.record_number, is.heading.number))),
-  ((is.subject.form, (is.subject.form_version, (record { told = refl }, is.subject.sample))),
-  ((is.origin.order, is.origin.amendment), (is.opening.opener, (is.opening.opened, is.opening.few)))),
+  (
+    (is.subject.form, (is.subject.form_version, (record { told = refl }, is.subject.sample))),
+    ((is.origin.order, is.origin.amendment), (is.opening.opener, (is.opening.opened, is.opening.few))),
+  ),
 )
 
 -- the version that was read, part by part

@@ -7,11 +7,10 @@ ghost use Rattle.lab_seal.specs.Faults.{TextFaultFits};
 ghost use Rattle.lab_seal.specs.Versions.{version_text, IsRow, IsOrigin, IsFront, IsVersion, IsNoVersion, IsSomeVersion, OneSpelling};
 ghost use Rattle.lab_seal.specs.Reading.{first_heading, first_format, first_subject, first_no_amendment, first_amendment, first_origin, first_opening, first_front, first_row, first_rows, heading_of, subject_of, amendment_of, amends_of, opening_of, front_of, row_of, version_of};
 
-use crate::fields;
-use crate::{Amendment, EntryRow, EntryRows, Format, Origin, OriginParts, TextFault, VersionParts};
-use lab_names::{
-    Keys, LabCodes, Moment, Names, Notes, Ordinal, OutOfMemory, PersonCodes, Units,
+use crate::{
+    Amendment, EntryRow, EntryRows, Format, Origin, OriginParts, TextFault, VersionParts, fields,
 };
+use lab_names::{Keys, LabCodes, Moment, Names, Notes, Ordinal, OutOfMemory, PersonCodes, Units};
 use lab_secrets::Digest;
 use std::alloc::Global;
 

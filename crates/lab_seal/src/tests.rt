@@ -1,7 +1,7 @@
 use crate::{
-    Amendment, EntryRow, EntryRows, Format, Key, LabCode, Meaning, Moment, Name, Note, Ordinal, Origin,
-    OutOfMemory, PersonCode, Seal, SealParts, State, TextFault, Unit, VersionParts, digest, one_spelling,
-    read_version, seal, state_of, write_version,
+    Amendment, EntryRow, EntryRows, Format, Key, LabCode, Meaning, Moment, Name, Note, Ordinal,
+    Origin, OutOfMemory, PersonCode, Seal, SealParts, State, TextFault, Unit, VersionParts, digest,
+    one_spelling, read_version, seal, state_of, write_version,
 };
 use std::alloc::Global;
 use std::process::Abort;
@@ -104,7 +104,10 @@ fn each_format_is_read_back(rt: HostRuntime) -> Result<(), Fail> {
         let version = read_version(rt.alloc(), text)?;
         assert_eq!(rt; version.format, format);
         assert_eq!(rt; write_version(rt.alloc(), &version)?.as_slice(), text);
-        assert_eq!(rt; write_version(rt.alloc(), &version.copy()?)?.as_slice(), text);
+        assert_eq!(rt;
+            write_version(rt.alloc(), &version.copy()?)?.as_slice(),
+            text
+        );
     }
     Ok(())
 }
@@ -169,7 +172,11 @@ fn many_rows(alloc: Global) -> Result<EntryRows, Fail> {
 // Python's `hashlib` gave the digest of the text of these items.
 #[test]
 fn many_rows_are_read_back(rt: HostRuntime) -> Result<(), Fail> {
-    let mut version = version_of(rt.alloc(), amending(&rt, 1_000_000_000, "two\nlines")?, "S\u{e9}")?;
+    let mut version = version_of(
+        rt.alloc(),
+        amending(&rt, 1_000_000_000, "two\nlines")?,
+        "S\u{e9}",
+    )?;
     version.format = Format::Two { approval: true };
     version.rows = many_rows(rt.alloc())?;
     let text = write_version(rt.alloc(), &version)?;
@@ -255,7 +262,12 @@ fn a_first_version_amends_none(rt: HostRuntime) -> Result<(), Fail> {
 
 #[test]
 fn every_cut_and_every_longer_text_is_refused(rt: HostRuntime) -> Result<(), Fail> {
-    for whole in [FIRST_VERSION, NEWER_VERSION, LATER_VERSION, LATER_NEWER_VERSION] {
+    for whole in [
+        FIRST_VERSION,
+        NEWER_VERSION,
+        LATER_VERSION,
+        LATER_NEWER_VERSION,
+    ] {
         for end in 0..whole.len() {
             refuses(&rt, &whole[..end]);
         }
@@ -303,7 +315,10 @@ fn other_headings_are_refused(rt: HostRuntime) -> Result<(), Fail> {
         b"11:labrecord 1\n4:aqua\n1:1\n1:2\n",
     ];
     for heading in headings {
-        refuses(&rt, &joined(rt.alloc(), [heading, SUBJECT, ORIGIN, OPENING])?);
+        refuses(
+            &rt,
+            &joined(rt.alloc(), [heading, SUBJECT, ORIGIN, OPENING])?,
+        );
     }
     Ok(())
 }
@@ -316,7 +331,10 @@ fn other_subjects_are_refused(rt: HostRuntime) -> Result<(), Fail> {
         b"5:water\n1:1\n2:no\n2:S1\n",
     ];
     for subject in subjects {
-        refuses(&rt, &joined(rt.alloc(), [HEADING, subject, ORIGIN, OPENING])?);
+        refuses(
+            &rt,
+            &joined(rt.alloc(), [HEADING, subject, ORIGIN, OPENING])?,
+        );
     }
     let newer = b"11:labrecord 2\n4:aqua\n1:1\n1:1\n";
     let subjects: [&[u8]; 3] = [
@@ -333,13 +351,19 @@ fn other_subjects_are_refused(rt: HostRuntime) -> Result<(), Fail> {
 #[test]
 fn other_origins_and_openings_are_refused(rt: HostRuntime) -> Result<(), Fail> {
     let reasoned = b"1:-\n4:lost\n";
-    refuses(&rt, &joined(rt.alloc(), [HEADING, SUBJECT, reasoned, OPENING])?);
+    refuses(
+        &rt,
+        &joined(rt.alloc(), [HEADING, SUBJECT, reasoned, OPENING])?,
+    );
     let openings: [&[u8]; 2] = [
         b"3:dan\n20:1970-01-01T00:16:60Z\n1:0\n",
         b"3:dan\n20:1970-01-01T00:16:40Z\n1:1\n",
     ];
     for opening in openings {
-        refuses(&rt, &joined(rt.alloc(), [HEADING, SUBJECT, ORIGIN, opening])?);
+        refuses(
+            &rt,
+            &joined(rt.alloc(), [HEADING, SUBJECT, ORIGIN, opening])?,
+        );
     }
     Ok(())
 }
@@ -353,7 +377,10 @@ fn later_versions_are_read_exactly(rt: HostRuntime) -> Result<(), Fail> {
         b"64:ba7816bf8f01cfea414140de5dae2223b00361a396177a9cb410ff61f20015ad\n0:\n",
     ];
     for origin in origins {
-        refuses(&rt, &joined(rt.alloc(), [heading, SUBJECT, origin, OPENING])?);
+        refuses(
+            &rt,
+            &joined(rt.alloc(), [heading, SUBJECT, origin, OPENING])?,
+        );
     }
     let origin = b"64:ba7816bf8f01cfea414140de5dae2223b00361a396177a9cb410ff61f20015ad\n3:why\n";
     let text = joined(rt.alloc(), [heading, SUBJECT, origin, OPENING])?;
@@ -463,7 +490,13 @@ fn states_have_words(rt: HostRuntime) {
     }
 }
 
-fn seal_parts(alloc: Global, person: &str, name: &str, meaning: Meaning, seconds: i64) -> Result<SealParts, Fail> {
+fn seal_parts(
+    alloc: Global,
+    person: &str,
+    name: &str,
+    meaning: Meaning,
+    seconds: i64,
+) -> Result<SealParts, Fail> {
     Ok(SealParts {
         version: digest(FIRST_VERSION),
         lab: LabCode::parse(alloc, "aqua")?,
@@ -496,7 +529,9 @@ fn seals_of_the_four_meanings(rt: HostRuntime) -> Result<(), Fail> {
 #[test]
 fn seals_are_read_of_their_digits(rt: HostRuntime) -> Result<(), Fail> {
     let digits = b"9863b66df0088378760b1aaab4eea6128e132387df97bb1dd73dadedbc443a89";
-    let known = Seal::from_bytes(bytes_of("9863b66df0088378760b1aaab4eea6128e132387df97bb1dd73dadedbc443a89")?);
+    let known = Seal::from_bytes(bytes_of(
+        "9863b66df0088378760b1aaab4eea6128e132387df97bb1dd73dadedbc443a89",
+    )?);
     assert_eq!(rt; Seal::from_digits(digits), Some(known));
     assert_eq!(rt; known.digits(), *digits);
     assert_eq!(rt; Seal::from_digits(&digits[..63]), None);

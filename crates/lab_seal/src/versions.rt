@@ -15,9 +15,7 @@ pub enum Format {
     /// The older one, which tells of no approval.
     One,
     /// The one that says whether the form wants an approval.
-    Two {
-        approval: bool,
-    },
+    Two { approval: bool },
 }
 
 /// The version of a record, as its digest covers it.
