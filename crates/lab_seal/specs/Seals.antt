@@ -4,7 +4,7 @@ use Rattle.std.specs.Prelude.{ℕ, List, [], ◌++◌, codes}
 use Rattle.hex.specs.Hex.{encode_lower}
 use Rattle.sha2.specs.Sha256.{sha256}
 use Rattle.lab_names.specs.Moment.{moment_text}
-use Rattle.lab_seal.specs.Versions.{item}
+use Rattle.lab_versions.specs.Versions.{item}
 use Rattle.lab_seal.specs.declared.seals.Meaning.{Meaning}
 use Rattle.lab_seal.specs.declared.seals.Meaning.TheVariants.{Authorship, Review, Rejection, Approval}
 use Rattle.lab_seal.specs.declared.seals.SealParts.{SealParts}

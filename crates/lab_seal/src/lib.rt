@@ -1,31 +1,19 @@
-//! The text of a version, over which its digest is taken, written and read; the seals of signatures, and the states that
-//! signatures make.
+//! The seals of signatures, and the states that signatures make. The names of `lab_versions`, whose texts are signed, are passed
+//! on.
 #![tactic(auto)]
 
-mod faults;
-mod fields;
-mod items;
-mod origins;
-mod reading;
-mod rows;
 mod sealing;
 mod seals;
 mod states;
 #[cfg(test)]
 mod tests;
-mod versions;
 
-pub use faults::TextFault;
-pub use lab_names::{
-    Key, LabCode, Moment, Name, NameFault, Note, Ordinal, OutOfMemory, PersonCode, Tick, Unit,
+pub use lab_versions::{
+    Amendment, Digest, EntryRow, EntryRows, Format, Half, Key, LabCode, Moment, Name, NameFault,
+    Note, Ordinal, Origin, OriginParts, OutOfMemory, PersonCode, TextFault, Tick, Token, Unit,
+    Verifier, VerifierParts, VersionParts, digest, founder_salts, hmac, one_spelling, pbkdf2,
+    read_version, salt, write_version,
 };
-pub use lab_secrets::{
-    Digest, Half, Token, Verifier, VerifierParts, digest, founder_salts, hmac, pbkdf2, salt,
-};
-pub use origins::{Amendment, Origin, OriginParts};
-pub use reading::{one_spelling, read_version};
-pub use rows::{EntryRow, EntryRows};
 pub use sealing::seal;
 pub use seals::{Meaning, Seal, SealParts};
 pub use states::{State, state_of};
-pub use versions::{Format, VersionParts, write_version};

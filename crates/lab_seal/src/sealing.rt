@@ -1,7 +1,7 @@
 //! The seal of a signature, hashed item by item.
 ghost use Rattle.std.specs.Prelude.{◌≡◌, ◌++◌, List, ℕ};
 ghost use Rattle.sha2.specs.Hashers.{Holds256};
-ghost use Rattle.lab_seal.specs.Versions.{item};
+ghost use Rattle.lab_versions.specs.Versions.{item};
 ghost use Rattle.lab_seal.specs.Seals.{signer_text, signing_text, seal_of};
 
 use crate::{Seal, SealParts};
@@ -41,7 +41,7 @@ fn with_signing(hash: Sha256, parts: &SealParts) -> Sha256
 }
 
 // Hashes a text as an item.
-#[tactic(auto, unfolding(crate::specs::Versions::item))]
+#[tactic(auto, unfolding(lab_versions::specs::Versions::item))]
 fn with_item(hash: Sha256, bytes: &[u8]) -> Sha256
     ensures { (text : List ℕ) → Holds256 hash text → Holds256 result (text ++ item bytes.now) }
 {

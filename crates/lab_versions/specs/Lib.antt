@@ -1,0 +1,4 @@
+pub mod Faults
+pub mod Origins
+pub mod Reading
+pub mod Versions
