@@ -1,6 +1,6 @@
 -- What a form, a key, a text and a unit come to, once the field of the key is known.
 use Rattle.std.proofs.Common.{◌≡◌, ℕ, ◌≤◌, List, [], ◌∷◌, Bool, true, false, Option, Some, None, refl, sym, IsTrue, arith}
-use Rattle.std.specs.Prelude.{◌&&◌, not, nat_le, length, map, cond, find, bytes_eq}
+use Rattle.std.specs.Prelude.{◌&&◌, not, nat_le, length, map, find, bytes_eq}
 use Rattle.std.specs.List.{list_all}
 use Rattle.std.specs.Option.{option_copied, IfSome}
 use Rattle.std.proofs.lemmas.Bool.Decides.{nat_tests}

@@ -1,9 +1,9 @@
 -- Values from outside, so that a wrong rule in the definitions does not check.
-use Rattle.std.proofs.Common.{◌≡◌, ℕ, List, [], ◌∷◌, refl, true, false, Option, Some, None, pos, negsuc}
+use Rattle.std.proofs.Common.{◌≡◌, List, [], ◌∷◌, refl, true, false, Some, None, pos, negsuc}
 use Rattle.std.specs.Prelude.{codes}
 use Rattle.lab_forms.specs.declared.forms.Field.{Field}
-use Rattle.lab_forms.specs.declared.kinds.Kind.TheVariants.{Number, Text, Choice, Date, YesNo}
-use Rattle.lab_forms.specs.declared.faults.FormRefusal.TheVariants.{NoFields, KeyTwice, TooManyFields, BadField, NoSuchField, BadValue, WrongUnit, OutOfRange}
+use Rattle.lab_forms.specs.declared.kinds.Kind.TheVariants.{Number, Text}
+use Rattle.lab_forms.specs.declared.faults.FormRefusal.TheVariants.{NoFields, KeyTwice, BadField, NoSuchField, BadValue, WrongUnit, OutOfRange}
 use Rattle.lab_forms.specs.Numbers.{is_number, amount, without_comparison, is_digits, number_of, is_unsigned_number, millionths_of, without_sign}
 use Rattle.lab_forms.specs.Dates.{is_date, is_calendar_day}
 use Rattle.lab_forms.specs.Forms.{form_refusal, value_refusal}

@@ -1,6 +1,6 @@
 -- The parts of a number's text, how large the numbers are that digits write, and how one digit more changes them.
-use Rattle.std.proofs.Common.{◌≡◌, ◌∙◌, ℕ, zero, suc, ◌+◌, ◌-◌, ◌*◌, ◌^◌, ◌<◌, ◌≤◌, List, [], length, get_or, take, drop, refl, sym, ap, arith, true, false, Bool, Option, Some, None}
-use Rattle.std.specs.Prelude.{◌&&◌, cond, nat_lt, fold, position, if◌then◌else◌}
+use Rattle.std.proofs.Common.{◌≡◌, ℕ, ◌+◌, ◌-◌, ◌*◌, ◌^◌, ◌<◌, ◌≤◌, List, [], length, get_or, take, drop, refl, sym, ap, arith, true, false, Bool, Some, None}
+use Rattle.std.specs.Prelude.{◌&&◌, cond, nat_lt, position, if◌then◌else◌}
 use Rattle.std.specs.List.{position_or_len}
 use Rattle.std.proofs.Math.Nat.{pow-le-pow_right, mul-le-mul}
 use Rattle.std.proofs.lemmas.Grind.{pow_more}

@@ -1,8 +1,6 @@
 -- Kinds, fields and forms are compared by equivalences, since each part of them is.
-use Rattle.std.specs.Prelude.{ℕ, bytes_eq}
 use Rattle.std.specs.Cmp.{IsEquivalence, on_equiv, and_equiv, nat_eq_equiv, bool_eq_equiv}
 use Rattle.std.specs.Cmp.Lexicographic.{nat_list_eq_equiv, lists_equiv, options_equiv}
-use Rattle.lab_forms.specs.declared.kinds.Kind.{Kind}
 use Rattle.lab_forms.specs.declared.forms.Field.{Field}
 use Rattle.lab_forms.specs.Kinds.{kind_word, unit_of, decimals_of, min_of, max_of, size_of, choices_of, kind_eq}
 use Rattle.lab_forms.specs.Forms.{FormSheet, field_eq, form_eq}

@@ -1,6 +1,6 @@
 -- What a field of each kind takes as a value, and which kinds a form may ask for. The rules are
 -- this system's own; a date is one of the proleptic Gregorian calendar (ISO 8601-1:2019).
-use Rattle.std.specs.Prelude.{ℕ, Bool, true, false, ◌&&◌, ◌||◌, not, nat_le, ◌==◌, List, [], length, Option, Some, None, is_some, ℤ, int_le, bytes_eq, codes, option_and_then}
+use Rattle.std.specs.Prelude.{ℕ, Bool, true, ◌&&◌, ◌||◌, not, nat_le, ◌==◌, List, [], length, Option, Some, None, ℤ, int_le, bytes_eq, codes, option_and_then}
 use Rattle.std.specs.Option.{option_eq}
 use Rattle.std.specs.Cmp.Lexicographic.{pointwise}
 use Rattle.lab_names.specs.Names.{is_note}

@@ -2,6 +2,7 @@ use crate::{
     Key, LabCode, Moment, MomentFault, Name, NameFault, Note, Ordinal, OutOfMemory, PersonCode,
     Series, Tick, Unit,
 };
+use std::alloc::Global;
 use std::test::Fail;
 
 // Seconds and texts that Python's `datetime` gives.
@@ -15,16 +16,28 @@ const MOMENTS: [(i64, &str); 6] = [
 ];
 
 #[test]
-fn moments_are_printed_and_read(rt: HostRuntime) -> Result<(), Fail> {
+fn moments_are_printed(rt: HostRuntime) -> Result<(), Fail> {
     for (seconds, text) in MOMENTS {
-        let moment = Moment::from_seconds(seconds)?;
         let mut printed = [0; 20];
-        moment.print(&mut printed);
+        Moment::from_seconds(seconds)?.print(&mut printed);
         assert_eq!(rt; printed.as_slice(), text.as_bytes());
-        assert_eq!(rt; Moment::parse(text)?, moment, "{text}");
-        assert_eq!(rt; moment.seconds(), seconds);
     }
+    Ok(())
+}
+
+#[test]
+fn moments_are_read(rt: HostRuntime) -> Result<(), Fail> {
+    for (seconds, text) in MOMENTS {
+        assert_eq!(rt; Moment::parse(text)?.seconds(), seconds, "{text}");
+    }
+    Ok(())
+}
+
+// The day of 2099-12-31, as Python's `datetime` counts it.
+#[test]
+fn a_day_ends_with_its_last_second(rt: HostRuntime) -> Result<(), Fail> {
     assert_eq!(rt; Moment::from_seconds(4_102_444_799)?.day(), 47_481);
+    assert_eq!(rt; Moment::from_seconds(4_102_444_800)?.day(), 47_482);
     Ok(())
 }
 
@@ -342,14 +355,16 @@ struct Measured {
     amounts: Series<u32>,
 }
 
+fn one_amount(alloc: Global) -> Result<Measured, Fail> {
+    let mut amounts = Series::new(alloc);
+    amounts.push(3)?;
+    Ok(Measured { place: 7, amounts })
+}
+
 #[test]
 fn a_copy_has_the_values_of_its_series(rt: HostRuntime) -> Result<(), Fail> {
-    let mut amounts = Series::new(rt.alloc());
-    amounts.push(3)?;
-    amounts.push(1)?;
-    let measured = Measured { place: 7, amounts };
-    let copy = measured.clone()?;
+    let copy = one_amount(rt.alloc())?.clone()?;
     assert_eq!(rt; copy.place, 7);
-    assert_eq!(rt; copy.amounts.as_slice(), [3, 1].as_slice());
+    assert_eq!(rt; copy.amounts.as_slice(), [3].as_slice());
     Ok(())
 }

@@ -1,7 +1,7 @@
 -- Each part of a date's text is read as the digits that it is.
 use Rattle.std.proofs.Common.{◌∙◌, sym, refl}
 use Rattle.lab_forms.specs.Numbers.{is_digits, number_of}
-use Rattle.lab_forms.specs.Dates.{is_date, has_hyphens, year_part, month_part, day_part}
+use Rattle.lab_forms.specs.Dates.{is_date, year_part, month_part, day_part}
 use Rattle.lab_forms.proofs.NumberLemmas.{read_none, read_some}
 use Rattle.lab_forms.proofs.dates.is_date_text.Goals as goal
 

@@ -1,5 +1,5 @@
 -- The number has room for one digit more.
-use Rattle.std.proofs.Common.{arith, length}
+use Rattle.std.proofs.Common.{arith}
 use Rattle.lab_forms.proofs.NumberLemmas.{has_room, tens}
 use Rattle.lab_forms.proofs.numbers.read_digits.Goals as goal
 

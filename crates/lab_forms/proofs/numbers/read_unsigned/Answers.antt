@@ -1,8 +1,8 @@
 -- The parts of the text round its point, or the whole of it where it has none, are read as the digits that they are.
-use Rattle.std.proofs.Common.{◌≡◌, ◌+◌, arith, refl, take, drop, Some, None, Option, ℕ, length}
+use Rattle.std.proofs.Common.{◌≡◌, ◌+◌, refl, take, drop, Some, None}
 use Rattle.std.specs.Prelude.{position}
 use Rattle.lab_forms.specs.Numbers.{is_point, is_digits, number_of}
-use Rattle.lab_forms.proofs.NumberLemmas.{read_none, read_some, unsigned-whole, unsigned-split, fits_wide, tens}
+use Rattle.lab_forms.proofs.NumberLemmas.{read_none, read_some, unsigned-whole, unsigned-split}
 use Rattle.lab_forms.proofs.WordLemmas.{rest_all}
 use Rattle.lab_forms.proofs.numbers.read_unsigned.Goals as goal
 

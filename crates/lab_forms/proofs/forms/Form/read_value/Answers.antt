@@ -1,6 +1,5 @@
 -- What the field of the key answers is what the form answers.
-use Rattle.std.proofs.Common.{◌≡◌, sym, None, Some}
-use Rattle.lab_forms.specs.Forms.{field_of}
+use Rattle.std.proofs.Common.{sym}
 use Rattle.lab_forms.proofs.FormLemmas.{value_refusal-none, value_refusal-some, fits_form-some}
 use Rattle.lab_forms.proofs.forms.Form.read_value.Goals as goal
 
