@@ -1,13 +1,13 @@
 //! Accounts, as they are changed by their persons and by administrators. Refusals in their order, and answers whole.
 
 use crate::tests::{
-    RIGHT, WORD, WRONG, asked, assert_failure, assert_person, assert_session, bytes_of, chosen,
-    code, counted, moment, one_time, person, session, tick,
+    Left, RIGHT, WORD, WRONG, answer, asked, assert_failed, assert_person, assert_session,
+    bytes_of, chosen, code, counted, moment, one_time, person, session, tick,
 };
 use crate::{
-    Ask, Closing, Effect, Failure, Issued, Name, Password, PasswordChanged, PeopleFault,
-    PeopleRefusal, Person, Role, Roles, Session, Tick, Verifier, ask_issue, change_password,
-    confirm_issue, enrol, retire, set_roles, unlock,
+    Ask, Closing, Effect, Issued, Name, Password, PasswordChanged, PeopleFault, PeopleRefusal,
+    Person, Role, Roles, Session, Tick, Verifier, ask_issue, change_password, confirm_issue, enrol,
+    retire, set_roles, unlock,
 };
 use std::alloc::Global;
 use std::process::Abort;
@@ -62,30 +62,42 @@ fn a_one_time_word_is_changed(rt: HostRuntime) -> Result<(), Fail> {
     assert_changed(&rt, rt.alloc(), &changed, 2500)
 }
 
+// `RIGHT` with a NUL at its end.
+const LONGER: &str = "dan password 1\0";
+
+// dan's change of the password from the old to the new one is refused so; or it is made, and the new one is accepted.
+fn assert_change(
+    rt: &impl Abort,
+    alloc: Global,
+    old: &str,
+    new: &str,
+    refusal: Option<PeopleRefusal>,
+) -> Result<(), Fail> {
+    let now = tick(700, 1)?;
+    let four = session(alloc, 600, 650)?;
+    let dan = counted(alloc, 0, None)?;
+    match (&change_password(dan, four, old, new, &now), refusal) {
+        (Ok(changed), None) => assert!(rt; changed.person.password.accepts(new, now.moment)),
+        (Err(PeopleFault::Refused(found)), Some(refusal)) => assert_eq!(rt; *found, refusal),
+        _ => assert!(rt; false, "another answer"),
+    }
+    Ok(())
+}
+
 // The new password has 12 to 128 bytes, and isn't the old one as it was given: HMAC fills a short key with zero bytes, so the
 // old one is accepted with a NUL at its end too. A bad password comes before the same.
 #[test]
 fn a_new_password_is_another(rt: HostRuntime) -> Result<(), Fail> {
-    let now = tick(700, 1)?;
     for (old, new, refusal) in [
         (RIGHT, "eleven byte", Some(PeopleRefusal::BadPassword)),
         (RIGHT, "twelve bytes", None),
         (RIGHT, RIGHT, Some(PeopleRefusal::SamePassword)),
         (RIGHT, "Dan password 1", None),
-        ("dan password 1\0", RIGHT, None),
-        (RIGHT, "dan password 1\0", None),
-        ("dan password 1\0", "dan password 1\0", Some(PeopleRefusal::SamePassword)),
+        (LONGER, RIGHT, None),
+        (RIGHT, LONGER, None),
+        (LONGER, LONGER, Some(PeopleRefusal::SamePassword)),
     ] {
-        let four = session(rt.alloc(), 600, 650)?;
-        let dan = counted(rt.alloc(), 0, None)?;
-        match change_password(dan, four, old, new, &now) {
-            Ok(changed) => {
-                assert_eq!(rt; refusal, None, "{new:?}");
-                assert!(rt; changed.person.password.accepts(new, now.moment), "{new:?}");
-            }
-            Err(PeopleFault::Refused(found)) => assert_eq!(rt; Some(found), refusal, "{new:?}"),
-            Err(PeopleFault::Failed(_)) => assert!(rt; false, "a failed password"),
-        }
+        assert_change(&rt, rt.alloc(), old, new, refusal)?;
     }
     Ok(())
 }
@@ -94,18 +106,16 @@ fn a_new_password_is_another(rt: HostRuntime) -> Result<(), Fail> {
 #[test]
 fn a_wrong_old_password_is_counted(rt: HostRuntime) -> Result<(), Fail> {
     let now = tick(2500, 1)?;
-    for (failures, locked, wanted) in [
-        (3, None, Failure::Counted(counted(rt.alloc(), 4, None)?)),
-        (4, None, Failure::Locking(counted(rt.alloc(), 5, Some(2500))?)),
-        (5, Some(701), Failure::AlreadyLocked(counted(rt.alloc(), 5, Some(701))?)),
-        (5, Some(700), Failure::Counted(counted(rt.alloc(), 1, None)?)),
+    for (failures, locked, left) in [
+        (3, None, Left::Counted(4)),
+        (4, None, Left::Locking(2500)),
+        (5, Some(701), Left::AlreadyLocked(5, 701)),
+        (5, Some(700), Left::Counted(1)),
     ] {
         let four = session(rt.alloc(), 600, 650)?;
         let dan = counted(rt.alloc(), failures, locked)?;
-        match change_password(dan, four, WRONG, "eleven byte", &now) {
-            Err(PeopleFault::Failed(found)) => assert_failure(&rt, &found, &wanted),
-            _ => assert!(rt; false, "a failed password"),
-        }
+        let found = change_password(dan, four, WRONG, "eleven byte", &now);
+        assert_failed(&rt, &found, &answer(rt.alloc(), left)?);
     }
     Ok(())
 }
@@ -175,7 +185,8 @@ fn an_ask_is_replaced_whole(rt: HostRuntime) -> Result<(), Fail> {
         let ours = code(rt.alloc(), caller)?;
         let dan = asked(rt.alloc(), "bob", 1000)?;
         let issued = ask_issue(ours, Some(dan), &now)?;
-        assert_issued(&rt, &issued, &newly_asked(rt.alloc(), caller, &now)?, Closing::Nothing);
+        let wanted = newly_asked(rt.alloc(), caller, &now)?;
+        assert_issued(&rt, &issued, &wanted, Closing::Nothing);
     }
     Ok(())
 }
@@ -217,7 +228,8 @@ fn assert_answers<T: Drop>(
 // Who asks again, and who confirms, on both sides of seven days.
 #[test]
 fn asks_and_confirmations_are_refused_in_order(rt: HostRuntime) -> Result<(), Fail> {
-    let (open, same) = (Some(PeopleRefusal::IssueOpen), Some(PeopleRefusal::SamePerson));
+    let open = Some(PeopleRefusal::IssueOpen);
+    let same = Some(PeopleRefusal::SamePerson);
     let (own, none) = (Some(PeopleRefusal::OwnIssue), Some(PeopleRefusal::NoIssue));
     for (caller, seconds, asking, confirming) in [
         ("ann", 605_800, open, None),
@@ -254,7 +266,8 @@ fn commands_are_about_others_who_are_there(rt: HostRuntime) -> Result<(), Fail> 
         let mut one = counted(rt.alloc(), 0, None)?;
         one.retired = is_retired;
         let (two, three) = (one.copy()?, one.copy()?);
-        assert_answers(&rt, set_roles(&dan, Some(one), Roles::none()), Some(refusal));
+        let set = set_roles(&dan, Some(one), Roles::none());
+        assert_answers(&rt, set, Some(refusal));
         assert_answers(&rt, retire(&dan, Some(two)), Some(refusal));
         assert_answers(&rt, unlock(&dan, Some(three)), Some(refusal));
     }
@@ -314,7 +327,8 @@ fn a_person_is_unlocked(rt: HostRuntime) -> Result<(), Fail> {
         dan.failures = failures;
         dan.locked = locked;
         let effect = unlock(&ann, Some(dan))?;
-        assert_effect(&rt, &effect, &person(rt.alloc(), password)?, Closing::Nothing);
+        let wanted = person(rt.alloc(), password)?;
+        assert_effect(&rt, &effect, &wanted, Closing::Nothing);
     }
     Ok(())
 }

@@ -26,9 +26,7 @@ pub use lab_access::{
     Ask, Closing, Failure, Opened, Password, PeopleFault, PeopleRefusal, Person, ROUNDS, Role,
     Roles, Rule, Session, allowed, attempt, attempt_signing, live, open_session,
 };
-pub use lab_names::{
-    Moment, MomentFault, Name, NameFault, Ordinal, OutOfMemory, PersonCode, Tick,
-};
+pub use lab_names::{Moment, MomentFault, Name, NameFault, Ordinal, OutOfMemory, PersonCode, Tick};
 pub use lab_secrets::{Digest, Half, Token, Verifier, VerifierParts, founder_salts, salt};
 pub use password_laws::{
     a_lock_closes_all_sessions, a_lock_lasts_half_an_hour, an_attempt_leaves_a_lock,

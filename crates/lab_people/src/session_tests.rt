@@ -1,8 +1,8 @@
 //! Sessions as they are opened, live and are closed, to the second on both sides of each limit.
 
 use crate::tests::{
-    RIGHT, WORD, WRONG, assert_failure, assert_person, assert_session, bytes_of, chosen, code,
-    counted, moment, one_time, person, session, tick,
+    Left, RIGHT, WORD, WRONG, answer, assert_failed, assert_person, assert_session, bytes_of,
+    chosen, code, counted, moment, one_time, person, session, tick,
 };
 use crate::{
     Closing, Digest, Failure, Opened, Ordinal, PeopleFault, PeopleRefusal, Session, live,
@@ -16,7 +16,8 @@ use std::test::Fail;
 fn assert_new(rt: &impl Abort, found: &Session, number: u32, seconds: i64) -> Result<(), Fail> {
     let digest = bytes_of("7236c00c170036c6de133a878210ddd58567aa1d0619a0f70f69e38ae6f916e9")?;
     let opened = moment(seconds)?;
-    assert_eq!(rt; (found.number.get(), found.person.as_str()), (number, "dan"));
+    assert_eq!(rt; found.number.get(), number);
+    assert_eq!(rt; found.person.as_str(), "dan");
     assert_eq!(rt; found.token.bytes(), digest);
     assert_eq!(rt; (found.opened, found.last), (opened, opened));
     assert!(rt; !found.closed && !found.signed);
@@ -98,22 +99,22 @@ fn openings_are_refused_in_order(rt: HostRuntime) -> Result<(), Fail> {
 fn a_failed_opening_is_counted(rt: HostRuntime) -> Result<(), Fail> {
     let now = tick(100, 1)?;
     let four = session(rt.alloc(), 10, 20)?;
-    for (failures, wanted) in [
-        (3, Failure::Counted(counted(rt.alloc(), 4, None)?)),
-        (4, Failure::Locking(counted(rt.alloc(), 5, Some(100))?)),
-    ] {
+    for (failures, left) in [(3, Left::Counted(4)), (4, Left::Locking(100))] {
         let ours = code(rt.alloc(), "dan")?;
         let dan = counted(rt.alloc(), failures, None)?;
-        match open_session(ours, Some(dan), WRONG, &now, 1_000_000_000, Some(&four)) {
-            Err(PeopleFault::Failed(found)) => assert_failure(&rt, &found, &wanted),
-            _ => assert!(rt; false, "a failed password"),
-        }
+        let found = open_session(ours, Some(dan), WRONG, &now, 1_000_000_000, Some(&four));
+        assert_failed(&rt, &found, &answer(rt.alloc(), left)?);
     }
+    Ok(())
+}
+
+// An unknown code counts for nobody.
+#[test]
+fn an_opening_by_an_unknown_code_is_stray(rt: HostRuntime) -> Result<(), Fail> {
+    let now = tick(100, 1)?;
     let ours = code(rt.alloc(), "zed")?;
-    match open_session(ours, None, RIGHT, &now, 4, None) {
-        Err(PeopleFault::Failed(found)) => assert_failure(&rt, &found, &Failure::Stray),
-        _ => assert!(rt; false, "a failed password"),
-    }
+    let found = open_session(ours, None, RIGHT, &now, 4, None);
+    assert_failed(&rt, &found, &Err(Failure::Stray));
     Ok(())
 }
 

@@ -2,8 +2,8 @@
 //! `hashlib.pbkdf2_hmac` gives.
 
 use crate::{
-    Ask, Digest, Failure, Moment, Name, Ordinal, Password, Person, PersonCode, Role, Roles,
-    Session, Tick, Verifier,
+    Ask, Digest, Failure, Moment, Name, Ordinal, Password, PeopleFault, Person, PersonCode, Role,
+    Roles, Session, Tick, Verifier,
 };
 use std::alloc::Global;
 use std::process::Abort;
@@ -27,10 +27,10 @@ pub(crate) fn moment(seconds: i64) -> Result<Moment, Fail> {
 
 // The tick at a second. A half is made of the number and the next, a salt of the fourth and fifth after it.
 pub(crate) fn tick(seconds: i64, first: u32) -> Result<Tick, Fail> {
-    let first = u64::from(first);
+    let n = u64::from(first);
     Ok(Tick {
         moment: moment(seconds)?,
-        words: [first, first + 1, first + 2, first + 3, first + 4, first + 5, 0, 0],
+        words: [n, n + 1, n + 2, n + 3, n + 4, n + 5, 0, 0],
     })
 }
 
@@ -94,6 +94,28 @@ pub(crate) fn counted(alloc: Global, failures: u32, locked: Option<i64>) -> Resu
         failures,
         locked,
         ..dan
+    })
+}
+
+// What a text comes to, with the failed passwords and the lock that it leaves.
+#[derive(Clone, Copy)]
+pub(crate) enum Left {
+    Accepted,
+    Counted(u32),
+    Locking(i64),
+    AlreadyLocked(u32, i64),
+}
+
+// The whole answer of dan's attempt.
+pub(crate) fn answer(alloc: Global, left: Left) -> Result<Result<Person, Failure>, Fail> {
+    Ok(match left {
+        Left::Accepted => Ok(counted(alloc, 0, None)?),
+        Left::Counted(count) => Err(Failure::Counted(counted(alloc, count, None)?)),
+        Left::Locking(since) => Err(Failure::Locking(counted(alloc, 5, Some(since))?)),
+        Left::AlreadyLocked(count, since) => {
+            let dan = counted(alloc, count, Some(since))?;
+            Err(Failure::AlreadyLocked(dan))
+        }
     })
 }
 
@@ -188,7 +210,8 @@ pub(crate) fn assert_person(rt: &impl Abort, found: &Person, wanted: &Person) {
     assert_eq!(rt; found.name.as_str(), wanted.name.as_str());
     assert_eq!(rt; found.roles, wanted.roles);
     assert_eq!(rt; found.retired, wanted.retired);
-    assert_eq!(rt; (found.failures, found.locked), (wanted.failures, wanted.locked));
+    assert_eq!(rt; found.failures, wanted.failures);
+    assert_eq!(rt; found.locked, wanted.locked);
     assert_password(rt, &found.password, &wanted.password);
     assert_ask(rt, &found.ask, &wanted.ask);
 }
@@ -199,7 +222,8 @@ pub(crate) fn assert_session(rt: &impl Abort, found: &Session, wanted: &Session)
     assert_eq!(rt; found.person.as_str(), wanted.person.as_str());
     assert_eq!(rt; found.token.bytes(), wanted.token.bytes());
     assert_eq!(rt; (found.opened, found.last), (wanted.opened, wanted.last));
-    assert_eq!(rt; (found.closed, found.signed), (wanted.closed, wanted.signed));
+    assert_eq!(rt; found.closed, wanted.closed);
+    assert_eq!(rt; found.signed, wanted.signed);
 }
 
 // The two failures are one.
@@ -225,5 +249,17 @@ pub(crate) fn assert_attempt(
         (Ok(found), Ok(wanted)) => assert_person(rt, found, wanted),
         (Err(found), Err(wanted)) => assert_failure(rt, found, wanted),
         _ => assert!(rt; false, "accepted, or failed"),
+    }
+}
+
+// The call failed by its password, which left of dan what an attempt would.
+pub(crate) fn assert_failed<T>(
+    rt: &impl Abort,
+    found: &Result<T, PeopleFault>,
+    wanted: &Result<Person, Failure>,
+) {
+    match (found, wanted) {
+        (Err(PeopleFault::Failed(found)), Err(wanted)) => assert_failure(rt, found, wanted),
+        _ => assert!(rt; false, "a failed password"),
     }
 }
