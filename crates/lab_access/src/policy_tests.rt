@@ -147,8 +147,14 @@ fn a_one_time_word_is_due_at_once(rt: HostRuntime) -> Result<(), Fail> {
         confirmed: Moment::from_seconds(86_399)?,
     };
     let due = Err(PeopleRefusal::PasswordDue);
-    assert_eq!(rt; analyst_allowed(rt.alloc(), word, Rule::ReadRecord, 86_399)?, due);
-    assert_eq!(rt; analyst_allowed(rt.alloc(), Password::Unset, Rule::SignReview, 86_399)?, due);
+    assert_eq!(rt;
+        analyst_allowed(rt.alloc(), word, Rule::ReadRecord, 86_399)?,
+        due
+    );
+    assert_eq!(rt;
+        analyst_allowed(rt.alloc(), Password::Unset, Rule::SignReview, 86_399)?,
+        due
+    );
     Ok(())
 }
 
@@ -170,7 +176,10 @@ fn roles_are_told_apart(rt: HostRuntime) {
     for role in Role::ALL {
         let one = Roles::none().with(role);
         for other in Role::ALL {
-            assert_eq!(rt; (one.has(other), Roles::none().has(other)), (other == role, false));
+            assert_eq!(rt;
+                (one.has(other), Roles::none().has(other)),
+                (other == role, false)
+            );
         }
     }
 }
@@ -181,7 +190,10 @@ fn roles_are_listed_in_order(rt: HostRuntime) -> Result<(), Fail> {
     let given = [Role::Inspector, Role::Analyst, Role::Manager];
     let roles = Roles::from_list(&given).ok_or("different roles")?;
     let list = roles.list(rt.alloc())?;
-    assert_eq!(rt; list.as_slice(), [Role::Analyst, Role::Manager, Role::Inspector].as_slice());
+    assert_eq!(rt;
+        list.as_slice(),
+        [Role::Analyst, Role::Manager, Role::Inspector].as_slice()
+    );
     Ok(())
 }
 
@@ -190,7 +202,10 @@ fn roles_are_listed_in_order(rt: HostRuntime) -> Result<(), Fail> {
 fn roles_are_made_of_different_ones(rt: HostRuntime) -> Result<(), Fail> {
     assert_eq!(rt; Roles::none().list(rt.alloc())?.len(), 0);
     assert_eq!(rt; Roles::from_list(&[]), Some(Roles::none()));
-    assert_eq!(rt; Roles::from_list(&[Role::Analyst, Role::Manager, Role::Analyst]), None);
+    assert_eq!(rt;
+        Roles::from_list(&[Role::Analyst, Role::Manager, Role::Analyst]),
+        None
+    );
     Ok(())
 }
 

@@ -141,7 +141,7 @@ module _ (old : World) (before : Option (List ℕ)) where
   so_far_more event mid new taken input now left after last wider sofar next runs =
       let more = taken_on event input now left (events_of sofar.handled) sofar.rest sofar.begins next in
       let told : events_of (sofar.handled ++ runs.handled) ≡ events_of sofar.handled ++ event ∷ [] =
-          map-append (λ (one : Handled). one.event) sofar.handled runs.handled ∙ ap (λ es. events_of sofar.handled ++ es) runs.told.events_are in record {
+      map-append (λ (one : Handled). one.event) sofar.handled runs.handled ∙ ap (λ es. events_of sofar.handled ++ es) runs.told.events_are in record {
         handled = sofar.handled ++ runs.handled;
         rest = more.0;
         begins = rw told more.1;
@@ -169,7 +169,7 @@ module _ (old : World) (before : Option (List ℕ)) where
       let more = taken_some (length taken) event input now left (events_of sofar.handled) sofar.rest sofar.begins next in
       let ends : List Handled = runs.handled ++ runs.last ∷ [] in
       let told : events_of (sofar.handled ++ ends) ≡ events_of sofar.handled ++ take (length taken) (event ∷ []) =
-          map-append (λ (one : Handled). one.event) sofar.handled ends ∙ ap (λ es. events_of sofar.handled ++ es) runs.told.events_are in record {
+      map-append (λ (one : Handled). one.event) sofar.handled ends ∙ ap (λ es. events_of sofar.handled ++ es) runs.told.events_are in record {
         handled = sofar.handled ++ ends;
         written = answers_of sofar.handled ++ (answers_of runs.handled ++ take sent runs.last.answer);
         rest = more.0;
@@ -182,7 +182,7 @@ module _ (old : World) (before : Option (List ℕ)) where
           sym (append_assoc sofar.handled runs.handled (runs.last ∷ [])),
           runs.short,
           sym (append_assoc (answers_of sofar.handled) (answers_of runs.handled) (take sent runs.last.answer))
-          ∙ ap (λ l. l ++ take sent runs.last.answer) (sym (answers_then sofar.handled runs.handled)),
+              ∙ ap (λ l. l ++ take sent runs.last.answer) (sym (answers_then sofar.handled runs.handled)),
         );
         wrote = Appends-trans before after last (answers_of sofar.handled) (answers_of runs.handled ++ take sent runs.last.answer) sofar.wrote runs.written;
       }

@@ -19,7 +19,7 @@ abbrev pub BeginsWith : List EventRead → List ℕ → List ℕ → Type 0
 BeginsWith [] input rest = input ≡ rest
 BeginsWith (event ∷ events) input rest =
     (after : List ℕ) × (next_event input ≡ Taken (event_said event) after)
-        × BeginsWith events after rest
+    × BeginsWith events after rest
 
 -- what may follow the events where the replay stopped: nothing after a whole replay, no event after
 -- a bad one, and anything after another fault
@@ -64,7 +64,7 @@ abbrev pub IsTold : {X : Type 0} → ReplayFault → Result X Untold → Option 
 IsTold fault (Ok _) before after = Appends before after (fault_line fault)
 IsTold fault (Err untold) before after =
     Appends before after (take untold.sent (fault_line fault)) ×
-        (untold.sent < length (fault_line fault))
+    (untold.sent < length (fault_line fault))
 
 -- the status, and what standard error was told: nothing after a whole replay, and else the fault
 abbrev pub Tells : Result (Unit {0}) ReplayFault → Result ℕ Untold → Option (List ℕ) → Option

@@ -53,10 +53,10 @@ pub trait Keeper {
         ensures changed { ChangesFit ((world self.old).meaning code.now) changes.now →
             Given (world self.old) (world self.new)
             (OnOk result (Changes code.now changes.now (world self.old).meaning
-                (world self.new).meaning)) }
+            (world self.new).meaning)) }
         ensures rows { ChangesFit ((world self.old).meaning code.now) changes.now →
             Given (world self.old) (world self.new)
-                (OnOk result (moves self.old self.new code.now changes.now)) }
+            (OnOk result (moves self.old self.new code.now changes.now)) }
         ensures crash { ChangesFit ((world self.old).meaning code.now) changes.now →
             Given (world self.old) (world self.new)
             (CommitsAs (Changes code.now changes.now) (world self.old) (world self.new)) }
@@ -99,11 +99,10 @@ pub trait Keeper {
         ensures lives { Given (world self.old) (world self.new)
             (OnPlaced result (Lives (world self.old) (world self.new))) }
         ensures fault { IfErr result (PlacingFaultFits (world self.old).may_refuse
-            (Given (world self.old) (world self.new) (IsSome ((world self.old).meaning code.now))))
-                }
+            (Given (world self.old) (world self.new) (IsSome ((world self.old).meaning code.now)))) }
         ensures crash { Given (world self.old) (world self.new)
             (CommitsAs (Places (newborn code.now tick.now founding.now)) (world self.old)
-                (world self.new)) }
+            (world self.new)) }
         ensures settled { Given (world self.old) (world self.new)
             (OnOk result (IsSettled (world self.new))) }
         ensures quiet { result ≡ Err LabExists →

@@ -31,7 +31,7 @@ date_of_civil y m d h =
     let day = days_from_civil y m d in
     let counted : day_of_date y m d ≡ day = omega (arith, years-total (y - 1970), months-total y (m - 1)) in
     let same = same_date (year_of day) (month_of day) (day_of_month day) y m d day (own_date day)
-        (record { year_in = h.0.0; month_in = h.1; day_in = h.2; counted = counted }) in
+    (record { year_in = h.0.0; month_in = h.1; day_in = h.2; counted = counted }) in
     record { year = same.year; month = same.month; day_in_month = same.day_in_month }
 
 -- day, hour, minute and second of a moment that is made of them
