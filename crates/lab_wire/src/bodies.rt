@@ -37,7 +37,6 @@ const FOUNDING: [Member; 1] = [Member {
 /// Reads the body of a founding, which is exactly `{"name":..}`.
 ///
 /// # Errors
-///
 /// - `BadBody` where it is not of this form;
 /// - else `BadName` where the string is no name;
 /// - that memory ran out, at any body but an empty one.

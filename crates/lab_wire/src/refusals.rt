@@ -1,5 +1,4 @@
-//! What the wire refuses: the bytes of a request that ask nothing, and a body that is none of its kind. Each
-//! refusal and each fault has a number and a word.
+//! What the wire refuses: bytes that ask nothing, and bodies that are none of their kind.
 
 ghost use Rattle.std.specs.Prelude.{◌≡◌, Some};
 ghost use Rattle.lab_wire.specs.Refusals.{request_entry, body_entry, request_fault_entry, body_fault_entry};

@@ -35,8 +35,7 @@ pub fn reply_bytes(alloc: Global, tick: &Tick, answer: &Answer) -> Result<Vec<u8
     message(alloc, answer_status(answer), Some(tick.moment), &body)
 }
 
-/// The bytes of the reply that is sent where memory runs out. They are the same always, so that they can be
-/// made beforehand.
+/// The bytes of the reply that is sent where memory runs out, which are the same always.
 #[tactic(auto, unfolding(crate::specs::Replies::memory_text))]
 pub fn memory_reply(alloc: Global) -> Result<Vec<u8>, OutOfMemory>
     ensures { IfOk result (λ bytes. bytes.items ≡ memory_text) }

@@ -42,8 +42,7 @@ impl fmt::Display for WriteFault {
     }
 }
 
-/// Writes all the bytes of a reply. The writer is asked until it has taken them all; the first
-/// write that fails or takes no byte is the fault.
+/// Writes all the bytes of a reply. The first write that fails or takes no byte is the fault.
 pub fn write_reply<W: Write>(writer: &mut W, bytes: &[u8]) -> Result<(), WriteFault>
     ensures whole { OnOk result (Appends (W.contents writer.old) (W.contents writer.new) bytes.now) }
     ensures cut { IfErr result
