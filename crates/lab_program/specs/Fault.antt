@@ -28,13 +28,13 @@ abbrev pub fault_of_run : RunFault → ReplayFault
 fault_of_run RunMemory = Memory
 fault_of_run (Write _ _) = WriteFault
 
--- the fault of a reader that failed: want of memory, or any other
+-- the fault of a reader that failed: out of memory, or any other
 abbrev pub IsReaderFault : ReplayFault → Type 0
 IsReaderFault ReadFault = Unit {0}
 IsReaderFault Memory = Unit {0}
 IsReaderFault _ = ⊥
 
--- the fault of a reader of events: no event, an input that failed, or want of memory
+-- the fault of a reader of events: no event, an input that failed, or out of memory
 abbrev pub IsInputFault : ReplayFault → Type 0
 IsInputFault BadEvent = Unit {0}
 IsInputFault ReadFault = Unit {0}

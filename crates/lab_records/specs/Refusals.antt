@@ -1,5 +1,5 @@
 -- The numbers and words of what a machine and a keeper refuse: one table for each kind, which every
--- reply and every line on a founding follows (docs/RECORDS.md lists them).
+-- reply and every line on a founding follows (docs/REFUSALS.md lists them).
 use Rattle.std.specs.Prelude.{codes}
 use Rattle.lab_names.specs.Faults.{Entry, memory_entry}
 use Rattle.lab_records.specs.declared.refusal.Refusal.{Refusal}

@@ -1,5 +1,5 @@
 -- The seal of a signature: the SHA-256 (FIPS 180-4) of seven items: what was signed, by whom, as what, when and why
--- (21 CFR 11.50 and 11.70). How they are written is this system's own (docs/FORMATS.md).
+-- (21 CFR 11.50 and 11.70). How they are written is this system's own (docs/VERSIONS.md).
 use Rattle.std.specs.Prelude.{ℕ, List, [], ◌++◌, codes}
 use Rattle.hex.specs.Hex.{encode_lower}
 use Rattle.sha2.specs.Sha256.{sha256}

@@ -1,5 +1,5 @@
 -- The text of a version (ISO/IEC 17025:2017, 7.5.2), over which its digest is taken: items one after the other, each a text
--- behind its length in bytes. The form is this system's own (docs/FORMATS.md).
+-- behind its length in bytes. The form is this system's own (docs/VERSIONS.md).
 use Rattle.std.specs.Prelude.{◌≡◌, ◌≢◌, ℕ, ◌<◌, ◌^◌, IsTrue, true, false, List, [], ◌++◌, length, decimal, codes, Option, Some, None, All}
 use Rattle.std.specs.List.{flat_map}
 use Rattle.hex.specs.Hex.{encode_lower, IsBytes}

@@ -201,7 +201,7 @@ fn refuses(rt: &(impl Abort + AllocGlobal), text: &[u8]) {
 }
 
 // The bytes of a later version with one row, which has a reason, in format 1 (254 of them) and format 2 (260), as Python
-// wrote them by the rule of docs/FORMATS.md.
+// wrote them by the rule of docs/VERSIONS.md.
 const LATER_VERSION: &[u8] = b"11:labrecord 1\n4:aqua\n1:1\n1:2\n5:water\n1:1\n2:S1\n\
     64:ba7816bf8f01cfea414140de5dae2223b00361a396177a9cb410ff61f20015ad\n3:why\n3:dan\n\
     20:1970-01-01T00:16:40Z\n1:1\n2:ph\n25:7,5 \xc2\xb5S\nafter calibration\n6:\xc2\xb5S/cm\n\
