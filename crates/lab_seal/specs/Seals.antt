@@ -25,12 +25,14 @@ meaning_reason Approval = []
 
 -- what is signed, and by whom: the version's digest, the laboratory, the person's code and printed name
 unfoldable pub signer_text : SealParts → List ℕ
-signer_text parts = item (encode_lower parts.version) ++ item parts.lab ++ item parts.person ++ item parts.name
+signer_text parts =
+    item (encode_lower parts.version) ++ item parts.lab ++ item parts.person ++ item parts.name
 
 -- the meaning, the moment and the reason
 unfoldable pub signing_text : SealParts → List ℕ
 signing_text parts =
-    item (meaning_word parts.meaning) ++ item (moment_text parts.moment) ++ item (meaning_reason parts.meaning)
+    item (meaning_word parts.meaning) ++ item (moment_text parts.moment)
+    ++ item (meaning_reason parts.meaning)
 
 -- the text of a seal
 unfoldable pub seal_text : SealParts → List ℕ

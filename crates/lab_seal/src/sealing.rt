@@ -20,7 +20,8 @@ pub fn seal(parts: &SealParts) -> Seal
 // The hash of what is signed and by whom.
 #[tactic(auto, unfolding(crate::specs::Seals::signer_text))]
 fn with_signer(hash: Sha256, parts: &SealParts) -> Sha256
-    ensures { (text : List ℕ) → Holds256 hash text → Holds256 result (text ++ signer_text parts.now) }
+    ensures { (text : List ℕ) → Holds256 hash text
+        → Holds256 result (text ++ signer_text parts.now) }
 {
     let hash = with_item(hash, &parts.version.digits());
     let hash = with_item(hash, parts.lab.as_str().as_bytes());
@@ -31,7 +32,8 @@ fn with_signer(hash: Sha256, parts: &SealParts) -> Sha256
 // The hash of the meaning, the moment and the reason as well.
 #[tactic(auto, unfolding(crate::specs::Seals::signing_text))]
 fn with_signing(hash: Sha256, parts: &SealParts) -> Sha256
-    ensures { (text : List ℕ) → Holds256 hash text → Holds256 result (text ++ signing_text parts.now) }
+    ensures { (text : List ℕ) → Holds256 hash text
+        → Holds256 result (text ++ signing_text parts.now) }
 {
     let mut printed = [0; 20];
     parts.moment.print(&mut printed);

@@ -1,6 +1,5 @@
 use crate::{
-    Digest, LabCode, Meaning, Moment, Name, Note, PersonCode, Seal, SealParts, State, seal,
-    state_of,
+    Digest, LabCode, Meaning, Moment, Name, Note, PersonCode, Seal, SealParts, State, seal, state_of,
 };
 use std::alloc::Global;
 use std::process::Abort;
@@ -102,39 +101,78 @@ fn states_have_words(rt: HostRuntime) {
     }
 }
 
+fn signer(alloc: Global, person: &str, name: &str) -> Result<(PersonCode, Name), Fail> {
+    let person = PersonCode::parse(alloc, person)?;
+    Ok((person, Name::parse(alloc, name)?))
+}
+
 fn seal_parts(
     alloc: Global,
     person: &str,
     name: &str,
-    meaning: Meaning,
+    place: usize,
     seconds: i64,
 ) -> Result<SealParts, Fail> {
+    let moment = Moment::from_seconds(seconds)?;
+    let version = Digest::from_bytes(bytes_of(VERSION_DIGITS)?);
+    let (person, name) = signer(alloc, person, name)?;
     Ok(SealParts {
-        version: Digest::from_bytes(bytes_of(VERSION_DIGITS)?),
+        version,
         lab: LabCode::parse(alloc, "aqua")?,
-        person: PersonCode::parse(alloc, person)?,
-        name: Name::parse(alloc, name)?,
-        meaning,
-        moment: Moment::from_seconds(seconds)?,
+        person,
+        name,
+        meaning: meaning_of(alloc, place)?,
+        moment,
     })
+}
+
+fn has_seal(rt: &impl Abort, parts: &SealParts, digits: &[u8; 64]) {
+    assert_eq!(rt; seal(parts).digits(), *digits);
 }
 
 // The seals are those that Python's `hashlib` gives of the seven items.
 #[test]
-fn seals_of_the_four_meanings(rt: HostRuntime) -> Result<(), Fail> {
-    let author = seal_parts(rt.alloc(), "dan", "Dan D\u{fc}r", Meaning::Authorship, 1300)?;
-    let known = bytes_of("9863b66df0088378760b1aaab4eea6128e132387df97bb1dd73dadedbc443a89")?;
-    assert_eq!(rt; seal(&author).bytes(), known);
-    let review = seal_parts(rt.alloc(), "eve", "Eve Eden", Meaning::Review, 1400)?;
-    let known = bytes_of("283cd999dd2b5ac3e31bcefe8e2e7747896b395c8c15c9777b2debae5f6d6e6b")?;
-    assert_eq!(rt; seal(&review).bytes(), known);
-    let reason = Meaning::Rejection(Note::parse(rt.alloc(), "misread scale")?);
-    let rejection = seal_parts(rt.alloc(), "eve", "Eve Eden", reason, 1400)?;
-    let known = bytes_of("e712259c7184fb7dc48eb62e198c3731e152be56999339519e1fb7e49c2b9156")?;
-    assert_eq!(rt; seal(&rejection.copy()?).bytes(), known);
-    let approval = seal_parts(rt.alloc(), "gus", "Gus Gold", Meaning::Approval, 1500)?;
-    let known = bytes_of("fdeb3d3313ae7fdc89ec717d60cedce483f19f19309408619502c4adbf2728b9")?;
-    assert_eq!(rt; seal(&approval).bytes(), known);
+fn seal_of_an_authorship(rt: HostRuntime) -> Result<(), Fail> {
+    let parts = seal_parts(rt.alloc(), "dan", "Dan D\u{fc}r", 0, 1300)?;
+    has_seal(
+        &rt,
+        &parts,
+        b"9863b66df0088378760b1aaab4eea6128e132387df97bb1dd73dadedbc443a89",
+    );
+    Ok(())
+}
+
+#[test]
+fn seal_of_a_review(rt: HostRuntime) -> Result<(), Fail> {
+    let parts = seal_parts(rt.alloc(), "eve", "Eve Eden", 1, 1400)?;
+    has_seal(
+        &rt,
+        &parts,
+        b"283cd999dd2b5ac3e31bcefe8e2e7747896b395c8c15c9777b2debae5f6d6e6b",
+    );
+    Ok(())
+}
+
+#[test]
+fn seal_of_a_copied_rejection(rt: HostRuntime) -> Result<(), Fail> {
+    let parts = seal_parts(rt.alloc(), "eve", "Eve Eden", 2, 1400)?;
+    let copy = parts.copy()?;
+    has_seal(
+        &rt,
+        &copy,
+        b"e712259c7184fb7dc48eb62e198c3731e152be56999339519e1fb7e49c2b9156",
+    );
+    Ok(())
+}
+
+#[test]
+fn seal_of_an_approval(rt: HostRuntime) -> Result<(), Fail> {
+    let parts = seal_parts(rt.alloc(), "gus", "Gus Gold", 3, 1500)?;
+    has_seal(
+        &rt,
+        &parts,
+        b"fdeb3d3313ae7fdc89ec717d60cedce483f19f19309408619502c4adbf2728b9",
+    );
     Ok(())
 }
 

@@ -14,4 +14,5 @@ AreLowerDigits count digits = (length digits ≡ count) × AllPass is_lower_digi
 
 -- the bytes, n of them, of which these are the lower hexadecimal digits
 unfoldable pub bytes_of_digits : ℕ → List ℕ → Option (List ℕ)
-bytes_of_digits n digits = if list_all is_lower_digit digits then result_ok (decode_sized digits n) else None
+bytes_of_digits n digits =
+    if list_all is_lower_digit digits then result_ok (decode_sized digits n) else None

@@ -16,4 +16,5 @@ AmendsUnlessFirst number (Some _) = number ≢ first_number
 -- the origin of a later version, where the number is that of one
 abbrev pub amending : ℕ → Amendment → Option OriginParts
 amending number amendment =
-    if number == first_number then None else Some (record { number = number; amendment = Some amendment })
+    if number == first_number then None
+    else Some (record { number = number; amendment = Some amendment })

@@ -5,7 +5,7 @@ use Rattle.std.specs.List.{position}
 use Rattle.std.specs.Str.{bytes_eq, is_utf8}
 use Rattle.std.specs.Str.Parse.{digits_value}
 use Rattle.lab_names.specs.Moment.{moment_of}
-use Rattle.lab_names.specs.Names.{is_lab_code, is_person_code, is_key, is_name, is_note, is_unit}
+use Rattle.lab_names.specs.Names.{is_lab_code, is_person_code, is_key, is_name, is_note, is_unit, line_feed}
 use Rattle.lab_names.specs.Ordinals.{ordinal_of}
 use Rattle.lab_secrets.specs.Digits.{bytes_of_digits}
 use Rattle.lab_versions.specs.Origins.{first_number}
@@ -27,7 +27,8 @@ o >>= f = option_and_then f o
 
 -- this number, if these are its decimal digits, without leading zeros
 abbrev pub number_if_spelled : List ℕ → ℕ → Option ℕ
-number_if_spelled digits n = if nat_lt n (2 ^ 64) && bytes_eq (decimal n) digits then Some n else None
+number_if_spelled digits n =
+    if nat_lt n (2 ^ 64) && bytes_eq (decimal n) digits then Some n else None
 
 -- the number of which these are the digits
 unfoldable pub number_of : List ℕ → Option ℕ
@@ -36,8 +37,8 @@ number_of digits = number_if_spelled digits (digits_value 10 digits)
 -- so many bytes, where a line feed follows them
 unfoldable pub line_of : ℕ → List ℕ → Option (List ℕ × List ℕ)
 line_of count text =
-    if nat_lt count (length text) && slice_index text count == 10 then Some (take count text, drop (count + 1) text)
-    else None
+    if nat_lt count (length text) && slice_index text count == line_feed
+    then Some (take count text, drop (count + 1) text) else None
 
 -- the bytes of the item at the front
 unfoldable pub first_item : List ℕ → Option (List ℕ × List ℕ)
@@ -57,7 +58,8 @@ first_as meaning text = do
 
 -- a text that is admitted
 abbrev pub text_where : (List ℕ → Bool) → List ℕ → Option (List ℕ)
-text_where admits bytes = if is_utf8 bytes then (if admits bytes then Some bytes else None) else None
+text_where admits bytes =
+    if is_utf8 bytes then (if admits bytes then Some bytes else None) else None
 
 -- this word
 abbrev pub this_word : List ℕ → List ℕ → Option (Unit {0})

@@ -38,7 +38,8 @@ heading_text parts =
 -- what the record is about: form, the form's version, whether it wants an approval, and sample
 unfoldable pub subject_text : VersionParts → List ℕ
 subject_text parts =
-    item parts.form ++ item (decimal parts.form_version) ++ approval_text parts.format ++ item parts.sample
+    item parts.form ++ item (decimal parts.form_version) ++ approval_text parts.format
+    ++ item parts.sample
 
 -- the digest of the version before and the reason for this one, which a first version does not have
 unfoldable pub origin_text : Option Amendment → List ℕ
@@ -58,13 +59,14 @@ reason_text (Some reason) = reason
 -- a row of entries: key, value, unit, person, moment and reason
 unfoldable pub row_text : EntryRow → List ℕ
 row_text row =
-    item row.key ++ item row.value ++ item row.unit ++ item row.person ++ item (moment_text row.moment)
-    ++ item (reason_text row.reason)
+    item row.key ++ item row.value ++ item row.unit ++ item row.person
+    ++ item (moment_text row.moment) ++ item (reason_text row.reason)
 
 -- all that stands before the rows
 unfoldable pub front_text : VersionParts → List ℕ
 front_text parts =
-    heading_text parts ++ subject_text parts ++ origin_text parts.origin.amendment ++ opening_text parts
+    heading_text parts ++ subject_text parts ++ origin_text parts.origin.amendment
+    ++ opening_text parts
 
 -- the text of a version
 unfoldable pub version_text : VersionParts → List ℕ

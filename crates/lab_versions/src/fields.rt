@@ -68,7 +68,8 @@ pub(crate) fn bytes(text: &[u8]) -> Option<(&[u8], &[u8])>
 // A text that the rule admits.
 #[tactic(auto, unfolding(crate::specs::Reading::first_as))]
 pub(crate) fn text<R: Rule>(front: &[u8]) -> Option<(&str, &[u8])>
-    ensures { option_map (λ found. (found.0.now, found.1.now)) result ≡ first_as (text_where R.admits) front.now }
+    ensures { option_map (λ found. (found.0.now, found.1.now)) result
+        ≡ first_as (text_where R.admits) front.now }
 {
     let (bytes, rest) = bytes(front)?;
     Some((admitted_in::<R>(bytes)?, rest))
@@ -82,7 +83,8 @@ fn admitted_in<R: Rule>(bytes: &[u8]) -> Option<&str>
 }
 
 fn text_in(bytes: &[u8]) -> Option<&str>
-    ensures { option_map (λ text. text.now) result ≡ (if is_utf8 bytes.now then Some bytes.now else None) }
+    ensures { option_map (λ text. text.now) result
+        ≡ (if is_utf8 bytes.now then Some bytes.now else None) }
 {
     str::from_utf8(bytes).ok()
 }
@@ -90,7 +92,8 @@ fn text_in(bytes: &[u8]) -> Option<&str>
 // What follows an item that has these bytes.
 #[tactic(auto, unfolding(crate::specs::Reading::first_as))]
 pub(crate) fn after<'a>(text: &'a [u8], expected: &[u8]) -> Option<&'a [u8]>
-    ensures { option_map (λ rest. (tt, rest.now)) result ≡ first_as (this_word expected.now) text.now }
+    ensures { option_map (λ rest. (tt, rest.now)) result
+        ≡ first_as (this_word expected.now) text.now }
 {
     let (bytes, rest) = bytes(text)?;
     if bytes == expected { Some(rest) } else { None }
@@ -99,7 +102,8 @@ pub(crate) fn after<'a>(text: &'a [u8], expected: &[u8]) -> Option<&'a [u8]>
 // Which of two words the item at the front is.
 #[tactic(auto, unfolding(crate::specs::Reading::first_as))]
 pub(crate) fn choice<'a>(text: &'a [u8], yes: &[u8], no: &[u8]) -> Option<(bool, &'a [u8])>
-    ensures { option_map (λ found. (found.0, found.1.now)) result ≡ first_as (which_word yes.now no.now) text.now }
+    ensures { option_map (λ found. (found.0, found.1.now)) result
+        ≡ first_as (which_word yes.now no.now) text.now }
 {
     let (bytes, rest) = bytes(text)?;
     if bytes == yes {
@@ -143,14 +147,16 @@ fn ordinal_in(digits: &[u8]) -> Option<u32>
 // A note, or nothing where the item is empty.
 #[tactic(auto, unfolding(crate::specs::Reading::first_as))]
 pub(crate) fn reason(text: &[u8]) -> Option<(Option<&str>, &[u8])>
-    ensures { option_map (λ found. (option_map (λ note. note.now) found.0, found.1.now)) result ≡ first_as reason_in text.now }
+    ensures { option_map (λ found. (option_map (λ note. note.now) found.0, found.1.now)) result
+        ≡ first_as reason_in text.now }
 {
     let (bytes, rest) = bytes(text)?;
     Some((reason_in(bytes)?, rest))
 }
 
 fn reason_in(bytes: &[u8]) -> Option<Option<&str>>
-    ensures { option_map (λ reason. option_map (λ note. note.now) reason) result ≡ reason_in bytes.now }
+    ensures { option_map (λ reason. option_map (λ note. note.now) reason) result
+        ≡ reason_in bytes.now }
 {
     if bytes.is_empty() {
         return Some(None);
@@ -182,7 +188,8 @@ pub(crate) fn moment(text: &[u8]) -> Option<(u64, &[u8])>
 
 #[tactic(auto, unfolding(crate::specs::Reading::first_as))]
 pub(crate) fn digest(text: &[u8]) -> Option<([u8; 32], &[u8])>
-    ensures { option_map (λ found. (found.0, found.1.now)) result ≡ first_as (bytes_of_digits 32) text.now }
+    ensures { option_map (λ found. (found.0, found.1.now)) result
+        ≡ first_as (bytes_of_digits 32) text.now }
 {
     let (digits, rest) = bytes(text)?;
     Some((Digest::from_digits(digits)?.bytes(), rest))

@@ -101,7 +101,8 @@ fn first_front(text: &[u8]) -> Option<(Front<'_>, &[u8])>
 
 #[tactic(auto, unfolding(crate::specs::Reading::first_heading))]
 fn first_heading<'a>(text: &'a [u8]) -> Option<(Heading<'a>, &'a [u8])>
-    ensures { option_map (λ found. (heading_of found.0, found.1.now)) result ≡ first_heading text.now }
+    ensures { option_map (λ found. (heading_of found.0, found.1.now)) result
+        ≡ first_heading text.now }
 {
     let (is_newer, rest) = fields::choice(text, b"labrecord 2", b"labrecord 1")?;
     let (lab, rest) = fields::text::<LabCodes>(rest)?;
@@ -118,7 +119,8 @@ fn first_heading<'a>(text: &'a [u8]) -> Option<(Heading<'a>, &'a [u8])>
 
 #[tactic(auto, unfolding(crate::specs::Reading::first_subject))]
 fn first_subject(is_newer: bool, text: &[u8]) -> Option<(Subject<'_>, &[u8])>
-    ensures { option_map (λ found. (subject_of found.0, found.1.now)) result ≡ first_subject is_newer text.now }
+    ensures { option_map (λ found. (subject_of found.0, found.1.now)) result
+        ≡ first_subject is_newer text.now }
 {
     let (form, rest) = fields::text::<Keys>(text)?;
     let (form_version, rest) = fields::ordinal(rest)?;
@@ -148,7 +150,8 @@ fn first_format(is_newer: bool, text: &[u8]) -> Option<(Format, &[u8])>
 // What the version with this number amends, and why.
 #[tactic(auto, unfolding(crate::specs::Reading::first_origin))]
 fn first_origin(number: u32, text: &[u8]) -> Option<(Option<Reason<'_>>, &[u8])>
-    ensures { option_map (λ found. (amends_of found.0, found.1.now)) result ≡ first_origin number text.now }
+    ensures { option_map (λ found. (amends_of found.0, found.1.now)) result
+        ≡ first_origin number text.now }
 {
     if number == Ordinal::FIRST.get() {
         let rest = first_no_amendment(text)?;
@@ -169,7 +172,8 @@ fn first_no_amendment(text: &[u8]) -> Option<&[u8]>
 
 #[tactic(auto, unfolding(crate::specs::Reading::first_amendment))]
 fn first_amendment(text: &[u8]) -> Option<(Reason<'_>, &[u8])>
-    ensures { option_map (λ found. (amendment_of found.0, found.1.now)) result ≡ first_amendment text.now }
+    ensures { option_map (λ found. (amendment_of found.0, found.1.now)) result
+        ≡ first_amendment text.now }
 {
     let (previous, rest) = fields::digest(text)?;
     let (reason, rest) = fields::text::<Notes>(rest)?;
@@ -178,7 +182,8 @@ fn first_amendment(text: &[u8]) -> Option<(Reason<'_>, &[u8])>
 
 #[tactic(auto, unfolding(crate::specs::Reading::first_opening))]
 fn first_opening(text: &[u8]) -> Option<(Opening<'_>, &[u8])>
-    ensures { option_map (λ found. (opening_of found.0, found.1.now)) result ≡ first_opening text.now }
+    ensures { option_map (λ found. (opening_of found.0, found.1.now)) result
+        ≡ first_opening text.now }
 {
     let (opener, rest) = fields::text::<PersonCodes>(text)?;
     let (opened, rest) = fields::moment(rest)?;
@@ -214,7 +219,8 @@ fn first_row(text: &[u8]) -> Option<(Row<'_>, &[u8])>
 
 // What follows so many rows.
 fn after_rows(count: usize, text: &[u8]) -> Option<&[u8]>
-    ensures { option_map (λ rest. rest.now) result ≡ option_map (λ found. found.1) (first_rows count text.now) }
+    ensures { option_map (λ rest. rest.now) result
+        ≡ option_map (λ found. found.1) (first_rows count text.now) }
 {
     let mut rest = text;
     for _ in 0..count {
@@ -227,7 +233,8 @@ fn after_rows(count: usize, text: &[u8]) -> Option<&[u8]>
 // So many rows, copied.
 fn owned_rows(alloc: Global, count: usize, text: &[u8]) -> Result<EntryRows, OutOfMemory>
     requires { IsSome (first_rows count text.now) }
-    ensures { IfOk result (λ rows. option_map (λ found. found.0) (first_rows count text.now) ≡ Some rows) }
+    ensures { IfOk result (λ rows. option_map (λ found. found.0) (first_rows count text.now)
+        ≡ Some rows) }
 {
     let mut rows = Vec::new(alloc);
     let mut rest = text;
@@ -286,7 +293,8 @@ fn owned_origin(
 ) -> Result<Origin, OutOfMemory>
     requires number { IsTrue (is_ordinal number) }
     requires origin { IsOrigin (record { number = number; amendment = amends_of amendment.now }) }
-    ensures { IfOk result (λ origin. origin ≡ record { number = number; amendment = amends_of amendment.now }) }
+    ensures { IfOk result (λ origin. origin
+        ≡ record { number = number; amendment = amends_of amendment.now }) }
 {
     let amendment = match amendment {
         Some(found) => Some(Amendment {

@@ -15,12 +15,13 @@ fn bytes_of(digits: &str) -> Result<[u8; 32], Fail> {
 }
 
 fn row_of(alloc: Global, value: &str, reason: Option<Note>) -> Result<EntryRow, Fail> {
+    let moment = Moment::from_seconds(1100)?;
     Ok(EntryRow {
         key: Key::parse(alloc, "lead")?,
         value: Note::parse(alloc, value)?,
         unit: Unit::parse(alloc, "mg/L")?,
         person: PersonCode::parse(alloc, "dan")?,
-        moment: Moment::from_seconds(1100)?,
+        moment,
         reason,
     })
 }
@@ -41,6 +42,7 @@ fn amending(rt: &(impl Abort + AllocGlobal), number: u32, reason: &str) -> Resul
 }
 
 fn version_of(alloc: Global, origin: Origin, sample: &str) -> Result<VersionParts, Fail> {
+    let opened = Moment::from_seconds(1000)?;
     Ok(VersionParts {
         format: Format::One,
         lab: LabCode::parse(alloc, "aqua")?,
@@ -50,9 +52,20 @@ fn version_of(alloc: Global, origin: Origin, sample: &str) -> Result<VersionPart
         form_version: Ordinal::FIRST,
         sample: Name::parse(alloc, sample)?,
         opener: PersonCode::parse(alloc, "dan")?,
-        opened: Moment::from_seconds(1000)?,
+        opened,
         rows: EntryRows::new(Vec::new(alloc)),
     })
+}
+
+// The version is written so.
+fn is_written(
+    rt: &(impl Abort + AllocGlobal),
+    version: &VersionParts,
+    text: &[u8],
+) -> Result<(), Fail> {
+    let written = write_version(rt.alloc(), version)?;
+    assert_eq!(rt; written.as_slice(), text);
+    Ok(())
 }
 
 // The bytes of a version with one row in format 1, 142 of them.
@@ -75,15 +88,23 @@ const FORMATS: [(Format, &[u8]); 3] = [
     (Format::Two { approval: true }, APPROVED_VERSION),
 ];
 
+fn one_row(alloc: Global) -> Result<EntryRows, Fail> {
+    let mut rows = Vec::new(alloc);
+    rows.push(row_of(alloc, "7.50", None)?)?;
+    Ok(EntryRows::new(rows))
+}
+
+fn first_version(alloc: Global, format: Format) -> Result<VersionParts, Fail> {
+    let mut version = version_of(alloc, Origin::first(), "S1")?;
+    version.format = format;
+    version.rows = one_row(alloc)?;
+    Ok(version)
+}
+
 #[test]
 fn a_first_version_is_written_in_each_format(rt: HostRuntime) -> Result<(), Fail> {
     for (format, expected) in FORMATS {
-        let mut version = version_of(rt.alloc(), Origin::first(), "S1")?;
-        let mut rows = Vec::new(rt.alloc());
-        rows.push(row_of(rt.alloc(), "7.50", None)?)?;
-        version.rows = EntryRows::new(rows);
-        version.format = format;
-        assert_eq!(rt; write_version(rt.alloc(), &version)?.as_slice(), expected);
+        is_written(&rt, &first_version(rt.alloc(), format)?, expected)?;
     }
     Ok(())
 }
@@ -98,23 +119,36 @@ fn digests_of_the_first_versions(rt: HostRuntime) -> Result<(), Fail> {
     Ok(())
 }
 
+fn is_read_back(rt: &(impl Abort + AllocGlobal), format: Format, text: &[u8]) -> Result<(), Fail> {
+    let version = read_version(rt.alloc(), text)?;
+    assert_eq!(rt; version.format, format);
+    is_written(rt, &version, text)
+}
+
 #[test]
 fn each_format_is_read_back(rt: HostRuntime) -> Result<(), Fail> {
     for (format, text) in FORMATS {
-        let version = read_version(rt.alloc(), text)?;
-        assert_eq!(rt; version.format, format);
-        assert_eq!(rt; write_version(rt.alloc(), &version)?.as_slice(), text);
-        assert_eq!(rt;
-            write_version(rt.alloc(), &version.copy()?)?.as_slice(),
-            text
-        );
+        is_read_back(&rt, format, text)?;
     }
     Ok(())
 }
 
+fn copy_of(alloc: Global, text: &[u8]) -> Result<VersionParts, Fail> {
+    let version = read_version(alloc, text)?;
+    Ok(version.copy()?)
+}
+
 #[test]
-fn the_parts_of_a_first_version_are_read(rt: HostRuntime) -> Result<(), Fail> {
-    let version = read_version(rt.alloc(), FIRST_VERSION)?;
+fn a_copy_is_written_alike(rt: HostRuntime) -> Result<(), Fail> {
+    is_written(
+        &rt,
+        &copy_of(rt.alloc(), LATER_NEWER_VERSION)?,
+        LATER_NEWER_VERSION,
+    )
+}
+
+// What `FIRST_VERSION` tells before its row.
+fn is_first_version(rt: &impl Abort, version: &VersionParts) {
     assert_eq!(rt; version.lab.as_str(), "aqua");
     assert_eq!(rt; version.record_number.get(), 1);
     assert_eq!(rt; version.origin.number().get(), 1);
@@ -124,35 +158,58 @@ fn the_parts_of_a_first_version_are_read(rt: HostRuntime) -> Result<(), Fail> {
     assert_eq!(rt; version.sample.as_str(), "S1");
     assert_eq!(rt; version.opener.as_str(), "dan");
     assert_eq!(rt; version.opened.seconds(), 1000);
-    let [row] = version.rows.rows() else {
-        panic!(rt; "not one row");
-    };
+    assert_eq!(rt; version.rows.rows().len(), 1);
+}
+
+// Its row.
+fn is_first_row(rt: &impl Abort, row: &EntryRow) {
     assert_eq!(rt; row.key.as_str(), "lead");
     assert_eq!(rt; row.value.as_str(), "7.50");
     assert_eq!(rt; row.unit.as_str(), "mg/L");
     assert_eq!(rt; row.person.as_str(), "dan");
     assert_eq!(rt; row.moment.seconds(), 1100);
     assert!(rt; row.reason.is_none());
+}
+
+// The only row of a version.
+fn row_in<'a>(rt: &impl Abort, version: &'a VersionParts) -> &'a EntryRow {
+    match version.rows.rows() {
+        [row] => row,
+        _ => panic!(rt; "not one row"),
+    }
+}
+
+#[test]
+fn the_parts_of_a_first_version_are_read(rt: HostRuntime) -> Result<(), Fail> {
+    let version = read_version(rt.alloc(), FIRST_VERSION)?;
+    is_first_version(&rt, &version);
+    is_first_row(&rt, row_in(&rt, &version));
     Ok(())
+}
+
+fn two_rows(alloc: Global) -> Result<EntryRows, Fail> {
+    let mut rows = Vec::new(alloc);
+    rows.push(row_of(alloc, "7.50", None)?)?;
+    let misread = Note::parse(alloc, "misread scale")?;
+    rows.push(row_of(alloc, "7.5", Some(misread))?)?;
+    Ok(EntryRows::new(rows))
+}
+
+fn amended_version(rt: &(impl Abort + AllocGlobal)) -> Result<VersionParts, Fail> {
+    let origin = amending(rt, 2, "one decimal is meant")?;
+    let mut version = version_of(rt.alloc(), origin, "S\u{e9}")?;
+    version.rows = two_rows(rt.alloc())?;
+    Ok(version)
 }
 
 #[test]
 fn text_of_an_amended_version_counts_bytes(rt: HostRuntime) -> Result<(), Fail> {
-    let origin = amending(&rt, 2, "one decimal is meant")?;
-    let mut version = version_of(rt.alloc(), origin, "S\u{e9}")?;
-    let misread = Note::parse(rt.alloc(), "misread scale")?;
-    let mut rows = Vec::new(rt.alloc());
-    rows.push(row_of(rt.alloc(), "7.50", None)?)?;
-    rows.push(row_of(rt.alloc(), "7.5", Some(misread))?)?;
-    version.rows = EntryRows::new(rows);
-    let text = write_version(rt.alloc(), &version)?;
     let expected = b"11:labrecord 1\n4:aqua\n1:1\n1:2\n5:water\n1:1\n3:S\xc3\xa9\n\
         64:ba7816bf8f01cfea414140de5dae2223b00361a396177a9cb410ff61f20015ad\n\
         20:one decimal is meant\n3:dan\n20:1970-01-01T00:16:40Z\n1:2\n\
         4:lead\n4:7.50\n4:mg/L\n3:dan\n20:1970-01-01T00:18:20Z\n0:\n\
         4:lead\n3:7.5\n4:mg/L\n3:dan\n20:1970-01-01T00:18:20Z\n13:misread scale\n";
-    assert_eq!(rt; text.as_slice(), expected.as_slice());
-    Ok(())
+    is_written(&rt, &amended_version(&rt)?, expected)
 }
 
 fn many_rows(alloc: Global) -> Result<EntryRows, Fail> {
@@ -169,27 +226,39 @@ fn many_rows(alloc: Global) -> Result<EntryRows, Fail> {
     Ok(EntryRows::new(rows))
 }
 
-// Python's `hashlib` gave the digest of the text of these items.
-#[test]
-fn many_rows_are_read_back(rt: HostRuntime) -> Result<(), Fail> {
-    let mut version = version_of(
-        rt.alloc(),
-        amending(&rt, 1_000_000_000, "two\nlines")?,
-        "S\u{e9}",
-    )?;
+fn long_version(rt: &(impl Abort + AllocGlobal)) -> Result<VersionParts, Fail> {
+    let origin = amending(rt, 1_000_000_000, "two\nlines")?;
+    let mut version = version_of(rt.alloc(), origin, "S\u{e9}")?;
     version.format = Format::Two { approval: true };
     version.rows = many_rows(rt.alloc())?;
-    let text = write_version(rt.alloc(), &version)?;
+    Ok(version)
+}
+
+fn long_text(rt: &(impl Abort + AllocGlobal)) -> Result<Vec<u8>, Fail> {
+    let version = long_version(rt)?;
+    Ok(write_version(rt.alloc(), &version)?)
+}
+
+// Python's `hashlib` gave the digest of the text of these items.
+#[test]
+fn many_rows_are_written(rt: HostRuntime) -> Result<(), Fail> {
+    let known = bytes_of("66288687e3f364aabe76c0ad96d800b2d371a84ee23472c19f162bf94042a680")?;
+    let text = long_text(&rt)?;
     assert_eq!(rt; text.len(), 12313);
-    assert_eq!(rt;
-        digest(&text).bytes(),
-        bytes_of("66288687e3f364aabe76c0ad96d800b2d371a84ee23472c19f162bf94042a680")?
-    );
-    let back = read_version(rt.alloc(), &text)?;
-    assert_eq!(rt; back.rows.rows().len(), 200);
-    let again = write_version(rt.alloc(), &back)?;
-    assert_eq!(rt; again.as_slice(), text.as_slice());
-    assert_eq!(rt; back.rows.into_rows().len(), 200);
+    assert_eq!(rt; digest(&text).bytes(), known);
+    Ok(())
+}
+
+#[test]
+fn many_rows_are_read_back(rt: HostRuntime) -> Result<(), Fail> {
+    let text = long_text(&rt)?;
+    is_read_back(&rt, Format::Two { approval: true }, &text)
+}
+
+#[test]
+fn rows_are_given_back(rt: HostRuntime) -> Result<(), Fail> {
+    let rows = many_rows(rt.alloc())?.into_rows();
+    assert_eq!(rt; rows.len(), 200);
     Ok(())
 }
 
@@ -201,7 +270,7 @@ fn refuses(rt: &(impl Abort + AllocGlobal), text: &[u8]) {
 }
 
 // The bytes of a later version with one row, which has a reason, in format 1 (254 of them) and format 2 (260), as Python
-// wrote them by the rule of docs/VERSIONS.md.
+// wrote them by the rule of docs/FORMATS.md.
 const LATER_VERSION: &[u8] = b"11:labrecord 1\n4:aqua\n1:1\n1:2\n5:water\n1:1\n2:S1\n\
     64:ba7816bf8f01cfea414140de5dae2223b00361a396177a9cb410ff61f20015ad\n3:why\n3:dan\n\
     20:1970-01-01T00:16:40Z\n1:1\n2:ph\n25:7,5 \xc2\xb5S\nafter calibration\n6:\xc2\xb5S/cm\n\
@@ -212,48 +281,74 @@ const LATER_NEWER_VERSION: &[u8] = b"11:labrecord 2\n4:aqua\n1:1\n1:2\n5:water\n
     20:1970-01-01T00:16:40Z\n1:1\n2:ph\n25:7,5 \xc2\xb5S\nafter calibration\n6:\xc2\xb5S/cm\n\
     5:eve-2\n20:2024-02-29T23:59:59Z\n20:misread: 7.5\nnot 5.7\n";
 
+// The row of `LATER_VERSION`.
+fn is_row_with_a_reason(rt: &impl Abort, row: &EntryRow) {
+    assert_eq!(rt; row.key.as_str(), "ph");
+    assert_eq!(rt; row.value.as_str(), "7,5 \u{b5}S\nafter calibration");
+    assert_eq!(rt; row.unit.as_str(), "\u{b5}S/cm");
+    assert_eq!(rt; row.person.as_str(), "eve-2");
+    assert_eq!(rt; row.moment.seconds(), 1_709_251_199);
+    match &row.reason {
+        Some(reason) => assert_eq!(rt; reason.as_str(), "misread: 7.5\nnot 5.7"),
+        None => panic!(rt; "no reason"),
+    }
+}
+
 #[test]
 fn a_row_that_has_a_reason_is_read(rt: HostRuntime) -> Result<(), Fail> {
     let version = read_version(rt.alloc(), LATER_VERSION)?;
-    let [row] = version.rows.rows() else {
-        panic!(rt; "not one row");
-    };
-    let copy = row.copy()?;
-    for row in [row, &copy] {
-        assert_eq!(rt; row.key.as_str(), "ph");
-        assert_eq!(rt; row.value.as_str(), "7,5 \u{b5}S\nafter calibration");
-        assert_eq!(rt; row.unit.as_str(), "\u{b5}S/cm");
-        assert_eq!(rt; row.person.as_str(), "eve-2");
-        assert_eq!(rt; row.moment.seconds(), 1_709_251_199);
-        match &row.reason {
-            Some(reason) => assert_eq!(rt; reason.as_str(), "misread: 7.5\nnot 5.7"),
-            None => panic!(rt; "no reason"),
-        }
-    }
+    is_row_with_a_reason(&rt, row_in(&rt, &version));
     Ok(())
+}
+
+#[test]
+fn a_row_is_copied(rt: HostRuntime) -> Result<(), Fail> {
+    let version = read_version(rt.alloc(), LATER_VERSION)?;
+    let copy = row_in(&rt, &version).copy()?;
+    is_row_with_a_reason(&rt, &copy);
+    Ok(())
+}
+
+// What `LATER_NEWER_VERSION` amends.
+fn amends_abc(rt: &impl Abort, amendment: &Amendment) {
+    assert_eq!(rt; amendment.previous, digest(b"abc"));
+    assert_eq!(rt; amendment.reason.as_str(), "why");
+}
+
+fn amendment_in<'a>(rt: &impl Abort, version: &'a VersionParts) -> &'a Amendment {
+    match version.origin.amendment() {
+        Some(amendment) => amendment,
+        None => panic!(rt; "no amendment"),
+    }
 }
 
 #[test]
 fn what_a_later_version_amends_is_read(rt: HostRuntime) -> Result<(), Fail> {
     let version = read_version(rt.alloc(), LATER_NEWER_VERSION)?;
-    assert_eq!(rt; version.format, Format::Two { approval: true });
-    assert_eq!(rt; version.origin.number().get(), 2);
-    let Some(amendment) = version.origin.amendment() else {
-        panic!(rt; "no amendment");
-    };
-    let copy = amendment.copy()?;
-    assert_eq!(rt; copy.previous, digest(b"abc"));
-    assert_eq!(rt; copy.reason.as_str(), "why");
+    amends_abc(&rt, amendment_in(&rt, &version));
     Ok(())
 }
 
 #[test]
-fn a_first_version_amends_none(rt: HostRuntime) -> Result<(), Fail> {
+fn an_amendment_is_copied(rt: HostRuntime) -> Result<(), Fail> {
+    let version = read_version(rt.alloc(), LATER_NEWER_VERSION)?;
+    let copy = amendment_in(&rt, &version).copy()?;
+    amends_abc(&rt, &copy);
+    Ok(())
+}
+
+#[test]
+fn number_1_amends_none(rt: HostRuntime) -> Result<(), Fail> {
     let amendment = Amendment {
         previous: digest(b"abc"),
         reason: Note::parse(rt.alloc(), "why")?,
     };
     assert!(rt; Origin::amending(Ordinal::FIRST, amendment).is_none());
+    Ok(())
+}
+
+#[test]
+fn a_first_origin_is_copied(rt: HostRuntime) -> Result<(), Fail> {
     let copy = Origin::first().copy()?;
     assert_eq!(rt; copy.number(), Ordinal::FIRST);
     assert!(rt; copy.amendment().is_none());
@@ -336,6 +431,11 @@ fn other_subjects_are_refused(rt: HostRuntime) -> Result<(), Fail> {
             &joined(rt.alloc(), [HEADING, subject, ORIGIN, OPENING])?,
         );
     }
+    Ok(())
+}
+
+#[test]
+fn other_subjects_of_format_2_are_refused(rt: HostRuntime) -> Result<(), Fail> {
     let newer = b"11:labrecord 2\n4:aqua\n1:1\n1:1\n";
     let subjects: [&[u8]; 3] = [
         b"5:water\n1:1\n2:S1\n",
@@ -370,7 +470,7 @@ fn other_origins_and_openings_are_refused(rt: HostRuntime) -> Result<(), Fail> {
 
 // A later version needs the 64 lower hexadecimal digits of a digest, and a reason.
 #[test]
-fn later_versions_are_read_exactly(rt: HostRuntime) -> Result<(), Fail> {
+fn other_origins_of_later_versions_are_refused(rt: HostRuntime) -> Result<(), Fail> {
     let heading = b"11:labrecord 1\n4:aqua\n10:1000000000\n1:2\n".as_slice();
     let origins: [&[u8]; 2] = [
         b"64:BA7816BF8F01CFEA414140DE5DAE2223B00361A396177A9CB410FF61F20015AD\n3:why\n",
@@ -382,24 +482,39 @@ fn later_versions_are_read_exactly(rt: HostRuntime) -> Result<(), Fail> {
             &joined(rt.alloc(), [heading, SUBJECT, origin, OPENING])?,
         );
     }
-    let origin = b"64:ba7816bf8f01cfea414140de5dae2223b00361a396177a9cb410ff61f20015ad\n3:why\n";
-    let text = joined(rt.alloc(), [heading, SUBJECT, origin, OPENING])?;
-    let version = read_version(rt.alloc(), &text)?;
-    assert_eq!(rt; version.record_number.get(), 1_000_000_000);
-    assert_eq!(rt; version.origin.number().get(), 2);
     Ok(())
 }
 
 #[test]
-fn faults_of_texts_have_numbers_and_words(rt: HostRuntime) -> Result<(), Fail> {
-    let bad = TextFault::BadText;
-    assert_eq!(rt; bad.number(), Some(11));
-    assert_eq!(rt; bad.word(), "bad_text");
-    assert_eq!(rt; format!(in rt.alloc(); "{bad}")?.as_str(), "bad_text");
-    let memory = TextFault::Memory(OutOfMemory);
-    assert_eq!(rt; memory.number(), Some(90));
-    assert_eq!(rt; memory.word(), "memory");
-    assert_eq!(rt; format!(in rt.alloc(); "{memory}")?.as_str(), "memory");
-    one_spelling();
+fn the_last_record_number_is_read(rt: HostRuntime) -> Result<(), Fail> {
+    let heading = b"11:labrecord 1\n4:aqua\n10:1000000000\n1:1\n".as_slice();
+    let text = joined(rt.alloc(), [heading, SUBJECT, ORIGIN, OPENING])?;
+    let version = read_version(rt.alloc(), &text)?;
+    assert_eq!(rt; version.record_number.get(), 1_000_000_000);
     Ok(())
+}
+
+#[test]
+fn faults_of_texts_have_numbers_and_words(rt: HostRuntime) {
+    let faults = [
+        (TextFault::BadText, 11, "bad_text"),
+        (TextFault::Memory(OutOfMemory), 90, "memory"),
+    ];
+    for (fault, number, word) in faults {
+        assert_eq!(rt; fault.number(), Some(number));
+        assert_eq!(rt; fault.word(), word);
+    }
+    one_spelling();
+}
+
+fn prints(rt: &(impl Abort + AllocGlobal), fault: TextFault, expected: &str) -> Result<(), Fail> {
+    let printed = format!(in rt.alloc(); "{fault}")?;
+    assert_eq!(rt; printed.as_str(), expected);
+    Ok(())
+}
+
+#[test]
+fn faults_of_texts_print_their_words(rt: HostRuntime) -> Result<(), Fail> {
+    prints(&rt, TextFault::BadText, "bad_text")?;
+    prints(&rt, TextFault::Memory(OutOfMemory), "memory")
 }

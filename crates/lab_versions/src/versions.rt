@@ -120,7 +120,8 @@ fn push_approval(text: &mut Vec<u8>, format: Format) -> Result<(), OutOfMemory>
 
 #[tactic(auto, unfolding(crate::specs::Versions::origin_text))]
 fn push_origin(text: &mut Vec<u8>, origin: &Origin) -> Result<(), OutOfMemory>
-    ensures text { OnOk result (text.new.items ≡ text.old.items ++ origin_text origin.now.amendment) }
+    ensures text { OnOk result (text.new.items
+        ≡ text.old.items ++ origin_text origin.now.amendment) }
     ensures origin { IfOk result (λ _. IsOrigin origin.now) }
 {
     let Some(amendment) = origin.amendment() else {
