@@ -7,6 +7,8 @@ mod seals;
 mod states;
 #[cfg(test)]
 mod tests;
+#[cfg(test)]
+mod version_tests;
 
 pub use lab_versions::{
     Amendment, Digest, EntryRow, EntryRows, Format, Half, Key, LabCode, Moment, Name, NameFault,

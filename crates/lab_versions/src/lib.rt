@@ -7,8 +7,6 @@ mod items;
 mod origins;
 mod reading;
 mod rows;
-#[cfg(test)]
-mod tests;
 mod versions;
 
 pub use faults::TextFault;

@@ -1,3 +1,4 @@
+//! The texts of versions, which `lab_versions` writes and reads.
 use crate::{
     Amendment, EntryRow, EntryRows, Format, Key, LabCode, Moment, Name, Note, Ordinal, Origin,
     OutOfMemory, PersonCode, TextFault, Unit, VersionParts, digest, one_spelling, read_version,
