@@ -1,5 +1,6 @@
 use crate::{
-    Digest, LabCode, Meaning, Moment, Name, Note, PersonCode, Seal, SealParts, State, seal, state_of,
+    Digest, LabCode, Meaning, Moment, Name, Note, PersonCode, Seal, SealParts, State, seal,
+    state_of,
 };
 use std::alloc::Global;
 use std::process::Abort;

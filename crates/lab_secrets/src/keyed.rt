@@ -50,7 +50,7 @@ impl KeyedHash {
     // HMAC of a text in two parts under the key.
     pub(crate) fn tag_of_parts(&self, first: &[u8], second: &[u8]) -> [u8; 32]
         ensures { (key : List ℕ) → IsKeyed key self.now → result
-                ≡ hmac_sha256 key (first.now ++ second.now) }
+            ≡ hmac_sha256 key (first.now ++ second.now) }
     {
         self.finish(
             copy_of(&self.inner)
@@ -62,7 +62,7 @@ impl KeyedHash {
     // HMAC of the text that the inner hasher has taken in after the key's inner block.
     fn finish(&self, inner: Sha256) -> [u8; 32]
         ensures { (key text : List ℕ) → IsKeyed key self.now
-                → Holds256 inner (inner_block key ++ text)
+            → Holds256 inner (inner_block key ++ text)
             → result ≡ hmac_sha256 key text }
     {
         let digest = inner.finalize();
