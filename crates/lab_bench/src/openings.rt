@@ -2,7 +2,7 @@
 
 use anyhow::Result;
 use lab_names::{Moment, Name, PersonCode, Tick};
-use lab_people::{Password, Person, ROUNDS, Roles, open_session};
+use lab_people::{Opened, Password, Person, ROUNDS, Roles, open_session};
 use lab_seal::pbkdf2;
 use std::alloc::Global;
 
@@ -23,6 +23,18 @@ fn person(alloc: Global) -> Result<Person> {
     })
 }
 
+// Opens one session more of the person, and answers the person as it is then, and the session's number.
+fn open_again(person: Person, tick: &Tick, sessions: u32) -> Result<(Person, u32)> {
+    let code = person.code.copy()?;
+    let Opened {
+        person,
+        session,
+        ..
+    } = open_session(code, Some(person), PASSWORD, tick, sessions, None)?;
+    let number = session.number.get();
+    Ok((person, number))
+}
+
 /// Opens so many sessions of one person, and answers the sum of their numbers.
 pub(crate) fn open_sessions(alloc: Global, calls: u32) -> Result<u64> {
     let mut dan = person(alloc)?;
@@ -32,10 +44,9 @@ pub(crate) fn open_sessions(alloc: Global, calls: u32) -> Result<u64> {
     };
     let mut sum = 0u64;
     for call in 0..calls {
-        let code = dan.code.copy()?;
-        let opened = open_session(code, Some(dan), PASSWORD, &tick, call, None)?;
-        sum = sum.wrapping_add(u64::from(opened.session.number.get()));
-        dan = opened.person;
+        let (next, number) = open_again(dan, &tick, call)?;
+        dan = next;
+        sum = sum.wrapping_add(u64::from(number));
     }
     Ok(sum)
 }
