@@ -1,0 +1,121 @@
+-- What a laboratory keeps from one event to the next (21 CFR 11.10(e), "record changes shall not obscure
+-- previously recorded information", and 11.100(a), a signature is not reassigned), and what the trail
+-- tells where its records differ.
+use Rattle.std.specs.Prelude.{◌≡◌, ◌⊎◌, ℕ, ◌+◌, List, [], ◌∷◌, ◌++◌, length, Option, Some, None}
+use Rattle.lab_versions.specs.declared.rows.EntryRow.{EntryRow}
+use Rattle.lab_kept.specs.declared.records.FormVersion.{FormVersion}
+use Rattle.lab_kept.specs.declared.records.Record.{Record as KeptRecord}
+use Rattle.lab_kept.specs.declared.records.Version.{Version}
+use Rattle.lab_kept.specs.declared.records.Signature.{Signature}
+use Rattle.lab_kept.specs.declared.trails.TrailRow.{TrailRow}
+use Rattle.lab_kept.specs.declared.trails.Deed.{Deed}
+use Rattle.lab_kept.specs.declared.trails.Deed.TheVariants.{Record, Entry, Amend, Sign}
+use Rattle.lab_kept.specs.declared.labs.Lab.{Lab}
+use Rattle.lab_kept.specs.Trails.{row_of}
+use Rattle.lab_kept.specs.Changes.{SamePerson, SameSession, in_record, entered_in, opened_in, signed_in}
+
+-- each item of the old list stands in its place in the new one, related to it so; the new one may have
+-- more
+abbrev pub Extends : {A : Type 0} → (A → A → Type 0) → List A → List A → Type 0
+Extends Same [] new = Unit {0}
+Extends Same (one ∷ others) [] = ⊥
+Extends Same (one ∷ others) (other ∷ more) = Same one other × Extends Same others more
+
+-- each item of the old list is the one in its place in the new one
+abbrev pub IsPrefix : {A : Type 0} → List A → List A → Type 0
+IsPrefix old new = Extends (λ one other. other ≡ one) old new
+
+-- the rows stay; where nothing was signed yet there may be more
+abbrev pub KeepsRows : List Signature → List EntryRow → List EntryRow → Type 0
+KeepsRows [] old new = IsPrefix old new
+KeepsRows (one ∷ others) old new = new ≡ old
+
+-- a version keeps what it says and its signatures, and takes rows only while it has no signature
+pub record KeepsVersion (old new : Version) : Type 0 where
+  pub format : new.format ≡ old.format
+  pub origin : new.origin ≡ old.origin
+  pub opener : new.opener ≡ old.opener
+  pub opened : new.opened ≡ old.opened
+  pub rows : KeepsRows old.signatures old.rows new.rows
+  pub signatures : IsPrefix old.signatures new.signatures
+
+-- a record keeps what it is about and its versions
+pub record KeepsRecord (old new : KeptRecord) : Type 0 where
+  pub number : new.number ≡ old.number
+  pub form : new.form ≡ old.form
+  pub sample : new.sample ≡ old.sample
+  pub versions : Extends KeepsVersion old.versions new.versions
+
+-- ---- what the trail tells
+
+-- a record was opened by the person at the moment: it has one version, without rows and signatures
+pub record IsOpenedBy (kept : KeptRecord) (number moment : ℕ) (person : List ℕ) : Type 0 where
+  pub numbered : kept.number ≡ number
+  pub first : Version
+  pub versions : kept.versions ≡ first ∷ []
+  pub opener : first.opener ≡ person
+  pub opened : first.opened ≡ moment
+  pub no_rows : first.rows ≡ []
+  pub no_signatures : first.signatures ≡ []
+
+-- Records became others by a deed of the person at the moment.
+
+pub record IsRecordAdded (old new : List KeptRecord) (number moment : ℕ) (person : List ℕ)
+    : Type 0 where
+  pub kept : KeptRecord
+  pub added : new ≡ old ++ kept ∷ []
+  pub opened : IsOpenedBy kept number moment person
+
+pub record IsRowAdded (old new : List KeptRecord) (number : ℕ) (key : List ℕ) (moment : ℕ)
+    (person : List ℕ) : Type 0 where
+  pub row : EntryRow
+  pub added : new ≡ in_record number (entered_in row) old
+  pub under : row.key ≡ key
+  pub by : row.person ≡ person
+  pub at : row.moment ≡ moment
+
+pub record IsVersionAdded (old new : List KeptRecord) (number version moment : ℕ)
+    (person : List ℕ) : Type 0 where
+  pub opened : Version
+  pub added : new ≡ in_record number (opened_in opened) old
+  pub numbered : opened.origin.number ≡ version
+  pub by : opened.opener ≡ person
+  pub at : opened.opened ≡ moment
+
+pub record IsSignatureAdded (old new : List KeptRecord) (number moment : ℕ) (person : List ℕ)
+    : Type 0 where
+  pub signature : Signature
+  pub added : new ≡ in_record number (signed_in signature) old
+  pub by : signature.person ≡ person
+  pub at : signature.moment ≡ moment
+
+-- by which deed, or by none
+abbrev pub IsDoneTo : Deed → List KeptRecord → List KeptRecord → ℕ → List ℕ → Type 0
+IsDoneTo (Record number) old new moment person = IsRecordAdded old new number moment person
+IsDoneTo (Entry number version key) old new moment person =
+    IsRowAdded old new number key moment person
+IsDoneTo (Amend number version) old new moment person =
+    IsVersionAdded old new number version moment person
+IsDoneTo (Sign number version meaning) old new moment person =
+    IsSignatureAdded old new number moment person
+IsDoneTo _ old new moment person = new ≡ old
+
+-- the trail has one row more, which tells by what deed, by whom and when the records became others
+pub record IsToldOnce (old new : Lab) : Type 0 where
+  pub deed : Deed
+  pub moment : ℕ
+  pub person : List ℕ
+  pub told : new.trail ≡ old.trail ++ row_of (length old.trail + 1) moment (Some person) deed ∷ []
+  pub done : IsDoneTo deed old.records new.records moment person
+
+-- ---- a laboratory keeps the one before
+
+pub record Keeps (old new : Lab) : Type 0 where
+  pub code : new.code ≡ old.code
+  pub name : new.name ≡ old.name
+  pub persons : Extends SamePerson old.persons new.persons
+  pub sessions : Extends SameSession old.sessions new.sessions
+  pub forms : IsPrefix old.forms new.forms
+  pub records : Extends KeepsRecord old.records new.records
+  pub trail : IsPrefix old.trail new.trail
+  pub told : (new.records ≡ old.records) ⊎ IsToldOnce old new

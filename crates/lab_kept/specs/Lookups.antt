@@ -1,0 +1,75 @@
+-- Who and what is meant by a code or a number.
+use Rattle.std.specs.Prelude.{ℕ, Bool, ◌&&◌, ◌==◌, ◌-◌, nat_le, List, length, reverse, find, filter, Option, Some, None, slice_get, bytes_eq}
+use Rattle.lab_access.specs.declared.persons.Person.{Person}
+use Rattle.lab_access.specs.declared.sessions.Session.{Session}
+use Rattle.lab_access.specs.Persons.{person_of}
+use Rattle.lab_access.specs.Sessions.{session_of}
+use Rattle.lab_kept.specs.declared.records.FormVersion.{FormVersion}
+use Rattle.lab_kept.specs.declared.records.Record.{Record}
+use Rattle.lab_kept.specs.declared.records.Version.{Version}
+use Rattle.lab_kept.specs.declared.trails.TrailRow.{TrailRow}
+use Rattle.lab_kept.specs.declared.labs.Lab.{Lab}
+
+-- the last of a list
+abbrev pub last_of : {A : Type 0} → List A → Option A
+last_of list = slice_get list (length list - 1)
+
+-- the session whose token has the digest, open or closed
+abbrev pub session_at : Lab → List ℕ → Option Session
+session_at lab digest = session_of lab.sessions digest
+
+-- who has the code, or had it
+abbrev pub person_at : Lab → List ℕ → Option Person
+person_at lab code = person_of lab.persons code
+
+-- whose session it is
+abbrev pub caller_of : Lab → Option Session → Option Person
+caller_of lab None = None
+caller_of lab (Some session) = person_at lab session.person
+
+-- a version is one of the form of the code
+abbrev pub is_version_of : List ℕ → FormVersion → Bool
+is_version_of code one = bytes_eq one.code code
+
+-- the last version of a form: the one that was made last
+abbrev pub last_form : List FormVersion → List ℕ → Option FormVersion
+last_form forms code = find (is_version_of code) (reverse forms)
+
+-- the version of a form that has the number
+abbrev pub is_form_version : List ℕ → ℕ → FormVersion → Bool
+is_form_version code version one = is_version_of code one && (one.version == version)
+
+abbrev pub exact_form : List FormVersion → List ℕ → ℕ → Option FormVersion
+exact_form forms code version = find (is_form_version code version) forms
+
+-- the record of a number
+abbrev pub has_number : ℕ → Record → Bool
+has_number number kept = kept.number == number
+
+abbrev pub record_of : List Record → ℕ → Option Record
+record_of records number = find (has_number number) records
+
+-- the record of a form and a sample, whatever the form's version
+abbrev pub is_about : List ℕ → List ℕ → Record → Bool
+is_about form sample kept = bytes_eq kept.form.code form && bytes_eq kept.sample sample
+
+abbrev pub record_about : List Record → List ℕ → List ℕ → Option Record
+record_about records form sample = find (is_about form sample) records
+
+-- the version of a record that has the number
+abbrev pub is_numbered : ℕ → Version → Bool
+is_numbered number version = version.origin.number == number
+
+abbrev pub version_of : List Version → ℕ → Option Version
+version_of versions number = find (is_numbered number) versions
+
+-- a number lies from one to another
+abbrev pub is_within : ℕ → ℕ → ℕ → Bool
+is_within from to number = nat_le from number && nat_le number to
+
+-- the records of a range, and the rows of the trail of one
+abbrev pub records_within : ℕ → ℕ → List Record → List Record
+records_within from to records = filter (λ kept. is_within from to kept.number) records
+
+abbrev pub rows_within : ℕ → ℕ → List TrailRow → List TrailRow
+rows_within from to trail = filter (λ row. is_within from to row.number) trail

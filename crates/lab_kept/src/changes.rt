@@ -1,0 +1,40 @@
+//! The changes that are made of a laboratory.
+use crate::records::{FormVersion, Record, Signature, Version};
+use crate::trails::TrailRow;
+use lab_access::{Closing, Person, Session};
+use lab_names::{Moment, Ordinal, PersonCode};
+use lab_seal::EntryRow;
+
+/// One change of a laboratory.
+#[derive(Clone, Debug, Drop)]
+pub enum Change {
+    /// The moment of the last activity becomes this one.
+    Last(Moment),
+    /// The number of passwords that were nobody's becomes this one.
+    Strays(u64),
+    /// A person is added.
+    PersonAdded(Person),
+    /// The person of that code becomes this one.
+    PersonSet(Person),
+    /// A session is added.
+    SessionAdded(Session),
+    /// The session of that token becomes this one.
+    SessionSet(Session),
+    /// Sessions of the person are closed.
+    SessionsClosed { person: PersonCode, closing: Closing },
+    /// A version of a form is added.
+    FormAdded(FormVersion),
+    /// A record is added, with its first version.
+    RecordAdded(Record),
+    /// A row is added to the last version of the record.
+    RowAdded { record: Ordinal, row: EntryRow },
+    /// A version of the record is opened.
+    VersionOpened { record: Ordinal, version: Version },
+    /// The last version of the record is signed.
+    SignatureAdded {
+        record: Ordinal,
+        signature: Signature,
+    },
+    /// A row is added to the trail.
+    TrailAdded(TrailRow),
+}

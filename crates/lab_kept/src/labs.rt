@@ -1,0 +1,39 @@
+//! One laboratory, whole.
+ghost use Rattle.std.specs.Prelude.{◌≡◌, IfOk};
+
+use crate::records::{FormVersion, Record};
+use crate::trails::TrailRow;
+use lab_access::{Person, Session};
+use lab_names::{LabCode, Moment, Name, OutOfMemory, Series};
+
+/// One laboratory, whole.
+#[derive(Clone, Debug, Drop)]
+pub struct Lab {
+    /// The code by which requests name it.
+    pub code: LabCode,
+    /// Its name, as founded.
+    pub name: Name,
+    /// The moment of its last activity; no later request may come before it.
+    pub last: Moment,
+    /// How many passwords were refused that were nobody's.
+    pub strays: u64,
+    /// Its persons, in the order in which they were enrolled.
+    pub persons: Series<Person>,
+    /// Its sessions, by number.
+    pub sessions: Series<Session>,
+    /// The versions of its forms, in the order in which they were made.
+    pub forms: Series<FormVersion>,
+    /// Its records, by number.
+    pub records: Series<Record>,
+    /// Its trail, by number.
+    pub trail: Series<TrailRow>,
+}
+
+impl Lab {
+    /// A copy. The only error is out of memory.
+    pub fn copy(&self) -> Result<Lab, OutOfMemory>
+        ensures { IfOk result (λ copy. copy ≡ self.now) }
+    {
+        Ok(self.clone()?)
+    }
+}

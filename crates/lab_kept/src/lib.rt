@@ -1,0 +1,25 @@
+//! What is kept of a laboratory: its persons and sessions, forms, records with their versions and signatures, and its
+//! trail; which part of it a command needs, and which changes are made of it (ISO/IEC 17025:2017, 7.5 and 8.4). It knows
+//! no command, no bytes of a request and no tables. The names of the crates below that these types are made of are passed
+//! on.
+#![tactic(auto)]
+
+mod changes;
+mod labs;
+mod needs;
+mod records;
+mod trails;
+
+pub use changes::Change;
+pub use lab_access::{Ask, Closing, Password, Person, Role, Roles, Session};
+pub use lab_forms::{Bound, Choices, Field, Form, FormRefusal, Kind, Value};
+pub use lab_seal::{
+    Amendment, Digest, EntryRow, EntryRows, Format, Key, LabCode, Meaning, Moment, Name, Note,
+    Ordinal, Origin, OriginParts, OutOfMemory, PersonCode, Seal, SealParts, State, Unit,
+    VersionParts,
+};
+pub use lab_names::Series;
+pub use labs::Lab;
+pub use needs::{Counts, FormWanted, ListWanted, Need, RecordWanted, Slice};
+pub use records::{FormVersion, Record, Signature, Version};
+pub use trails::{Action, Deed, Occasion, Subject, TrailRow};

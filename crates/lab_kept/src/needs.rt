@@ -1,0 +1,94 @@
+//! Which part of a laboratory is needed, and that part.
+use crate::records::{FormVersion, Record};
+use crate::trails::TrailRow;
+use lab_access::{Person, Session};
+use lab_names::{Key, LabCode, Moment, Name, Ordinal, PersonCode, Series};
+use lab_seal::Digest;
+
+/// Which version of a form is needed.
+#[derive(Clone, Debug, Drop)]
+pub enum FormWanted {
+    /// The last version of the form.
+    Last { code: Key },
+    /// The version of the number.
+    Exact { code: Key, version: Ordinal },
+}
+
+/// Which record is needed.
+#[derive(Clone, Debug, Drop)]
+pub enum RecordWanted {
+    /// The record of the number.
+    Numbered { number: Ordinal },
+    /// The record of the form and the sample, whatever the form's version.
+    About { form: Key, sample: Name },
+}
+
+/// Which list is needed.
+#[derive(Clone, Copy, Debug, PartialEq, Eq)]
+pub enum ListWanted {
+    /// All persons.
+    Persons,
+    /// The records from a number to a number.
+    Records { from: Ordinal, to: Ordinal },
+    /// The rows of the trail from a number to a number.
+    Trail { from: Ordinal, to: Ordinal },
+}
+
+/// Which part of a laboratory is needed. Nothing else of it is.
+#[derive(Clone, Debug, Drop)]
+pub struct Need {
+    /// The session whose token has the digest, and its person.
+    pub token: Option<Digest>,
+    /// The person of the code.
+    pub person: Option<PersonCode>,
+    /// A version of a form.
+    pub form: Option<FormWanted>,
+    /// A record.
+    pub filed: Option<RecordWanted>,
+    /// A list.
+    pub list: Option<ListWanted>,
+}
+
+/// How many a laboratory has.
+#[derive(Clone, Copy, Debug, PartialEq, Eq)]
+pub struct Counts {
+    /// Persons, retired ones too.
+    pub persons: u64,
+    /// Sessions, closed ones too.
+    pub sessions: u64,
+    /// Records.
+    pub records: u64,
+    /// Rows of the trail.
+    pub trail: u64,
+}
+
+/// A part of a laboratory.
+#[derive(Clone, Debug, Drop)]
+pub struct Slice {
+    /// The laboratory's code.
+    pub code: LabCode,
+    /// Its name.
+    pub name: Name,
+    /// The moment of its last activity.
+    pub last: Moment,
+    /// How many passwords were refused that were nobody's.
+    pub strays: u64,
+    /// How many persons, sessions, records and rows of the trail it has.
+    pub counts: Counts,
+    /// The session that is needed, where it is there.
+    pub session: Option<Session>,
+    /// The person of that session.
+    pub caller: Option<Person>,
+    /// The person who is needed, where somebody has or had the code.
+    pub person: Option<Person>,
+    /// The version of a form that is needed, where it is there.
+    pub form: Option<FormVersion>,
+    /// The record that is needed, where it is there.
+    pub filed: Option<Record>,
+    /// The persons that are needed.
+    pub persons: Series<Person>,
+    /// The records that are needed.
+    pub records: Series<Record>,
+    /// The rows of the trail that are needed.
+    pub trail: Series<TrailRow>,
+}
