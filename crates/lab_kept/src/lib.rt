@@ -6,20 +6,23 @@
 
 mod changes;
 mod labs;
+mod laws;
 mod needs;
 mod records;
+mod subjects;
 mod trails;
 
 pub use changes::Change;
 pub use lab_access::{Ask, Closing, Password, Person, Role, Roles, Session};
 pub use lab_forms::{Bound, Choices, Field, Form, FormRefusal, Kind, Value};
+pub use lab_names::Series;
 pub use lab_seal::{
     Amendment, Digest, EntryRow, EntryRows, Format, Key, LabCode, Meaning, Moment, Name, Note,
     Ordinal, Origin, OriginParts, OutOfMemory, PersonCode, Seal, SealParts, State, Unit,
     VersionParts,
 };
-pub use lab_names::Series;
 pub use labs::Lab;
+pub use laws::what_is_released;
 pub use needs::{Counts, FormWanted, ListWanted, Need, RecordWanted, Slice};
 pub use records::{FormVersion, Record, Signature, Version};
 pub use trails::{Action, Deed, Occasion, Subject, TrailRow};
