@@ -2,6 +2,9 @@
 -- number, or sets what is there; none takes anything away (21 CFR 11.10(e), "record changes shall not
 -- obscure previously recorded information").
 use Rattle.std.specs.Prelude.{◌≡◌, ℕ, ◌+◌, List, [], ◌∷◌, ◌++◌, length, Option, Some, None, IsSome, MatchOption, bytes_eq, if◌then◌else◌}
+use Rattle.std.specs.Prelude.{Bool, true, false}
+use Rattle.std.specs.Ordering.{nat_cmp, match_ordering}
+use Rattle.std.specs.Cmp.Lexicographic.{slice_cmp}
 use Rattle.lab_access.specs.declared.persons.Person.{Person}
 use Rattle.lab_access.specs.declared.sessions.Session.{Session}
 use Rattle.lab_access.specs.Persons.{person_of}
@@ -16,6 +19,24 @@ use Rattle.lab_kept.specs.declared.labs.Lab.{Lab}
 use Rattle.lab_kept.specs.declared.changes.Change.{Change}
 use Rattle.lab_kept.specs.declared.changes.Change.TheVariants.{Last, Strays, PersonAdded, PersonSet, SessionAdded, SessionSet, SessionsClosed, FormAdded, RecordAdded, RowAdded, VersionOpened, SignatureAdded, TrailAdded}
 use Rattle.lab_kept.specs.Lookups.{last_form, exact_form, has_number, record_of, record_about, last_of}
+
+-- one text comes before another in the order of their bytes
+abbrev pub comes_before : List ℕ → List ℕ → Bool
+comes_before one other = match_ordering (slice_cmp nat_cmp one other) true false false
+
+-- a person is added: persons stand in the order of their codes
+abbrev pub added_person : Person → List Person → List Person
+added_person person [] = person ∷ []
+added_person person (one ∷ others) =
+    if comes_before person.code one.code then person ∷ one ∷ others
+    else one ∷ added_person person others
+
+-- a version of a form is added, after all of its code and before all of later codes
+abbrev pub added_form : FormVersion → List FormVersion → List FormVersion
+added_form form [] = form ∷ []
+added_form form (one ∷ others) =
+    if comes_before form.code one.code then form ∷ one ∷ others
+    else one ∷ added_form form others
 
 -- the person takes the place of the one of the same code
 abbrev pub with_person : Person → List Person → List Person
@@ -65,13 +86,13 @@ opened_in version kept = record kept { versions = kept.versions ++ version ∷ [
 abbrev pub change : Lab → Change → Lab
 change lab (Last moment) = record lab { last = moment }
 change lab (Strays count) = record lab { strays = count }
-change lab (PersonAdded person) = record lab { persons = lab.persons ++ person ∷ [] }
+change lab (PersonAdded person) = record lab { persons = added_person person lab.persons }
 change lab (PersonSet person) = record lab { persons = with_person person lab.persons }
 change lab (SessionAdded session) = record lab { sessions = lab.sessions ++ session ∷ [] }
 change lab (SessionSet session) = record lab { sessions = with_session session lab.sessions }
 change lab (SessionsClosed person closing) =
     record lab { sessions = sessions_after closing person lab.sessions }
-change lab (FormAdded form) = record lab { forms = lab.forms ++ form ∷ [] }
+change lab (FormAdded form) = record lab { forms = added_form form lab.forms }
 change lab (RecordAdded kept) = record lab { records = lab.records ++ kept ∷ [] }
 change lab (RowAdded number row) =
     record lab { records = in_record number (entered_in row) lab.records }

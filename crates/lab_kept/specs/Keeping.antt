@@ -1,7 +1,9 @@
 -- What a laboratory keeps from one event to the next (21 CFR 11.10(e), "record changes shall not obscure
 -- previously recorded information", and 11.100(a), a signature is not reassigned), and what the trail
 -- tells where its records differ.
-use Rattle.std.specs.Prelude.{◌≡◌, ◌⊎◌, ℕ, ◌+◌, List, [], ◌∷◌, ◌++◌, length, Option, Some, None}
+use Rattle.std.specs.Prelude.{◌≡◌, ◌⊎◌, ℕ, ◌+◌, List, [], ◌∷◌, ◌++◌, length, Option, Some, None, MatchOption}
+use Rattle.lab_access.specs.declared.persons.Person.{Person}
+use Rattle.lab_access.specs.Persons.{person_of}
 use Rattle.lab_versions.specs.declared.rows.EntryRow.{EntryRow}
 use Rattle.lab_kept.specs.declared.records.FormVersion.{FormVersion}
 use Rattle.lab_kept.specs.declared.records.Record.{Record as KeptRecord}
@@ -12,6 +14,7 @@ use Rattle.lab_kept.specs.declared.trails.Deed.{Deed}
 use Rattle.lab_kept.specs.declared.trails.Deed.TheVariants.{Record, Entry, Amend, Sign}
 use Rattle.lab_kept.specs.declared.labs.Lab.{Lab}
 use Rattle.lab_kept.specs.Trails.{row_of}
+use Rattle.lab_kept.specs.Lookups.{exact_form}
 use Rattle.lab_kept.specs.Changes.{SamePerson, SameSession, in_record, entered_in, opened_in, signed_in}
 
 -- each item of the old list stands in its place in the new one, related to it so; the new one may have
@@ -45,6 +48,18 @@ pub record KeepsRecord (old new : KeptRecord) : Type 0 where
   pub form : new.form ≡ old.form
   pub sample : new.sample ≡ old.sample
   pub versions : Extends KeepsVersion old.versions new.versions
+
+-- whoever had a code has it, under the same printed name
+abbrev pub KeepsPersons : List Person → List Person → Type 0
+KeepsPersons old new =
+    (code : List ℕ) (person : Person) → person_of old code ≡ Some person
+    → MatchOption (person_of new code) ⊥ (SamePerson person)
+
+-- a version of a form stays as it is
+abbrev pub KeepsForms : List FormVersion → List FormVersion → Type 0
+KeepsForms old new =
+    (code : List ℕ) (version : ℕ) (form : FormVersion) → exact_form old code version ≡ Some form
+    → exact_form new code version ≡ Some form
 
 -- ---- what the trail tells
 
@@ -113,9 +128,9 @@ pub record IsToldOnce (old new : Lab) : Type 0 where
 pub record Keeps (old new : Lab) : Type 0 where
   pub code : new.code ≡ old.code
   pub name : new.name ≡ old.name
-  pub persons : Extends SamePerson old.persons new.persons
+  pub persons : KeepsPersons old.persons new.persons
   pub sessions : Extends SameSession old.sessions new.sessions
-  pub forms : IsPrefix old.forms new.forms
+  pub forms : KeepsForms old.forms new.forms
   pub records : Extends KeepsRecord old.records new.records
   pub trail : IsPrefix old.trail new.trail
   pub told : (new.records ≡ old.records) ⊎ IsToldOnce old new

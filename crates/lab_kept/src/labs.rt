@@ -17,11 +17,11 @@ pub struct Lab {
     pub last: Moment,
     /// How many passwords were refused that were nobody's.
     pub strays: u64,
-    /// Its persons, in the order in which they were enrolled.
+    /// Its persons, in the order of their codes.
     pub persons: Series<Person>,
     /// Its sessions, by number.
     pub sessions: Series<Session>,
-    /// The versions of its forms, in the order in which they were made.
+    /// The versions of its forms, in the order of their codes and numbers.
     pub forms: Series<FormVersion>,
     /// Its records, by number.
     pub records: Series<Record>,
