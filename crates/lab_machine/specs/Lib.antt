@@ -1,0 +1,10 @@
+pub mod Refusals
+pub mod Policy
+pub mod Making
+pub mod Entering
+pub mod Signing
+pub mod Reading
+pub mod Cases
+pub mod Own
+pub mod Machine
+pub mod Needs

@@ -1,0 +1,67 @@
+-- What is read of a laboratory (21 CFR 11.10(b), "accurate and complete copies of records"): over what was
+-- looked up, the refusal, or the reply.
+use Rattle.std.specs.Prelude.{ℕ, List, map, Option, Some, None, Result, Ok, Err}
+use Rattle.lab_kept.specs.declared.records.FormVersion.{FormVersion}
+use Rattle.lab_kept.specs.declared.records.Record.{Record}
+use Rattle.lab_kept.specs.declared.records.Version.{Version}
+use Rattle.lab_kept.specs.Lookups.{last_of, version_of}
+use Rattle.lab_kept.specs.Values.{values_at, altered_at, version_state}
+use Rattle.lab_kept.specs.Digests.{digest_of}
+use Rattle.lab_seal.specs.declared.states.State.{State}
+use Rattle.lab_machine.specs.declared.refusals.Refusal.{Refusal}
+use Rattle.lab_machine.specs.declared.refusals.Refusal.TheVariants.{NoSuchForm, NoSuchRecord, NoSuchVersion}
+use Rattle.lab_machine.specs.declared.replies.Reply.{Reply}
+use Rattle.lab_machine.specs.declared.replies.Reply.TheVariants.{FormRead, RecordRead as ShowsRecord, VersionRead as ShowsVersion}
+use Rattle.lab_machine.specs.declared.replies.VersionState.{VersionState}
+use Rattle.lab_machine.specs.declared.replies.RecordRead.{RecordRead}
+use Rattle.lab_machine.specs.declared.replies.RecordState.{RecordState}
+use Rattle.lab_machine.specs.declared.replies.VersionRead.{VersionRead}
+
+-- a version of a form
+abbrev pub reading_form : Option FormVersion → Result Reply Refusal
+reading_form None = Err NoSuchForm
+reading_form (Some form) = Ok (FormRead form)
+
+-- the state and the digest of a version
+abbrev pub version_line : List ℕ → Record → Version → VersionState
+version_line lab kept version = record {
+  version = version.origin.number;
+  state = version_state kept version;
+  digest = digest_of lab kept version;
+}
+
+-- a record
+abbrev pub record_read : List ℕ → Record → RecordRead
+record_read lab kept = record { kept = kept; versions = map (version_line lab kept) kept.versions }
+
+abbrev pub reading_record : List ℕ → Option Record → Result Reply Refusal
+reading_record lab None = Err NoSuchRecord
+reading_record lab (Some kept) = Ok (ShowsRecord (record_read lab kept))
+
+-- a version of a record
+abbrev pub version_read : List ℕ → Record → Version → VersionRead
+version_read lab kept version = record {
+  kept = kept;
+  version = version.origin.number;
+  state = version_state kept version;
+  digest = digest_of lab kept version;
+  altered = altered_at kept version.origin.number;
+  values = values_at kept version.origin.number;
+}
+
+abbrev pub reading_found : List ℕ → Record → Option Version → Result Reply Refusal
+reading_found lab kept None = Err NoSuchVersion
+reading_found lab kept (Some version) = Ok (ShowsVersion (version_read lab kept version))
+
+abbrev pub reading_version : List ℕ → Option Record → ℕ → Result Reply Refusal
+reading_version lab None number = Err NoSuchRecord
+reading_version lab (Some kept) number =
+    reading_found lab kept (version_of kept.versions number)
+
+-- a record, and the state of its last version
+abbrev pub current_state : Record → Option Version → Option State
+current_state kept None = None
+current_state kept (Some version) = version_state kept version
+
+abbrev pub record_line : Record → RecordState
+record_line kept = record { kept = kept; state = current_state kept (last_of kept.versions) }
