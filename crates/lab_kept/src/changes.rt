@@ -21,15 +21,24 @@ pub enum Change {
     /// The session of that token becomes this one.
     SessionSet(Session),
     /// Sessions of the person are closed.
-    SessionsClosed { person: PersonCode, closing: Closing },
+    SessionsClosed {
+        person: PersonCode,
+        closing: Closing,
+    },
     /// A version of a form is added.
     FormAdded(FormVersion),
     /// A record is added, with its first version.
     RecordAdded(Record),
     /// A row is added to the last version of the record.
-    RowAdded { record: Ordinal, row: EntryRow },
+    RowAdded {
+        record: Ordinal,
+        row: EntryRow,
+    },
     /// A version of the record is opened.
-    VersionOpened { record: Ordinal, version: Version },
+    VersionOpened {
+        record: Ordinal,
+        version: Version,
+    },
     /// The last version of the record is signed.
     SignatureAdded {
         record: Ordinal,

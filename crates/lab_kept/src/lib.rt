@@ -6,19 +6,21 @@
 
 mod changes;
 mod labs;
+mod lookups;
 mod needs;
+mod parts;
 mod records;
 mod trails;
 
 pub use changes::Change;
 pub use lab_access::{Ask, Closing, Password, Person, Role, Roles, Session};
 pub use lab_forms::{Bound, Choices, Field, Form, FormRefusal, Kind, Value};
+pub use lab_names::Series;
 pub use lab_seal::{
     Amendment, Digest, EntryRow, EntryRows, Format, Key, LabCode, Meaning, Moment, Name, Note,
     Ordinal, Origin, OriginParts, OutOfMemory, PersonCode, Seal, SealParts, State, Unit,
     VersionParts,
 };
-pub use lab_names::Series;
 pub use labs::Lab;
 pub use needs::{Counts, FormWanted, ListWanted, Need, RecordWanted, Slice};
 pub use records::{FormVersion, Record, Signature, Version};

@@ -89,33 +89,64 @@ pub enum Occasion {
 #[derive(Clone, Debug, Drop)]
 pub enum Deed {
     /// The laboratory of the code was founded.
-    Found { lab: LabCode },
+    Found {
+        lab: LabCode,
+    },
     /// The session of the number was opened.
-    Open { session: Ordinal },
+    Open {
+        session: Ordinal,
+    },
     /// The session of the number was closed by its person.
-    Close { session: Ordinal },
+    Close {
+        session: Ordinal,
+    },
     /// A password was refused.
-    Refuse { occasion: Occasion },
+    Refuse {
+        occasion: Occasion,
+    },
     /// The person's account was locked.
-    Lock { person: PersonCode },
+    Lock {
+        person: PersonCode,
+    },
     /// The person changed the own password.
-    Password { person: PersonCode },
+    Password {
+        person: PersonCode,
+    },
     /// The person was enrolled with these roles.
-    Enrol { person: PersonCode, roles: Roles },
+    Enrol {
+        person: PersonCode,
+        roles: Roles,
+    },
     /// A one-time word was asked for, for the person.
-    Issue { person: PersonCode },
+    Issue {
+        person: PersonCode,
+    },
     /// The person's one-time word was confirmed.
-    Confirm { person: PersonCode },
+    Confirm {
+        person: PersonCode,
+    },
     /// The person was given these roles.
-    Roles { person: PersonCode, roles: Roles },
+    Roles {
+        person: PersonCode,
+        roles: Roles,
+    },
     /// The person was retired.
-    Retire { person: PersonCode },
+    Retire {
+        person: PersonCode,
+    },
     /// The person's account was unlocked.
-    Unlock { person: PersonCode },
+    Unlock {
+        person: PersonCode,
+    },
     /// The version of the form was made.
-    Form { form: Key, version: Ordinal },
+    Form {
+        form: Key,
+        version: Ordinal,
+    },
     /// The record was opened.
-    Record { record: Ordinal },
+    Record {
+        record: Ordinal,
+    },
     /// A value was entered under the key into the version of the record.
     Entry {
         record: Ordinal,
@@ -123,7 +154,10 @@ pub enum Deed {
         key: Key,
     },
     /// The version of the record was opened by an amendment.
-    Amend { record: Ordinal, version: Ordinal },
+    Amend {
+        record: Ordinal,
+        version: Ordinal,
+    },
     /// The version of the record was signed.
     Sign {
         record: Ordinal,
