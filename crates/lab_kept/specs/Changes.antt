@@ -11,6 +11,7 @@ use Rattle.lab_kept.specs.declared.records.FormVersion.{FormVersion}
 use Rattle.lab_kept.specs.declared.records.Record.{Record}
 use Rattle.lab_kept.specs.declared.records.Version.{Version}
 use Rattle.lab_kept.specs.declared.records.Signature.{Signature}
+use Rattle.lab_kept.specs.declared.trails.TrailRow.{TrailRow}
 use Rattle.lab_kept.specs.declared.labs.Lab.{Lab}
 use Rattle.lab_kept.specs.declared.changes.Change.{Change}
 use Rattle.lab_kept.specs.declared.changes.Change.TheVariants.{Last, Strays, PersonAdded, PersonSet, SessionAdded, SessionSet, SessionsClosed, FormAdded, RecordAdded, RowAdded, VersionOpened, SignatureAdded, TrailAdded}

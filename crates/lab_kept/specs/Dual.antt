@@ -2,9 +2,10 @@
 -- did, and a third signer isn't the second (ISO/IEC 17025:2017, 7.5.1, "the identity of personnel
 -- responsible for each activity and for checking data and results"; that these are different persons is
 -- this system's own rule).
-use Rattle.std.specs.Prelude.{◌≡◌, ◌≢◌, ℕ, Bool, true, false, IsTrue, List, [], ◌∷◌, All, Some, IsSome, MatchOption}
+use Rattle.std.specs.Prelude.{◌≡◌, ◌≢◌, ℕ, Bool, true, false, IsTrue, List, [], ◌∷◌, All, Option, Some, None, IsSome, MatchOption}
 use Rattle.lab_seal.specs.declared.seals.Meaning.{Meaning}
 use Rattle.lab_seal.specs.declared.seals.Meaning.TheVariants.{Authorship, Review, Approval}
+use Rattle.lab_seal.specs.declared.states.State.{State}
 use Rattle.lab_seal.specs.declared.states.State.TheVariants.{Released}
 use Rattle.lab_seal.specs.States.{is_settled}
 use Rattle.lab_kept.specs.declared.records.Record.{Record}

@@ -1,11 +1,13 @@
 -- What a laboratory keeps from one event to the next (21 CFR 11.10(e), "record changes shall not obscure
 -- previously recorded information", and 11.100(a), a signature is not reassigned), and what the trail
 -- tells where its records differ.
-use Rattle.std.specs.Prelude.{◌≡◌, ◌⊎◌, ℕ, ◌+◌, List, [], ◌∷◌, ◌++◌, length, Some}
+use Rattle.std.specs.Prelude.{◌≡◌, ◌⊎◌, ℕ, ◌+◌, List, [], ◌∷◌, ◌++◌, length, Option, Some, None}
 use Rattle.lab_versions.specs.declared.rows.EntryRow.{EntryRow}
+use Rattle.lab_kept.specs.declared.records.FormVersion.{FormVersion}
 use Rattle.lab_kept.specs.declared.records.Record.{Record as KeptRecord}
 use Rattle.lab_kept.specs.declared.records.Version.{Version}
 use Rattle.lab_kept.specs.declared.records.Signature.{Signature}
+use Rattle.lab_kept.specs.declared.trails.TrailRow.{TrailRow}
 use Rattle.lab_kept.specs.declared.trails.Deed.{Deed}
 use Rattle.lab_kept.specs.declared.trails.Deed.TheVariants.{Record, Entry, Amend, Sign}
 use Rattle.lab_kept.specs.declared.labs.Lab.{Lab}

@@ -1,7 +1,7 @@
 -- The trail: one row for each deed, in order (21 CFR 11.10(e), "computer-generated, time-stamped
 -- audit trails to independently record the date and time of operator entries and actions"). By
 -- which word an action is known and how its subject is written is this system's own.
-use Rattle.std.specs.Prelude.{ℕ, List, ◌++◌, codes, decimal, Option}
+use Rattle.std.specs.Prelude.{ℕ, List, [], ◌∷◌, ◌++◌, codes, decimal, Option}
 use Rattle.std.specs.List.{flat_map}
 use Rattle.lab_access.specs.declared.roles.Role.{Role}
 use Rattle.lab_access.specs.declared.roles.Roles.{Roles}
