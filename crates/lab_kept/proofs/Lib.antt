@@ -1,1 +1,3 @@
 pub mod ReleaseLemmas
+pub mod Copies
+pub mod Finds

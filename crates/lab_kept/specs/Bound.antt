@@ -3,12 +3,12 @@
 -- to falsify an electronic record by ordinary means"), and whose versions are bound to those that they
 -- amend (ISO/IEC 17025:2017, 7.5.2, "amendments to technical records can be tracked to previous
 -- versions").
-use Rattle.std.specs.Prelude.{◌≡◌, ℕ, List, [], ◌∷◌, All, Option, Some, None, option_map}
+use Rattle.std.specs.Prelude.{◌≡◌, ℕ, List, [], ◌∷◌, All, Option, Some, None}
 use Rattle.lab_kept.specs.declared.records.Record.{Record}
 use Rattle.lab_kept.specs.declared.records.Version.{Version}
 use Rattle.lab_kept.specs.declared.records.Signature.{Signature}
 use Rattle.lab_kept.specs.declared.labs.Lab.{Lab}
-use Rattle.lab_kept.specs.Digests.{digest_of, seal_for}
+use Rattle.lab_kept.specs.Digests.{previous_of, digest_of, seal_for}
 
 -- a signature names the digest of its version as it is now, and its seal recomputes
 pub record IsBoundTo (lab : List ℕ) (kept : Record) (version : Version) (signature : Signature)
@@ -19,10 +19,6 @@ pub record IsBoundTo (lab : List ℕ) (kept : Record) (version : Version) (signa
 -- every signature of a version is bound to it
 abbrev pub IsSealed : List ℕ → Record → Version → Type 0
 IsSealed lab kept version = All (IsBoundTo lab kept version) version.signatures
-
--- the digest of the version that a version amends
-abbrev pub previous_of : Version → Option (List ℕ)
-previous_of version = option_map (λ amendment. amendment.previous) version.origin.amendment
 
 -- each version amends the one before it as it is now, and the first of them what the digest says
 abbrev pub IsChain : List ℕ → Record → Option (List ℕ) → List Version → Type 0

@@ -1,15 +1,16 @@
 -- Changes of a laboratory: what each makes of it, and which fit it. Each adds something under its next
 -- number, or sets what is there; none takes anything away (21 CFR 11.10(e), "record changes shall not
 -- obscure previously recorded information").
-use Rattle.std.specs.Prelude.{◌≡◌, ℕ, ◌+◌, List, [], ◌∷◌, ◌++◌, length, Option, Some, None, IsSome, MatchOption, bytes_eq, if◌then◌else◌}
-use Rattle.std.specs.Prelude.{Bool, true, false}
-use Rattle.std.specs.Ordering.{nat_cmp, match_ordering}
-use Rattle.std.specs.Cmp.Lexicographic.{slice_cmp}
+use Rattle.std.specs.Prelude.{◌≡◌, ◌≢◌, ◌⊎◌, ◌≤◌, ℕ, ◌+◌, All, option_map, List, [], ◌∷◌, ◌++◌, length, Option, Some, None, IsSome, MatchOption, bytes_eq, if◌then◌else◌}
 use Rattle.lab_access.specs.declared.persons.Person.{Person}
 use Rattle.lab_access.specs.declared.sessions.Session.{Session}
 use Rattle.lab_access.specs.Persons.{person_of}
 use Rattle.lab_access.specs.Sessions.{session_of, sessions_after}
+use Rattle.lab_access.specs.declared.persons.Ask.{Ask}
 use Rattle.lab_versions.specs.declared.rows.EntryRow.{EntryRow}
+use Rattle.lab_versions.specs.declared.versions.Format.TheVariants.{Two}
+use Rattle.lab_seal.specs.declared.seals.Meaning.{Meaning}
+use Rattle.lab_seal.specs.Seals.{meaning_word}
 use Rattle.lab_kept.specs.declared.records.FormVersion.{FormVersion}
 use Rattle.lab_kept.specs.declared.records.Record.{Record}
 use Rattle.lab_kept.specs.declared.records.Version.{Version}
@@ -18,11 +19,9 @@ use Rattle.lab_kept.specs.declared.trails.TrailRow.{TrailRow}
 use Rattle.lab_kept.specs.declared.labs.Lab.{Lab}
 use Rattle.lab_kept.specs.declared.changes.Change.{Change}
 use Rattle.lab_kept.specs.declared.changes.Change.TheVariants.{Last, Strays, PersonAdded, PersonSet, SessionAdded, SessionSet, SessionsClosed, FormAdded, RecordAdded, RowAdded, VersionOpened, SignatureAdded, TrailAdded}
-use Rattle.lab_kept.specs.Lookups.{last_form, exact_form, has_number, record_of, record_about, last_of}
-
--- one text comes before another in the order of their bytes
-abbrev pub comes_before : List ℕ → List ℕ → Bool
-comes_before one other = match_ordering (slice_cmp nat_cmp one other) true false false
+use Rattle.lab_kept.specs.Limits.{stray_limit}
+use Rattle.lab_kept.specs.Lookups.{comes_before, last_form, next_form_version, has_number, is_numbered, record_of, record_about, last_of, last_version, numbered_version}
+use Rattle.lab_kept.specs.Digests.{previous_of, digest_of}
 
 -- a person is added: persons stand in the order of their codes
 abbrev pub added_person : Person → List Person → List Person
@@ -57,6 +56,12 @@ in_record number next [] = []
 in_record number next (one ∷ others) =
     if has_number number one then next one ∷ others else one ∷ in_record number next others
 
+-- what is done to the version of a number
+abbrev pub in_version : ℕ → (Version → Version) → List Version → List Version
+in_version number next [] = []
+in_version number next (one ∷ others) =
+    if is_numbered number one then next one ∷ others else one ∷ in_version number next others
+
 -- what is done to the last of a record's versions
 abbrev pub in_last : (Version → Version) → List Version → List Version
 in_last next [] = []
@@ -71,13 +76,14 @@ abbrev pub with_signature : Signature → Version → Version
 with_signature signature version =
     record version { signatures = version.signatures ++ signature ∷ [] }
 
--- a record with a row, or a signature, in its last version; and with a version more
+-- a record with a row in its last version, with a signature of the version of a number, and with a
+-- version more
 abbrev pub entered_in : EntryRow → Record → Record
 entered_in row kept = record kept { versions = in_last (with_row row) kept.versions }
 
-abbrev pub signed_in : Signature → Record → Record
-signed_in signature kept =
-    record kept { versions = in_last (with_signature signature) kept.versions }
+abbrev pub signed_in : ℕ → Signature → Record → Record
+signed_in number signature kept =
+    record kept { versions = in_version number (with_signature signature) kept.versions }
 
 abbrev pub opened_in : Version → Record → Record
 opened_in version kept = record kept { versions = kept.versions ++ version ∷ [] }
@@ -98,8 +104,8 @@ change lab (RowAdded number row) =
     record lab { records = in_record number (entered_in row) lab.records }
 change lab (VersionOpened number version) =
     record lab { records = in_record number (opened_in version) lab.records }
-change lab (SignatureAdded number signature) =
-    record lab { records = in_record number (signed_in signature) lab.records }
+change lab (SignatureAdded number version signature) =
+    record lab { records = in_record number (signed_in version signature) lab.records }
 change lab (TrailAdded row) = record lab { trail = lab.trail ++ row ∷ [] }
 
 -- a laboratory after the changes, the first of them first
@@ -126,52 +132,80 @@ pub record SameSession (old new : Session) : Type 0 where
   pub token : new.token ≡ old.token
   pub opened : new.opened ≡ old.opened
 
--- the number of the next version, where a form has this last version or none
-abbrev pub next_form_version : Option FormVersion → ℕ
-next_form_version None = 1
-next_form_version (Some form) = form.version + 1
+-- somebody of the laboratory has the code, or had it
+abbrev pub IsKnown : Lab → List ℕ → Type 0
+IsKnown lab code = IsSome (person_of lab.persons code)
 
--- the number of the next version, where a record has this last version or none
-abbrev pub next_version : Option Version → ℕ
-next_version None = 1
-next_version (Some version) = version.origin.number + 1
+-- nobody, or somebody of the laboratory
+abbrev pub IsKnownIfAny : Lab → Option (List ℕ) → Type 0
+IsKnownIfAny lab None = Unit {0}
+IsKnownIfAny lab (Some code) = IsKnown lab code
 
--- a new record: its form is one of the laboratory's, and it has one version, the first, without rows
--- and signatures
+-- a version that is opened: its text is of the newer format, and says whether its form wants an
+-- approval
+abbrev pub IsOfForm : Version → Record → Type 0
+IsOfForm version kept = version.format ≡ Two kept.form.form.approval
+
+-- a new record: it is filled in by the last version of its form, and has one version, the first, without
+-- rows and signatures
 pub record IsNewRecord (lab : Lab) (kept : Record) : Type 0 where
   pub number : kept.number ≡ length lab.records + 1
   pub alone : record_about lab.records kept.form.code kept.sample ≡ None
-  pub form : exact_form lab.forms kept.form.code kept.form.version ≡ Some kept.form
+  pub form : last_form lab.forms kept.form.code ≡ Some kept.form
   pub first : Version
   pub versions : kept.versions ≡ first ∷ []
-  pub one : first.origin.number ≡ 1
+  pub format : IsOfForm first kept
+  pub origin : first.origin ≡ record { number = 1; amendment = None }
+  pub opener : IsKnown lab first.opener
   pub no_rows : first.rows ≡ []
   pub no_signatures : first.signatures ≡ []
 
--- a new version of a record: it has the next number, and no signatures
-pub record IsNewVersion (version : Version) (kept : Record) : Type 0 where
-  pub next : version.origin.number ≡ next_version (last_of kept.versions)
+-- a new version of a record: it has the next number, amends the last version as it is now, and has no
+-- signatures
+pub record IsNewVersion (lab : Lab) (version : Version) (kept : Record) : Type 0 where
+  pub last : Version
+  pub before : last_of kept.versions ≡ Some last
+  pub next : version.origin.number ≡ last.origin.number + 1
+  pub previous : previous_of version ≡ Some (digest_of lab.code kept last)
+  pub format : IsOfForm version kept
+  pub opener : IsKnown lab version.opener
+  pub persons : All (λ row. IsKnown lab row.person) version.rows
   pub no_signatures : version.signatures ≡ []
+
+-- no signature of a version has the meaning
+abbrev pub IsNewMeaning : Meaning → Version → Type 0
+IsNewMeaning meaning version =
+    All (λ one. meaning_word one.meaning ≢ meaning_word meaning) version.signatures
+
+-- what was asked for by the account's administrators is as before, or by somebody of the laboratory
+abbrev pub IsAskKnown : Lab → Option Ask → Option Ask → Type 0
+IsAskKnown lab old new =
+    (new ≡ old) ⊎ IsKnownIfAny lab (option_map (λ ask. ask.asker) new)
 
 -- what is added comes under its next number and brings no key twice, and what is set is there
 abbrev pub Fits : Lab → Change → Type 0
 Fits lab (Last moment) = Unit {0}
-Fits lab (Strays count) = Unit {0}
+Fits lab (Strays count) = count ≤ stray_limit
 Fits lab (PersonAdded person) = person_of lab.persons person.code ≡ None
 Fits lab (PersonSet person) =
-    MatchOption (person_of lab.persons person.code) ⊥ (λ old. SamePerson old person)
+    MatchOption (person_of lab.persons person.code) ⊥
+    (λ old. SamePerson old person × IsAskKnown lab old.ask person.ask)
 Fits lab (SessionAdded session) =
     (session.number ≡ length lab.sessions + 1) × (session_of lab.sessions session.token ≡ None)
+    × IsKnown lab session.person
 Fits lab (SessionSet session) =
     MatchOption (session_of lab.sessions session.token) ⊥ (λ old. SameSession old session)
 Fits lab (SessionsClosed person closing) = Unit {0}
 Fits lab (FormAdded form) = form.version ≡ next_form_version (last_form lab.forms form.code)
 Fits lab (RecordAdded kept) = IsNewRecord lab kept
-Fits lab (RowAdded number row) = IsSome (record_of lab.records number)
+Fits lab (RowAdded number row) =
+    IsSome (last_version lab number) × IsKnown lab row.person
 Fits lab (VersionOpened number version) =
-    MatchOption (record_of lab.records number) ⊥ (IsNewVersion version)
-Fits lab (SignatureAdded number signature) = IsSome (record_of lab.records number)
-Fits lab (TrailAdded row) = row.number ≡ length lab.trail + 1
+    MatchOption (record_of lab.records number) ⊥ (IsNewVersion lab version)
+Fits lab (SignatureAdded number version signature) =
+    MatchOption (numbered_version lab number version) ⊥ (IsNewMeaning signature.meaning)
+    × IsKnown lab signature.person
+Fits lab (TrailAdded row) = (row.number ≡ length lab.trail + 1) × IsKnownIfAny lab row.person
 
 -- changes fit one after the other
 abbrev pub AllFit : Lab → List Change → Type 0

@@ -1,6 +1,6 @@
 -- The digest of a version of a record as it is now, and what a signature's seal covers (21 CFR 11.70,
 -- signatures "shall be linked to their respective electronic records").
-use Rattle.std.specs.Prelude.{ℕ, List}
+use Rattle.std.specs.Prelude.{ℕ, List, Option, option_map}
 use Rattle.sha2.specs.Sha256.{sha256}
 use Rattle.lab_versions.specs.declared.versions.VersionParts.{VersionParts}
 use Rattle.lab_versions.specs.Versions.{version_text}
@@ -28,6 +28,10 @@ parts_of lab kept version = record {
 -- its digest: the SHA-256 (FIPS 180-4) of that text
 abbrev pub digest_of : List ℕ → Record → Version → List ℕ
 digest_of lab kept version = sha256 (version_text (parts_of lab kept version))
+
+-- the digest of the version that a version amends, as the version says it
+abbrev pub previous_of : Version → Option (List ℕ)
+previous_of version = option_map (λ amendment. amendment.previous) version.origin.amendment
 
 -- what the seal of a signature covers
 abbrev pub sealed_parts : List ℕ → Signature → SealParts

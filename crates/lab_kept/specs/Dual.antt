@@ -1,8 +1,10 @@
 -- Dual control: who signs what. The author of a version entered a row of it, nobody who signs it later
 -- did, and a third signer isn't the second (ISO/IEC 17025:2017, 7.5.1, "the identity of personnel
--- responsible for each activity and for checking data and results"; that these are different persons is
+-- responsible for each laboratory activity and for checking data and results"; that these are different persons is
 -- this system's own rule).
 use Rattle.std.specs.Prelude.{◌≡◌, ◌≢◌, ℕ, Bool, true, false, IsTrue, List, [], ◌∷◌, All, Option, Some, None, IsSome, MatchOption}
+use Rattle.lab_versions.specs.declared.versions.Format.{Format}
+use Rattle.lab_versions.specs.declared.versions.Format.TheVariants.{One, Two}
 use Rattle.lab_seal.specs.declared.seals.Meaning.{Meaning}
 use Rattle.lab_seal.specs.declared.seals.Meaning.TheVariants.{Authorship, Review, Approval}
 use Rattle.lab_seal.specs.declared.states.State.{State}
@@ -31,8 +33,14 @@ AreSigners version (author ∷ later) =
     IsTrue (has_entered author.person version) × All (EnteredNone version) later
     × ThirdDiffers later
 
+-- the text of a version says of an approval what its form does; the older format tells of none
+abbrev pub SaysOfApproval : Format → Bool → Type 0
+SaysOfApproval One approval = approval ≡ false
+SaysOfApproval (Two said) approval = said ≡ approval
+
 -- the signatures of a version are those of a state, and are given by whom they may be
 pub record IsSignedDually (kept : Record) (version : Version) : Type 0 where
+  pub format : SaysOfApproval version.format kept.form.form.approval
   pub state : IsSome (version_state kept version)
   pub signers : AreSigners version version.signatures
 

@@ -1,10 +1,11 @@
 -- What a laboratory keeps from one event to the next (21 CFR 11.10(e), "record changes shall not obscure
 -- previously recorded information", and 11.100(a), a signature is not reassigned), and what the trail
 -- tells where its records differ.
-use Rattle.std.specs.Prelude.{◌≡◌, ◌⊎◌, ℕ, ◌+◌, List, [], ◌∷◌, ◌++◌, length, Option, Some, None, MatchOption}
+use Rattle.std.specs.Prelude.{◌≡◌, ◌≢◌, ◌⊎◌, ℕ, ◌+◌, List, [], ◌∷◌, ◌++◌, length, Option, Some, None, MatchOption, All, option_map, option_and_then}
 use Rattle.lab_access.specs.declared.persons.Person.{Person}
 use Rattle.lab_access.specs.Persons.{person_of}
 use Rattle.lab_versions.specs.declared.rows.EntryRow.{EntryRow}
+use Rattle.lab_seal.specs.declared.seals.Meaning.{Meaning}
 use Rattle.lab_kept.specs.declared.records.FormVersion.{FormVersion}
 use Rattle.lab_kept.specs.declared.records.Record.{Record as KeptRecord}
 use Rattle.lab_kept.specs.declared.records.Version.{Version}
@@ -14,7 +15,7 @@ use Rattle.lab_kept.specs.declared.trails.Deed.{Deed}
 use Rattle.lab_kept.specs.declared.trails.Deed.TheVariants.{Record, Entry, Amend, Sign}
 use Rattle.lab_kept.specs.declared.labs.Lab.{Lab}
 use Rattle.lab_kept.specs.Trails.{row_of}
-use Rattle.lab_kept.specs.Lookups.{exact_form}
+use Rattle.lab_kept.specs.Lookups.{exact_form, record_of, last_of}
 use Rattle.lab_kept.specs.Changes.{SamePerson, SameSession, in_record, entered_in, opened_in, signed_in}
 
 -- each item of the old list stands in its place in the new one, related to it so; the new one may have
@@ -73,6 +74,18 @@ pub record IsOpenedBy (kept : KeptRecord) (number moment : ℕ) (person : List �
   pub no_rows : first.rows ≡ []
   pub no_signatures : first.signatures ≡ []
 
+-- the number of a record's last version
+abbrev pub last_number : List KeptRecord → ℕ → Option ℕ
+last_number records number =
+    option_map (λ version. version.origin.number)
+    (option_and_then (λ kept. last_of kept.versions) (record_of records number))
+
+-- a row of an amendment bears its person, its moment and its reason
+pub record IsAmended (opened : Version) (moment : ℕ) (person : List ℕ) (row : EntryRow) : Type 0 where
+  pub by : row.person ≡ person
+  pub at : row.moment ≡ moment
+  pub why : row.reason ≡ option_map (λ amendment. amendment.reason) opened.origin.amendment
+
 -- Records became others by a deed of the person at the moment.
 
 pub record IsRecordAdded (old new : List KeptRecord) (number moment : ℕ) (person : List ℕ)
@@ -81,9 +94,10 @@ pub record IsRecordAdded (old new : List KeptRecord) (number moment : ℕ) (pers
   pub added : new ≡ old ++ kept ∷ []
   pub opened : IsOpenedBy kept number moment person
 
-pub record IsRowAdded (old new : List KeptRecord) (number : ℕ) (key : List ℕ) (moment : ℕ)
-    (person : List ℕ) : Type 0 where
+pub record IsRowAdded (old new : List KeptRecord) (number version : ℕ) (key : List ℕ)
+    (moment : ℕ) (person : List ℕ) : Type 0 where
   pub row : EntryRow
+  pub last : last_number old number ≡ Some version
   pub added : new ≡ in_record number (entered_in row) old
   pub under : row.key ≡ key
   pub by : row.person ≡ person
@@ -96,11 +110,15 @@ pub record IsVersionAdded (old new : List KeptRecord) (number version moment : �
   pub numbered : opened.origin.number ≡ version
   pub by : opened.opener ≡ person
   pub at : opened.opened ≡ moment
+  pub some : opened.rows ≢ []
+  pub rows : All (IsAmended opened moment person) opened.rows
+  pub no_signatures : opened.signatures ≡ []
 
-pub record IsSignatureAdded (old new : List KeptRecord) (number moment : ℕ) (person : List ℕ)
-    : Type 0 where
+pub record IsSignatureAdded (old new : List KeptRecord) (number version : ℕ) (meaning : Meaning)
+    (moment : ℕ) (person : List ℕ) : Type 0 where
   pub signature : Signature
-  pub added : new ≡ in_record number (signed_in signature) old
+  pub added : new ≡ in_record number (signed_in version signature) old
+  pub meant : signature.meaning ≡ meaning
   pub by : signature.person ≡ person
   pub at : signature.moment ≡ moment
 
@@ -108,11 +126,11 @@ pub record IsSignatureAdded (old new : List KeptRecord) (number moment : ℕ) (p
 abbrev pub IsDoneTo : Deed → List KeptRecord → List KeptRecord → ℕ → List ℕ → Type 0
 IsDoneTo (Record number) old new moment person = IsRecordAdded old new number moment person
 IsDoneTo (Entry number version key) old new moment person =
-    IsRowAdded old new number key moment person
+    IsRowAdded old new number version key moment person
 IsDoneTo (Amend number version) old new moment person =
     IsVersionAdded old new number version moment person
 IsDoneTo (Sign number version meaning) old new moment person =
-    IsSignatureAdded old new number moment person
+    IsSignatureAdded old new number version meaning moment person
 IsDoneTo _ old new moment person = new ≡ old
 
 -- the trail has one row more, which tells by what deed, by whom and when the records became others

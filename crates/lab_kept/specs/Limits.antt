@@ -1,15 +1,21 @@
 -- How much a laboratory holds at the most, in one place; and that what is numbered in it is numbered
 -- from 1 on without gaps. The numbers are this system's own.
-use Rattle.std.specs.Prelude.{◌≡◌, ◌≤◌, ℕ, ◌+◌, List, [], ◌∷◌, length, All}
+use Rattle.std.specs.Prelude.{◌≡◌, ◌≤◌, ℕ, ◌+◌, IsTrue, List, [], ◌∷◌, ◌++◌, length, Some, All}
 use Rattle.lab_names.specs.Ordinals.{last_ordinal}
 use Rattle.lab_kept.specs.declared.records.FormVersion.{FormVersion}
 use Rattle.lab_kept.specs.declared.records.Record.{Record}
 use Rattle.lab_kept.specs.declared.records.Version.{Version}
+use Rattle.lab_access.specs.declared.persons.Person.{Person}
 use Rattle.lab_kept.specs.declared.labs.Lab.{Lab}
+use Rattle.lab_kept.specs.Lookups.{last_form, exact_form, next_form_version, comes_before}
 
 -- the most persons, retired ones too
 abbrev pub person_limit : ℕ
 person_limit = 500
+
+-- the most fields of a form, which every form keeps (`is_form` of lab_forms)
+abbrev pub field_limit : ℕ
+field_limit = 60
 
 -- the most versions of a form
 abbrev pub form_version_limit : ℕ
@@ -31,7 +37,7 @@ row_limit = 200
 abbrev pub count_limit : ℕ
 count_limit = last_ordinal
 
--- the count at which passwords that were nobody's are counted no further
+-- the count at which passwords that were given for nobody's account are counted no further
 abbrev pub stray_limit : ℕ
 stray_limit = 9223372036854775807
 
@@ -57,9 +63,27 @@ pub record IsOrderly (kept : Record) : Type 0 where
   pub numbered : AreNumbered (λ version. version.origin.number) kept.versions
   pub rows : All HasFewRows kept.versions
 
--- a version of a form has no greater number than it may
-abbrev pub HasFewVersions : FormVersion → Type 0
-HasFewVersions form = form.version ≤ form_version_limit
+-- a version of a form has no greater number, and no more fields, than it may
+pub record IsSmallForm (form : FormVersion) : Type 0 where
+  pub version : form.version ≤ form_version_limit
+  pub fields : length form.form.fields ≤ field_limit
+
+-- the versions of each form, among the others, bear the numbers from 1 on, in order
+abbrev pub AreFormsNumbered : List FormVersion → List FormVersion → Type 0
+AreFormsNumbered before [] = Unit {0}
+AreFormsNumbered before (one ∷ others) =
+    (one.version ≡ next_form_version (last_form before one.code))
+    × AreFormsNumbered (before ++ one ∷ []) others
+
+-- no two persons have one code, and they stand in the order of their codes
+abbrev pub AreInOrder : List Person → Type 0
+AreInOrder (one ∷ other ∷ others) =
+    IsTrue (comes_before one.code other.code) × AreInOrder (other ∷ others)
+AreInOrder _ = Unit {0}
+
+-- the form of a record is one of its laboratory's
+abbrev pub IsByForm : List FormVersion → Record → Type 0
+IsByForm forms kept = exact_form forms kept.form.code kept.form.version ≡ Some kept.form
 
 -- a laboratory is within its limits
 pub record IsWithin (lab : Lab) : Type 0 where
@@ -68,8 +92,11 @@ pub record IsWithin (lab : Lab) : Type 0 where
   pub trail : length lab.trail ≤ count_limit
   pub records : length lab.records ≤ record_limit
   pub strays : lab.strays ≤ stray_limit
-  pub forms : All HasFewVersions lab.forms
+  pub forms : All IsSmallForm lab.forms
   pub orderly : All IsOrderly lab.records
+  pub by_form : All (IsByForm lab.forms) lab.records
+  pub persons_ordered : AreInOrder lab.persons
+  pub forms_numbered : AreFormsNumbered [] lab.forms
   pub sessions_numbered : AreNumbered (λ session. session.number) lab.sessions
   pub records_numbered : AreNumbered (λ kept. kept.number) lab.records
   pub trail_numbered : AreNumbered (λ row. row.number) lab.trail

@@ -1,5 +1,7 @@
 -- Who and what is meant by a code or a number.
-use Rattle.std.specs.Prelude.{ℕ, Bool, ◌&&◌, ◌==◌, ◌-◌, nat_le, List, length, reverse, find, filter, Option, Some, None, slice_get, bytes_eq}
+use Rattle.std.specs.Prelude.{ℕ, Bool, true, false, ◌&&◌, ◌==◌, ◌+◌, ◌-◌, nat_le, List, length, reverse, find, filter, Option, Some, None, slice_get, option_and_then, bytes_eq}
+use Rattle.std.specs.Ordering.{nat_cmp, match_ordering}
+use Rattle.std.specs.Cmp.Lexicographic.{slice_cmp}
 use Rattle.lab_access.specs.declared.persons.Person.{Person}
 use Rattle.lab_access.specs.declared.sessions.Session.{Session}
 use Rattle.lab_access.specs.Persons.{person_of}
@@ -9,6 +11,10 @@ use Rattle.lab_kept.specs.declared.records.Record.{Record}
 use Rattle.lab_kept.specs.declared.records.Version.{Version}
 use Rattle.lab_kept.specs.declared.trails.TrailRow.{TrailRow}
 use Rattle.lab_kept.specs.declared.labs.Lab.{Lab}
+
+-- one text comes before another in the order of their bytes
+abbrev pub comes_before : List ℕ → List ℕ → Bool
+comes_before one other = match_ordering (slice_cmp nat_cmp one other) true false false
 
 -- the last of a list
 abbrev pub last_of : {A : Type 0} → List A → Option A
@@ -34,6 +40,11 @@ is_version_of code one = bytes_eq one.code code
 -- the last version of a form: the one that was made last
 abbrev pub last_form : List FormVersion → List ℕ → Option FormVersion
 last_form forms code = find (is_version_of code) (reverse forms)
+
+-- the number of a form's next version, where it has this last version or none
+abbrev pub next_form_version : Option FormVersion → ℕ
+next_form_version None = 1
+next_form_version (Some form) = form.version + 1
 
 -- the version of a form that has the number
 abbrev pub is_form_version : List ℕ → ℕ → FormVersion → Bool
@@ -62,6 +73,15 @@ is_numbered number version = version.origin.number == number
 
 abbrev pub version_of : List Version → ℕ → Option Version
 version_of versions number = find (is_numbered number) versions
+
+-- the last version of a record, and its version of a number, where they are there
+abbrev pub last_version : Lab → ℕ → Option Version
+last_version lab number =
+    option_and_then (λ kept. last_of kept.versions) (record_of lab.records number)
+
+abbrev pub numbered_version : Lab → ℕ → ℕ → Option Version
+numbered_version lab number version =
+    option_and_then (λ kept. version_of kept.versions version) (record_of lab.records number)
 
 -- a number lies from one to another
 abbrev pub is_within : ℕ → ℕ → ℕ → Bool

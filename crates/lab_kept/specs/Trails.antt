@@ -1,4 +1,5 @@
--- The trail: one row for each deed, in order (21 CFR 11.10(e), "computer-generated, time-stamped
+-- The trail: one row for each accepted command that is no reading, and, while there is room, one for each
+-- failed password of an account and for each lock (21 CFR 11.10(e), "computer-generated, time-stamped
 -- audit trails to independently record the date and time of operator entries and actions"). By
 -- which word an action is known and how its subject is written is this system's own.
 use Rattle.std.specs.Prelude.{ℕ, List, [], ◌∷◌, ◌++◌, codes, decimal, Option}

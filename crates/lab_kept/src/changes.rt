@@ -10,7 +10,7 @@ use lab_seal::EntryRow;
 pub enum Change {
     /// The moment of the last activity becomes this one.
     Last(Moment),
-    /// The number of passwords that were nobody's becomes this one.
+    /// The number of passwords that were given for nobody's account becomes this one.
     Strays(u64),
     /// A person is added.
     PersonAdded(Person),
@@ -39,9 +39,10 @@ pub enum Change {
         record: Ordinal,
         version: Version,
     },
-    /// The last version of the record is signed.
+    /// The version of the record is signed.
     SignatureAdded {
         record: Ordinal,
+        version: Ordinal,
         signature: Signature,
     },
     /// A row is added to the trail.

@@ -15,7 +15,7 @@ pub struct Lab {
     pub name: Name,
     /// The moment of its last activity; no later request may come before it.
     pub last: Moment,
-    /// How many passwords were refused that were nobody's.
+    /// How many passwords were given for an unknown code, or for a person who is retired or has none; counted up to a limit.
     pub strays: u64,
     /// Its persons, in the order of their codes.
     pub persons: Series<Person>,

@@ -7,7 +7,9 @@
 mod changes;
 mod labs;
 mod laws;
+mod lookups;
 mod needs;
+mod parts;
 mod records;
 mod subjects;
 mod trails;

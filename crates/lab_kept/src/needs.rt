@@ -71,7 +71,7 @@ pub struct Slice {
     pub name: Name,
     /// The moment of its last activity.
     pub last: Moment,
-    /// How many passwords were refused that were nobody's.
+    /// How many passwords were given for nobody's account.
     pub strays: u64,
     /// How many persons, sessions, records and rows of the trail it has.
     pub counts: Counts,

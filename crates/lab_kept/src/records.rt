@@ -1,9 +1,12 @@
 //! Records with their versions and signatures, and the versions of forms by which they are filled in.
-ghost use Rattle.std.specs.Prelude.{◌≡◌, IfOk};
+ghost use Rattle.std.specs.Prelude.{◌≡◌, IfOk, map, option_copied};
+ghost use Rattle.lab_seal.specs.States.{state_of as state_by};
+ghost use Rattle.lab_kept.specs.Lookups.{last_of, version_of};
+ghost use Rattle.lab_kept.specs.Values.{meaning_of, version_state, has_entered};
 
 use lab_forms::Form;
 use lab_names::{Key, Moment, Name, Ordinal, OutOfMemory, PersonCode, Series};
-use lab_seal::{Digest, EntryRows, Format, Meaning, Origin, Seal};
+use lab_seal::{Digest, EntryRows, Format, Meaning, Origin, Seal, State};
 
 /// One version of a form.
 #[derive(Clone, Debug, Drop)]
@@ -16,7 +19,7 @@ pub struct FormVersion {
     pub form: Form,
 }
 
-/// A signature of a version, with the name that is printed beside it.
+/// A signature of a version, with the printed name, the moment and the meaning (21 CFR 11.50(a)).
 #[derive(Clone, Debug, Drop)]
 pub struct Signature {
     /// Who signed.
@@ -82,6 +85,16 @@ impl Signature {
 }
 
 impl Version {
+    /// Whether the person entered a row of it.
+    pub fn has_entered(&self, person: &PersonCode) -> bool
+        ensures { result ≡ has_entered person.now self.now }
+    {
+        self.rows
+            .rows()
+            .iter()
+            .any(|row| row.person.as_str() == person.as_str())
+    }
+
     /// A copy. The only error is out of memory.
     pub fn copy(&self) -> Result<Version, OutOfMemory>
         ensures { IfOk result (λ copy. copy ≡ self.now) }
@@ -91,10 +104,66 @@ impl Version {
 }
 
 impl Record {
+    /// The version that has the number.
+    pub fn version(&self, number: Ordinal) -> Option<&Version>
+        ensures { option_copied result ≡ version_of self.now.versions number }
+    {
+        self.versions
+            .as_slice()
+            .iter()
+            .find(|version| version.origin.number() == number)
+    }
+
+    /// The last version.
+    pub fn current(&self) -> Option<&Version>
+        ensures { option_copied result ≡ last_of self.now.versions }
+    {
+        self.versions.last()
+    }
+
+    /// The state of a version of the record.
+    pub fn state_of(&self, version: &Version) -> Option<State>
+        ensures { result ≡ version_state self.now version.now }
+    {
+        state_by(version.signatures.as_slice(), self.form.form.approval())
+    }
+
     /// A copy. The only error is out of memory.
     pub fn copy(&self) -> Result<Record, OutOfMemory>
         ensures { IfOk result (λ copy. copy ≡ self.now) }
     {
         Ok(self.clone()?)
+    }
+}
+
+/// The state that signatures make, in order; none where no version has such.
+fn state_by(signatures: &[Signature], approval: bool) -> Option<State>
+    ensures { result ≡ state_by (map meaning_of signatures.now) approval }
+{
+    match (signatures, approval) {
+        ([], _) => Some(State::Open),
+        ([author], _) => match &author.meaning {
+            Meaning::Authorship => Some(State::Signed),
+            Meaning::Review | Meaning::Rejection(_) | Meaning::Approval => None,
+        },
+        ([author, second], _) => match (&author.meaning, &second.meaning) {
+            (Meaning::Authorship, Meaning::Review) => Some(if approval {
+                State::Reviewed
+            } else {
+                State::Released
+            }),
+            (Meaning::Authorship, Meaning::Rejection(_)) => Some(State::Rejected),
+            _ => None,
+        },
+        ([author, second, third], true) => {
+            match (&author.meaning, &second.meaning, &third.meaning) {
+                (Meaning::Authorship, Meaning::Review, Meaning::Approval) => Some(State::Released),
+                (Meaning::Authorship, Meaning::Review, Meaning::Rejection(_)) => {
+                    Some(State::Rejected)
+                }
+                _ => None,
+            }
+        }
+        _ => None,
     }
 }

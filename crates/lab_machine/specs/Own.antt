@@ -156,7 +156,7 @@ abbrev pub with_signed : Lab → Session → Person → SignatureMade → Lab
 with_signed lab session person made = record lab {
   persons = with_person person lab.persons;
   sessions = with_session (signed_session session) lab.sessions;
-  records = in_record made.number (signed_in made.signature) lab.records;
+  records = in_record made.number (signed_in made.version made.signature) lab.records;
 }
 
 abbrev pub signature_case : Lab → Session → Person → SignatureMade → Case
