@@ -47,3 +47,14 @@ sealed_parts lab signature = record {
 -- the seal that a signature should bear
 abbrev pub seal_for : List ℕ → Signature → List ℕ
 seal_for lab signature = seal_of (sealed_parts lab signature)
+
+-- the signature of these parts, with the seal that it should bear
+abbrev pub signature_of : SealParts → Signature
+signature_of parts = record {
+  person = parts.person;
+  name = parts.name;
+  meaning = parts.meaning;
+  moment = parts.moment;
+  digest = parts.version;
+  seal = seal_of parts;
+}

@@ -5,6 +5,7 @@
 #![tactic(auto)]
 
 mod changes;
+mod digests;
 mod labs;
 mod laws;
 mod lookups;

@@ -18,7 +18,7 @@ use Rattle.lab_kept.specs.declared.records.Version.{Version}
 use Rattle.lab_kept.specs.declared.records.Signature.{Signature}
 use Rattle.lab_kept.specs.Lookups.{version_of}
 use Rattle.lab_kept.specs.Values.{value_of, rows_to, altered_at, has_entered, version_state}
-use Rattle.lab_kept.specs.Digests.{digest_of, seal_for}
+use Rattle.lab_kept.specs.Digests.{digest_of, signature_of}
 use Rattle.lab_kept.specs.Changes.{with_signature}
 use Rattle.lab_machine.specs.declared.cases.SignatureMade.{SignatureMade}
 use Rattle.lab_machine.specs.declared.cases.Signing.{Signing}
@@ -113,18 +113,15 @@ signed_meaning (Rejection None) = AsRejection []
 signed_meaning (Rejection (Some reason)) = AsRejection reason
 signed_meaning Approval = AsApproval
 
--- a signature with the seal that it should bear
-abbrev pub sealed : List ℕ → Signature → Signature
-sealed lab signature = record signature { seal = seal_for lab signature }
-
+-- the person's signature, with its seal
 abbrev pub new_signature : List ℕ → Person → Signing → ℕ → List ℕ → Signature
-new_signature lab person signing moment digest = sealed lab (record {
+new_signature lab person signing moment digest = signature_of (record {
+  version = digest;
+  lab = lab;
   person = person.code;
   name = person.name;
   meaning = signed_meaning signing;
   moment = moment;
-  digest = digest;
-  seal = [];
 })
 
 -- ---- a signing

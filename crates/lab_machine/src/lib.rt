@@ -4,12 +4,15 @@
 
 mod cases;
 mod commands;
+
 mod passages;
 mod refusals;
 mod replies;
+mod wanted;
 
 pub use cases::{AmendmentMade, EntryMade, SignatureMade, Signing};
 pub use commands::{Altered, Command, Instruction, Item, Typed};
+pub use wanted::needs;
 pub use passages::Passage;
 pub use refusals::Refusal;
 pub use replies::{RecordRead, RecordState, Reply, VersionRead, VersionState};
