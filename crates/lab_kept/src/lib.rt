@@ -9,6 +9,7 @@ mod labs;
 mod lookups;
 mod needs;
 mod parts;
+mod places;
 mod records;
 mod trails;
 
