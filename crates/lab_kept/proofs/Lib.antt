@@ -1,3 +1,4 @@
 pub mod ReleaseLemmas
 pub mod Copies
 pub mod Finds
+pub mod Replacing

@@ -11,6 +11,7 @@ mod laws;
 mod lookups;
 mod needs;
 mod parts;
+mod places;
 mod records;
 mod subjects;
 mod trails;
