@@ -7,8 +7,8 @@ use Rattle.lab_access.specs.declared.persons.Person.{Person}
 use Rattle.lab_access.specs.declared.sessions.Session.{Session}
 use Rattle.lab_kept.specs.declared.records.Record.{Record}
 use Rattle.lab_kept.specs.declared.records.Version.{Version}
-use Rattle.lab_kept.specs.Lookups.{has_number}
-use Rattle.lab_kept.specs.Changes.{with_person, with_session, in_record, in_last}
+use Rattle.lab_kept.specs.Lookups.{has_number, is_numbered}
+use Rattle.lab_kept.specs.Changes.{with_person, with_session, in_record, in_version, in_last}
 
 -- something is done to the first item that passes the test
 abbrev pub replaced : {A : Type 0} → (A → Bool) → (A → A) → List A → List A
@@ -147,3 +147,48 @@ in_last_of next [] last = refl
 in_last_of next (one ∷ []) last = refl
 in_last_of next (one ∷ other ∷ others) last =
     ap (λ (rest : List Version). one ∷ rest) (in_last_of next (other ∷ others) last)
+
+pub in_version_is : (number : ℕ) (next : Version → Version) (versions : List Version)
+    → in_version number next versions ≡ replaced (is_numbered number) next versions
+in_version_is number next [] = refl
+in_version_is number next (one ∷ others) =
+    ap (λ (rest : List Version). cond (is_numbered number one) (next one ∷ others) (one ∷ rest))
+    (in_version_is number next others)
+
+pub in_version_at : (number : ℕ) (next : Version → Version) (versions : List Version) (place : ℕ)
+    (old : Version) → position (is_numbered number) versions ≡ Some place
+    → old ≡ get_or versions place old → in_version number next versions ≡ set versions place (next old)
+in_version_at number next versions place old found here =
+    in_version_is number next versions
+    ∙ replaced_at (is_numbered number) next versions place old found here
+
+pub in_version_none : (number : ℕ) (next : Version → Version) (versions : List Version)
+    → position (is_numbered number) versions ≡ None → in_version number next versions ≡ versions
+in_version_none number next versions none =
+    in_version_is number next versions ∙ replaced_none (is_numbered number) next versions none
+
+-- a place that is searched for is within the list, or at its end
+within_next : {A : Type 0} (passes : Bool) (k : ℕ) (others : List A) → k ≤ length others
+    → cond (not passes) (1 + k) 0 ≤ 1 + length others
+within_next true k others le = omega arith
+within_next false k others le = omega arith
+
+pub place_within : {A : Type 0} (p : A → Bool) (items : List A) → position_or_len p items ≤ length items
+place_within p [] = omega arith
+place_within p (one ∷ others) =
+    let within = within_next (p one) (position_or_len p others) others (place_within p others) in
+    omega arith
+
+-- where the search finds a place, it is the first; where it finds none, that is the end
+pub place_found : {A : Type 0} (p : A → Bool) (items : List A) (place : ℕ) → position p items ≡ Some place
+    → place ≡ position_or_len p items
+place_found p items place found =
+    found_place (nat_lt (position_or_len p items) (length items)) (position_or_len p items) place found
+
+pub place_at_end : {A : Type 0} (p : A → Bool) (items : List A) → position p items ≡ None
+    → length items ≡ position_or_len p items
+place_at_end p items none =
+    let past = ltb-false (position_or_len p items) (length items)
+      (no_place (nat_lt (position_or_len p items) (length items)) (position_or_len p items) none) in
+    let within = place_within p items in
+    omega arith

@@ -2,6 +2,7 @@
 -- number, or sets what is there; none takes anything away (21 CFR 11.10(e), "record changes shall not
 -- obscure previously recorded information").
 use Rattle.std.specs.Prelude.{◌≡◌, ◌≢◌, ◌⊎◌, ◌≤◌, ℕ, ◌+◌, All, option_map, List, [], ◌∷◌, ◌++◌, length, Option, Some, None, IsSome, MatchOption, bytes_eq, if◌then◌else◌}
+use Rattle.std.specs.List.{insert, position_or_len}
 use Rattle.lab_access.specs.declared.persons.Person.{Person}
 use Rattle.lab_access.specs.declared.sessions.Session.{Session}
 use Rattle.lab_access.specs.Persons.{person_of}
@@ -23,19 +24,16 @@ use Rattle.lab_kept.specs.Limits.{stray_limit}
 use Rattle.lab_kept.specs.Lookups.{comes_before, last_form, next_form_version, has_number, is_numbered, record_of, record_about, last_of, last_version, numbered_version}
 use Rattle.lab_kept.specs.Digests.{previous_of, digest_of}
 
--- a person is added: persons stand in the order of their codes
+-- a person is added before the first of a later code, or as the last: persons stand in the order of
+-- their codes
 abbrev pub added_person : Person → List Person → List Person
-added_person person [] = person ∷ []
-added_person person (one ∷ others) =
-    if comes_before person.code one.code then person ∷ one ∷ others
-    else one ∷ added_person person others
+added_person person persons =
+    insert persons (position_or_len (λ one. comes_before person.code one.code) persons) person
 
--- a version of a form is added, after all of its code and before all of later codes
+-- and so is a version of a form, after all of its own code
 abbrev pub added_form : FormVersion → List FormVersion → List FormVersion
-added_form form [] = form ∷ []
-added_form form (one ∷ others) =
-    if comes_before form.code one.code then form ∷ one ∷ others
-    else one ∷ added_form form others
+added_form form forms =
+    insert forms (position_or_len (λ one. comes_before form.code one.code) forms) form
 
 -- the person takes the place of the one of the same code
 abbrev pub with_person : Person → List Person → List Person

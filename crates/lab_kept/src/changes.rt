@@ -1,10 +1,12 @@
 //! The changes that are made of a laboratory.
 ghost use Rattle.std.specs.Prelude.{◌≡◌, ◌++◌, [], ◌∷◌, IfOk};
 ghost use Rattle.lab_access.specs.Sessions.{session_after, sessions_after};
-ghost use Rattle.lab_kept.specs.Changes.{change, with_person, with_session, in_record, entered_in, opened_in, signed_in};
+ghost use Rattle.lab_kept.specs.Changes.{change, added_person, added_form, with_person, with_session, in_record, entered_in, opened_in, signed_in};
 
 use crate::labs::Lab;
-use crate::places::{place_of_person, place_of_record, place_of_session};
+use crate::places::{
+    place_for_form, place_for_person, place_of_person, place_of_record, place_of_session,
+};
 use crate::records::{FormVersion, Record, Signature, Version};
 use crate::trails::TrailRow;
 use lab_access::{Closing, Person, Session};
@@ -81,7 +83,11 @@ impl Lab {
             Change::RecordAdded(kept) => self.add_record(kept),
             Change::RowAdded { record, row } => self.add_row(record, row),
             Change::VersionOpened { record, version } => self.open_version(record, version),
-            Change::SignatureAdded { record, signature } => self.add_signature(record, signature),
+            Change::SignatureAdded {
+                record,
+                version,
+                signature,
+            } => self.add_signature(record, version, signature),
             Change::TrailAdded(row) => self.add_to_trail(row),
         }
     }
@@ -89,7 +95,7 @@ impl Lab {
     fn add_person(self, person: Person) -> Result<Lab, OutOfMemory>
         ensures { IfOk result (λ lab. lab ≡ change self (Change.PersonAdded person)) }
     {
-        let persons = longer(self.persons, person)?;
+        let persons = with_person_added(self.persons, person)?;
         Ok(Lab { persons, ..self })
     }
 
@@ -103,7 +109,7 @@ impl Lab {
     fn add_form(self, form: FormVersion) -> Result<Lab, OutOfMemory>
         ensures { IfOk result (λ lab. lab ≡ change self (Change.FormAdded form)) }
     {
-        let forms = longer(self.forms, form)?;
+        let forms = with_form_added(self.forms, form)?;
         Ok(Lab { forms, ..self })
     }
 
@@ -128,10 +134,16 @@ impl Lab {
         Ok(Lab { records, ..self })
     }
 
-    fn add_signature(self, number: Ordinal, signature: Signature) -> Result<Lab, OutOfMemory>
-        ensures { IfOk result (λ lab. lab ≡ change self (Change.SignatureAdded number signature)) }
+    fn add_signature(
+        self,
+        number: Ordinal,
+        version: Ordinal,
+        signature: Signature,
+    ) -> Result<Lab, OutOfMemory>
+        ensures { IfOk result
+            (λ lab. lab ≡ change self (Change.SignatureAdded number version signature)) }
     {
-        let records = signed_in(self.records, number, signature)?;
+        let records = signed_in(self.records, number, version, signature)?;
         Ok(Lab { records, ..self })
     }
 
@@ -149,6 +161,32 @@ fn longer<T: Drop>(mut series: Series<T>, value: T) -> Result<Series<T>, OutOfMe
 {
     series.push(value)?;
     Ok(series)
+}
+
+/// The persons with one more, in the order of their codes.
+fn with_person_added(
+    persons: Series<Person>,
+    person: Person,
+) -> Result<Series<Person>, OutOfMemory>
+    ensures { IfOk result (λ after. after ≡ added_person person persons) }
+{
+    let mut list = persons.into_vec();
+    let place = place_for_person(&list, &person.code);
+    list.insert(place, person)?;
+    Ok(Series::from_vec(list))
+}
+
+/// The versions of forms with one more, in the order of their codes.
+fn with_form_added(
+    forms: Series<FormVersion>,
+    form: FormVersion,
+) -> Result<Series<FormVersion>, OutOfMemory>
+    ensures { IfOk result (λ after. after ≡ added_form form forms) }
+{
+    let mut list = forms.into_vec();
+    let place = place_for_form(&list, &form.code);
+    list.insert(place, form)?;
+    Ok(Series::from_vec(list))
 }
 
 /// The person takes the place of the one of the same code.
@@ -239,13 +277,14 @@ fn opened_in(
     Ok(Series::from_vec(list))
 }
 
-/// The records with the signature in the last version of the one of the number.
+/// The records with the signature of the version of a number of the one of the number.
 fn signed_in(
     records: Series<Record>,
     number: Ordinal,
+    version: Ordinal,
     signature: Signature,
 ) -> Result<Series<Record>, OutOfMemory>
-    ensures { IfOk result (λ after. after ≡ in_record number (signed_in signature) records) }
+    ensures { IfOk result (λ after. after ≡ in_record number (signed_in version signature) records) }
 {
     let mut list = records.into_vec();
     let Some(place) = place_of_record(&list, number) else {
@@ -253,6 +292,6 @@ fn signed_in(
     };
     let alloc = *list.allocator();
     let kept = &mut list[place];
-    kept.sign(alloc, signature)?;
+    kept.sign(alloc, version, signature)?;
     Ok(Series::from_vec(list))
 }

@@ -1,13 +1,15 @@
 //! Where persons, sessions and records stand in their lists, and what is done to one record.
-ghost use Rattle.std.specs.Prelude.{◌≡◌, bytes_eq, position, OnOk, IfOk};
-ghost use Rattle.lab_kept.specs.Lookups.{has_number};
-ghost use Rattle.lab_kept.specs.Changes.{in_last, with_row, with_signature, entered_in, opened_in, signed_in};
+ghost use Rattle.std.specs.Prelude.{◌≡◌, ◌≤◌, bytes_eq, length, position, OnOk, IfOk};
+ghost use Rattle.std.specs.List.{position_or_len};
+ghost use Rattle.lab_kept.specs.Lookups.{comes_before, has_number, is_numbered};
+ghost use Rattle.lab_kept.specs.Changes.{in_last, in_version, with_row, with_signature, entered_in, opened_in, signed_in};
 
-use crate::records::{Record, Signature, Version};
+use crate::records::{FormVersion, Record, Signature, Version};
 use lab_access::{Person, Session};
-use lab_names::{Ordinal, OutOfMemory, PersonCode, Series};
+use lab_names::{Key, Ordinal, OutOfMemory, PersonCode, Rule, Series, Text};
 use lab_seal::{Digest, EntryRow, EntryRows};
 use std::alloc::Global;
+use std::cmp::Ordering;
 use std::mem;
 
 /// Where the person of the code stands.
@@ -17,6 +19,63 @@ pub fn place_of_person(persons: &[Person], code: &PersonCode) -> Option<usize>
     persons
         .iter()
         .position(|one| one.code.as_str() == code.as_str())
+}
+
+/// Whether a text comes before another in the order of their bytes.
+fn comes_before<R: Rule>(one: &Text<R>, other: &Text<R>) -> bool
+    ensures { result ≡ comes_before one.now other.now }
+{
+    match one.cmp(other) {
+        Ordering::Less => true,
+        Ordering::Equal | Ordering::Greater => false,
+    }
+}
+
+/// Where a person of the code is added: before the first of a later code, or at the end.
+#[tactic(auto, using(crate::proofs::Replacing::place_found, crate::proofs::Replacing::place_at_end, crate::proofs::Replacing::place_within))]
+pub fn place_for_person(persons: &[Person], code: &PersonCode) -> usize
+    ensures value { result ≡ position_or_len (λ one. comes_before code.now one.code) persons.now }
+    ensures within { result ≤ length persons.now }
+{
+    match later_person(persons, code) {
+        Some(place) => place,
+        None => persons.len(),
+    }
+}
+
+fn later_person(persons: &[Person], code: &PersonCode) -> Option<usize>
+    ensures { result ≡ position (λ one. comes_before code.now one.code) persons.now }
+{
+    persons
+        .iter()
+        .position(|one| comes_before(code, &one.code))
+}
+
+/// Where a version of a form of the code is added.
+#[tactic(auto, using(crate::proofs::Replacing::place_found, crate::proofs::Replacing::place_at_end, crate::proofs::Replacing::place_within))]
+pub fn place_for_form(forms: &[FormVersion], code: &Key) -> usize
+    ensures value { result ≡ position_or_len (λ one. comes_before code.now one.code) forms.now }
+    ensures within { result ≤ length forms.now }
+{
+    match later_form(forms, code) {
+        Some(place) => place,
+        None => forms.len(),
+    }
+}
+
+fn later_form(forms: &[FormVersion], code: &Key) -> Option<usize>
+    ensures { result ≡ position (λ one. comes_before code.now one.code) forms.now }
+{
+    forms.iter().position(|one| comes_before(code, &one.code))
+}
+
+/// Where the version of the number stands.
+pub fn place_of_version(versions: &[Version], number: Ordinal) -> Option<usize>
+    ensures { result ≡ position (is_numbered number) versions.now }
+{
+    versions
+        .iter()
+        .position(|version| version.origin.number() == number)
 }
 
 /// Where the session of the token stands.
@@ -51,12 +110,17 @@ impl Record {
         Ok(())
     }
 
-    /// A signature more in the last version.
-    pub(crate) fn sign(&mut self, alloc: Global, signature: Signature) -> Result<(), OutOfMemory>
-        ensures { OnOk result (self.new ≡ signed_in signature self.old) }
+    /// A signature more in the version of the number.
+    pub(crate) fn sign(
+        &mut self,
+        alloc: Global,
+        number: Ordinal,
+        signature: Signature,
+    ) -> Result<(), OutOfMemory>
+        ensures { OnOk result (self.new ≡ signed_in number signature self.old) }
     {
         let versions = mem::replace(&mut self.versions, Series::new(alloc));
-        self.versions = with_signature_in_last(versions, signature)?;
+        self.versions = signed_in_version(versions, number, signature)?;
         Ok(())
     }
 }
@@ -74,13 +138,12 @@ impl Version {
         })
     }
 
-    /// The version with a signature more.
-    fn with_signature(self, signature: Signature) -> Result<Version, OutOfMemory>
-        ensures { IfOk result (λ version. version ≡ with_signature signature self) }
+    /// A signature more.
+    fn sign(&mut self, signature: Signature) -> Result<(), OutOfMemory>
+        ensures { OnOk result (self.new ≡ with_signature signature self.old) }
     {
-        let mut signatures = self.signatures;
-        signatures.push(signature)?;
-        Ok(Version { signatures, ..self })
+        self.signatures.push(signature)?;
+        Ok(())
     }
 }
 
@@ -99,17 +162,19 @@ fn with_row_in_last(
     Ok(Series::from_vec(list))
 }
 
-#[tactic(auto, using(crate::proofs::Replacing::in_last_of))]
-fn with_signature_in_last(
+// The versions with the signature in the one of the number.
+fn signed_in_version(
     versions: Series<Version>,
+    number: Ordinal,
     signature: Signature,
 ) -> Result<Series<Version>, OutOfMemory>
-    ensures { IfOk result (λ after. after ≡ in_last (with_signature signature) versions) }
+    ensures { IfOk result (λ after. after ≡ in_version number (with_signature signature) versions) }
 {
     let mut list = versions.into_vec();
-    let Some(last) = list.pop() else {
+    let Some(place) = place_of_version(&list, number) else {
         return Ok(Series::from_vec(list));
     };
-    list.push(last.with_signature(signature)?)?;
+    let version = &mut list[place];
+    version.sign(signature)?;
     Ok(Series::from_vec(list))
 }

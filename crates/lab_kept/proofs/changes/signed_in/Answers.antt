@@ -11,7 +11,7 @@ pub returns-in_default : goal.returns-in_default
 returns-in_default c =
     let none : position (has_number c.args.number) c.args.records ≡ None = cc in
     c.from_vec.ensures ∙ c.into_vec-list.ensures
-    ∙ sym (in_record_none c.args.number (signed_in c.args.signature) c.args.records none)
+    ∙ sym (in_record_none c.args.number (signed_in c.args.version c.args.signature) c.args.records none)
 
 pub returns : goal.returns
 returns c =
@@ -20,5 +20,5 @@ returns c =
     let kept = c.index_mut-kept.result.now in
     let found : position (has_number c.args.number) list ≡ Some place = cc in
     c.from_vec-2.ensures ∙ ap (λ (next : Record). set list place next) c.in_ok-sign.ensures
-    ∙ sym (in_record_at c.args.number (signed_in c.args.signature) list place kept found c.index_mut-kept.ensures.value)
-    ∙ ap (λ (records : List Record). in_record c.args.number (signed_in c.args.signature) records) c.into_vec-list.ensures
+    ∙ sym (in_record_at c.args.number (signed_in c.args.version c.args.signature) list place kept found c.index_mut-kept.ensures.value)
+    ∙ ap (λ (records : List Record). in_record c.args.number (signed_in c.args.version c.args.signature) records) c.into_vec-list.ensures
