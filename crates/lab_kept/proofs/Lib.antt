@@ -1,3 +1,4 @@
 pub mod Copies
 pub mod Finds
 pub mod Replacing
+pub mod LastRows

@@ -12,6 +12,7 @@ mod parts;
 mod places;
 mod records;
 mod trails;
+mod values;
 
 pub use changes::Change;
 pub use lab_access::{Ask, Closing, Password, Person, Role, Roles, Session};
