@@ -8,3 +8,4 @@ pub mod Changes
 pub mod Bound
 pub mod Dual
 pub mod Keeping
+pub mod Latest

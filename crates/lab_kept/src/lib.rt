@@ -15,6 +15,7 @@ mod places;
 mod records;
 mod subjects;
 mod trails;
+mod values;
 
 pub use changes::Change;
 pub use lab_access::{Ask, Closing, Password, Person, Role, Roles, Session};

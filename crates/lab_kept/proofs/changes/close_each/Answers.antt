@@ -1,5 +1,5 @@
 -- One session more is as it is to be.
-use Rattle.std.proofs.Common.{◌≡◌, ◌≤◌, ◌++◌, ◌∙◌, sym, ap, List, length, set, drop, append-nil}
+use Rattle.std.proofs.Common.{◌≤◌, ◌++◌, ◌∙◌, sym, ap, List, length, set, drop, append-nil}
 use Rattle.std.specs.Prelude.{map}
 use Rattle.std.proofs.lemmas.List.Edits.{map_over_more}
 use Rattle.std.proofs.lemmas.List.{take_all, drop_all}
