@@ -1,6 +1,6 @@
 -- How much a laboratory holds at the most, in one place; and that what is numbered in it is numbered
 -- from 1 on without gaps. The numbers are this system's own.
-use Rattle.std.specs.Prelude.{◌≡◌, ◌≤◌, ℕ, ◌+◌, IsTrue, List, [], ◌∷◌, ◌++◌, length, Some, All}
+use Rattle.std.specs.Prelude.{◌≡◌, ◌≤◌, ℕ, ◌+◌, IsTrue, false, List, [], ◌∷◌, ◌++◌, length, Some, All}
 use Rattle.lab_names.specs.Ordinals.{last_ordinal}
 use Rattle.lab_kept.specs.declared.records.FormVersion.{FormVersion}
 use Rattle.lab_kept.specs.declared.records.Record.{Record}
@@ -9,7 +9,7 @@ use Rattle.lab_access.specs.declared.persons.Person.{Person}
 use Rattle.lab_kept.specs.declared.labs.Lab.{Lab}
 use Rattle.lab_kept.specs.Lookups.{last_form, exact_form, next_form_version, comes_before}
 
--- the most persons, retired ones too
+-- the most persons, retired ones too; by the same number lab_people refuses an enrolment
 abbrev pub person_limit : ℕ
 person_limit = 500
 
@@ -81,6 +81,12 @@ AreInOrder (one ∷ other ∷ others) =
     IsTrue (comes_before one.code other.code) × AreInOrder (other ∷ others)
 AreInOrder _ = Unit {0}
 
+-- versions of forms stand in the order of their forms' codes
+abbrev pub AreFormsInOrder : List FormVersion → Type 0
+AreFormsInOrder (one ∷ other ∷ others) =
+    (comes_before other.code one.code ≡ false) × AreFormsInOrder (other ∷ others)
+AreFormsInOrder _ = Unit {0}
+
 -- the form of a record is one of its laboratory's
 abbrev pub IsByForm : List FormVersion → Record → Type 0
 IsByForm forms kept = exact_form forms kept.form.code kept.form.version ≡ Some kept.form
@@ -96,6 +102,7 @@ pub record IsWithin (lab : Lab) : Type 0 where
   pub orderly : All IsOrderly lab.records
   pub by_form : All (IsByForm lab.forms) lab.records
   pub persons_ordered : AreInOrder lab.persons
+  pub forms_ordered : AreFormsInOrder lab.forms
   pub forms_numbered : AreFormsNumbered [] lab.forms
   pub sessions_numbered : AreNumbered (λ session. session.number) lab.sessions
   pub records_numbered : AreNumbered (λ kept. kept.number) lab.records

@@ -1,6 +1,5 @@
 -- What comes of a command by its own case, and what a failed password changes.
-use Rattle.std.specs.Prelude.{ℕ, ◌+◌, nat_le, List, [], ◌∷◌, ◌++◌, length, Option, Some, None, if◌then◌else◌}
-use Rattle.lab_access.specs.declared.persons.Person.{Person}
+use Rattle.std.specs.Prelude.{ℕ, ◌+◌, nat_le, List, [], ◌∷◌, ◌++◌, length, Option, Some, if◌then◌else◌}
 use Rattle.lab_access.specs.declared.refusals.Failure.{Failure}
 use Rattle.lab_access.specs.declared.refusals.Failure.TheVariants.{Counted, Locking, AlreadyLocked, Stray}
 use Rattle.lab_access.specs.declared.sessions.Closing.TheVariants.{All}

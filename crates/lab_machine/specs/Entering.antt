@@ -2,14 +2,13 @@
 -- record that was looked up, the first refusal in order, or what is added.
 use Rattle.std.specs.Prelude.{ℕ, ◌+◌, Bool, true, false, not, ◌&&◌, ◌||◌, nat_le, nat_lt, List, [], ◌∷◌, length, map, Option, Some, None, is_some, is_none, Result, Ok, Err, bytes_eq, if◌then◌else◌}
 use Rattle.std.specs.Option.{option_map_or}
-use Rattle.lab_forms.specs.declared.forms.Field.{Field}
 use Rattle.lab_forms.specs.Forms.{value_refusal}
 use Rattle.lab_access.specs.declared.refusals.PeopleRefusal.TheVariants.{LabFull}
 use Rattle.lab_versions.specs.declared.rows.EntryRow.{EntryRow}
 use Rattle.lab_versions.specs.declared.origins.OriginParts.{OriginParts}
 use Rattle.lab_versions.specs.declared.versions.Format.TheVariants.{Two}
 use Rattle.lab_seal.specs.declared.states.State.{State}
-use Rattle.lab_seal.specs.declared.states.State.TheVariants.{Open, Signed, Reviewed, Released, Rejected}
+use Rattle.lab_seal.specs.declared.states.State.TheVariants.{Open}
 use Rattle.lab_seal.specs.States.{is_settled}
 use Rattle.lab_kept.specs.declared.records.Record.{Record}
 use Rattle.lab_kept.specs.declared.records.Version.{Version}
@@ -18,20 +17,20 @@ use Rattle.lab_kept.specs.Lookups.{last_of}
 use Rattle.lab_kept.specs.Values.{all_rows, value_of, version_state}
 use Rattle.lab_kept.specs.Digests.{digest_of}
 use Rattle.lab_kept.specs.Changes.{with_row}
-use Rattle.lab_machine.specs.declared.cases.EntryMade.{EntryMade}
-use Rattle.lab_machine.specs.declared.cases.AmendmentMade.{AmendmentMade}
+use Rattle.lab_machine.specs.declared.makings.EntryMade.{EntryMade}
+use Rattle.lab_machine.specs.declared.makings.AmendmentMade.{AmendmentMade}
 use Rattle.lab_machine.specs.declared.commands.Item.{Item}
 use Rattle.lab_machine.specs.declared.refusals.Refusal.{Refusal}
 use Rattle.lab_machine.specs.declared.refusals.Refusal.TheVariants.{People, Form, NoSuchRecord, NotOpen, ReasonWanted, NothingAltered, NotAltered, AmendmentOpen}
 
--- a version is open, and a version is released or rejected
+-- a version is open; a version is released or rejected
 abbrev pub is_open : Option State → Bool
 is_open (Some Open) = true
 is_open _ = false
 
-abbrev pub is_at_rest : Option State → Bool
-is_at_rest None = false
-is_at_rest (Some state) = is_settled state
+abbrev pub has_settled : Option State → Bool
+has_settled None = false
+has_settled (Some state) = is_settled state
 
 -- a row as it is entered
 abbrev pub entered_row : Item → Option (List ℕ) → List ℕ → ℕ → EntryRow
@@ -160,7 +159,7 @@ abbrev pub amending_of : List ℕ → Record → Option Version → Option (List
     → ℕ → Result AmendmentMade Refusal
 amending_of lab kept None reason altered caller moment = Err AmendmentOpen
 amending_of lab kept (Some last) reason altered caller moment =
-    if not (is_at_rest (version_state kept last)) then Err AmendmentOpen
+    if not (has_settled (version_state kept last)) then Err AmendmentOpen
     else amending_by lab kept last reason altered caller moment
 
 -- a record is amended

@@ -1,7 +1,6 @@
 -- The small machine: one laboratory by itself, what it replies to an instruction and what it is
--- afterwards, and how it is born. It knows no other laboratory, no bytes and no tables (ISO/IEC
--- 17025:2017, 7.5.1 and 8.4.2).
-use Rattle.std.specs.Prelude.{ℕ, Bool, ◌+◌, nat_lt, nat_le, List, [], ◌∷◌, ◌++◌, length, Option, Some, None, Result, Ok, Err, if◌then◌else◌}
+-- afterwards. It knows no other laboratory, no bytes and no tables.
+use Rattle.std.specs.Prelude.{ℕ, nat_lt, nat_le, List, length, Option, Some, None, if◌then◌else◌}
 use Rattle.sha2.specs.Sha256.{sha256}
 use Rattle.lab_names.specs.declared.tick.Tick.{Tick}
 use Rattle.lab_access.specs.declared.persons.Person.{Person}
@@ -17,11 +16,10 @@ use Rattle.lab_kept.specs.Limits.{count_limit}
 use Rattle.lab_kept.specs.Lookups.{session_at, caller_of}
 use Rattle.lab_kept.specs.Changes.{with_session}
 use Rattle.lab_machine.specs.declared.commands.Command.{Command}
-use Rattle.lab_machine.specs.declared.commands.Command.TheVariants.{Card, Open}
+use Rattle.lab_machine.specs.declared.commands.Command.TheVariants.{Open}
 use Rattle.lab_machine.specs.declared.commands.Instruction.{Instruction}
 use Rattle.lab_machine.specs.declared.passages.Passage.{Passage}
-use Rattle.lab_machine.specs.declared.passages.Passage.TheVariants.{Early, Open as NeedsNone, Stranger, Barred, Passes}
-use Rattle.lab_machine.specs.declared.refusals.Refusal.{Refusal}
+use Rattle.lab_machine.specs.declared.passages.Passage.TheVariants.{Early, NeedsNone, Stranger, Barred, Passes}
 use Rattle.lab_machine.specs.declared.refusals.Refusal.TheVariants.{NoSuchLab, ClockBehind, People}
 use Rattle.lab_machine.specs.declared.replies.Reply.{Reply}
 use Rattle.lab_machine.specs.declared.replies.Reply.TheVariants.{Refused, Card as ShowsCard}
@@ -75,7 +73,7 @@ made before after moment person reply deed =
     if nat_le count_limit (length before.trail) then stays before (Refused (People LabFull))
     else stays (told moment (Some person) deed after) reply
 
--- the end of a command in a session, whose request was noted
+-- the end of a command in a session, whose moment was taken
 abbrev pub ended : Lab → ℕ → List ℕ → Case → Stepped
 ended lab moment person (Refuses refusal) = stays lab (Refused refusal)
 ended lab moment person (Fails occasion failure) =

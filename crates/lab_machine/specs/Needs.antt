@@ -13,11 +13,11 @@ use Rattle.lab_kept.specs.declared.needs.RecordWanted.TheVariants.{Numbered, Abo
 use Rattle.lab_kept.specs.declared.needs.ListWanted.{ListWanted}
 use Rattle.lab_kept.specs.declared.needs.ListWanted.TheVariants.{Persons, Records, Trail}
 use Rattle.lab_machine.specs.declared.commands.Command.{Command}
-use Rattle.lab_machine.specs.declared.commands.Command.TheVariants.{Card, Open, Close, ChangePassword, Enrol, ReadPersons, AskIssue, ConfirmIssue, SetRoles, Retire, Unlock, MakeForm, ReadForm, OpenRecord, Enter, Amend, Sign, ReadRecord, ReadVersion, ReadRecords, ReadTrail}
+use Rattle.lab_machine.specs.declared.commands.Command.TheVariants.{Card, Open, Enrol, ReadPersons, AskIssue, ConfirmIssue, SetRoles, Retire, Unlock, MakeForm, ReadForm, OpenRecord, Enter, Amend, Sign, ReadRecord, ReadVersion, ReadRecords, ReadTrail}
 use Rattle.lab_machine.specs.declared.commands.Instruction.{Instruction}
 
 -- the digest of the token by whose session the command is given; the card asks for none, and an opening
--- for the session that has its new token already
+-- for the session that has its new token already (its person comes along, and nothing looks at them)
 abbrev pub token_in : Tick → Option (List ℕ) → Command → Option (List ℕ)
 token_in tick token Card = None
 token_in tick token (Open code password) = Some (token_digest tick)

@@ -1,10 +1,9 @@
 -- Each command's own case: what its rule says of what was looked up, and what that makes of the
 -- laboratory. The rules of persons are those of lab_access and lab_people; nothing of them is said here
 -- again.
-use Rattle.std.specs.Prelude.{ℕ, ◌+◌, List, [], ◌∷◌, ◌++◌, length, map, Option, Some, None, Result, Ok, Err, if◌then◌else◌}
+use Rattle.std.specs.Prelude.{ℕ, ◌+◌, List, [], ◌∷◌, ◌++◌, length, map, Result, Ok, Err, if◌then◌else◌}
 use Rattle.lab_names.specs.declared.tick.Tick.{Tick}
 use Rattle.lab_access.specs.declared.persons.Person.{Person}
-use Rattle.lab_access.specs.declared.roles.Roles.{Roles}
 use Rattle.lab_access.specs.declared.sessions.Session.{Session}
 use Rattle.lab_access.specs.declared.openings.Opened.{Opened}
 use Rattle.lab_access.specs.declared.refusals.Failure.{Failure}
@@ -19,34 +18,27 @@ use Rattle.lab_people.specs.declared.accounts.Effect.{Effect}
 use Rattle.lab_people.specs.declared.issues.Issued.{Issued}
 use Rattle.lab_people.specs.Accounts.{changing, enrolling, setting_roles, retiring, unlocking}
 use Rattle.lab_people.specs.Issues.{asking, confirming}
-use Rattle.lab_versions.specs.declared.rows.EntryRow.{EntryRow}
 use Rattle.lab_kept.specs.declared.labs.Lab.{Lab}
 use Rattle.lab_kept.specs.declared.records.FormVersion.{FormVersion}
 use Rattle.lab_kept.specs.declared.records.Record.{Record}
-use Rattle.lab_kept.specs.declared.records.Version.{Version}
-use Rattle.lab_kept.specs.declared.records.Signature.{Signature}
-use Rattle.lab_kept.specs.declared.trails.Deed.{Deed}
 use Rattle.lab_kept.specs.declared.trails.Deed.TheVariants.{Open as OpenDeed, Close as CloseDeed, Password as PasswordDeed, Enrol as EnrolDeed, Issue as IssueDeed, Confirm as ConfirmDeed, Roles as RolesDeed, Retire as RetireDeed, Unlock as UnlockDeed, Form as FormDeed, Record as RecordDeed, Entry as EntryDeed, Amend as AmendDeed, Sign as SignDeed}
 use Rattle.lab_kept.specs.declared.trails.Occasion.TheVariants.{Opening, Changing, Signing as AtSigning}
-use Rattle.lab_kept.specs.Lookups.{person_at, session_at, last_form, exact_form, record_of, record_about, records_within, rows_within, last_of, version_of}
+use Rattle.lab_kept.specs.Lookups.{person_at, session_at, last_form, exact_form, record_of, record_about, records_within, rows_within}
 use Rattle.lab_kept.specs.Changes.{with_person, with_session, added_person, added_form, in_record, entered_in, opened_in, signed_in}
-use Rattle.lab_kept.specs.Digests.{digest_of}
-use Rattle.lab_kept.specs.Values.{version_state}
-use Rattle.lab_machine.specs.declared.cases.Signing.{Signing}
-use Rattle.lab_machine.specs.declared.commands.Item.{Item}
+use Rattle.lab_machine.specs.declared.makings.Signing.{Signing}
 use Rattle.lab_machine.specs.declared.commands.Command.{Command}
 use Rattle.lab_machine.specs.declared.commands.Command.TheVariants.{Card, Open, Close, ChangePassword, Enrol, ReadPersons, AskIssue, ConfirmIssue, SetRoles, Retire, Unlock, MakeForm, ReadForm, OpenRecord, Enter, Amend, Sign, ReadRecord, ReadVersion, ReadRecords, ReadTrail}
 use Rattle.lab_machine.specs.declared.refusals.Refusal.{Refusal}
 use Rattle.lab_machine.specs.declared.refusals.Refusal.TheVariants.{People, CodeWanted}
 use Rattle.lab_machine.specs.declared.replies.Reply.{Reply}
 use Rattle.lab_machine.specs.declared.replies.Reply.TheVariants.{Card as ShowsCard, Opened as TellsOpened, Closed, PasswordChanged as TellsChanged, PersonDone, HalfTold, RolesSet, Persons, FormMade, RecordOpened, Entered, Amended, Signed as TellsSigned, Records, Trail}
-use Rattle.lab_machine.specs.declared.cases.EntryMade.{EntryMade}
-use Rattle.lab_machine.specs.declared.cases.AmendmentMade.{AmendmentMade}
-use Rattle.lab_machine.specs.declared.cases.SignatureMade.{SignatureMade}
+use Rattle.lab_machine.specs.declared.makings.EntryMade.{EntryMade}
+use Rattle.lab_machine.specs.declared.makings.AmendmentMade.{AmendmentMade}
+use Rattle.lab_machine.specs.declared.makings.SignatureMade.{SignatureMade}
 use Rattle.lab_machine.specs.Making.{making, opening_record}
 use Rattle.lab_machine.specs.Entering.{entering, amending}
 use Rattle.lab_machine.specs.Signing.{is_code_wanted, signing_record}
-use Rattle.lab_machine.specs.Reading.{reading_form, reading_record, reading_version, record_line}
+use Rattle.lab_machine.specs.Reading.{reading_form, reading_record, reading_version, record_line, person_line}
 use Rattle.lab_machine.specs.Cases.{Case, Refuses, Fails, Reads, Makes}
 
 -- what follows a rule: its refusal, or what it gives
@@ -174,6 +166,7 @@ signing_by lab moment session number version digest signing (Ok person) =
 
 -- ---- each command
 
+-- The first two are never asked here: the card and an opening come without a session.
 unfoldable pub own : Lab → Tick → Session → Person → Command → Case
 own lab tick session caller Card = Reads (ShowsCard lab.code lab.name)
 own lab tick session caller (Open code password) = opening_case lab tick code password
@@ -183,7 +176,8 @@ own lab tick session caller (ChangePassword old new) =
 own lab tick session caller (Enrol code name roles) =
     then_person (enrolling code name roles (person_at lab code) (length lab.persons))
     (enrolled_case lab)
-own lab tick session caller ReadPersons = Reads (Persons lab.persons tick.moment)
+own lab tick session caller ReadPersons =
+    Reads (Persons (map (person_line tick.moment) lab.persons))
 own lab tick session caller (AskIssue code) =
     then_person (asking caller.code (person_at lab code) tick)
     (λ issued. Makes (HalfTold issued.half) (IssueDeed issued.person.code) (with_issued lab issued))

@@ -1,6 +1,8 @@
--- What is read of a laboratory (21 CFR 11.10(b), "accurate and complete copies of records"): over what was
--- looked up, the refusal, or the reply.
-use Rattle.std.specs.Prelude.{ℕ, List, map, Option, Some, None, Result, Ok, Err}
+-- What is read of a laboratory (21 CFR 11.10(c), "accurate and ready retrieval"): over what was looked up,
+-- the refusal, or the reply.
+use Rattle.std.specs.Prelude.{ℕ, List, map, Option, Some, None, option_map, Result, Ok, Err}
+use Rattle.lab_access.specs.declared.persons.Person.{Person}
+use Rattle.lab_access.specs.Persons.{is_locked}
 use Rattle.lab_kept.specs.declared.records.FormVersion.{FormVersion}
 use Rattle.lab_kept.specs.declared.records.Record.{Record}
 use Rattle.lab_kept.specs.declared.records.Version.{Version}
@@ -15,6 +17,7 @@ use Rattle.lab_machine.specs.declared.replies.Reply.TheVariants.{FormRead, Recor
 use Rattle.lab_machine.specs.declared.replies.VersionState.{VersionState}
 use Rattle.lab_machine.specs.declared.replies.RecordRead.{RecordRead}
 use Rattle.lab_machine.specs.declared.replies.RecordState.{RecordState}
+use Rattle.lab_machine.specs.declared.replies.PersonLine.{PersonLine}
 use Rattle.lab_machine.specs.declared.replies.VersionRead.{VersionRead}
 
 -- a version of a form
@@ -32,7 +35,12 @@ version_line lab kept version = record {
 
 -- a record
 abbrev pub record_read : List ℕ → Record → RecordRead
-record_read lab kept = record { kept = kept; versions = map (version_line lab kept) kept.versions }
+record_read lab kept = record {
+  number = kept.number;
+  form = kept.form;
+  sample = kept.sample;
+  versions = map (version_line lab kept) kept.versions;
+}
 
 abbrev pub reading_record : List ℕ → Option Record → Result Reply Refusal
 reading_record lab None = Err NoSuchRecord
@@ -41,8 +49,10 @@ reading_record lab (Some kept) = Ok (ShowsRecord (record_read lab kept))
 -- a version of a record
 abbrev pub version_read : List ℕ → Record → Version → VersionRead
 version_read lab kept version = record {
-  kept = kept;
-  version = version.origin.number;
+  number = kept.number;
+  form = kept.form;
+  sample = kept.sample;
+  version = version;
   state = version_state kept version;
   digest = digest_of lab kept version;
   altered = altered_at kept version.origin.number;
@@ -58,10 +68,29 @@ reading_version lab None number = Err NoSuchRecord
 reading_version lab (Some kept) number =
     reading_found lab kept (version_of kept.versions number)
 
--- a record, and the state of its last version
+-- a record, with the number and the state of its last version
+abbrev pub number_of : Version → ℕ
+number_of version = version.origin.number
+
 abbrev pub current_state : Record → Option Version → Option State
 current_state kept None = None
 current_state kept (Some version) = version_state kept version
 
 abbrev pub record_line : Record → RecordState
-record_line kept = record { kept = kept; state = current_state kept (last_of kept.versions) }
+record_line kept = record {
+  number = kept.number;
+  form = kept.form.code;
+  sample = kept.sample;
+  current = option_map number_of (last_of kept.versions);
+  state = current_state kept (last_of kept.versions);
+}
+
+-- a person, as persons are read
+abbrev pub person_line : ℕ → Person → PersonLine
+person_line moment person = record {
+  code = person.code;
+  name = person.name;
+  roles = person.roles;
+  retired = person.retired;
+  locked = is_locked person.locked moment;
+}

@@ -1,18 +1,16 @@
 -- Signatures (21 CFR 11.50, 11.70 and 11.200(a)): over the record that was looked up and the person whose
 -- password was accepted, the first refusal in order, or the signature.
-use Rattle.std.specs.Prelude.{ℕ, Bool, true, false, not, ◌&&◌, ◌||◌, ◌==◌, List, [], ◌∷◌, length, Option, Some, None, is_none, Result, Ok, Err, bytes_eq, if◌then◌else◌}
+use Rattle.std.specs.Prelude.{ℕ, Bool, false, not, ◌&&◌, ◌||◌, ◌==◌, List, [], ◌∷◌, length, Option, Some, None, is_none, Result, Ok, Err, bytes_eq, if◌then◌else◌}
 use Rattle.std.specs.Option.{option_map_or}
 use Rattle.std.specs.List.{list_any}
 use Rattle.lab_forms.specs.declared.forms.Field.{Field}
 use Rattle.lab_access.specs.declared.persons.Person.{Person}
 use Rattle.lab_access.specs.declared.sessions.Session.{Session}
-use Rattle.lab_access.specs.declared.refusals.Failure.{Failure}
-use Rattle.lab_access.specs.Attempts.{signing_attempt}
 use Rattle.lab_versions.specs.declared.rows.EntryRow.{EntryRow}
 use Rattle.lab_seal.specs.declared.seals.Meaning.{Meaning}
 use Rattle.lab_seal.specs.declared.seals.Meaning.TheVariants.{Authorship as AsAuthor, Review as AsReviewer, Rejection as AsRejection, Approval as AsApproval}
 use Rattle.lab_seal.specs.declared.states.State.{State}
-use Rattle.lab_seal.specs.declared.states.State.TheVariants.{Open, Signed, Reviewed, Released, Rejected}
+use Rattle.lab_seal.specs.declared.states.State.TheVariants.{Open, Signed, Reviewed}
 use Rattle.lab_kept.specs.declared.records.Record.{Record}
 use Rattle.lab_kept.specs.declared.records.Version.{Version}
 use Rattle.lab_kept.specs.declared.records.Signature.{Signature}
@@ -20,9 +18,9 @@ use Rattle.lab_kept.specs.Lookups.{version_of}
 use Rattle.lab_kept.specs.Values.{value_of, rows_to, altered_at, has_entered, version_state}
 use Rattle.lab_kept.specs.Digests.{digest_of, signature_of}
 use Rattle.lab_kept.specs.Changes.{with_signature}
-use Rattle.lab_machine.specs.declared.cases.SignatureMade.{SignatureMade}
-use Rattle.lab_machine.specs.declared.cases.Signing.{Signing}
-use Rattle.lab_machine.specs.declared.cases.Signing.TheVariants.{Authorship, Review, Rejection, Approval}
+use Rattle.lab_machine.specs.declared.makings.SignatureMade.{SignatureMade}
+use Rattle.lab_machine.specs.declared.makings.Signing.{Signing}
+use Rattle.lab_machine.specs.declared.makings.Signing.TheVariants.{Authorship, Review, Rejection, Approval}
 use Rattle.lab_machine.specs.declared.refusals.Refusal.{Refusal}
 use Rattle.lab_machine.specs.declared.refusals.Refusal.TheVariants.{NoSuchRecord, NoSuchVersion, ReasonWanted, NothingAltered, EntriesMissing, StaleDigest, AlreadySigned, OwnWork, NotAuthor, NotSigned, ApprovalNotWanted}
 

@@ -2,7 +2,7 @@
 ghost use Rattle.std.specs.Prelude.{◌≡◌, IfOk, string_bytes};
 ghost use Rattle.lab_machine.specs.Policy.{rule_of};
 
-use crate::cases::Signing;
+use crate::makings::Signing;
 use lab_access::{Roles, Rule};
 use lab_forms::Form;
 use lab_names::{Key, Name, Note, Ordinal, OutOfMemory, PersonCode, Series, Unit};
@@ -137,7 +137,7 @@ pub enum Command {
     ReadTrail { from: Ordinal, to: Ordinal },
 }
 
-/// The values of an amendment, in order.
+/// The values of an amendment, in order. No key stands twice: a body with one is refused where it is read.
 pub type Altered = Series<Item>;
 
 /// A command, and the token of the session in which it is given, if one is named.

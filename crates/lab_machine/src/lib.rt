@@ -1,8 +1,8 @@
-//! What is decided of a laboratory: the commands that it can be asked, what it replies and refuses, and what each command
+//! What is decided of a laboratory: the commands that it can be asked but the inspection copy, what it replies and refuses, and what each command
 //! makes of it (ISO/IEC 17025:2017, 7.5 and 8.4; 21 CFR Part 11). It knows no bytes of a request and no tables.
 #![tactic(auto)]
 
-mod cases;
+mod makings;
 mod commands;
 
 mod passages;
@@ -10,9 +10,9 @@ mod refusals;
 mod replies;
 mod wanted;
 
-pub use cases::{AmendmentMade, EntryMade, SignatureMade, Signing};
+pub use makings::{AmendmentMade, EntryMade, SignatureMade, Signing};
 pub use commands::{Altered, Command, Instruction, Item, Typed};
 pub use wanted::needs;
 pub use passages::Passage;
 pub use refusals::Refusal;
-pub use replies::{RecordRead, RecordState, Reply, VersionRead, VersionState};
+pub use replies::{PersonLine, RecordRead, RecordState, Reply, VersionRead, VersionState};

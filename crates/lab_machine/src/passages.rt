@@ -8,7 +8,7 @@ pub enum Passage {
     /// It comes before the laboratory's last moment.
     Early,
     /// No session is asked for.
-    Open,
+    NeedsNone,
     /// There is no live session of its token.
     Stranger,
     /// The session lives; its person may not give the command.

@@ -1,9 +1,9 @@
 //! What a laboratory replies.
 use crate::refusals::Refusal;
-use lab_access::{Person, Roles};
-use lab_kept::{FormVersion, Record, Signature, TrailRow};
+use lab_access::Roles;
+use lab_kept::{FormVersion, Signature, TrailRow, Version};
 use lab_names::{Key, LabCode, Moment, Name, Ordinal, PersonCode, Series};
-use lab_seal::{Digest, EntryRows, State};
+use lab_seal::{Digest, EntryRow, State};
 use lab_secrets::{Half, Token};
 
 /// The state of a version of a record, and its digest.
@@ -11,7 +11,7 @@ use lab_secrets::{Half, Token};
 pub struct VersionState {
     /// The version's number.
     pub version: Ordinal,
-    /// Its state.
+    /// Its state; none only where the laboratory isn't under dual control.
     pub state: Option<State>,
     /// Its digest.
     pub digest: Digest,
@@ -20,8 +20,12 @@ pub struct VersionState {
 /// A record with the states of its versions.
 #[derive(Clone, Debug, Drop)]
 pub struct RecordRead {
-    /// The record.
-    pub kept: Record,
+    /// Its number.
+    pub number: Ordinal,
+    /// The version of the form that it is filled in by.
+    pub form: FormVersion,
+    /// The sample that it is about.
+    pub sample: Name,
     /// Its versions' states and digests, in order.
     pub versions: Series<VersionState>,
 }
@@ -29,27 +33,52 @@ pub struct RecordRead {
 /// A version of a record, with what it comes to.
 #[derive(Clone, Debug, Drop)]
 pub struct VersionRead {
-    /// The record, whole.
-    pub kept: Record,
-    /// Which of its versions is read.
-    pub version: Ordinal,
-    /// The version's state.
+    /// The record's number.
+    pub number: Ordinal,
+    /// The version of the form that the record is filled in by.
+    pub form: FormVersion,
+    /// The sample that the record is about.
+    pub sample: Name,
+    /// The version.
+    pub version: Version,
+    /// Its state; none only where the laboratory isn't under dual control.
     pub state: Option<State>,
     /// Its digest.
     pub digest: Digest,
     /// The keys that it altered, in the order of the form.
     pub altered: Series<Key>,
     /// The values of the record at this version, in the order of the form.
-    pub values: EntryRows,
+    pub values: Series<EntryRow>,
 }
 
-/// A record, and the state of its last version.
+/// A record, by its last version.
 #[derive(Clone, Debug, Drop)]
 pub struct RecordState {
-    /// The record.
-    pub kept: Record,
-    /// The state of its last version.
+    /// Its number.
+    pub number: Ordinal,
+    /// The form's code.
+    pub form: Key,
+    /// The sample that it is about.
+    pub sample: Name,
+    /// The number of its last version.
+    pub current: Option<Ordinal>,
+    /// The state of that version.
     pub state: Option<State>,
+}
+
+/// A person, as persons are read.
+#[derive(Clone, Debug, Drop)]
+pub struct PersonLine {
+    /// The code.
+    pub code: PersonCode,
+    /// The printed name.
+    pub name: Name,
+    /// What the person may be.
+    pub roles: Roles,
+    /// Whether the person has left.
+    pub retired: bool,
+    /// Whether the account is locked at the moment.
+    pub locked: bool,
 }
 
 /// What a laboratory replies.
@@ -75,11 +104,8 @@ pub enum Reply {
     HalfTold { half: Half },
     /// The person has these roles.
     RolesSet { code: PersonCode, roles: Roles },
-    /// The persons, by code, as they are at the moment.
-    Persons {
-        persons: Series<Person>,
-        moment: Moment,
-    },
+    /// The persons, by code.
+    Persons(Series<PersonLine>),
     /// A version of a form was made.
     FormMade { code: Key, version: Ordinal },
     /// A version of a form.
