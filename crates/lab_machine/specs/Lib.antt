@@ -1,4 +1,5 @@
 pub mod Refusals
+pub mod Following
 pub mod Policy
 pub mod Making
 pub mod Entering

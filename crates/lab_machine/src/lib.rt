@@ -2,8 +2,10 @@
 //! makes of it (ISO/IEC 17025:2017, 7.5 and 8.4; 21 CFR Part 11). It knows no bytes of a request and no tables.
 #![tactic(auto)]
 
+mod making;
 mod makings;
 mod commands;
+mod faults;
 
 mod passages;
 mod refusals;
@@ -13,6 +15,8 @@ mod wanted;
 pub use makings::{AmendmentMade, EntryMade, SignatureMade, Signing};
 pub use commands::{Altered, Command, Instruction, Item, Typed};
 pub use wanted::needs;
-pub use passages::Passage;
+pub use passages::{Passage, pass};
+pub use faults::CommandFault;
+pub use making::{make_form, open_record};
 pub use refusals::Refusal;
 pub use replies::{PersonLine, RecordRead, RecordState, Reply, VersionRead, VersionState};

@@ -1,0 +1,40 @@
+//! Why a command makes nothing: it is refused, or memory ran out.
+ghost use Rattle.std.specs.Prelude.{◌≡◌};
+ghost use Rattle.lab_machine.specs.declared.faults.CommandFault.TheVariants.{Memory};
+
+use crate::refusals::Refusal;
+use lab_names::OutOfMemory;
+use std::alloc::{AllocError, AllocFailed};
+
+/// Why a command makes nothing.
+#[derive(Debug, Drop)]
+pub enum CommandFault {
+    /// It is refused.
+    Refused(Refusal),
+    /// Memory ran out.
+    Memory,
+}
+
+impl From<OutOfMemory> for CommandFault {
+    ghost from_gives = { λ _ fault. fault ≡ Memory };
+
+    fn from(_error: OutOfMemory) -> CommandFault {
+        CommandFault::Memory
+    }
+}
+
+impl From<AllocError> for CommandFault {
+    ghost from_gives = { λ _ fault. fault ≡ Memory };
+
+    fn from(_error: AllocError) -> CommandFault {
+        CommandFault::Memory
+    }
+}
+
+impl<T: Drop> From<AllocFailed<T>> for CommandFault {
+    ghost from_gives = { λ _ fault. fault ≡ Memory };
+
+    fn from(_error: AllocFailed<T>) -> CommandFault {
+        CommandFault::Memory
+    }
+}
