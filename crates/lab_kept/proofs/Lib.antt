@@ -1,5 +1,3 @@
 pub mod ReleaseLemmas
 pub mod Copies
-pub mod Finds
-pub mod Replacing
 pub mod LastRows

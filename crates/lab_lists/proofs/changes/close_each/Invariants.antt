@@ -1,7 +1,7 @@
 use Rattle.std.proofs.Common.{◌≡◌, ◌++◌, take, drop}
 use Rattle.std.specs.Prelude.{map}
 use Rattle.lab_access.specs.Sessions.{session_after}
-use Rattle.lab_kept.proofs.changes.close_each.Given as goal
+use Rattle.lab_lists.proofs.changes.close_each.Given as goal
 
 -- the first sessions are as they are to be, the others as they were
 abbrev pub invariant-loop-session : goal.invariant-loop-session

@@ -3,8 +3,8 @@ use Rattle.std.proofs.Common.{◌≡◌, ◌∙◌, sym, ap, List, Some, None}
 use Rattle.std.specs.Prelude.{position, bytes_eq}
 use Rattle.lab_access.specs.declared.persons.Person.{Person}
 use Rattle.lab_kept.specs.Changes.{with_person}
-use Rattle.lab_kept.proofs.Replacing.{with_person_at, with_person_none}
-use Rattle.lab_kept.proofs.changes.with_person.Goals as goal
+use Rattle.lab_lists.proofs.Replacing.{with_person_at, with_person_none}
+use Rattle.lab_lists.proofs.changes.with_person.Goals as goal
 
 pub returns-in_default : goal.returns-in_default
 returns-in_default c =

@@ -4,10 +4,11 @@ ghost use Rattle.std.specs.List.{position_or_len};
 ghost use Rattle.lab_kept.specs.Lookups.{comes_before, has_number, is_numbered};
 ghost use Rattle.lab_kept.specs.Changes.{in_last, in_version, with_row, with_signature, entered_in, opened_in, signed_in};
 
-use crate::records::{FormVersion, Record, Signature, Version};
-use lab_access::{Person, Session};
-use lab_names::{Key, Ordinal, OutOfMemory, PersonCode, Rule, Series, Text};
-use lab_seal::{Digest, EntryRow, EntryRows};
+use lab_kept::{
+    Digest, EntryRow, EntryRows, FormVersion, Key, Ordinal, OutOfMemory, Person, PersonCode, Record,
+    Series, Session, Signature, Version,
+};
+use lab_names::{Rule, Text};
 use std::alloc::Global;
 use std::cmp::Ordering;
 use std::mem;
@@ -92,59 +93,55 @@ pub fn place_of_record(records: &[Record], number: Ordinal) -> Option<usize>
     records.iter().position(|kept| kept.number == number)
 }
 
-impl Record {
-    /// A row more in the last version.
-    pub(crate) fn enter(&mut self, alloc: Global, row: EntryRow) -> Result<(), OutOfMemory>
-        ensures { OnOk result (self.new ≡ entered_in row self.old) }
-    {
-        let versions = mem::replace(&mut self.versions, Series::new(alloc));
-        self.versions = with_row_in_last(versions, row)?;
-        Ok(())
-    }
-
-    /// A version more.
-    pub(crate) fn open(&mut self, version: Version) -> Result<(), OutOfMemory>
-        ensures { OnOk result (self.new ≡ opened_in version self.old) }
-    {
-        self.versions.push(version)?;
-        Ok(())
-    }
-
-    /// A signature more in the version of the number.
-    pub(crate) fn sign(
-        &mut self,
-        alloc: Global,
-        number: Ordinal,
-        signature: Signature,
-    ) -> Result<(), OutOfMemory>
-        ensures { OnOk result (self.new ≡ signed_in number signature self.old) }
-    {
-        let versions = mem::replace(&mut self.versions, Series::new(alloc));
-        self.versions = signed_in_version(versions, number, signature)?;
-        Ok(())
-    }
+/// A row more in the last version.
+pub fn enter(kept: &mut Record, alloc: Global, row: EntryRow) -> Result<(), OutOfMemory>
+    ensures { OnOk result (kept.new ≡ entered_in row kept.old) }
+{
+    let versions = mem::replace(&mut kept.versions, Series::new(alloc));
+    kept.versions = with_row_in_last(versions, row)?;
+    Ok(())
 }
 
-impl Version {
-    /// The version with a row more.
-    fn with_row(self, row: EntryRow) -> Result<Version, OutOfMemory>
-        ensures { IfOk result (λ version. version ≡ with_row row self) }
-    {
-        let mut rows = self.rows.into_rows();
-        rows.push(row)?;
-        Ok(Version {
-            rows: EntryRows::new(rows),
-            ..self
-        })
-    }
+/// A version more.
+pub fn open(kept: &mut Record, version: Version) -> Result<(), OutOfMemory>
+    ensures { OnOk result (kept.new ≡ opened_in version kept.old) }
+{
+    kept.versions.push(version)?;
+    Ok(())
+}
 
-    /// A signature more.
-    fn sign(&mut self, signature: Signature) -> Result<(), OutOfMemory>
-        ensures { OnOk result (self.new ≡ with_signature signature self.old) }
-    {
-        self.signatures.push(signature)?;
-        Ok(())
-    }
+/// A signature more in the version of the number.
+pub fn sign(
+    kept: &mut Record,
+    alloc: Global,
+    number: Ordinal,
+    signature: Signature,
+) -> Result<(), OutOfMemory>
+    ensures { OnOk result (kept.new ≡ signed_in number signature kept.old) }
+{
+    let versions = mem::replace(&mut kept.versions, Series::new(alloc));
+    kept.versions = signed_in_version(versions, number, signature)?;
+    Ok(())
+}
+
+/// The version with a row more.
+fn with_row(version: Version, row: EntryRow) -> Result<Version, OutOfMemory>
+    ensures { IfOk result (λ after. after ≡ with_row row version) }
+{
+    let mut rows = version.rows.into_rows();
+    rows.push(row)?;
+    Ok(Version {
+        rows: EntryRows::new(rows),
+        ..version
+    })
+}
+
+/// A signature more.
+fn sign_version(version: &mut Version, signature: Signature) -> Result<(), OutOfMemory>
+    ensures { OnOk result (version.new ≡ with_signature signature version.old) }
+{
+    version.signatures.push(signature)?;
+    Ok(())
 }
 
 #[tactic(auto, using(crate::proofs::Replacing::in_last_of))]
@@ -158,7 +155,7 @@ fn with_row_in_last(
     let Some(last) = list.pop() else {
         return Ok(Series::from_vec(list));
     };
-    list.push(last.with_row(row)?)?;
+    list.push(with_row(last, row)?)?;
     Ok(Series::from_vec(list))
 }
 
@@ -175,6 +172,6 @@ fn signed_in_version(
         return Ok(Series::from_vec(list));
     };
     let version = &mut list[place];
-    version.sign(signature)?;
+    sign_version(version, signature)?;
     Ok(Series::from_vec(list))
 }

@@ -4,10 +4,7 @@ ghost use Rattle.lab_access.specs.Persons.{person_of};
 ghost use Rattle.lab_access.specs.Sessions.{session_of};
 ghost use Rattle.lab_kept.specs.Lookups.{last_form, exact_form, record_of, record_about};
 
-use crate::records::{FormVersion, Record};
-use lab_access::{Person, Session};
-use lab_names::{Key, Name, Ordinal, PersonCode};
-use lab_seal::Digest;
+use lab_kept::{Digest, FormVersion, Key, Name, Ordinal, Person, PersonCode, Record, Session};
 
 /// Who has the code, or had it.
 #[tactic(auto, using(crate::proofs::Finds::person_found))]

@@ -1,6 +1,6 @@
 use Rattle.std.proofs.Common.{◌≡◌, take}
 use Rattle.lab_kept.specs.Lookups.{records_within}
-use Rattle.lab_kept.proofs.parts.records_within.Given as goal
+use Rattle.lab_lists.proofs.parts.records_within.Given as goal
 
 -- those of the first items that lie in the range
 abbrev pub invariant-loop-kept : goal.invariant-loop-kept

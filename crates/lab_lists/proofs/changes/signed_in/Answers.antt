@@ -4,8 +4,8 @@ use Rattle.std.specs.Prelude.{position}
 use Rattle.lab_kept.specs.declared.records.Record.{Record}
 use Rattle.lab_kept.specs.Lookups.{has_number}
 use Rattle.lab_kept.specs.Changes.{in_record, signed_in}
-use Rattle.lab_kept.proofs.Replacing.{in_record_at, in_record_none}
-use Rattle.lab_kept.proofs.changes.signed_in.Goals as goal
+use Rattle.lab_lists.proofs.Replacing.{in_record_at, in_record_none}
+use Rattle.lab_lists.proofs.changes.signed_in.Goals as goal
 
 pub returns-in_default : goal.returns-in_default
 returns-in_default c =

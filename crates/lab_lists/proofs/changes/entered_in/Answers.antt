@@ -3,15 +3,15 @@ use Rattle.std.proofs.Common.{◌≡◌, ◌∙◌, sym, ap, List, Some, None, s
 use Rattle.std.specs.Prelude.{position}
 use Rattle.lab_kept.specs.declared.records.Record.{Record}
 use Rattle.lab_kept.specs.Lookups.{has_number}
-use Rattle.lab_kept.specs.Changes.{in_record, opened_in}
-use Rattle.lab_kept.proofs.Replacing.{in_record_at, in_record_none}
-use Rattle.lab_kept.proofs.changes.opened_in.Goals as goal
+use Rattle.lab_kept.specs.Changes.{in_record, entered_in}
+use Rattle.lab_lists.proofs.Replacing.{in_record_at, in_record_none}
+use Rattle.lab_lists.proofs.changes.entered_in.Goals as goal
 
 pub returns-in_default : goal.returns-in_default
 returns-in_default c =
     let none : position (has_number c.args.number) c.args.records ≡ None = cc in
     c.from_vec.ensures ∙ c.into_vec-list.ensures
-    ∙ sym (in_record_none c.args.number (opened_in c.args.version) c.args.records none)
+    ∙ sym (in_record_none c.args.number (entered_in c.args.row) c.args.records none)
 
 pub returns : goal.returns
 returns c =
@@ -19,6 +19,6 @@ returns c =
     let place = c.in-Some.place in
     let kept = c.index_mut-kept.result.now in
     let found : position (has_number c.args.number) list ≡ Some place = cc in
-    c.from_vec-2.ensures ∙ ap (λ (next : Record). set list place next) c.in_ok-open.ensures
-    ∙ sym (in_record_at c.args.number (opened_in c.args.version) list place kept found c.index_mut-kept.ensures.value)
-    ∙ ap (λ (records : List Record). in_record c.args.number (opened_in c.args.version) records) c.into_vec-list.ensures
+    c.from_vec-2.ensures ∙ ap (λ (next : Record). set list place next) c.in_ok-enter.ensures
+    ∙ sym (in_record_at c.args.number (entered_in c.args.row) list place kept found c.index_mut-kept.ensures.value)
+    ∙ ap (λ (records : List Record). in_record c.args.number (entered_in c.args.row) records) c.into_vec-list.ensures

@@ -3,8 +3,8 @@ use Rattle.std.proofs.Common.{◌≡◌, ◌∙◌, sym, ap, List, Some, None}
 use Rattle.std.specs.Prelude.{position, bytes_eq}
 use Rattle.lab_access.specs.declared.sessions.Session.{Session}
 use Rattle.lab_kept.specs.Changes.{with_session}
-use Rattle.lab_kept.proofs.Replacing.{with_session_at, with_session_none}
-use Rattle.lab_kept.proofs.changes.with_session.Goals as goal
+use Rattle.lab_lists.proofs.Replacing.{with_session_at, with_session_none}
+use Rattle.lab_lists.proofs.changes.with_session.Goals as goal
 
 pub returns-in_default : goal.returns-in_default
 returns-in_default c =

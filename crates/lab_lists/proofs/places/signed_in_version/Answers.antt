@@ -4,8 +4,8 @@ use Rattle.std.specs.Prelude.{position}
 use Rattle.lab_kept.specs.declared.records.Version.{Version}
 use Rattle.lab_kept.specs.Lookups.{is_numbered}
 use Rattle.lab_kept.specs.Changes.{in_version, with_signature}
-use Rattle.lab_kept.proofs.Replacing.{in_version_at, in_version_none}
-use Rattle.lab_kept.proofs.places.signed_in_version.Goals as goal
+use Rattle.lab_lists.proofs.Replacing.{in_version_at, in_version_none}
+use Rattle.lab_lists.proofs.places.signed_in_version.Goals as goal
 
 pub returns-in_default : goal.returns-in_default
 returns-in_default c =
@@ -19,7 +19,7 @@ returns c =
     let place = c.in-Some.place in
     let version = c.index_mut-version.result.now in
     let found : position (is_numbered c.args.number) list ≡ Some place = cc in
-    c.from_vec-2.ensures ∙ ap (λ (next : Version). set list place next) c.in_ok-sign.ensures
+    c.from_vec-2.ensures ∙ ap (λ (next : Version). set list place next) c.in_ok-sign_version.ensures
     ∙ sym (in_version_at c.args.number (with_signature c.args.signature) list place version found
       c.index_mut-version.ensures.value)
     ∙ ap (λ (versions : List Version). in_version c.args.number (with_signature c.args.signature) versions)
