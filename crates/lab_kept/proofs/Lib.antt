@@ -1,3 +1,4 @@
 pub mod ReleaseLemmas
 pub mod Copies
 pub mod LastRows
+pub mod KnownValues

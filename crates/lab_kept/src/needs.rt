@@ -63,7 +63,7 @@ pub struct Counts {
 }
 
 /// A part of a laboratory.
-#[derive(Clone, Debug, Drop)]
+#[derive(Debug, Drop)]
 pub struct Slice {
     /// The laboratory's code.
     pub code: LabCode,

@@ -86,7 +86,7 @@ pub enum Occasion {
 }
 
 /// What was done, with what it was done to.
-#[derive(Clone, Debug, Drop)]
+#[derive(Debug, Drop)]
 pub enum Deed {
     /// The laboratory of the code was founded.
     Found {
