@@ -5,6 +5,8 @@ mod changes;
 mod lookups;
 mod parts;
 mod places;
+#[cfg(test)]
+mod tests;
 
 pub use changes::change;
 pub use parts::part;

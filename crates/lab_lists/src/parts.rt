@@ -181,22 +181,28 @@ fn listed_in(lab: &Lab, alloc: Global, list: &Option<ListWanted>) -> Result<List
     ensures records { IfOk result (λ listed. listed.records ≡ records_meant lab.now list.now) }
     ensures trail { IfOk result (λ listed. listed.trail ≡ rows_meant lab.now list.now) }
 {
-    let mut listed = Listed {
-        persons: Series::new(alloc),
-        records: Series::new(alloc),
-        trail: Series::new(alloc),
-    };
     match list {
-        None => {}
-        Some(ListWanted::Persons) => listed.persons = lab.persons.clone()?,
-        Some(ListWanted::Records { from, to }) => {
-            listed.records = records_within(alloc, lab.records.as_slice(), *from, *to)?;
-        }
-        Some(ListWanted::Trail { from, to }) => {
-            listed.trail = rows_within(alloc, lab.trail.as_slice(), *from, *to)?;
-        }
+        None => Ok(Listed {
+            persons: Series::new(alloc),
+            records: Series::new(alloc),
+            trail: Series::new(alloc),
+        }),
+        Some(ListWanted::Persons) => Ok(Listed {
+            persons: lab.persons.clone()?,
+            records: Series::new(alloc),
+            trail: Series::new(alloc),
+        }),
+        Some(ListWanted::Records { from, to }) => Ok(Listed {
+            records: records_within(alloc, lab.records.as_slice(), *from, *to)?,
+            persons: Series::new(alloc),
+            trail: Series::new(alloc),
+        }),
+        Some(ListWanted::Trail { from, to }) => Ok(Listed {
+            trail: rows_within(alloc, lab.trail.as_slice(), *from, *to)?,
+            persons: Series::new(alloc),
+            records: Series::new(alloc),
+        }),
     }
-    Ok(listed)
 }
 
 /// The records whose numbers lie in the range.

@@ -17,8 +17,8 @@ use Rattle.lab_kept.specs.Lookups.{last_of}
 use Rattle.lab_kept.specs.Values.{all_rows, value_of, version_state}
 use Rattle.lab_kept.specs.Digests.{digest_of}
 use Rattle.lab_kept.specs.Changes.{with_row}
-use Rattle.lab_machine.specs.declared.makings.EntryMade.{EntryMade}
-use Rattle.lab_machine.specs.declared.makings.AmendmentMade.{AmendmentMade}
+use Rattle.lab_machine.specs.declared.outcomes.EntryMade.{EntryMade}
+use Rattle.lab_machine.specs.declared.outcomes.AmendmentMade.{AmendmentMade}
 use Rattle.lab_machine.specs.declared.commands.Item.{Item}
 use Rattle.lab_machine.specs.declared.refusals.Refusal.{Refusal}
 use Rattle.lab_machine.specs.declared.refusals.Refusal.TheVariants.{People, Form, NoSuchRecord, NotOpen, ReasonWanted, NothingAltered, NotAltered, AmendmentOpen}

@@ -8,4 +8,5 @@ pub mod Reading
 pub mod Cases
 pub mod Own
 pub mod Machine
+pub mod Births
 pub mod Needs

@@ -25,16 +25,16 @@ use Rattle.lab_kept.specs.declared.trails.Deed.TheVariants.{Open as OpenDeed, Cl
 use Rattle.lab_kept.specs.declared.trails.Occasion.TheVariants.{Opening, Changing, Signing as AtSigning}
 use Rattle.lab_kept.specs.Lookups.{person_at, session_at, last_form, exact_form, record_of, record_about, records_within, rows_within}
 use Rattle.lab_kept.specs.Changes.{with_person, with_session, added_person, added_form, in_record, entered_in, opened_in, signed_in}
-use Rattle.lab_machine.specs.declared.makings.Signing.{Signing}
+use Rattle.lab_machine.specs.declared.outcomes.Signing.{Signing}
 use Rattle.lab_machine.specs.declared.commands.Command.{Command}
 use Rattle.lab_machine.specs.declared.commands.Command.TheVariants.{Card, Open, Close, ChangePassword, Enrol, ReadPersons, AskIssue, ConfirmIssue, SetRoles, Retire, Unlock, MakeForm, ReadForm, OpenRecord, Enter, Amend, Sign, ReadRecord, ReadVersion, ReadRecords, ReadTrail}
 use Rattle.lab_machine.specs.declared.refusals.Refusal.{Refusal}
 use Rattle.lab_machine.specs.declared.refusals.Refusal.TheVariants.{People, CodeWanted}
 use Rattle.lab_machine.specs.declared.replies.Reply.{Reply}
 use Rattle.lab_machine.specs.declared.replies.Reply.TheVariants.{Card as ShowsCard, Opened as TellsOpened, Closed, PasswordChanged as TellsChanged, PersonDone, HalfTold, RolesSet, Persons, FormMade, RecordOpened, Entered, Amended, Signed as TellsSigned, Records, Trail}
-use Rattle.lab_machine.specs.declared.makings.EntryMade.{EntryMade}
-use Rattle.lab_machine.specs.declared.makings.AmendmentMade.{AmendmentMade}
-use Rattle.lab_machine.specs.declared.makings.SignatureMade.{SignatureMade}
+use Rattle.lab_machine.specs.declared.outcomes.EntryMade.{EntryMade}
+use Rattle.lab_machine.specs.declared.outcomes.AmendmentMade.{AmendmentMade}
+use Rattle.lab_machine.specs.declared.outcomes.SignatureMade.{SignatureMade}
 use Rattle.lab_machine.specs.Making.{making, opening_record}
 use Rattle.lab_machine.specs.Entering.{entering, amending}
 use Rattle.lab_machine.specs.Signing.{is_code_wanted, signing_record}

@@ -18,9 +18,9 @@ use Rattle.lab_kept.specs.Lookups.{version_of}
 use Rattle.lab_kept.specs.Values.{value_of, rows_to, altered_at, has_entered, version_state}
 use Rattle.lab_kept.specs.Digests.{digest_of, signature_of}
 use Rattle.lab_kept.specs.Changes.{with_signature}
-use Rattle.lab_machine.specs.declared.makings.SignatureMade.{SignatureMade}
-use Rattle.lab_machine.specs.declared.makings.Signing.{Signing}
-use Rattle.lab_machine.specs.declared.makings.Signing.TheVariants.{Authorship, Review, Rejection, Approval}
+use Rattle.lab_machine.specs.declared.outcomes.SignatureMade.{SignatureMade}
+use Rattle.lab_machine.specs.declared.outcomes.Signing.{Signing}
+use Rattle.lab_machine.specs.declared.outcomes.Signing.TheVariants.{Authorship, Review, Rejection, Approval}
 use Rattle.lab_machine.specs.declared.refusals.Refusal.{Refusal}
 use Rattle.lab_machine.specs.declared.refusals.Refusal.TheVariants.{NoSuchRecord, NoSuchVersion, ReasonWanted, NothingAltered, EntriesMissing, StaleDigest, AlreadySigned, OwnWork, NotAuthor, NotSigned, ApprovalNotWanted}
 

@@ -2,7 +2,7 @@
 ghost use Rattle.std.specs.Prelude.{◌≡◌, IfOk, string_bytes};
 ghost use Rattle.lab_machine.specs.Policy.{rule_of};
 
-use crate::makings::Signing;
+use crate::outcomes::Signing;
 use lab_access::{Roles, Rule};
 use lab_forms::Form;
 use lab_names::{Key, Name, Note, Ordinal, OutOfMemory, PersonCode, Series, Unit};

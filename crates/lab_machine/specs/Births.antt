@@ -1,0 +1,78 @@
+-- How a laboratory is born: of three administrators with passwords of their own, so that from its first
+-- moment on no account is changed by one person alone (21 CFR 11.200(a)(3)).
+use Rattle.std.specs.Prelude.{ℕ, Bool, not, ◌||◌, ◌&&◌, List, [], ◌∷◌, codes, Option, Some, None, Result, Ok, Err, bytes_eq, if◌then◌else◌}
+use Rattle.lab_names.specs.declared.tick.Tick.{Tick}
+use Rattle.lab_names.specs.Faults.{Entry}
+use Rattle.lab_secrets.specs.Words.{salt_at}
+use Rattle.lab_access.specs.declared.persons.Person.{Person}
+use Rattle.lab_access.specs.declared.roles.Role.TheVariants.{Administrator}
+use Rattle.lab_access.specs.Passwords.{is_password, chosen_password}
+use Rattle.lab_access.specs.Roles.{no_roles, with_role}
+use Rattle.lab_people.specs.Accounts.{newcomer}
+use Rattle.lab_kept.specs.declared.labs.Lab.{Lab}
+use Rattle.lab_kept.specs.declared.trails.Deed.TheVariants.{Found}
+use Rattle.lab_kept.specs.Changes.{added_person}
+use Rattle.lab_kept.specs.Trails.{row_of}
+use Rattle.lab_machine.specs.declared.births.Founder.{Founder}
+use Rattle.lab_machine.specs.declared.births.Founding.{Founding}
+use Rattle.lab_machine.specs.declared.births.BirthRefusal.{BirthRefusal}
+use Rattle.lab_machine.specs.declared.births.BirthRefusal.TheVariants.{CodeTaken, BadPassword, LabExists}
+
+-- the number and the word of a refusal
+abbrev pub birth_entry : BirthRefusal → Entry
+birth_entry CodeTaken = record { number = 27; word = codes "code_taken" }
+birth_entry BadPassword = record { number = 25; word = codes "bad_password" }
+birth_entry LabExists = record { number = 64; word = codes "lab_exists" }
+
+-- two founders have one code
+abbrev pub is_code_shared : Founding → Bool
+is_code_shared founding =
+    bytes_eq founding.first.code founding.second.code
+    || bytes_eq founding.first.code founding.third.code
+    || bytes_eq founding.second.code founding.third.code
+
+-- every founder's password may be chosen
+abbrev pub are_passwords : Founding → Bool
+are_passwords founding =
+    is_password founding.first.password && is_password founding.second.password
+    && is_password founding.third.password
+
+-- a founder, as an administrator whose password was chosen at the moment
+abbrev pub founder_person : Founder → List ℕ → ℕ → Person
+founder_person founder salt moment =
+    record (newcomer founder.code founder.name (with_role no_roles Administrator)) {
+      password = chosen_password founder.password salt moment;
+    }
+
+-- the three of them, in the order of their codes; their salts are made of the words two by two
+abbrev pub founders_of : Tick → Founding → List Person
+founders_of tick founding =
+    added_person (founder_person founding.third (salt_at tick.words 2) tick.moment)
+    (added_person (founder_person founding.second (salt_at tick.words 1) tick.moment)
+    (added_person (founder_person founding.first (salt_at tick.words 0) tick.moment) []))
+
+-- a laboratory as it is born: nobody is told of in the trail's first row
+abbrev pub newborn : List ℕ → Tick → Founding → Lab
+newborn code tick founding = record {
+  code = code;
+  name = founding.name;
+  last = tick.moment;
+  strays = 0;
+  persons = founders_of tick founding;
+  sessions = [];
+  forms = [];
+  records = [];
+  trail = row_of 1 tick.moment None (Found code) ∷ [];
+}
+
+-- where there is none of the code yet
+abbrev pub born_at : Option Lab → List ℕ → Tick → Founding → Result Lab BirthRefusal
+born_at None code tick founding = Ok (newborn code tick founding)
+born_at (Some lab) code tick founding = Err LabExists
+
+-- a founding, by its refusals in order
+abbrev pub born : Option Lab → List ℕ → Tick → Founding → Result Lab BirthRefusal
+born lab code tick founding =
+    if is_code_shared founding then Err CodeTaken
+    else (if not (are_passwords founding) then Err BadPassword
+    else born_at lab code tick founding)
