@@ -136,24 +136,23 @@ fn text_at<'v>(value: &'v Value, name: &str) -> Option<&'v str>
 mod tests {
     use super::*;
     use std::process::Abort;
-    use std::test::Fail;
 
     const BAD_BODY: BodyFault = BodyFault::Refused(BodyRefusal::BadBody);
 
     const BAD_NAME: BodyFault = BodyFault::Refused(BodyRefusal::BadName);
 
     fn founds(rt: &(impl Abort + AllocGlobal), body: &[u8], name: &str) {
-        match founding_of(rt.alloc(), body) {
-            Ok(founding) => assert!(rt; founding.name.as_str() == name),
-            Err(fault) => panic!(rt; "refused: {fault}"),
-        }
+        let founding = founding_of(rt.alloc(), body).expect(rt, "a founding");
+        assert!(rt; founding.name.as_str() == name);
     }
 
     fn refuses(rt: &(impl Abort + AllocGlobal), body: &[u8], wanted: BodyFault) {
-        match founding_of(rt.alloc(), body) {
-            Ok(_) => panic!(rt; "read"),
-            Err(fault) => assert_eq!(rt; fault, wanted),
-        }
+        assert_eq!(rt; founding_of(rt.alloc(), body).err(), Some(wanted));
+    }
+
+    // The piece, so many times.
+    fn many(rt: &(impl Abort + AllocGlobal), piece: &str, count: usize) -> String {
+        piece.repeat(rt.alloc(), count).expect(rt, "memory")
     }
 
     #[test]
@@ -211,33 +210,29 @@ mod tests {
     }
 
     #[test]
-    fn a_name_has_at_most_120_bytes(rt: HostRuntime) -> Result<(), Fail> {
-        let longest = "a".repeat(rt.alloc(), 120)?;
-        founds(
-            &rt,
-            format!(in rt.alloc(); "{{\"name\":\"{longest}\"}}")?.as_bytes(),
-            &longest,
-        );
-        refuses(
-            &rt,
-            format!(in rt.alloc(); "{{\"name\":\"{longest}a\"}}")?.as_bytes(),
-            BAD_NAME,
-        );
-        Ok(())
+    fn a_name_has_at_most_120_bytes(rt: HostRuntime) {
+        let longest = many(&rt, "a", 120);
+        founds(&rt, named(&rt, &longest).as_bytes(), &longest);
+        refuses(&rt, named(&rt, &many(&rt, "a", 121)).as_bytes(), BAD_NAME);
+    }
+
+    // The body with this name.
+    fn named(rt: &(impl Abort + AllocGlobal), name: &str) -> String {
+        format!(in rt.alloc(); "{{\"name\":\"{name}\"}}").expect(rt, "memory")
     }
 
     #[test]
-    fn values_nest_up_to_127_deep(rt: HostRuntime) -> Result<(), Fail> {
-        let opened = "[".repeat(rt.alloc(), 126)?;
-        let closed = "]".repeat(rt.alloc(), 126)?;
-        let deepest = format!(in rt.alloc();
-            "{{\"name\":{opened}{closed},\"name\":\"Aqua Lab\"}}"
-        )?;
-        founds(&rt, deepest.as_bytes(), "Aqua Lab");
-        let deeper = format!(in rt.alloc();
-            "{{\"name\":[{opened}{closed}],\"name\":\"Aqua Lab\"}}"
-        )?;
-        refuses(&rt, deeper.as_bytes(), BAD_BODY);
-        Ok(())
+    fn values_nest_up_to_127_deep(rt: HostRuntime) {
+        founds(&rt, nested(&rt, 126).as_bytes(), "Aqua Lab");
+        refuses(&rt, nested(&rt, 127).as_bytes(), BAD_BODY);
+    }
+
+    // A body whose first `name` is so many arrays in one another.
+    fn nested(rt: &(impl Abort + AllocGlobal), depth: usize) -> String {
+        let opened = many(rt, "[", depth);
+        let closed = many(rt, "]", depth);
+        format!(in rt.alloc(); "{{\"name\":{opened}{closed},\"name\":\"Aqua Lab\"}}").expect(
+            rt, "memory",
+        )
     }
 }

@@ -188,15 +188,15 @@ pub fn read_head(bytes: &[u8]) -> Result<RequestHead<'_>, RequestRefusal>
 #[cfg(test)]
 mod tests {
     use super::*;
+    use httparse::spans::Span;
+    use std::process::Abort;
 
     const TEXT: &[u8] = b"\r\n\nPOST /labs/aqua/open?x HTTP/1.1\r\nHost: d\r\n\
         Authorization:\t LabSession \t a\t \r\nExpect:\nContent-Length:\t2 \r\n\r\n{}more";
 
     #[test]
     fn a_head_gives_its_request_line_and_its_end(rt: HostRuntime) {
-        let Ok(head) = read_head(TEXT) else {
-            panic!(rt; "refused");
-        };
+        let head = read_head(TEXT).expect(&rt, "a head");
         assert_eq!(rt; head.method, b"POST".as_slice());
         assert!(rt; head.target == "/labs/aqua/open?x");
         assert_eq!(rt; head.minor_version, 1);
@@ -205,9 +205,7 @@ mod tests {
 
     #[test]
     fn values_have_no_blanks_at_their_ends(rt: HostRuntime) {
-        let Ok(head) = read_head(TEXT) else {
-            panic!(rt; "refused");
-        };
+        let head = read_head(TEXT).expect(&rt, "a head");
         let fields: [(&[u8], &[u8]); 4] = [
             (b"Host", b"d"),
             (b"Authorization", b"LabSession \t a"),
@@ -216,10 +214,13 @@ mod tests {
         ];
         assert_eq!(rt; head.field_count, 4);
         for (spans, (name, value)) in head.fields.iter().zip(fields) {
-            let (start, end) = (spans.name.start, spans.name.end);
-            assert_eq!(rt; head.text.get(start..end), Some(name));
-            let (start, end) = (spans.value.start, spans.value.end);
-            assert_eq!(rt; head.text.get(start..end), Some(value));
+            stands(&rt, head.text, spans.name, name);
+            stands(&rt, head.text, spans.value, value);
         }
+    }
+
+    // The span of the text has these bytes.
+    fn stands(rt: &impl Abort, text: &[u8], span: Span, bytes: &[u8]) {
+        assert_eq!(rt; text.get(span.start..span.end), Some(bytes));
     }
 }
