@@ -135,6 +135,7 @@ fn text_at<'v>(value: &'v Value, name: &str) -> Option<&'v str>
 #[cfg(test)]
 mod tests {
     use super::*;
+    use crate::tests::long;
     use std::process::Abort;
 
     const BAD_BODY: BodyFault = BodyFault::Refused(BodyRefusal::BadBody);
@@ -147,12 +148,8 @@ mod tests {
     }
 
     fn refuses(rt: &(impl Abort + AllocGlobal), body: &[u8], wanted: BodyFault) {
-        assert_eq!(rt; founding_of(rt.alloc(), body).err(), Some(wanted));
-    }
-
-    // The piece, so many times.
-    fn many(rt: &(impl Abort + AllocGlobal), piece: &str, count: usize) -> String {
-        piece.repeat(rt.alloc(), count).expect(rt, "memory")
+        let fault = founding_of(rt.alloc(), body).err();
+        assert!(rt; fault == Some(wanted));
     }
 
     #[test]
@@ -211,28 +208,25 @@ mod tests {
 
     #[test]
     fn a_name_has_at_most_120_bytes(rt: HostRuntime) {
-        let longest = many(&rt, "a", 120);
-        founds(&rt, named(&rt, &longest).as_bytes(), &longest);
-        refuses(&rt, named(&rt, &many(&rt, "a", 121)).as_bytes(), BAD_NAME);
+        let longest = "a".repeat(rt.alloc(), 120).expect(&rt, "memory");
+        founds(&rt, &named(&rt, 120), &longest);
+        refuses(&rt, &named(&rt, 121), BAD_NAME);
     }
 
-    // The body with this name.
-    fn named(rt: &(impl Abort + AllocGlobal), name: &str) -> String {
-        format!(in rt.alloc(); "{{\"name\":\"{name}\"}}").expect(rt, "memory")
+    // The body whose name is so many letters.
+    fn named(rt: &(impl Abort + AllocGlobal), letters: usize) -> Vec<u8> {
+        long(rt, b"{\"name\":\"", (b"a", letters), b"\"}")
     }
 
     #[test]
     fn values_nest_up_to_127_deep(rt: HostRuntime) {
-        founds(&rt, nested(&rt, 126).as_bytes(), "Aqua Lab");
-        refuses(&rt, nested(&rt, 127).as_bytes(), BAD_BODY);
+        founds(&rt, &nested(&rt, 126), "Aqua Lab");
+        refuses(&rt, &nested(&rt, 127), BAD_BODY);
     }
 
     // A body whose first `name` is so many arrays in one another.
-    fn nested(rt: &(impl Abort + AllocGlobal), depth: usize) -> String {
-        let opened = many(rt, "[", depth);
-        let closed = many(rt, "]", depth);
-        format!(in rt.alloc(); "{{\"name\":{opened}{closed},\"name\":\"Aqua Lab\"}}").expect(
-            rt, "memory",
-        )
+    fn nested(rt: &(impl Abort + AllocGlobal), depth: usize) -> Vec<u8> {
+        let opened = long(rt, b"{\"name\":", (b"[", depth), b"");
+        long(rt, &opened, (b"]", depth), b",\"name\":\"Aqua Lab\"}")
     }
 }

@@ -17,12 +17,13 @@ pub fn http_date(moment: Moment) -> HttpDate
 #[cfg(test)]
 mod tests {
     use super::*;
+    use crate::tests::assert_bytes;
     use std::process::Abort;
 
     fn has_date(rt: &(impl Abort + AllocGlobal), seconds: i64, date: &str) {
         let moment = Moment::from_seconds(seconds).expect(rt, "a moment");
         let text = format!(in rt.alloc(); "{}", http_date(moment)).expect(rt, "memory");
-        assert!(rt; text.as_str() == date, "at {seconds}");
+        assert_bytes(rt, text.as_bytes(), date.as_bytes());
     }
 
     #[test]

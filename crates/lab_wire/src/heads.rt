@@ -188,6 +188,7 @@ pub fn read_head(bytes: &[u8]) -> Result<RequestHead<'_>, RequestRefusal>
 #[cfg(test)]
 mod tests {
     use super::*;
+    use crate::tests::assert_bytes;
     use httparse::spans::Span;
     use std::process::Abort;
 
@@ -197,30 +198,39 @@ mod tests {
     #[test]
     fn a_head_gives_its_request_line_and_its_end(rt: HostRuntime) {
         let head = read_head(TEXT).expect(&rt, "a head");
-        assert_eq!(rt; head.method, b"POST".as_slice());
-        assert!(rt; head.target == "/labs/aqua/open?x");
         assert_eq!(rt; head.minor_version, 1);
-        assert_eq!(rt; TEXT.get(head.end..), Some(b"{}more".as_slice()));
+        assert_bytes(&rt, head.method, b"POST");
+        assert_bytes(&rt, head.target.as_bytes(), b"/labs/aqua/open?x");
+        assert_bytes(&rt, &TEXT[head.end.min(TEXT.len())..], b"{}more");
     }
 
     #[test]
     fn values_have_no_blanks_at_their_ends(rt: HostRuntime) {
         let head = read_head(TEXT).expect(&rt, "a head");
-        let fields: [(&[u8], &[u8]); 4] = [
-            (b"Host", b"d"),
-            (b"Authorization", b"LabSession \t a"),
-            (b"Expect", b""),
-            (b"Content-Length", b"2"),
-        ];
         assert_eq!(rt; head.field_count, 4);
-        for (spans, (name, value)) in head.fields.iter().zip(fields) {
-            stands(&rt, head.text, spans.name, name);
-            stands(&rt, head.text, spans.value, value);
-        }
+        has_field(&rt, &head, 0, (b"Host", b"d"));
+        has_field(&rt, &head, 1, (b"Authorization", b"LabSession \t a"));
+        has_field(&rt, &head, 2, (b"Expect", b""));
+        has_field(&rt, &head, 3, (b"Content-Length", b"2"));
+    }
+
+    // The field at a place has this name and value.
+    fn has_field(
+        rt: &impl Abort,
+        head: &RequestHead<'_>,
+        place: usize,
+        (name, value): (&[u8], &[u8]),
+    ) {
+        let field = head.fields.get(place).expect(rt, "a place");
+        stands(rt, head.text, field.name, name);
+        stands(rt, head.text, field.value, value);
     }
 
     // The span of the text has these bytes.
     fn stands(rt: &impl Abort, text: &[u8], span: Span, bytes: &[u8]) {
-        assert_eq!(rt; text.get(span.start..span.end), Some(bytes));
+        let found = text
+            .get(span.start..span.end)
+            .expect(rt, "a span of the text");
+        assert_bytes(rt, found, bytes);
     }
 }

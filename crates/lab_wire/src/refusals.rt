@@ -174,6 +174,7 @@ impl fmt::Display for BodyFault {
 #[cfg(test)]
 mod tests {
     use super::*;
+    use crate::tests::assert_entry;
 
     #[test]
     fn faults_of_requests_have_their_numbers_and_words(rt: HostRuntime) {
@@ -195,7 +196,7 @@ mod tests {
             ),
             (RequestFault::Memory, 90, "memory"),
         ] {
-            assert_eq!(rt; (fault.number(), fault.word()), (Some(number), word));
+            assert_entry(&rt, (fault.number(), fault.word()), (number, word));
         }
     }
 
@@ -206,7 +207,7 @@ mod tests {
             (BodyFault::Refused(BodyRefusal::BadName), 1, "bad_name"),
             (BodyFault::Memory, 90, "memory"),
         ] {
-            assert_eq!(rt; (fault.number(), fault.word()), (Some(number), word));
+            assert_entry(&rt, (fault.number(), fault.word()), (number, word));
         }
     }
 }

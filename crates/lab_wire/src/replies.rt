@@ -101,6 +101,7 @@ fn refusal_value(alloc: Global, code: u32, word: &str) -> Result<Value, OutOfMem
 #[cfg(test)]
 mod tests {
     use super::*;
+    use crate::tests::assert_bytes;
     use lab_names::{LabCode, Moment, Name};
     use lab_records::Refusal;
     use std::process::Abort;
@@ -119,7 +120,7 @@ mod tests {
             words: [1; 8],
         };
         let bytes = reply_bytes(rt.alloc(), &tick, answer).expect(rt, "memory");
-        assert_eq!(rt; bytes.as_slice(), wanted);
+        assert_bytes(rt, &bytes, wanted);
     }
 
     #[test]
@@ -154,44 +155,51 @@ mod tests {
         );
     }
 
-    // The answer at 100 seconds has this status and tells of this refusal.
-    fn tells_of(
-        rt: &(impl Abort + AllocGlobal),
-        answer: &Answer,
-        status: &str,
-        (word, number): (&str, u32),
-    ) {
-        let body = format!(in rt.alloc(); "{{\"error\":\"{word}\",\"number\":{number}}}").expect(
-            rt, "memory",
-        );
-        let length = body.len();
-        let text = format!(in rt.alloc();
-            "HTTP/1.1 {status}\r\nDate: Thu, 01 Jan 1970 00:01:40 GMT\r\n\
-            Content-Type: application/json\r\nContent-Length: {length}\r\n\
-            Connection: close\r\n\r\n{body}"
-        )
-        .expect(rt, "memory");
-        is_sent_as(rt, 100, answer, text.as_bytes());
+    // What refuses a request is sent so at 100 seconds.
+    fn is_refused_as(rt: &(impl Abort + AllocGlobal), refusal: RequestRefusal, wanted: &[u8]) {
+        is_sent_as(rt, 100, &Answer::Refused(refusal), wanted);
     }
 
     #[test]
     fn each_refusal_has_its_status_and_its_body(rt: HostRuntime) {
-        let no_head = [
-            (RequestRefusal::BadHead, "400 Bad Request", ("bad_head", 80)),
-            (
-                RequestRefusal::HeadTooLong,
-                "431 Request Header Fields Too Large",
-                ("head_too_long", 81),
-            ),
-            (RequestRefusal::NoRoute, "404 Not Found", ("no_route", 86)),
-        ];
-        for (refusal, status, entry) in no_head {
-            tells_of(&rt, &Answer::Refused(refusal), status, entry);
-        }
-        let unavailable = "503 Service Unavailable";
-        let behind = Answer::Replied(Reply::Refused(Refusal::ClockBehind));
-        tells_of(&rt, &behind, unavailable, ("clock_behind", 41));
-        tells_of(&rt, &Answer::Storage, unavailable, ("storage", 63));
+        is_refused_as(
+            &rt,
+            RequestRefusal::BadHead,
+            b"HTTP/1.1 400 Bad Request\r\nDate: Thu, 01 Jan 1970 00:01:40 GMT\r\n\
+            Content-Type: application/json\r\nContent-Length: 32\r\nConnection: close\r\n\r\n\
+            {\"error\":\"bad_head\",\"number\":80}",
+        );
+        is_refused_as(
+            &rt,
+            RequestRefusal::HeadTooLong,
+            b"HTTP/1.1 431 Request Header Fields Too Large\r\n\
+            Date: Thu, 01 Jan 1970 00:01:40 GMT\r\n\
+            Content-Type: application/json\r\nContent-Length: 37\r\nConnection: close\r\n\r\n\
+            {\"error\":\"head_too_long\",\"number\":81}",
+        );
+        is_refused_as(
+            &rt,
+            RequestRefusal::NoRoute,
+            b"HTTP/1.1 404 Not Found\r\nDate: Thu, 01 Jan 1970 00:01:40 GMT\r\n\
+            Content-Type: application/json\r\nContent-Length: 32\r\nConnection: close\r\n\r\n\
+            {\"error\":\"no_route\",\"number\":86}",
+        );
+        is_sent_as(
+            &rt,
+            100,
+            &Answer::Replied(Reply::Refused(Refusal::ClockBehind)),
+            b"HTTP/1.1 503 Service Unavailable\r\nDate: Thu, 01 Jan 1970 00:01:40 GMT\r\n\
+            Content-Type: application/json\r\nContent-Length: 36\r\nConnection: close\r\n\r\n\
+            {\"error\":\"clock_behind\",\"number\":41}",
+        );
+        is_sent_as(
+            &rt,
+            100,
+            &Answer::Storage,
+            b"HTTP/1.1 503 Service Unavailable\r\nDate: Thu, 01 Jan 1970 00:01:40 GMT\r\n\
+            Content-Type: application/json\r\nContent-Length: 31\r\nConnection: close\r\n\r\n\
+            {\"error\":\"storage\",\"number\":63}",
+        );
     }
 
     #[test]
@@ -199,6 +207,6 @@ mod tests {
         let text = b"HTTP/1.1 503 Service Unavailable\r\nContent-Type: application/json\r\n\
             Content-Length: 30\r\nConnection: close\r\n\r\n{\"error\":\"memory\",\"number\":90}";
         let reply = memory_reply(rt.alloc()).expect(&rt, "memory");
-        assert_eq!(rt; reply.as_slice(), text.as_slice());
+        assert_bytes(&rt, &reply, text);
     }
 }

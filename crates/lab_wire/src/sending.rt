@@ -62,6 +62,7 @@ pub fn write_reply<W: Write>(writer: &mut W, bytes: &[u8]) -> Result<(), WriteFa
 #[cfg(test)]
 mod tests {
     use super::*;
+    use crate::tests::assert_bytes;
     use std::alloc::Global;
     use std::io;
     use std::process::Abort;
@@ -109,10 +110,11 @@ mod tests {
         }
     }
 
-    // Of the reply, these bytes go out, and no fault comes unless it is this one.
+    // Of the reply these bytes go out, with this answer.
     fn goes_out(rt: &impl Abort, mut pipe: Pipe, wanted: Result<(), WriteFault>, bytes: &[u8]) {
-        assert_eq!(rt; write_reply(&mut pipe, REPLY), wanted);
-        assert_eq!(rt; pipe.taken.as_slice(), bytes);
+        let answer = write_reply(&mut pipe, REPLY);
+        assert!(rt; answer == wanted);
+        assert_bytes(rt, &pipe.taken, bytes);
     }
 
     #[test]

@@ -16,17 +16,36 @@ const NO_ROUTE: RequestFault = RequestFault::Refused(RequestRefusal::NoRoute);
 fn asks(rt: &(impl Abort + AllocGlobal), bytes: &[u8], wanted: Result<&str, RequestFault>) {
     match wanted {
         Ok(code) => is_card(rt, &ask(rt.alloc(), bytes).expect(rt, "asks"), code),
-        Err(fault) => assert_eq!(rt; ask(rt.alloc(), bytes).err(), Some(fault)),
+        Err(fault) => assert_eq!(rt; fault_of(rt, bytes), Some(fault)),
     }
 }
 
-fn is_card(rt: &impl Abort, asked: &Asked, code: &str) {
-    assert!(rt; asked.lab.as_str() == code && asked.instruction.token.is_none());
-    assert_eq!(rt; asked.instruction.command, Command::Card);
+fn fault_of(rt: &impl AllocGlobal, bytes: &[u8]) -> Option<RequestFault> {
+    ask(rt.alloc(), bytes).err()
 }
 
-// The front, then a piece many times, and then the back.
-fn long(
+fn is_card(rt: &impl Abort, asked: &Asked, code: &str) {
+    let Asked { lab, instruction } = asked;
+    let is_card = matches!(instruction.command, Command::Card);
+    assert!(rt; lab.as_str() == code && is_card && instruction.token.is_none());
+}
+
+/// The bytes are those that are wanted.
+pub(crate) fn assert_bytes(rt: &impl Abort, bytes: &[u8], wanted: &[u8]) {
+    assert_eq!(rt; bytes, wanted);
+}
+
+/// A refusal or fault has this number and word.
+pub(crate) fn assert_entry(
+    rt: &impl Abort,
+    told: (Option<u32>, &str),
+    (number, word): (u32, &str),
+) {
+    assert!(rt; told.0 == Some(number) && told.1 == word, "at {word}");
+}
+
+/// The front, then a piece many times, and then the back.
+pub(crate) fn long(
     rt: &(impl Abort + AllocGlobal),
     front: &[u8],
     (piece, count): (&[u8], usize),
@@ -38,6 +57,21 @@ fn long(
     }
     text.extend_from_slice(back).expect(rt, "memory");
     text
+}
+
+// The longest good head.
+fn longest(rt: &(impl Abort + AllocGlobal)) -> Vec<u8> {
+    long(rt, LONG, (b"a", 8152), b"\r\n\r\n")
+}
+
+fn asks_long(
+    rt: &(impl Abort + AllocGlobal),
+    front: &[u8],
+    middle: (&[u8], usize),
+    back: &[u8],
+    wanted: Result<&str, RequestFault>,
+) {
+    asks(rt, &long(rt, front, middle, back), wanted);
 }
 
 #[test]
@@ -114,25 +148,18 @@ fn other_heads_are_bad(rt: HostRuntime) {
 
 #[test]
 fn a_head_may_end_at_the_limit(rt: HostRuntime) {
-    let good = long(&rt, LONG, (b"a", 8152), b"\r\n\r\n");
-    assert_eq!(rt; good.len(), 8192);
-    asks(&rt, &good, Ok("aqua"));
-    let behind = long(&rt, &good, (b"a", 9000), b"");
-    asks(&rt, &behind, Ok("aqua"));
-    let more = long(&rt, LONG, (b"a", 8153), b"\r\n\r\n");
-    asks(&rt, &more, Err(TOO_LONG));
-    let dropped = long(&rt, b"\n", (&good, 1), b"");
-    asks(&rt, &dropped, Err(TOO_LONG));
+    assert_eq!(rt; longest(&rt).len(), 8192);
+    asks(&rt, &longest(&rt), Ok("aqua"));
+    asks_long(&rt, &longest(&rt), (b"a", 9000), b"", Ok("aqua"));
+    asks_long(&rt, LONG, (b"a", 8153), b"\r\n\r\n", Err(TOO_LONG));
+    asks_long(&rt, b"\n", (&longest(&rt), 1), b"", Err(TOO_LONG));
 }
 
 #[test]
 fn bytes_without_end_are_too_long_at_the_limit(rt: HostRuntime) {
-    let short = long(&rt, b"", (b" ", 8191), b"");
-    asks(&rt, &short, Err(BAD_HEAD));
-    let nonsense = long(&rt, b"", (b" ", 8192), b"");
-    asks(&rt, &nonsense, Err(TOO_LONG));
-    let blank = long(&rt, b"", (b"\r", 8192), HEAD);
-    asks(&rt, &blank, Err(TOO_LONG));
+    asks_long(&rt, b"", (b" ", 8191), b"", Err(BAD_HEAD));
+    asks_long(&rt, b"", (b" ", 8192), b"", Err(TOO_LONG));
+    asks_long(&rt, b"", (b"\r", 8192), HEAD, Err(TOO_LONG));
 }
 
 #[test]
@@ -145,8 +172,7 @@ fn a_head_has_at_most_64_field_lines(rt: HostRuntime) {
         (64, b"A:", Err(TOO_LONG)),
     ];
     for (fields, back, wanted) in cases {
-        let text = long(&rt, HEAD, (b"A: b\n", fields), back);
-        asks(&rt, &text, wanted);
+        asks_long(&rt, HEAD, (b"A: b\n", fields), back, wanted);
     }
 }
 
