@@ -270,7 +270,8 @@ fn tokens_are_read_of_their_digits(rt: HostRuntime) {
     );
 }
 
-// One digit fewer or more, an upper one, one past `f`, a sign and a space are no digits of 32 bytes.
+// One digit fewer or more, an upper one, one past `f`, a sign and a space are no digits of 32
+// bytes.
 const OTHER_DIGITS: [&[u8]; 7] = [
     b"",
     b"000000000000000100000000000000020000000000000003000000000000000",

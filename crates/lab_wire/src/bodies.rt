@@ -88,7 +88,8 @@ fn is_of(kind: Kind, value: &Value) -> bool
 }
 
 fn keeps(value: &Value, rule: &Member) -> bool
-    ensures { result ≡ keeps (rule_shown rule.now) (get (rule_shown rule.now).name (view value.now)) }
+    ensures { result ≡ keeps (rule_shown rule.now)
+        (get (rule_shown rule.now).name (view value.now)) }
 {
     match value.get(rule.name) {
         Some(found) => is_of(rule.kind, found),
@@ -103,14 +104,15 @@ fn is_there(value: &Value, rule: &Member) -> bool
 }
 
 fn all_kept(value: &Value, rules: &[Member]) -> bool
-    ensures { result ≡ list_all (λ rule. keeps (rule_shown rule) (get (rule_shown rule).name (view value.now)))
-        rules.now }
+    ensures { result ≡ list_all (λ rule. keeps (rule_shown rule)
+        (get (rule_shown rule).name (view value.now))) rules.now }
 {
     rules.iter().all(|rule| keeps(value, rule))
 }
 
 fn count_there(value: &Value, rules: &[Member]) -> usize
-    ensures { result ≡ count_by (λ rule. is_some (get (rule_shown rule).name (view value.now))) rules.now }
+    ensures { result ≡ count_by (λ rule. is_some (get (rule_shown rule).name (view value.now)))
+        rules.now }
 {
     rules.iter().filter(|rule| is_there(value, rule)).count()
 }
@@ -209,13 +211,9 @@ mod tests {
     #[test]
     fn a_name_has_at_most_120_bytes(rt: HostRuntime) {
         let longest = "a".repeat(rt.alloc(), 120).expect(&rt, "memory");
-        founds(&rt, &named(&rt, 120), &longest);
-        refuses(&rt, &named(&rt, 121), BAD_NAME);
-    }
-
-    // The body whose name is so many letters.
-    fn named(rt: &(impl Abort + AllocGlobal), letters: usize) -> Vec<u8> {
-        long(rt, b"{\"name\":\"", (b"a", letters), b"\"}")
+        let front = b"{\"name\":\"";
+        founds(&rt, &long(&rt, front, (b"a", 120), b"\"}"), &longest);
+        refuses(&rt, &long(&rt, front, (b"a", 121), b"\"}"), BAD_NAME);
     }
 
     #[test]

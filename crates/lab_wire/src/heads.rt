@@ -1,4 +1,4 @@
-//! The head of a request: its limits, its grammar, its Host and the words of its request line (RFC 9112).
+//! The head of a request (RFC 9112): its limits, grammar, Host and the words of its request line.
 ghost use Rattle.std.specs.Prelude.{◌≡◌, ◌+◌, ◌≤◌, ◌==◌, ◌||◌, not, ℕ, List, length, take, All, IsTrue, IfOk, IfErr, IfSome, IfNone, Ok, Err, position, count_by};
 ghost use Rattle.httparse.specs.Grammar.{ReadsRequest, RequestHead as GrammarHead};
 ghost use Rattle.httparse.specs.Spans.{IsHeaderWithin, IsRequestWithin, IsRequestOf, span_bytes};
@@ -118,8 +118,8 @@ fn is_over_limits(came: usize, text: &[u8]) -> bool
 fn parse_head(text: &[u8], headers: &mut [HeaderSpan]) -> Option<RequestSpans>
     ensures within { IfSome result (IsRequestWithin text.now headers.new) }
     ensures head { IfSome result (IsRequestOf text.now headers.new) }
-    ensures none { IfNone result ((head : GrammarHead) (rest : List ℕ) → ReadsRequest text.now head rest
-        → ¬ (length head.fields ≤ length headers.old)) }
+    ensures none { IfNone result ((head : GrammarHead) (rest : List ℕ)
+        → ReadsRequest text.now head rest → ¬ (length head.fields ≤ length headers.old)) }
 {
     match parse_request(text, headers) {
         Ok(Status::Complete(head)) => Some(head),
@@ -208,20 +208,15 @@ mod tests {
     fn values_have_no_blanks_at_their_ends(rt: HostRuntime) {
         let head = read_head(TEXT).expect(&rt, "a head");
         assert_eq!(rt; head.field_count, 4);
-        has_field(&rt, &head, 0, (b"Host", b"d"));
-        has_field(&rt, &head, 1, (b"Authorization", b"LabSession \t a"));
-        has_field(&rt, &head, 2, (b"Expect", b""));
-        has_field(&rt, &head, 3, (b"Content-Length", b"2"));
+        has_field(&rt, &head, 0, b"Host", b"d");
+        has_field(&rt, &head, 1, b"Authorization", b"LabSession \t a");
+        has_field(&rt, &head, 2, b"Expect", b"");
+        has_field(&rt, &head, 3, b"Content-Length", b"2");
     }
 
     // The field at a place has this name and value.
-    fn has_field(
-        rt: &impl Abort,
-        head: &RequestHead<'_>,
-        place: usize,
-        (name, value): (&[u8], &[u8]),
-    ) {
-        let field = head.fields.get(place).expect(rt, "a place");
+    fn has_field(rt: &impl Abort, head: &RequestHead<'_>, at: usize, name: &[u8], value: &[u8]) {
+        let field = head.fields.get(at).expect(rt, "a place");
         stands(rt, head.text, field.name, name);
         stands(rt, head.text, field.value, value);
     }

@@ -93,7 +93,8 @@ fn card_value(alloc: Global, lab: &str, name: &str) -> Result<Value, OutOfMemory
 }
 
 fn refusal_value(alloc: Global, code: u32, word: &str) -> Result<Value, OutOfMemory>
-    ensures { IfOk result (λ value. view value ≡ refusal_data (record { number = code; word = word.now })) }
+    ensures { IfOk result (λ value. view value
+        ≡ refusal_data (record { number = code; word = word.now })) }
 {
     Ok(json!(in alloc; {"error": word, "number": code})?)
 }
@@ -155,51 +156,34 @@ mod tests {
         );
     }
 
-    // What refuses a request is sent so at 100 seconds.
-    fn is_refused_as(rt: &(impl Abort + AllocGlobal), refusal: RequestRefusal, wanted: &[u8]) {
-        is_sent_as(rt, 100, &Answer::Refused(refusal), wanted);
+    // The answer at 100 seconds has this status and, in so many bytes, tells of this refusal.
+    fn tells_of(
+        rt: &(impl Abort + AllocGlobal),
+        answer: &Answer,
+        (status, length): (&str, u32),
+        (word, number): (&str, u32),
+    ) {
+        let text = format!(in rt.alloc();
+            "HTTP/1.1 {status}\r\nDate: Thu, 01 Jan 1970 00:01:40 GMT\r\n\
+            Content-Type: application/json\r\nContent-Length: {length}\r\n\
+            Connection: close\r\n\r\n{{\"error\":\"{word}\",\"number\":{number}}}"
+        );
+        is_sent_as(rt, 100, answer, text.expect(rt, "memory").as_bytes());
     }
 
     #[test]
     fn each_refusal_has_its_status_and_its_body(rt: HostRuntime) {
-        is_refused_as(
-            &rt,
-            RequestRefusal::BadHead,
-            b"HTTP/1.1 400 Bad Request\r\nDate: Thu, 01 Jan 1970 00:01:40 GMT\r\n\
-            Content-Type: application/json\r\nContent-Length: 32\r\nConnection: close\r\n\r\n\
-            {\"error\":\"bad_head\",\"number\":80}",
-        );
-        is_refused_as(
-            &rt,
-            RequestRefusal::HeadTooLong,
-            b"HTTP/1.1 431 Request Header Fields Too Large\r\n\
-            Date: Thu, 01 Jan 1970 00:01:40 GMT\r\n\
-            Content-Type: application/json\r\nContent-Length: 37\r\nConnection: close\r\n\r\n\
-            {\"error\":\"head_too_long\",\"number\":81}",
-        );
-        is_refused_as(
-            &rt,
-            RequestRefusal::NoRoute,
-            b"HTTP/1.1 404 Not Found\r\nDate: Thu, 01 Jan 1970 00:01:40 GMT\r\n\
-            Content-Type: application/json\r\nContent-Length: 32\r\nConnection: close\r\n\r\n\
-            {\"error\":\"no_route\",\"number\":86}",
-        );
-        is_sent_as(
-            &rt,
-            100,
-            &Answer::Replied(Reply::Refused(Refusal::ClockBehind)),
-            b"HTTP/1.1 503 Service Unavailable\r\nDate: Thu, 01 Jan 1970 00:01:40 GMT\r\n\
-            Content-Type: application/json\r\nContent-Length: 36\r\nConnection: close\r\n\r\n\
-            {\"error\":\"clock_behind\",\"number\":41}",
-        );
-        is_sent_as(
-            &rt,
-            100,
-            &Answer::Storage,
-            b"HTTP/1.1 503 Service Unavailable\r\nDate: Thu, 01 Jan 1970 00:01:40 GMT\r\n\
-            Content-Type: application/json\r\nContent-Length: 31\r\nConnection: close\r\n\r\n\
-            {\"error\":\"storage\",\"number\":63}",
-        );
+        let bad_head = Answer::Refused(RequestRefusal::BadHead);
+        tells_of(&rt, &bad_head, ("400 Bad Request", 32), ("bad_head", 80));
+        let too_long = Answer::Refused(RequestRefusal::HeadTooLong);
+        let status = "431 Request Header Fields Too Large";
+        tells_of(&rt, &too_long, (status, 37), ("head_too_long", 81));
+        let no_route = Answer::Refused(RequestRefusal::NoRoute);
+        tells_of(&rt, &no_route, ("404 Not Found", 32), ("no_route", 86));
+        let behind = Answer::Replied(Reply::Refused(Refusal::ClockBehind));
+        let status = "503 Service Unavailable";
+        tells_of(&rt, &behind, (status, 36), ("clock_behind", 41));
+        tells_of(&rt, &Answer::Storage, (status, 31), ("storage", 63));
     }
 
     #[test]

@@ -44,7 +44,8 @@ impl fmt::Display for WriteFault {
 
 /// Writes all the bytes of a reply. The first write that fails or takes no byte is the fault.
 pub fn write_reply<W: Write>(writer: &mut W, bytes: &[u8]) -> Result<(), WriteFault>
-    ensures whole { OnOk result (Appends (W.contents writer.old) (W.contents writer.new) bytes.now) }
+    ensures whole { OnOk result
+        (Appends (W.contents writer.old) (W.contents writer.new) bytes.now) }
     ensures cut { IfErr result
         (λ e. Appends (W.contents writer.old) (W.contents writer.new) (take e.sent bytes.now)) }
     ensures short { IfErr result (λ e. e.sent < length bytes.now) }
@@ -112,8 +113,7 @@ mod tests {
 
     // Of the reply these bytes go out, with this answer.
     fn goes_out(rt: &impl Abort, mut pipe: Pipe, wanted: Result<(), WriteFault>, bytes: &[u8]) {
-        let answer = write_reply(&mut pipe, REPLY);
-        assert!(rt; answer == wanted);
+        assert!(rt; write_reply(&mut pipe, REPLY) == wanted);
         assert_bytes(rt, &pipe.taken, bytes);
     }
 

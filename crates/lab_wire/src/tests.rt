@@ -1,5 +1,5 @@
 //! What requests ask, as a person reads RFC 9112, and heads at their limits.
-use super::{Asked, Command, RequestFault, RequestRefusal, ask};
+use super::{Asked, Command, Instruction, RequestFault, RequestRefusal, ask};
 use std::process::Abort;
 
 const HEAD: &[u8] = b"GET /labs/aqua HTTP/1.1\r\nHost: d\r\n";
@@ -16,18 +16,13 @@ const NO_ROUTE: RequestFault = RequestFault::Refused(RequestRefusal::NoRoute);
 fn asks(rt: &(impl Abort + AllocGlobal), bytes: &[u8], wanted: Result<&str, RequestFault>) {
     match wanted {
         Ok(code) => is_card(rt, &ask(rt.alloc(), bytes).expect(rt, "asks"), code),
-        Err(fault) => assert_eq!(rt; fault_of(rt, bytes), Some(fault)),
+        Err(fault) => assert_eq!(rt; ask(rt.alloc(), bytes).err(), Some(fault)),
     }
 }
 
-fn fault_of(rt: &impl AllocGlobal, bytes: &[u8]) -> Option<RequestFault> {
-    ask(rt.alloc(), bytes).err()
-}
-
 fn is_card(rt: &impl Abort, asked: &Asked, code: &str) {
-    let Asked { lab, instruction } = asked;
-    let is_card = matches!(instruction.command, Command::Card);
-    assert!(rt; lab.as_str() == code && is_card && instruction.token.is_none());
+    let Instruction { token, command } = &asked.instruction;
+    assert!(rt; asked.lab.as_str() == code && token.is_none() && *command == Command::Card);
 }
 
 /// The bytes are those that are wanted.
@@ -36,11 +31,8 @@ pub(crate) fn assert_bytes(rt: &impl Abort, bytes: &[u8], wanted: &[u8]) {
 }
 
 /// A refusal or fault has this number and word.
-pub(crate) fn assert_entry(
-    rt: &impl Abort,
-    told: (Option<u32>, &str),
-    (number, word): (u32, &str),
-) {
+pub(crate) fn assert_entry(rt: &impl Abort, told: (Option<u32>, &str), wanted: (u32, &str)) {
+    let (number, word) = wanted;
     assert!(rt; told.0 == Some(number) && told.1 == word, "at {word}");
 }
 
@@ -64,33 +56,18 @@ fn longest(rt: &(impl Abort + AllocGlobal)) -> Vec<u8> {
     long(rt, LONG, (b"a", 8152), b"\r\n\r\n")
 }
 
-fn asks_long(
-    rt: &(impl Abort + AllocGlobal),
-    front: &[u8],
-    middle: (&[u8], usize),
-    back: &[u8],
-    wanted: Result<&str, RequestFault>,
-) {
-    asks(rt, &long(rt, front, middle, back), wanted);
-}
-
 #[test]
 fn a_card_is_asked_by_its_path(rt: HostRuntime) {
-    let requests: [(&[u8], &str); 4] = [
-        (b"GET /labs/aqua HTTP/1.1\r\nHost: d\r\n\r\n", "aqua"),
-        (b"GET /labs/brick HTTP/1.1\r\nHost: d\r\n\r\n", "brick"),
-        (
-            b"GET /labs/aqua?a=/b?c HTTP/1.1\r\nHost: d\r\n\r\nx",
-            "aqua",
-        ),
-        (
-            b"GET /labs/aqua HTTP/1.1\r\nHost: d\r\nTransfer-Encoding: x\r\nContent-Length: x\r\n\r\n",
-            "aqua",
-        ),
+    let requests: [&[u8]; 3] = [
+        b"GET /labs/aqua HTTP/1.1\r\nHost: d\r\n\r\n",
+        b"GET /labs/aqua?a=/b?c HTTP/1.1\r\nHost: d\r\n\r\nx",
+        b"GET /labs/aqua HTTP/1.1\r\nHost: d\r\nTransfer-Encoding: x\r\nContent-Length: x\r\n\r\n",
     ];
-    for (bytes, lab) in requests {
-        asks(&rt, bytes, Ok(lab));
+    for bytes in requests {
+        asks(&rt, bytes, Ok("aqua"));
     }
+    let brick = b"GET /labs/brick HTTP/1.1\r\nHost: d\r\n\r\n";
+    asks(&rt, brick, Ok("brick"));
 }
 
 #[test]
@@ -150,16 +127,28 @@ fn other_heads_are_bad(rt: HostRuntime) {
 fn a_head_may_end_at_the_limit(rt: HostRuntime) {
     assert_eq!(rt; longest(&rt).len(), 8192);
     asks(&rt, &longest(&rt), Ok("aqua"));
-    asks_long(&rt, &longest(&rt), (b"a", 9000), b"", Ok("aqua"));
-    asks_long(&rt, LONG, (b"a", 8153), b"\r\n\r\n", Err(TOO_LONG));
-    asks_long(&rt, b"\n", (&longest(&rt), 1), b"", Err(TOO_LONG));
+    asks(
+        &rt,
+        &long(&rt, &longest(&rt), (b"a", 9000), b""),
+        Ok("aqua"),
+    );
+    asks(
+        &rt,
+        &long(&rt, LONG, (b"a", 8153), b"\r\n\r\n"),
+        Err(TOO_LONG),
+    );
+    asks(
+        &rt,
+        &long(&rt, b"\n", (&longest(&rt), 1), b""),
+        Err(TOO_LONG),
+    );
 }
 
 #[test]
 fn bytes_without_end_are_too_long_at_the_limit(rt: HostRuntime) {
-    asks_long(&rt, b"", (b" ", 8191), b"", Err(BAD_HEAD));
-    asks_long(&rt, b"", (b" ", 8192), b"", Err(TOO_LONG));
-    asks_long(&rt, b"", (b"\r", 8192), HEAD, Err(TOO_LONG));
+    asks(&rt, &long(&rt, b"", (b" ", 8191), b""), Err(BAD_HEAD));
+    asks(&rt, &long(&rt, b"", (b" ", 8192), b""), Err(TOO_LONG));
+    asks(&rt, &long(&rt, b"", (b"\r", 8192), HEAD), Err(TOO_LONG));
 }
 
 #[test]
@@ -172,7 +161,7 @@ fn a_head_has_at_most_64_field_lines(rt: HostRuntime) {
         (64, b"A:", Err(TOO_LONG)),
     ];
     for (fields, back, wanted) in cases {
-        asks_long(&rt, HEAD, (b"A: b\n", fields), back, wanted);
+        asks(&rt, &long(&rt, HEAD, (b"A: b\n", fields), back), wanted);
     }
 }
 
