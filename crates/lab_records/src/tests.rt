@@ -40,6 +40,15 @@ fn card(token: Option<Token>) -> Instruction {
     }
 }
 
+/// The change that sets the last moment.
+fn last_becomes(rt: &(impl Abort + AllocGlobal), seconds: i64) -> Series<Change> {
+    let mut changes = Series::new(rt.alloc());
+    changes
+        .push(Change::Last(moment(rt, seconds)))
+        .expect(rt, "memory");
+    changes
+}
+
 /// What is decided of an instruction to Aqua Lab.
 fn decided(rt: &(impl Abort + AllocGlobal), seconds: i64, instruction: Instruction) -> Outcome {
     let tick = tick(rt, seconds);
@@ -169,26 +178,6 @@ fn an_outcome_is_copied_whole(rt: HostRuntime) {
     assert!(rt; copy.changes.as_slice() == wanted.as_slice());
 }
 
-fn last_becomes(rt: &(impl Abort + AllocGlobal), seconds: i64) -> Series<Change> {
-    let mut changes = Series::new(rt.alloc());
-    changes
-        .push(Change::Last(moment(rt, seconds)))
-        .expect(rt, "memory");
-    changes
-}
-
-#[test]
-fn what_is_kept_and_passed_is_copied(rt: HostRuntime) {
-    assert_lab_copied(&rt);
-    assert_slice_copied(&rt);
-    assert_founding_copied(&rt);
-    assert_eq!(rt; Command::Card.copy().expect(&rt, "memory"), Command::Card);
-    let refusal = Refusal::ClockBehind.copy().expect(&rt, "memory");
-    assert_eq!(rt; refusal, Refusal::ClockBehind);
-    let change = Change::Last(moment(&rt, 1100));
-    assert_eq!(rt; change.copy().expect(&rt, "memory"), change);
-}
-
 fn assert_lab_copied(rt: &(impl Abort + AllocGlobal)) {
     let copy = aqua(rt).copy().expect(rt, "memory");
     assert_eq!(rt; copy.last.seconds(), 1100);
@@ -205,4 +194,16 @@ fn assert_slice_copied(rt: &(impl Abort + AllocGlobal)) {
 fn assert_founding_copied(rt: &(impl Abort + AllocGlobal)) {
     let copy = Founding { name: name(rt) }.copy().expect(rt, "memory");
     assert!(rt; copy.name.as_str() == "Aqua Lab");
+}
+
+#[test]
+fn what_is_kept_and_passed_is_copied(rt: HostRuntime) {
+    assert_lab_copied(&rt);
+    assert_slice_copied(&rt);
+    assert_founding_copied(&rt);
+    assert_eq!(rt; Command::Card.copy().expect(&rt, "memory"), Command::Card);
+    let refusal = Refusal::ClockBehind.copy().expect(&rt, "memory");
+    assert_eq!(rt; refusal, Refusal::ClockBehind);
+    let change = Change::Last(moment(&rt, 1100));
+    assert_eq!(rt; change.copy().expect(&rt, "memory"), change);
 }
