@@ -204,6 +204,8 @@ fn what_is_kept_and_passed_is_copied(rt: HostRuntime) {
     assert_eq!(rt; Command::Card.copy().expect(&rt, "memory"), Command::Card);
     let refusal = Refusal::ClockBehind.copy().expect(&rt, "memory");
     assert_eq!(rt; refusal, Refusal::ClockBehind);
+    let reply = Reply::Refused(refusal).copy().expect(&rt, "memory");
+    assert_refused(&rt, &reply, &Refusal::ClockBehind);
     let change = Change::Last(moment(&rt, 1100));
     assert_eq!(rt; change.copy().expect(&rt, "memory"), change);
 }
