@@ -1,8 +1,8 @@
 //! Values of a form, read.
 
+use crate::results::{both, text};
 use crate::samples::form;
 use anyhow::Result;
-use lab_names::{Key, Unit};
 use std::alloc::Global;
 
 // Texts of values, one that is out of range, and one that is no number.
@@ -19,9 +19,8 @@ const TEXTS: [&str; 8] = [
 
 /// Reads the texts in turn, and answers the sum of the lengths of those that are values.
 pub(crate) fn read_values(alloc: Global, calls: u32) -> Result<u64> {
-    let form = form(alloc, &["lead"])?;
-    let key = Key::parse(alloc, "lead")?;
-    let unit = Unit::parse(alloc, "mg/L")?;
+    let place = both(text(alloc, "lead"), text(alloc, "mg/L"));
+    let (form, (key, unit)) = both(form(alloc, &["lead"]), place)?;
     let mut sum = 0u64;
     for call in 0..calls {
         let text = TEXTS[call as usize % TEXTS.len()];
