@@ -18,7 +18,7 @@ const KEYS: [&str; 5] = ["lead", "iron", "zinc", "tin", "gold"];
 /// word of its fault.
 pub(crate) fn print_growths(rt: &impl Print, alloc: Global, calls: u32) -> io::Result<()> {
     for _ in 0..calls {
-        print_texts(rt, alloc)?;
+        print_codes_and_names(rt, alloc)?;
         print_forms(rt, alloc)?;
         print_record_growths(rt, alloc)?;
         print_person_growths(rt, alloc)?;
@@ -26,43 +26,32 @@ pub(crate) fn print_growths(rt: &impl Print, alloc: Global, calls: u32) -> io::R
     Ok(())
 }
 
-fn print_texts(rt: &impl Print, alloc: Global) -> io::Result<()> {
-    print_codes(rt, alloc)?;
-    print_names(rt, alloc)?;
-    print_copied_codes(rt, alloc)?;
-    print_copied_names(rt, alloc)
+fn print_codes_and_names(rt: &impl Print, alloc: Global) -> io::Result<()> {
+    print_texts(rt, alloc, false)?;
+    print_texts(rt, alloc, true)
 }
 
-fn print_codes(rt: &impl Print, alloc: Global) -> io::Result<()> {
-    print_text::<LabCodes>(rt, text(alloc, "aqua"))?;
-    print_text::<PersonCodes>(rt, text(alloc, "ada-1"))?;
-    print_text::<Keys>(rt, text(alloc, "lead"))
+// A text of each kind, or its copy.
+
+fn print_texts(rt: &impl Print, alloc: Global, copied: bool) -> io::Result<()> {
+    print_text::<LabCodes>(rt, copied, text(alloc, "aqua"))?;
+    print_text::<PersonCodes>(rt, copied, text(alloc, "ada-1"))?;
+    print_text::<Keys>(rt, copied, text(alloc, "lead"))?;
+    print_names(rt, alloc, copied)
 }
 
-fn print_names(rt: &impl Print, alloc: Global) -> io::Result<()> {
-    print_text::<Names>(rt, text(alloc, "Aqua Lab"))?;
-    print_text::<Notes>(rt, text(alloc, "taken twice"))?;
-    print_text::<Units>(rt, text(alloc, "mg/L"))
+fn print_names(rt: &impl Print, alloc: Global, copied: bool) -> io::Result<()> {
+    print_text::<Names>(rt, copied, text(alloc, "Aqua Lab"))?;
+    print_text::<Notes>(rt, copied, text(alloc, "taken twice"))?;
+    print_text::<Units>(rt, copied, text(alloc, "mg/L"))
 }
 
-fn print_text<R: Rule>(rt: &impl Print, made: Result<Text<R>>) -> io::Result<()> {
-    print_made(rt, made, Text::as_str)
-}
-
-fn print_copied_codes(rt: &impl Print, alloc: Global) -> io::Result<()> {
-    print_copied::<LabCodes>(rt, text(alloc, "aqua"))?;
-    print_copied::<PersonCodes>(rt, text(alloc, "ada-1"))?;
-    print_copied::<Keys>(rt, text(alloc, "lead"))
-}
-
-fn print_copied_names(rt: &impl Print, alloc: Global) -> io::Result<()> {
-    print_copied::<Names>(rt, text(alloc, "Aqua Lab"))?;
-    print_copied::<Notes>(rt, text(alloc, "taken twice"))?;
-    print_copied::<Units>(rt, text(alloc, "mg/L"))
-}
-
-fn print_copied<R: Rule>(rt: &impl Print, made: Result<Text<R>>) -> io::Result<()> {
-    print_text(rt, made_of(made, Text::copy))
+fn print_text<R: Rule>(rt: &impl Print, copied: bool, made: Result<Text<R>>) -> io::Result<()> {
+    if copied {
+        print_made(rt, made_of(made, Text::copy), Text::as_str)
+    } else {
+        print_made(rt, made, Text::as_str)
+    }
 }
 
 fn print_forms(rt: &impl Print, alloc: Global) -> io::Result<()> {
@@ -93,6 +82,7 @@ fn print_values(rt: &impl Print, alloc: Global) -> io::Result<()> {
 
 fn value(alloc: Global) -> Result<Value> {
     let place = both(text(alloc, "lead"), text(alloc, "mg/L"));
-    let (form, (key, unit)) = both(form(alloc, &KEYS), place)?;
-    Ok(form.read_value(alloc, &key, "7.50", &unit)?)
+    made_of(both(form(alloc, &KEYS), place), |(form, (key, unit))| {
+        form.read_value(alloc, key, "7.50", unit)
+    })
 }

@@ -27,8 +27,7 @@ fn print_signer(rt: &impl Print, parts: Result<SealParts>) -> io::Result<()> {
 }
 
 fn read(alloc: Global, text: Result<Vec<u8>>) -> Result<VersionParts> {
-    let text = text?;
-    Ok(read_version(alloc, text.as_slice())?)
+    made_of(text, |text| read_version(alloc, text.as_slice()))
 }
 
 // What a later version amends.

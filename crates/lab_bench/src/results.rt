@@ -1,8 +1,9 @@
 //! Results of calls: made of one another, and printed, each as a line.
 
 use anyhow::Result;
-use lab_names::{OutOfMemory, Rule, Text};
+use lab_names::{Rule, Text};
 use std::alloc::Global;
+use std::error::Error;
 use std::io::{self, Print};
 
 /// Prints the text of what a call made, or the word of its fault.
@@ -28,7 +29,7 @@ pub(crate) fn print_word<T: Drop>(rt: &impl Print, made: Result<T>, word: &str) 
 }
 
 /// What a call makes of what was made before.
-pub(crate) fn made_of<T: Drop, U: Drop, F: FnOnce(&T) -> Result<U, OutOfMemory> + Drop>(
+pub(crate) fn made_of<T: Drop, U, E: Error, F: FnOnce(&T) -> Result<U, E> + Drop>(
     given: Result<T>,
     make: F,
 ) -> Result<U>

@@ -3,6 +3,8 @@
 use crate::results::{both, text};
 use crate::samples::form;
 use anyhow::Result;
+use lab_forms::Form;
+use lab_names::{Key, Unit};
 use std::alloc::Global;
 
 // Texts of values, one that is out of range, and one that is no number.
@@ -21,12 +23,16 @@ const TEXTS: [&str; 8] = [
 pub(crate) fn read_values(alloc: Global, calls: u32) -> Result<u64> {
     let place = both(text(alloc, "lead"), text(alloc, "mg/L"));
     let (form, (key, unit)) = both(form(alloc, &["lead"]), place)?;
+    Ok(lengths(alloc, &form, &key, &unit, calls))
+}
+
+fn lengths(alloc: Global, form: &Form, key: &Key, unit: &Unit, calls: u32) -> u64 {
     let mut sum = 0u64;
     for call in 0..calls {
         let text = TEXTS[call as usize % TEXTS.len()];
-        if let Ok(value) = form.read_value(alloc, &key, text, &unit) {
+        if let Ok(value) = form.read_value(alloc, key, text, unit) {
             sum = sum.wrapping_add(value.print().len() as u64);
         }
     }
-    Ok(sum)
+    sum
 }

@@ -1,10 +1,11 @@
 //! Versions of so many rows: their texts, written, read and hashed; and rounds of PBKDF2.
 
-use crate::results::{both, text};
+use crate::results::{both, made_of, text};
 use anyhow::{Result, bail};
 use lab_names::{Moment, Ordinal, OutOfMemory};
 use lab_seal::{
-    EntryRow, EntryRows, Format, Origin, VersionParts, digest, pbkdf2, read_version, write_version,
+    EntryRow, EntryRows, Format, Origin, TextFault, VersionParts, digest, pbkdf2, read_version,
+    write_version,
 };
 use std::alloc::Global;
 
@@ -60,8 +61,7 @@ pub(crate) fn version(alloc: Global, rows: u32) -> Result<VersionParts> {
 
 /// The text of a version.
 pub(crate) fn text_of(alloc: Global, version: Result<VersionParts>) -> Result<Vec<u8>> {
-    let version = version?;
-    Ok(write_version(alloc, &version)?)
+    made_of(version, |version| write_version(alloc, version))
 }
 
 /// The text of a first version of so many rows.
@@ -71,32 +71,30 @@ pub(crate) fn version_text(alloc: Global, rows: u32) -> Result<Vec<u8>> {
 
 /// Writes the version's text so often, and answers the sum of the texts' lengths.
 pub(crate) fn write_versions(alloc: Global, calls: u32, rows: u32) -> Result<u64> {
-    let parts = version(alloc, rows)?;
-    let mut sum = 0u64;
-    for _ in 0..calls {
-        sum = sum.wrapping_add(written_length(alloc, &parts)?);
-    }
-    Ok(sum)
+    made_of(version(alloc, rows), |parts| written(alloc, parts, calls))
 }
 
-fn written_length(alloc: Global, parts: &VersionParts) -> Result<u64> {
-    let text = write_version(alloc, parts)?;
-    Ok(text.len() as u64)
+fn written(alloc: Global, parts: &VersionParts, calls: u32) -> Result<u64, OutOfMemory> {
+    let mut sum = 0u64;
+    for _ in 0..calls {
+        sum = sum.wrapping_add(write_version(alloc, parts)?.len() as u64);
+    }
+    Ok(sum)
 }
 
 /// Reads the version's text so often, and answers the sum of the rows that were read.
 pub(crate) fn read_versions(alloc: Global, calls: u32, rows: u32) -> Result<u64> {
-    let text = version_text(alloc, rows)?;
-    let mut sum = 0u64;
-    for _ in 0..calls {
-        sum = sum.wrapping_add(rows_read(alloc, text.as_slice())?);
-    }
-    Ok(sum)
+    let text = version_text(alloc, rows);
+    made_of(text, |text| rows_read(alloc, text.as_slice(), calls))
 }
 
-fn rows_read(alloc: Global, text: &[u8]) -> Result<u64> {
-    let parts = read_version(alloc, text)?;
-    Ok(parts.rows.rows().len() as u64)
+fn rows_read(alloc: Global, text: &[u8], calls: u32) -> Result<u64, TextFault> {
+    let mut sum = 0u64;
+    for _ in 0..calls {
+        let rows = read_version(alloc, text)?.rows;
+        sum = sum.wrapping_add(rows.rows().len() as u64);
+    }
+    Ok(sum)
 }
 
 /// Takes the digest of the version's text so often, and answers the sum of the first bytes.
