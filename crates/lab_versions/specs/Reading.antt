@@ -1,6 +1,6 @@
 -- The reading of a version's text, item by item: what stands at the front of a text, with the rest of the text. No public clause
 -- names these steps; they are proved to read exactly the texts of `version_text`.
-use Rattle.std.specs.Prelude.{ℕ, zero, suc, ◌+◌, ◌^◌, ◌&&◌, ◌==◌, Bool, true, false, nat_lt, if◌then◌else◌, List, [], ◌∷◌, length, take, drop, slice_index, codes, decimal, Option, Some, None, option_and_then, option_map}
+use Rattle.std.specs.Prelude.{◌≡◌, ℕ, zero, suc, ◌+◌, ◌^◌, ◌&&◌, ◌==◌, Bool, true, false, nat_lt, if◌then◌else◌, List, [], ◌∷◌, length, take, drop, slice_index, codes, decimal, Option, Some, None, option_and_then, option_map}
 use Rattle.std.specs.List.{position}
 use Rattle.std.specs.Str.{bytes_eq, is_utf8}
 use Rattle.std.specs.Str.Parse.{digits_value}
@@ -192,6 +192,10 @@ first_rows (suc n) text = do
   row ← first_row text
   rows ← first_rows n row.1
   Some (row.0 ∷ rows.0, rows.1)
+
+-- so many rows are the whole text
+abbrev pub AreAllRows : ℕ → List ℕ → Type 0
+AreAllRows count text = option_map (λ found. found.1) (first_rows count text) ≡ Some []
 
 -- ---- what the code reads, as these values
 
