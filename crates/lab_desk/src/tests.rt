@@ -1,5 +1,5 @@
-//! Foundings and a card at a desk, over a list and over a keeper that refuses every second call, and
-//! runs whose writer fails.
+//! Foundings and a card at a desk, over a list and over a keeper that refuses every second call,
+//! and runs whose writer fails.
 
 use crate::{Desk, Event, FoundFault, Lists, RunFault};
 use lab_records::{
