@@ -72,7 +72,7 @@ fn assert_change(
     let dan = counted(rt, alloc, 0, None);
     let found = change_password(dan, four, old, new, &now);
     match refusal {
-        Some(refusal) => assert_refused(rt, found, refusal),
+        Some(refusal) => assert_refused(rt, found.err(), refusal),
         None => {
             let dan = found.expect(rt, "a change").person;
             assert!(rt; dan.password.accepts(new, now.moment));
@@ -80,47 +80,49 @@ fn assert_change(
     }
 }
 
+// The old password, the new one, and why that is refused.
+static CHANGES: [(&str, &str, Option<PeopleRefusal>); 7] = [
+    (RIGHT, "eleven byte", Some(PeopleRefusal::BadPassword)),
+    (RIGHT, "twelve bytes", None),
+    (RIGHT, RIGHT, Some(PeopleRefusal::SamePassword)),
+    (RIGHT, "Dan password 1", None),
+    (LONGER, RIGHT, None),
+    (RIGHT, LONGER, None),
+    (LONGER, LONGER, Some(PeopleRefusal::SamePassword)),
+];
+
 // The new password has 12 to 128 bytes, and isn't the old one as it was given: HMAC fills a short key with zero bytes, so the
 // old one is accepted with a NUL at its end too. A bad password comes before the same.
 #[test]
 fn a_new_password_is_another(rt: HostRuntime) {
-    for (old, new, refusal) in [
-        (RIGHT, "eleven byte", Some(PeopleRefusal::BadPassword)),
-        (RIGHT, "twelve bytes", None),
-        (RIGHT, RIGHT, Some(PeopleRefusal::SamePassword)),
-        (RIGHT, "Dan password 1", None),
-        (LONGER, RIGHT, None),
-        (RIGHT, LONGER, None),
-        (LONGER, LONGER, Some(PeopleRefusal::SamePassword)),
-    ] {
+    for &(old, new, refusal) in &CHANGES {
         assert_change(&rt, rt.alloc(), old, new, refusal);
     }
 }
+
+// The failed passwords before, the lock before, and what a wrong one at 2500 comes to.
+static OLD_ONES: [(u32, Option<i64>, Left); 4] = [
+    (3, None, Left::Counted(4)),
+    (4, None, Left::Locking(2500)),
+    (5, Some(701), Left::AlreadyLocked(5, 701)),
+    (5, Some(700), Left::Counted(1)),
+];
 
 // A wrong old password comes before a bad new one, and is counted: the fifth locks, and a lock stays.
 #[test]
 fn a_wrong_old_password_is_counted(rt: HostRuntime) {
     let now = tick(&rt, 2500, 1);
-    for (failures, locked, left) in [
-        (3, None, Left::Counted(4)),
-        (4, None, Left::Locking(2500)),
-        (5, Some(701), Left::AlreadyLocked(5, 701)),
-        (5, Some(700), Left::Counted(1)),
-    ] {
+    for &(failures, locked, left) in &OLD_ONES {
         let four = session(&rt, rt.alloc(), 600, 650);
         let dan = counted(&rt, rt.alloc(), failures, locked);
         let found = change_password(dan, four, WRONG, "eleven byte", &now);
-        assert_failed(&rt, rt.alloc(), found, left);
+        assert_failed(&rt, rt.alloc(), found.err(), left);
     }
 }
 
-// The answer is the refusal, if one is wanted; else it is no refusal.
-fn assert_answers<T: Drop>(
-    rt: &impl Abort,
-    found: Result<T, PeopleRefusal>,
-    wanted: Option<PeopleRefusal>,
-) {
-    assert!(rt; found.err() == wanted);
+// The refusal is the one that is wanted; there is none where none is.
+fn assert_answer(rt: &impl Abort, found: Option<PeopleRefusal>, wanted: Option<PeopleRefusal>) {
+    assert!(rt; found == wanted);
 }
 
 // What the code's holder and the number of persons make of an enrolment.
@@ -135,7 +137,7 @@ fn a_code_is_given_once(rt: HostRuntime) {
         let ours = code(&rt, rt.alloc(), "dan");
         let name = name(&rt, rt.alloc());
         let found = enrol(ours, name, Roles::none(), holder, persons);
-        assert_answers(&rt, found, Some(refusal));
+        assert_answer(&rt, found.err(), Some(refusal));
     }
 }
 
@@ -226,9 +228,9 @@ fn asks_and_confirmations_are_refused_in_order(rt: HostRuntime) {
         let now = tick(&rt, seconds, 31);
         let ours = code(&rt, rt.alloc(), caller);
         let dan = asked(&rt, rt.alloc(), "bob", 1000);
-        assert_answers(&rt, confirm_issue(&ours, Some(dan), &now), confirming);
+        assert_answer(&rt, confirm_issue(&ours, Some(dan), &now).err(), confirming);
         let dan = asked(&rt, rt.alloc(), "bob", 1000);
-        assert_answers(&rt, ask_issue(ours, Some(dan), &now), asking);
+        assert_answer(&rt, ask_issue(ours, Some(dan), &now).err(), asking);
     }
 }
 
@@ -242,13 +244,12 @@ fn assert_refused_about(
 ) {
     let mut one = counted(rt, alloc, 0, None);
     one.retired = is_retired;
-    let (two, three) = (
-        one.copy().expect(rt, "memory"),
-        one.copy().expect(rt, "memory"),
-    );
-    assert_answers(rt, set_roles(dan, Some(one), Roles::none()), Some(refusal));
-    assert_answers(rt, retire(dan, Some(two)), Some(refusal));
-    assert_answers(rt, unlock(dan, Some(three)), Some(refusal));
+    let two = one.copy().expect(rt, "memory");
+    let three = one.copy().expect(rt, "memory");
+    let set = set_roles(dan, Some(one), Roles::none());
+    assert_answer(rt, set.err(), Some(refusal));
+    assert_answer(rt, retire(dan, Some(two)).err(), Some(refusal));
+    assert_answer(rt, unlock(dan, Some(three)).err(), Some(refusal));
 }
 
 // What is asked about nobody, about a retired person and about oneself.
@@ -257,17 +258,17 @@ fn commands_are_about_others_who_are_there(rt: HostRuntime) {
     let now = tick(&rt, 700, 31);
     let dan = code(&rt, rt.alloc(), "dan");
     let missing = Some(PeopleRefusal::NoSuchPerson);
-    assert_answers(&rt, confirm_issue(&dan, None, &now), missing);
-    assert_answers(&rt, set_roles(&dan, None, Roles::none()), missing);
-    assert_answers(&rt, retire(&dan, None), missing);
-    assert_answers(&rt, unlock(&dan, None), missing);
+    assert_answer(&rt, confirm_issue(&dan, None, &now).err(), missing);
+    assert_answer(&rt, set_roles(&dan, None, Roles::none()).err(), missing);
+    assert_answer(&rt, retire(&dan, None).err(), missing);
+    assert_answer(&rt, unlock(&dan, None).err(), missing);
     for (is_retired, refusal) in [
         (true, PeopleRefusal::NoSuchPerson),
         (false, PeopleRefusal::OwnIssue),
     ] {
         assert_refused_about(&rt, rt.alloc(), &dan, is_retired, refusal);
     }
-    assert_answers(&rt, ask_issue(dan, None, &now), missing);
+    assert_answer(&rt, ask_issue(dan, None, &now).err(), missing);
 }
 
 fn assert_effect(rt: &impl Abort, found: Effect, wanted: Person, closing: Closing) {

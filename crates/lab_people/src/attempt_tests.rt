@@ -43,16 +43,19 @@ fn a_signing_counts_and_locks(rt: HostRuntime) {
     }
 }
 
+// The code that is given, the failed passwords before, the text, and what it comes to.
+static GIVEN: [(&str, u32, &str, Left); 4] = [
+    ("dan", 2, RIGHT, Left::Accepted),
+    ("dan", 2, WRONG, Left::Counted(3)),
+    ("eve", 2, RIGHT, Left::Counted(3)),
+    ("eve", 4, RIGHT, Left::Locking(1300)),
+];
+
 // Another's code counts for the one who signs, with the right password too, and locks.
 #[test]
 fn a_code_that_is_given_is_the_signers(rt: HostRuntime) {
     let at = moment(&rt, 1300);
-    for (given, failures, text, left) in [
-        ("dan", 2, RIGHT, Left::Accepted),
-        ("dan", 2, WRONG, Left::Counted(3)),
-        ("eve", 2, RIGHT, Left::Counted(3)),
-        ("eve", 4, RIGHT, Left::Locking(1300)),
-    ] {
+    for &(given, failures, text, left) in &GIVEN {
         let given = code(&rt, rt.alloc(), given);
         let dan = counted(&rt, rt.alloc(), failures, None);
         let found = attempt_signing(dan, Some(&given), text, at);
@@ -64,12 +67,12 @@ fn a_code_that_is_given_is_the_signers(rt: HostRuntime) {
 #[test]
 fn stray_passwords_count_for_nobody(rt: HostRuntime) {
     let at = moment(&rt, 600);
+    assert_attempt(&rt, rt.alloc(), attempt(None, RIGHT, at), Left::Stray);
     let fresh = person(&rt, rt.alloc(), Password::Unset);
-    let mut retired = counted(&rt, rt.alloc(), 5, Some(600));
-    retired.retired = true;
-    for (found, text) in [(None, RIGHT), (Some(fresh), ""), (Some(retired), RIGHT)] {
-        assert_attempt(&rt, rt.alloc(), attempt(found, text, at), Left::Stray);
-    }
+    assert_attempt(&rt, rt.alloc(), attempt(Some(fresh), "", at), Left::Stray);
+    let mut dan = counted(&rt, rt.alloc(), 5, Some(600));
+    dan.retired = true;
+    assert_attempt(&rt, rt.alloc(), attempt(Some(dan), RIGHT, at), Left::Stray);
 }
 
 // The failure leaves that person, and closes those sessions.
@@ -82,12 +85,12 @@ fn assert_leaves(rt: &impl Abort, failure: Failure, person: &Person, closing: Cl
 #[test]
 fn only_a_lock_closes_sessions(rt: HostRuntime) {
     let dan = counted(&rt, rt.alloc(), 5, Some(1300));
-    let copy = dan.copy().expect(&rt, "memory");
-    assert_leaves(&rt, Failure::Counted(copy), &dan, Closing::Nothing);
-    let copy = dan.copy().expect(&rt, "memory");
-    assert_leaves(&rt, Failure::Locking(copy), &dan, Closing::All);
-    let copy = dan.copy().expect(&rt, "memory");
-    assert_leaves(&rt, Failure::AlreadyLocked(copy), &dan, Closing::Nothing);
+    let left = counted(&rt, rt.alloc(), 5, Some(1300));
+    assert_leaves(&rt, Failure::Counted(left), &dan, Closing::Nothing);
+    let left = counted(&rt, rt.alloc(), 5, Some(1300));
+    assert_leaves(&rt, Failure::Locking(left), &dan, Closing::All);
+    let left = counted(&rt, rt.alloc(), 5, Some(1300));
+    assert_leaves(&rt, Failure::AlreadyLocked(left), &dan, Closing::Nothing);
     assert!(rt; Failure::Stray.closing() == Closing::Nothing);
     assert!(rt; Failure::Stray.person().is_none());
 }
@@ -100,24 +103,25 @@ fn a_person_prints_as_the_code(rt: HostRuntime) {
     assert!(rt; text.as_str() == "Person(dan)");
 }
 
+// The two parts of a text, the second, and whether the one-time word accepts it.
+static HALVES: [(&str, &str, i64, bool); 6] = [
+    (FIRST, SECOND, 605_800, true),
+    (FIRST, SECOND, 605_801, false),
+    (FIRST, "", 1000, false),
+    (SECOND, FIRST, 1000, false),
+    (FIRST, "000000000000001f0000000000000020\0", 1000, false),
+    (FIRST, "000000000000001f000000000000002", 1000, false),
+];
+
 // Both halves of a one-time word, one after the other, are accepted for seven days from second 1000 on.
 #[test]
 fn a_one_time_word_is_two_halves(rt: HostRuntime) {
     let password = one_time(&rt, 1000);
-    for (front, back, seconds, is_accepted) in [
-        (FIRST, SECOND, 605_800, true),
-        (FIRST, SECOND, 605_801, false),
-        (FIRST, "", 1000, false),
-        (SECOND, FIRST, 1000, false),
-        (FIRST, "000000000000001f0000000000000020\0", 1000, false),
-        (FIRST, "000000000000001f000000000000002", 1000, false),
-    ] {
+    for &(front, back, seconds, is_accepted) in &HALVES {
         let at = moment(&rt, seconds);
         let text = format!(in rt.alloc(); "{front}{back}").expect(&rt, "memory");
-        assert!(rt;
-            password.accepts(text.as_str(), at) == is_accepted,
-            "at {seconds}"
-        );
+        let found = password.accepts(text.as_str(), at);
+        assert!(rt; found == is_accepted, "at {seconds}");
     }
 }
 
@@ -141,31 +145,35 @@ fn a_chosen_password_is_kept_by_its_verifier(rt: HostRuntime) {
     assert!(rt; !Password::Unset.is_set() && !Password::Unset.accepts("", later));
 }
 
+// How many zeros stand behind the password, and whether it is accepted.
+static ZEROS: [(usize, bool); 4] = [(0, true), (1, true), (50, true), (51, false)];
+
 // HMAC fills a key of up to 64 bytes with zeros, so a password of 14 bytes is known again with up to 50 of them behind it.
 #[test]
 fn zeros_behind_a_password_change_nothing(rt: HostRuntime) {
     let (password, at) = (chosen(&rt, 500), moment(&rt, 600));
-    for (zeros, is_accepted) in [(0, true), (1, true), (50, true), (51, false)] {
+    for &(zeros, is_accepted) in &ZEROS {
         let end = "\0".repeat(rt.alloc(), zeros).expect(&rt, "memory");
         let text = format!(in rt.alloc(); "{RIGHT}{end}").expect(&rt, "memory");
-        assert!(rt;
-            password.accepts(text.as_str(), at) == is_accepted,
-            "{zeros}"
-        );
+        let found = password.accepts(text.as_str(), at);
+        assert!(rt; found == is_accepted, "{zeros}");
     }
 }
+
+// A character, how often it stands, and whether that may be a password.
+static LENGTHS: [(&str, usize, bool); 6] = [
+    ("a", 11, false),
+    ("a", 12, true),
+    ("a", 128, true),
+    ("a", 129, false),
+    ("é", 6, true),
+    ("é", 65, false),
+];
 
 // Bytes are counted, of which `é` has two.
 #[test]
 fn a_password_has_12_to_128_bytes(rt: HostRuntime) {
-    for (character, count, is_admitted) in [
-        ("a", 11, false),
-        ("a", 12, true),
-        ("a", 128, true),
-        ("a", 129, false),
-        ("é", 6, true),
-        ("é", 65, false),
-    ] {
+    for &(character, count, is_admitted) in &LENGTHS {
         let text = character.repeat(rt.alloc(), count).expect(&rt, "memory");
         assert!(rt; Password::admits(text.as_str()) == is_admitted, "{count}");
     }
@@ -181,9 +189,7 @@ fn a_password_is_due_after_ninety_days(rt: HostRuntime) {
         (one_time(&rt, 86_399), 86_399, true),
         (Password::Unset, 86_399, true),
     ] {
-        assert!(rt;
-            password.is_due(moment(&rt, seconds)) == is_due,
-            "at {seconds}"
-        );
+        let found = password.is_due(moment(&rt, seconds));
+        assert!(rt; found == is_due, "at {seconds}");
     }
 }

@@ -93,15 +93,10 @@ pub(crate) fn person(rt: &impl Abort, alloc: Global, password: Password) -> Pers
 }
 
 // dan with so many failed passwords, and perhaps a lock from a second on.
-pub(crate) fn counted(
-    rt: &impl Abort,
-    alloc: Global,
-    failures: u32,
-    locked: Option<i64>,
-) -> Person {
+pub(crate) fn counted(rt: &impl Abort, alloc: Global, failures: u32, lock: Option<i64>) -> Person {
     let mut dan = person(rt, alloc, chosen(rt, 500));
     dan.failures = failures;
-    if let Some(since) = locked {
+    if let Some(since) = lock {
         dan.locked = Some(moment(rt, since));
     }
     dan
@@ -190,23 +185,11 @@ fn is_same_ask(found: &Option<Ask>, wanted: &Option<Ask>) -> bool {
 
 // The two persons are one, part by part.
 pub(crate) fn assert_person(rt: &impl Abort, found: &Person, wanted: &Person) {
-    assert!(rt;
-        found.code == wanted.code && found.name == wanted.name,
-        "who it is"
-    );
-    assert!(rt;
-        found.roles == wanted.roles && found.retired == wanted.retired,
-        "the roles"
-    );
-    assert!(rt;
-        found.failures == wanted.failures && found.locked == wanted.locked,
-        "the lock"
-    );
-    assert!(rt;
-        is_same_password(&found.password, &wanted.password),
-        "the password"
-    );
-    assert!(rt; is_same_ask(&found.ask, &wanted.ask), "what was asked for");
+    assert!(rt; found.code == wanted.code && found.name == wanted.name);
+    assert!(rt; found.roles == wanted.roles && found.retired == wanted.retired);
+    assert!(rt; found.failures == wanted.failures && found.locked == wanted.locked);
+    assert!(rt; is_same_password(&found.password, &wanted.password));
+    assert!(rt; is_same_ask(&found.ask, &wanted.ask));
 }
 
 // The person is the one that was wanted. Both end here, so that no test carries them.
@@ -216,19 +199,10 @@ pub(crate) fn assert_is(rt: &impl Abort, found: Person, wanted: Person) {
 
 // The two sessions are one, part by part.
 pub(crate) fn assert_session(rt: &impl Abort, found: &Session, wanted: &Session) {
-    assert!(rt;
-        found.number == wanted.number && found.person == wanted.person,
-        "whose it is"
-    );
-    assert!(rt; found.token == wanted.token, "the token");
-    assert!(rt;
-        found.opened == wanted.opened && found.last == wanted.last,
-        "the moments"
-    );
-    assert!(rt;
-        found.closed == wanted.closed && found.signed == wanted.signed,
-        "the marks"
-    );
+    assert!(rt; found.number == wanted.number && found.person == wanted.person);
+    assert!(rt; found.token == wanted.token);
+    assert!(rt; found.opened == wanted.opened && found.last == wanted.last);
+    assert!(rt; found.closed == wanted.closed && found.signed == wanted.signed);
 }
 
 // The failure is what a text comes to, with all of dan that it leaves.
@@ -264,30 +238,21 @@ pub(crate) fn assert_attempt(
     }
 }
 
-// The failed password for which a call gave no other answer.
-pub(crate) fn failed<T: Drop>(rt: &impl Abort, found: Result<T, PeopleFault>) -> Failure {
-    match found.err() {
-        Some(PeopleFault::Failed(failure)) => failure,
+// The call failed by its password, which left of dan what an attempt would.
+pub(crate) fn assert_failed(
+    rt: &impl Abort,
+    alloc: Global,
+    found: Option<PeopleFault>,
+    wanted: Left,
+) {
+    match &found {
+        Some(PeopleFault::Failed(failure)) => assert_failure(rt, alloc, failure, wanted),
         _ => panic!(rt; "no failed password"),
     }
 }
 
-// The call failed by its password, which left of dan what an attempt would.
-pub(crate) fn assert_failed<T: Drop>(
-    rt: &impl Abort,
-    alloc: Global,
-    found: Result<T, PeopleFault>,
-    wanted: Left,
-) {
-    assert_failure(rt, alloc, &failed(rt, found), wanted);
-}
-
 // The call was refused so.
-pub(crate) fn assert_refused<T: Drop>(
-    rt: &impl Abort,
-    found: Result<T, PeopleFault>,
-    wanted: PeopleRefusal,
-) {
-    let fault = found.err().expect(rt, "a refusal");
+pub(crate) fn assert_refused(rt: &impl Abort, found: Option<PeopleFault>, wanted: PeopleRefusal) {
+    let fault = found.expect(rt, "a refusal");
     assert!(rt; fault.refusal() == wanted);
 }
