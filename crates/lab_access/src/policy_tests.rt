@@ -4,11 +4,11 @@ use crate::{Failure, Password, PeopleFault, PeopleRefusal, Person, Role, Roles, 
 use lab_names::{Moment, Name, PersonCode, Tick};
 use lab_secrets::Verifier;
 use std::alloc::Global;
-use std::test::Fail;
+use std::process::Abort;
 
 // The policy: each rule's word, the letters of its roles (N analyst, R reviewer, M manager, A administrator, I inspector), and
 // whether a due password bars it. `*` stands for everybody, also without a role.
-const TABLE: [(Rule, &str, &str, bool); 23] = [
+static TABLE: [(Rule, &str, &str, bool); 23] = [
     (Rule::CloseSession, "P1", "*", false),
     (Rule::ChangePassword, "P2", "*", false),
     (Rule::Enrol, "P3", "A", true),
@@ -35,7 +35,7 @@ const TABLE: [(Rule, &str, &str, bool); 23] = [
 ];
 
 // Each role with its letter.
-const ROLES: [(Role, char); 5] = [
+static ROLES: [(Role, char); 5] = [
     (Role::Analyst, 'N'),
     (Role::Reviewer, 'R'),
     (Role::Manager, 'M'),
@@ -43,10 +43,15 @@ const ROLES: [(Role, char); 5] = [
     (Role::Inspector, 'I'),
 ];
 
+// Whether the rule is known by the word, and barred so.
+fn is_known(rule: Rule, word: &str, is_barred: bool) -> bool {
+    rule.word() == word && rule.is_barred_by_due() == is_barred
+}
+
 #[test]
 fn each_rule_has_its_word_and_its_bar(rt: HostRuntime) {
-    for (rule, word, _, is_barred) in TABLE {
-        assert_eq!(rt; (rule.word(), rule.is_barred_by_due()), (word, is_barred));
+    for &(rule, word, _, is_barred) in &TABLE {
+        assert!(rt; is_known(rule, word, is_barred), "{word}");
     }
 }
 
@@ -57,18 +62,21 @@ fn are_letters_of(letters: &str, letter: char) -> bool {
 
 #[test]
 fn each_rule_is_open_to_its_roles(rt: HostRuntime) {
-    for (rule, _, letters, _) in TABLE {
-        for (role, letter) in ROLES {
+    for &(rule, word, letters, _) in &TABLE {
+        for &(role, letter) in &ROLES {
             let is_open = rule.is_open_to(&Roles::none().with(role));
-            assert_eq!(rt; is_open, are_letters_of(letters, letter));
+            assert!(rt; is_open == are_letters_of(letters, letter), "{word}");
         }
     }
 }
 
 #[test]
 fn a_person_of_no_role_may_do_what_everybody_may(rt: HostRuntime) {
-    for (rule, _, letters, _) in TABLE {
-        assert_eq!(rt; rule.is_open_to(&Roles::none()), letters == "*");
+    for &(rule, word, letters, _) in &TABLE {
+        assert!(rt;
+            rule.is_open_to(&Roles::none()) == (letters == "*"),
+            "{word}"
+        );
     }
 }
 
@@ -83,47 +91,56 @@ fn a_manager_rejects_and_approves(rt: HostRuntime) {
         (Role::Inspector, false, false),
     ] {
         let roles = Roles::none().with(role);
-        assert_eq!(rt; Rule::SignRejection.is_open_to(&roles), rejects, "{role:?}");
-        assert_eq!(rt; Rule::SignApproval.is_open_to(&roles), approves, "{role:?}");
+        assert!(rt;
+            Rule::SignRejection.is_open_to(&roles) == rejects,
+            "a rejection"
+        );
+        assert!(rt;
+            Rule::SignApproval.is_open_to(&roles) == approves,
+            "an approval"
+        );
     }
 }
 
-// Whether dan, an analyst of a password, may do at a second what a rule is for.
-fn analyst_allowed(
-    alloc: Global,
-    password: Password,
-    rule: Rule,
-    seconds: i64,
-) -> Result<Result<(), PeopleRefusal>, Fail> {
-    let moment = Moment::from_seconds(seconds)?;
-    let code = PersonCode::parse(alloc, "dan")?;
-    let name = Name::parse(alloc, "Dan Dorn")?;
-    let dan = Person {
-        code,
-        name,
+// dan, an analyst of a password.
+fn analyst(rt: &impl Abort, alloc: Global, password: &Password) -> Person {
+    Person {
+        code: PersonCode::parse(alloc, "dan").expect(rt, "a code"),
+        name: Name::parse(alloc, "Dan Dorn").expect(rt, "a name"),
         roles: Roles::none().with(Role::Analyst),
         retired: false,
         failures: 0,
         locked: None,
-        password,
+        password: *password,
         ask: None,
-    };
+    }
+}
+
+// dan may do at the second what the rule is for, or is refused so.
+fn assert_allowed(
+    rt: &impl Abort,
+    dan: &Person,
+    rule: Rule,
+    seconds: i64,
+    answer: Result<(), PeopleRefusal>,
+) {
     let now = Tick {
-        moment,
+        moment: Moment::from_seconds(seconds).expect(rt, "a moment"),
         words: [0; 8],
     };
-    Ok(allowed(&dan, rule, &now))
+    assert!(rt; allowed(dan, rule, &now) == answer, "at {seconds}");
 }
 
 // Second 86,399 is the last of day 0, and 7,862,400 the first of day 91.
 #[test]
-fn a_due_password_comes_before_a_role(rt: HostRuntime) -> Result<(), Fail> {
+fn a_due_password_comes_before_a_role(rt: HostRuntime) {
     let late = Password::Chosen {
         verifier: Verifier::from_parts([7; 16], 2, [9; 32]),
-        changed: Moment::from_seconds(86_399)?,
+        changed: Moment::from_seconds(86_399).expect(&rt, "a moment"),
     };
     let due = Err(PeopleRefusal::PasswordDue);
     let wanted = Err(PeopleRefusal::RoleWanted(Rule::SignReview));
+    let dan = analyst(&rt, rt.alloc(), &late);
     for (seconds, rule, answer) in [
         (7_862_399, Rule::ReadRecord, Ok(())),
         (7_862_399, Rule::SignReview, wanted),
@@ -132,30 +149,24 @@ fn a_due_password_comes_before_a_role(rt: HostRuntime) -> Result<(), Fail> {
         (7_862_400, Rule::ChangePassword, Ok(())),
         (7_862_400, Rule::CloseSession, Ok(())),
     ] {
-        assert_eq!(rt; analyst_allowed(rt.alloc(), late, rule, seconds)?, answer);
+        assert_allowed(&rt, &dan, rule, seconds, answer);
     }
-    Ok(())
 }
 
 // A one-time word is due from the first, and who has no password counts as due.
 #[test]
-fn a_one_time_word_is_due_at_once(rt: HostRuntime) -> Result<(), Fail> {
+fn a_one_time_word_is_due_at_once(rt: HostRuntime) {
     let verifier = Verifier::from_parts([7; 16], 2, [9; 32]);
     let word = Password::OneTime {
         first: verifier,
         second: verifier,
-        confirmed: Moment::from_seconds(86_399)?,
+        confirmed: Moment::from_seconds(86_399).expect(&rt, "a moment"),
     };
     let due = Err(PeopleRefusal::PasswordDue);
-    assert_eq!(rt;
-        analyst_allowed(rt.alloc(), word, Rule::ReadRecord, 86_399)?,
-        due
-    );
-    assert_eq!(rt;
-        analyst_allowed(rt.alloc(), Password::Unset, Rule::SignReview, 86_399)?,
-        due
-    );
-    Ok(())
+    let dan = analyst(&rt, rt.alloc(), &word);
+    assert_allowed(&rt, &dan, Rule::ReadRecord, 86_399, due);
+    let dan = analyst(&rt, rt.alloc(), &Password::Unset);
+    assert_allowed(&rt, &dan, Rule::SignReview, 86_399, due);
 }
 
 #[test]
@@ -167,7 +178,7 @@ fn roles_have_their_words(rt: HostRuntime) {
         (Role::Administrator, "administrator"),
         (Role::Inspector, "inspector"),
     ] {
-        assert_eq!(rt; role.word(), word);
+        assert!(rt; role.word() == word, "{word}");
     }
 }
 
@@ -176,41 +187,38 @@ fn roles_are_told_apart(rt: HostRuntime) {
     for role in Role::ALL {
         let one = Roles::none().with(role);
         for other in Role::ALL {
-            assert_eq!(rt;
-                (one.has(other), Roles::none().has(other)),
-                (other == role, false)
-            );
+            assert!(rt; one.has(other) == (other == role), "the one");
+            assert!(rt; !Roles::none().has(other), "none");
         }
     }
 }
 
 // In one order, whichever they were given in.
 #[test]
-fn roles_are_listed_in_order(rt: HostRuntime) -> Result<(), Fail> {
+fn roles_are_listed_in_order(rt: HostRuntime) {
     let given = [Role::Inspector, Role::Analyst, Role::Manager];
-    let roles = Roles::from_list(&given).ok_or("different roles")?;
-    let list = roles.list(rt.alloc())?;
-    assert_eq!(rt;
-        list.as_slice(),
-        [Role::Analyst, Role::Manager, Role::Inspector].as_slice()
-    );
-    Ok(())
+    let wanted = [Role::Analyst, Role::Manager, Role::Inspector];
+    let roles = Roles::from_list(&given).expect(&rt, "different roles");
+    let list = roles.list(rt.alloc()).expect(&rt, "memory");
+    assert!(rt; list.as_slice() == wanted.as_slice());
 }
 
 // There may be none, and no role stands twice.
 #[test]
-fn roles_are_made_of_different_ones(rt: HostRuntime) -> Result<(), Fail> {
-    assert_eq!(rt; Roles::none().list(rt.alloc())?.len(), 0);
-    assert_eq!(rt; Roles::from_list(&[]), Some(Roles::none()));
-    assert_eq!(rt;
-        Roles::from_list(&[Role::Analyst, Role::Manager, Role::Analyst]),
-        None
+fn roles_are_made_of_different_ones(rt: HostRuntime) {
+    let twice = [Role::Analyst, Role::Manager, Role::Analyst];
+    assert!(rt;
+        Roles::none()
+            .list(rt.alloc())
+            .expect(&rt, "memory")
+            .is_empty()
     );
-    Ok(())
+    assert!(rt; Roles::from_list(&[]) == Some(Roles::none()));
+    assert!(rt; Roles::from_list(&twice).is_none());
 }
 
 // Each refusal with its number and word.
-const REFUSALS: [(PeopleRefusal, u32, &str); 14] = [
+static REFUSALS: [(PeopleRefusal, u32, &str); 14] = [
     (PeopleRefusal::Credentials, 20, "credentials"),
     (PeopleRefusal::RandomRepeated, 21, "random_repeated"),
     (PeopleRefusal::NoSession, 22, "no_session"),
@@ -227,33 +235,41 @@ const REFUSALS: [(PeopleRefusal, u32, &str); 14] = [
     (PeopleRefusal::NoSuchPerson, 33, "no_such_person"),
 ];
 
+// Whether it is told by the number and the word: a refusal, or a fault.
+fn is_told(found: (Option<u32>, &str), number: u32, word: &str) -> bool {
+    found.0 == Some(number) && found.1 == word
+}
+
 #[test]
 fn refusals_have_their_numbers_and_words(rt: HostRuntime) {
-    for (refusal, number, word) in REFUSALS {
-        assert_eq!(rt; (refusal.number(), refusal.word()), (Some(number), word));
+    for &(refusal, number, word) in &REFUSALS {
+        let found = (refusal.number(), refusal.word());
+        assert!(rt; is_told(found, number, word), "{word}");
     }
 }
 
 #[test]
-fn refusals_print_as_their_words(rt: HostRuntime) -> Result<(), Fail> {
-    for (refusal, _, word) in REFUSALS {
-        assert_eq!(rt; format!(in rt.alloc(); "{refusal}")?.as_str(), word);
+fn refusals_print_as_their_words(rt: HostRuntime) {
+    for &(refusal, _, word) in &REFUSALS {
+        let text = format!(in rt.alloc(); "{refusal}").expect(&rt, "memory");
+        assert!(rt; text.as_str() == word, "{word}");
     }
-    Ok(())
 }
 
 #[test]
 fn faults_are_told_as_their_refusals(rt: HostRuntime) {
-    for (refusal, number, word) in REFUSALS {
+    for &(refusal, number, word) in &REFUSALS {
         let fault = PeopleFault::from(refusal);
-        assert_eq!(rt; (fault.number(), fault.word()), (Some(number), word));
+        let found = (fault.number(), fault.word());
+        assert!(rt; is_told(found, number, word), "{word}");
     }
 }
 
 #[test]
-fn a_failed_password_is_told_as_credentials(rt: HostRuntime) -> Result<(), Fail> {
+fn a_failed_password_is_told_as_credentials(rt: HostRuntime) {
     let failed = PeopleFault::from(Failure::Stray);
-    assert_eq!(rt; (failed.number(), failed.word()), (Some(20), "credentials"));
-    assert_eq!(rt; format!(in rt.alloc(); "{failed}")?.as_str(), "credentials");
-    Ok(())
+    let found = (failed.number(), failed.word());
+    assert!(rt; is_told(found, 20, "credentials"));
+    let text = format!(in rt.alloc(); "{failed}").expect(&rt, "memory");
+    assert!(rt; text.as_str() == "credentials");
 }

@@ -7,6 +7,7 @@ mod moments;
 mod openings;
 mod person_growths;
 mod record_growths;
+mod results;
 mod samples;
 mod values;
 mod versions;
@@ -20,7 +21,13 @@ const ROWS: u32 = 200;
 
 fn main(rt: HostRuntime) -> Result<()> {
     let words: Vec<String> = std::env::args(&rt)?.collect(rt.alloc())?;
-    let (name, calls, rows) = match words.as_slice() {
+    let (workload, calls, rows) = order(words.as_slice())?;
+    workload.run(&rt, rt.alloc(), calls, rows)
+}
+
+// The workload that the words name, its calls and its rows.
+fn order(words: &[String]) -> Result<(Workload, u32, u32)> {
+    let (name, calls, rows) = match words {
         [_, name, calls] => (name, calls, None),
         [_, name, calls, rows] => (name, calls, Some(rows)),
         _ => bail!("lab_bench takes a workload, a number of calls and perhaps a number of rows"),
@@ -31,7 +38,7 @@ fn main(rt: HostRuntime) -> Result<()> {
         Some(rows) => number(rows.as_str())?,
         None => ROWS,
     };
-    workload.run(&rt, rt.alloc(), calls, rows)
+    Ok((workload, calls, rows))
 }
 
 fn number(word: &str) -> Result<u32> {

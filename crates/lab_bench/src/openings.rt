@@ -1,7 +1,8 @@
 //! Sessions, opened; and the passwords alone that they are opened by.
 
+use crate::results::{both, text};
 use anyhow::Result;
-use lab_names::{Moment, Name, PersonCode, Tick};
+use lab_names::{Moment, Tick};
 use lab_people::{Opened, Password, Person, ROUNDS, Roles, open_session};
 use lab_seal::pbkdf2;
 use std::alloc::Global;
@@ -11,14 +12,16 @@ const PASSWORD: &str = "dan password 1";
 const SALT: [u8; 16] = [7; 16];
 
 fn person(alloc: Global) -> Result<Person> {
+    let changed = Moment::from_seconds(500)?;
+    let (code, name) = both(text(alloc, "dan"), text(alloc, "Dan Dorn"))?;
     Ok(Person {
-        code: PersonCode::parse(alloc, "dan")?,
-        name: Name::parse(alloc, "Dan Dorn")?,
+        code,
+        name,
         roles: Roles::none(),
         retired: false,
         failures: 0,
         locked: None,
-        password: Password::choose(PASSWORD, SALT, Moment::from_seconds(500)?),
+        password: Password::choose(PASSWORD, SALT, changed),
         ask: None,
     })
 }
@@ -37,11 +40,11 @@ fn open_again(person: Person, tick: &Tick, sessions: u32) -> Result<(Person, u32
 
 /// Opens so many sessions of one person, and answers the sum of their numbers.
 pub(crate) fn open_sessions(alloc: Global, calls: u32) -> Result<u64> {
-    let mut dan = person(alloc)?;
     let tick = Tick {
         moment: Moment::from_seconds(900)?,
         words: [1, 2, 3, 4, 5, 6, 7, 8],
     };
+    let mut dan = person(alloc)?;
     let mut sum = 0u64;
     for call in 0..calls {
         let (next, number) = open_again(dan, &tick, call)?;

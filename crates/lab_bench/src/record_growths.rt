@@ -1,73 +1,61 @@
 //! The calls on versions and seals that take memory. Each has its arguments made for it alone, so that running out of
 //! memory stops one call and no other.
 
-use crate::growths::print_line;
-use crate::versions::{version, version_text};
+use crate::results::{both, made_of, print_made, print_word, text};
+use crate::versions::{text_of, version, version_text};
 use anyhow::{Context, Result};
-use lab_names::{LabCode, Moment, Name, Note, Ordinal, PersonCode};
-use lab_seal::{
-    Amendment, Meaning, Origin, SealParts, VersionParts, digest, read_version, write_version,
-};
+use lab_names::{Moment, Ordinal};
+use lab_seal::{Amendment, Meaning, Origin, SealParts, VersionParts, digest, read_version};
 use std::alloc::Global;
 use std::io::{self, Print};
 
 /// Makes each call once, and prints for each a text of what it gave, or the word of its fault.
 pub(crate) fn print_record_growths(rt: &impl Print, alloc: Global) -> io::Result<()> {
-    print_line(rt, version_text(alloc, 2).as_ref().map(|_| "text"))?;
-    print_line(rt, read(alloc).as_ref().map(|parts| parts.sample.as_str()))?;
-    print_line(
-        rt,
-        later_read(alloc)
-            .as_ref()
-            .map(|parts| parts.sample.as_str()),
-    )?;
-    print_line(
-        rt,
-        copied_version(alloc)
-            .as_ref()
-            .map(|parts| parts.sample.as_str()),
-    )?;
-    print_line(
-        rt,
-        copied_seal(alloc).as_ref().map(|parts| parts.name.as_str()),
-    )
+    print_word(rt, version_text(alloc, 2), "text")?;
+    print_sample(rt, read(alloc, version_text(alloc, 2)))?;
+    print_sample(rt, read(alloc, text_of(alloc, later_version(alloc))))?;
+    print_sample(rt, made_of(later_version(alloc), VersionParts::copy))?;
+    print_signer(rt, made_of(seal_parts(alloc), SealParts::copy))
 }
 
-fn read(alloc: Global) -> Result<VersionParts> {
-    let text = version_text(alloc, 2)?;
-    Ok(read_version(alloc, text.as_slice())?)
+fn print_sample(rt: &impl Print, version: Result<VersionParts>) -> io::Result<()> {
+    print_made(rt, version, |version| version.sample.as_str())
 }
 
-// A later version, with what it amends.
-fn later_version(alloc: Global) -> Result<VersionParts> {
+fn print_signer(rt: &impl Print, parts: Result<SealParts>) -> io::Result<()> {
+    print_made(rt, parts, |parts| parts.name.as_str())
+}
+
+fn read(alloc: Global, text: Result<Vec<u8>>) -> Result<VersionParts> {
+    made_of(text, |text| read_version(alloc, text.as_slice()))
+}
+
+// What a later version amends.
+fn later_origin(alloc: Global) -> Result<Origin> {
+    let number = Ordinal::FIRST.next().context("a second version")?;
     let amendment = Amendment {
         previous: digest(b"abc"),
-        reason: Note::parse(alloc, "misread scale")?,
+        reason: text(alloc, "misread scale")?,
     };
-    let number = Ordinal::FIRST.next().context("a second version")?;
-    Ok(VersionParts {
-        origin: Origin::amending(number, amendment).context("a later version")?,
-        ..version(alloc, 1)?
-    })
+    Origin::amending(number, amendment).context("a later version")
 }
 
-fn later_read(alloc: Global) -> Result<VersionParts> {
-    let text = write_version(alloc, &later_version(alloc)?)?;
-    Ok(read_version(alloc, text.as_slice())?)
+fn later_version(alloc: Global) -> Result<VersionParts> {
+    let (origin, first) = both(later_origin(alloc), version(alloc, 1))?;
+    Ok(VersionParts { origin, ..first })
 }
 
-fn copied_version(alloc: Global) -> Result<VersionParts> {
-    Ok(later_version(alloc)?.copy()?)
-}
-
-fn copied_seal(alloc: Global) -> Result<SealParts> {
-    let parts = SealParts {
+fn seal_parts(alloc: Global) -> Result<SealParts> {
+    let moment = Moment::from_seconds(1300)?;
+    let signer = both(text(alloc, "eve"), text(alloc, "Eve Ems"));
+    let place = both(text(alloc, "aqua"), text(alloc, "misread scale"));
+    let ((person, name), (lab, reason)) = both(signer, place)?;
+    Ok(SealParts {
         version: digest(b"abc"),
-        lab: LabCode::parse(alloc, "aqua")?,
-        person: PersonCode::parse(alloc, "eve")?,
-        name: Name::parse(alloc, "Eve Ems")?,
-        meaning: Meaning::Rejection(Note::parse(alloc, "misread scale")?),
-        moment: Moment::from_seconds(1300)?,
-    };
-    Ok(parts.copy()?)
+        lab,
+        person,
+        name,
+        meaning: Meaning::Rejection(reason),
+        moment,
+    })
 }

@@ -1,8 +1,9 @@
 //! Forms and their parts, made of the texts that the workloads take. The only error is out of memory.
 
+use crate::results::{both, text};
 use anyhow::Result;
 use lab_forms::{Bound, Choices, Field, Form, Kind};
-use lab_names::{Key, Name, OutOfMemory, Unit};
+use lab_names::{Name, OutOfMemory};
 use std::alloc::Global;
 
 // More names than a list has room for when it first grows.
@@ -16,10 +17,11 @@ pub(crate) fn least(alloc: Global) -> Result<Bound> {
 
 /// Numbers of two decimals in mg/L, from the least.
 pub(crate) fn numbers(alloc: Global) -> Result<Kind> {
+    let (unit, least) = both(text(alloc, "mg/L"), least(alloc))?;
     Ok(Kind::Number {
-        unit: Unit::parse(alloc, "mg/L")?,
+        unit,
         decimals: 2,
-        min: Some(least(alloc)?),
+        min: Some(least),
         max: None,
     })
 }
@@ -27,21 +29,26 @@ pub(crate) fn numbers(alloc: Global) -> Result<Kind> {
 /// The names of colours.
 pub(crate) fn colours(alloc: Global) -> Result<Choices> {
     let mut names = Vec::new(alloc);
-    for colour in COLOURS {
-        names
-            .push(Name::parse(alloc, colour)?)
-            .map_err(OutOfMemory::from)?;
+    for colour in &COLOURS {
+        add_name(alloc, &mut names, colour)?;
     }
     Ok(Choices::new(names))
 }
 
+fn add_name(alloc: Global, names: &mut Vec<Name>, name: &str) -> Result<()> {
+    let name = text(alloc, name)?;
+    Ok(names.push(name).map_err(OutOfMemory::from)?)
+}
+
 /// A field of numbers, labelled by its key.
 pub(crate) fn field(alloc: Global, key: &str) -> Result<Field> {
+    let labelled = both(text(alloc, key), text(alloc, key));
+    let ((key, label), kind) = both(labelled, numbers(alloc))?;
     Ok(Field {
-        key: Key::parse(alloc, key)?,
-        label: Name::parse(alloc, key)?,
+        key,
+        label,
         required: true,
-        kind: numbers(alloc)?,
+        kind,
     })
 }
 
@@ -49,7 +56,12 @@ pub(crate) fn field(alloc: Global, key: &str) -> Result<Field> {
 pub(crate) fn form(alloc: Global, keys: &[&str]) -> Result<Form> {
     let mut fields = Vec::new(alloc);
     for key in keys {
-        fields.push(field(alloc, key)?).map_err(OutOfMemory::from)?;
+        add_field(alloc, &mut fields, key)?;
     }
     Ok(Form::make(fields, false)?)
+}
+
+fn add_field(alloc: Global, fields: &mut Vec<Field>, key: &str) -> Result<()> {
+    let field = field(alloc, key)?;
+    Ok(fields.push(field).map_err(OutOfMemory::from)?)
 }

@@ -1,7 +1,9 @@
 //! Values of a form, read.
 
+use crate::results::{both, text};
 use crate::samples::form;
 use anyhow::Result;
+use lab_forms::Form;
 use lab_names::{Key, Unit};
 use std::alloc::Global;
 
@@ -19,15 +21,18 @@ const TEXTS: [&str; 8] = [
 
 /// Reads the texts in turn, and answers the sum of the lengths of those that are values.
 pub(crate) fn read_values(alloc: Global, calls: u32) -> Result<u64> {
-    let form = form(alloc, &["lead"])?;
-    let key = Key::parse(alloc, "lead")?;
-    let unit = Unit::parse(alloc, "mg/L")?;
+    let place = both(text(alloc, "lead"), text(alloc, "mg/L"));
+    let (form, (key, unit)) = both(form(alloc, &["lead"]), place)?;
+    Ok(lengths(alloc, &form, &key, &unit, calls))
+}
+
+fn lengths(alloc: Global, form: &Form, key: &Key, unit: &Unit, calls: u32) -> u64 {
     let mut sum = 0u64;
     for call in 0..calls {
         let text = TEXTS[call as usize % TEXTS.len()];
-        if let Ok(value) = form.read_value(alloc, &key, text, &unit) {
+        if let Ok(value) = form.read_value(alloc, key, text, unit) {
             sum = sum.wrapping_add(value.print().len() as u64);
         }
     }
-    Ok(sum)
+    sum
 }

@@ -55,26 +55,36 @@ impl Workload {
 
     /// Makes so many calls, and prints a sum of what they computed, or what each gave.
     pub(crate) fn run(self, rt: &impl Print, alloc: Global, calls: u32, rows: u32) -> Result<()> {
-        let sum = match self {
-            Workload::ParseMoments => parse_moments(calls),
-            Workload::PrintMoments => print_moments(calls),
-            Workload::ReadValues => read_values(alloc, calls)?,
-            Workload::WriteVersions => write_versions(alloc, calls, rows)?,
-            Workload::ReadVersions => read_versions(alloc, calls, rows)?,
-            Workload::DigestVersions => digest_versions(alloc, calls, rows)?,
-            Workload::OpenSessions => open_sessions(alloc, calls)?,
-            Workload::StretchPasswords => stretch_passwords(calls),
-            Workload::Rounds => {
-                println!(rt; "{}", hex::encode(alloc, stretch(calls)?)?)?;
-                return Ok(());
-            }
-            Workload::VersionText => {
-                print!(rt; "{}", String::from_utf8(version_text(alloc, rows)?)?)?;
-                return Ok(());
-            }
-            Workload::Growths => return Ok(print_growths(rt, alloc, calls)?),
-        };
-        println!(rt; "{sum}")?;
-        Ok(())
+        match self {
+            Workload::ParseMoments => print_sum(rt, Ok(parse_moments(calls))),
+            Workload::PrintMoments => print_sum(rt, Ok(print_moments(calls))),
+            Workload::ReadValues => print_sum(rt, read_values(alloc, calls)),
+            Workload::WriteVersions => print_sum(rt, write_versions(alloc, calls, rows)),
+            Workload::ReadVersions => print_sum(rt, read_versions(alloc, calls, rows)),
+            Workload::DigestVersions => print_sum(rt, digest_versions(alloc, calls, rows)),
+            Workload::OpenSessions => print_sum(rt, open_sessions(alloc, calls)),
+            Workload::StretchPasswords => print_sum(rt, Ok(stretch_passwords(calls))),
+            Workload::Rounds => print_stretched(rt, alloc, calls),
+            Workload::Growths => Ok(print_growths(rt, alloc, calls)?),
+            Workload::VersionText => print_version(rt, alloc, rows),
+        }
     }
+}
+
+fn print_sum(rt: &impl Print, sum: Result<u64>) -> Result<()> {
+    let sum = sum?;
+    println!(rt; "{sum}")?;
+    Ok(())
+}
+
+fn print_stretched(rt: &impl Print, alloc: Global, rounds: u32) -> Result<()> {
+    let digits = hex::encode(alloc, stretch(rounds)?)?;
+    println!(rt; "{digits}")?;
+    Ok(())
+}
+
+fn print_version(rt: &impl Print, alloc: Global, rows: u32) -> Result<()> {
+    let text = String::from_utf8(version_text(alloc, rows)?)?;
+    print!(rt; "{text}")?;
+    Ok(())
 }

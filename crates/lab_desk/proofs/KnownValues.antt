@@ -10,14 +10,16 @@ ninety = decimal-digits_of 90 (lit< tt) (lit< tt) ∙ refl
 
 -- the line for lack of memory
 pub memory_line_text : memory_line ≡ codes "refused 90 memory\n"
-memory_line_text = ap (λ (digits : List ℕ). codes "refused " ++ digits ++ codes " " ++ memory_entry.word ++ codes "\n") ninety
+memory_line_text = ap (λ (digits : List ℕ). codes "refused " ++ digits ++ codes " "
+    ++ memory_entry.word ++ codes "\n") ninety
 
 sixty_three : decimal 63 ≡ codes "63"
 sixty_three = decimal-digits_of 63 (lit< tt) (lit< tt) ∙ refl
 
 -- the line for the store's refusal
 storage_line_text : storage_line ≡ codes "refused 63 storage\n"
-storage_line_text = ap (λ (digits : List ℕ). codes "refused " ++ digits ++ codes " " ++ storage_entry.word ++ codes "\n") sixty_three
+storage_line_text = ap (λ (digits : List ℕ). codes "refused " ++ digits ++ codes " "
+    ++ storage_entry.word ++ codes "\n") sixty_three
 
 -- the line of a founding
 a_founded_line : founded_line (codes "aqua") ≡ codes "founded aqua\n"

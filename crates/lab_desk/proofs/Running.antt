@@ -33,60 +33,88 @@ use Rattle.lab_desk.specs.Runs.{Handled, IsRun, IsTold, IsAnswer, IsAnswerBy, Is
 alone_after_then : (code : List ℕ) (lab : Option Lab) (owns more : List Own) →
     alone_after code lab (owns ++ more) ≡ alone_after code (alone_after code lab owns) more
 alone_after_then code lab [] more = refl
-alone_after_then code lab (own ∷ owns) more = alone_after_then code (after_own code lab own) owns more
+alone_after_then code lab (own ∷ owns) more =
+    alone_after_then code (after_own code lab own) owns more
 
 alone_answers_then : (code : List ℕ) (lab : Option Lab) (owns more : List Own) →
-    alone_answers code lab (owns ++ more) ≡ alone_answers code lab owns ++ alone_answers code (alone_after code lab owns) more
+    alone_answers code lab (owns ++ more)
+    ≡ alone_answers code lab owns ++ alone_answers code (alone_after code lab owns) more
 alone_answers_then code lab [] more = refl
 alone_answers_then code lab (own ∷ owns) more =
-    ap (λ (told : List (List ℕ)). answer_own code lab own ∷ told) (alone_answers_then code (after_own code lab own) owns more)
+    ap (λ (told : List (List ℕ)). answer_own code lab own ∷ told)
+    (alone_answers_then code (after_own code lab own) owns more)
 
 -- a laboratory's own events in two runs
-owns_then : (code : List ℕ) (first next : List Handled) → own_events code (first ++ next) ≡ own_events code first ++ own_events code next
+owns_then : (code : List ℕ) (first next : List Handled) →
+    own_events code (first ++ next) ≡ own_events code first ++ own_events code next
 owns_then code first next = filter_map-append (own_in code) first next
 
 -- what each laboratory is after two runs
-after_then : (start : Meaning) (first next : List Handled) (code : List ℕ) → after_run start (first ++ next) code ≡ after_run (after_run start first) next code
+after_then : (start : Meaning) (first next : List Handled) (code : List ℕ) →
+    after_run start (first ++ next) code ≡ after_run (after_run start first) next code
 after_then start first next code =
     ap (λ (owns : List Own). alone_after code (start code) owns) (owns_then code first next)
     ∙ alone_after_then code (start code) (own_events code first) (own_events code next)
 
-alone_then : (start : Meaning) (first next : List Handled) → AreAlone start first → AreAlone (after_run start first) next → AreAlone start (first ++ next)
+alone_then : (start : Meaning) (first next : List Handled) → AreAlone start first →
+    AreAlone (after_run start first) next → AreAlone start (first ++ next)
 alone_then start first next here there code =
-    filter_map-append (λ (one : Handled). option_map (λ (own : Own). one.answer) (own_in code one)) first next
+    filter_map-append (λ (one : Handled). option_map (λ (own : Own). one.answer) (own_in code one))
+    first next
     ∙ ap (λ (told : List (List ℕ)). told ++ own_answers code next) (here code)
-    ∙ ap (λ (told : List (List ℕ)). alone_answers code (start code) (own_events code first) ++ told) (there code)
+    ∙ ap (λ (told : List (List ℕ)). alone_answers code (start code) (own_events code first) ++ told)
+    (there code)
     ∙ sym (alone_answers_then code (start code) (own_events code first) (own_events code next))
-    ∙ ap (λ (owns : List Own). alone_answers code (start code) owns) (sym (owns_then code first next))
+    ∙ ap (λ (owns : List Own). alone_answers code (start code) owns)
+    (sym (owns_then code first next))
 
 -- a refusal stays one where the store may refuse as well
-refusal_wider : (narrow wide : Type 0) → (narrow → wide) → (P Q R : Type 0) → P ⊎ ((narrow × R) × Q) → P ⊎ ((wide × R) × Q)
+refusal_wider : (narrow wide : Type 0) → (narrow → wide) → (P Q R : Type 0) →
+    P ⊎ ((narrow × R) × Q) → P ⊎ ((wide × R) × Q)
 refusal_wider narrow wide wider P Q R refused =
-    elim refused as (λ _. P ⊎ ((wide × R) × Q)) [ inl memory ↦ inl memory | inr storage ↦ inr ((wider storage.0.0, storage.0.1), storage.1) ]
+    elim refused as (λ _. P ⊎ ((wide × R) × Q)) [
+      | inl memory ↦ inl memory
+      | inr storage ↦ inr ((wider storage.0.0, storage.0.1), storage.1)
+    ]
 
-answer_by_wider : (narrow wide : Type 0) → (narrow → wide) → (taken : Bool) (event : Event) (answer : List ℕ) → IsAnswerBy narrow taken event answer → IsAnswerBy wide taken event answer
+answer_by_wider : (narrow wide : Type 0) → (narrow → wide) →
+    (taken : Bool) (event : Event) (answer : List ℕ) → IsAnswerBy narrow taken event answer →
+    IsAnswerBy wide taken event answer
 answer_by_wider narrow wide wider true event answer is = is
 answer_by_wider narrow wide wider false (Found lab tick body) answer is =
-    refusal_wider narrow wide wider (answer ≡ memory_line) (answer ≡ storage_line) (IsOk (founding_named body)) is
+    refusal_wider narrow wide wider (answer ≡ memory_line) (answer ≡ storage_line)
+    (IsOk (founding_named body)) is
 answer_by_wider narrow wide wider false (Call tick bytes) answer is =
-    refusal_wider narrow wide wider (answer ≡ memory_text) (answer ≡ reply_text tick Storage) (IsOk (asked bytes)) is
+    refusal_wider narrow wide wider (answer ≡ memory_text) (answer ≡ reply_text tick Storage)
+    (IsOk (asked bytes)) is
 
-answers_wider : (narrow wide : Type 0) → (narrow → wide) → (handled : List Handled) → All (IsAnswer narrow) handled → All (IsAnswer wide) handled
+answers_wider : (narrow wide : Type 0) → (narrow → wide) → (handled : List Handled) →
+    All (IsAnswer narrow) handled → All (IsAnswer wide) handled
 answers_wider narrow wide wider handled are k one within =
     let at : Handled = get_or handled k one in
     answer_by_wider narrow wide wider at.taken at.event at.answer (are k one within)
 
 -- a run, and a run from where it ended, are one run
-pub run_then : (old mid new : World) (first next : List Handled) → (mid.may_refuse → old.may_refuse) → IsRun old mid first → IsRun mid new next → IsRun old new (first ++ next)
+pub run_then : (old mid new : World) (first next : List Handled) →
+    (mid.may_refuse → old.may_refuse) → IsRun old mid first → IsRun mid new next →
+    IsRun old new (first ++ next)
 run_then old mid new first next wider here there = record {
-  each = All-append (IsAnswer old.may_refuse) first next here.each (answers_wider mid.may_refuse old.may_refuse wider next there.each);
-  alone = λ start tells. alone_then start first next (here.alone start tells) (there.alone (after_run start first) (here.after start tells));
-  after = λ start tells live code. there.after (after_run start first) (here.after start tells) live code ∙ sym (after_then start first next code);
+  each = All-append (IsAnswer old.may_refuse) first next here.each
+      (answers_wider mid.may_refuse old.may_refuse wider next there.each);
+  alone = λ start tells. alone_then start first next (here.alone start tells)
+      (there.alone (after_run start first) (here.after start tells));
+  after = λ start tells live code.
+      there.after (after_run start first) (here.after start tells) live code
+      ∙ sym (after_then start first next code);
 }
 
 -- no event is a run
 pub no_run : (world : World) → IsRun world world []
-no_run world = record { each = All-nil (IsAnswer world.may_refuse); alone = λ start tells code. refl; after = λ start tells. tells }
+no_run world = record {
+  each = All-nil (IsAnswer world.may_refuse);
+  alone = λ start tells code. refl;
+  after = λ start tells. tells;
+}
 
 -- ---- one event is a run
 
@@ -100,148 +128,206 @@ abbrev after_one : List ℕ → Option Lab → Option Own → Option Lab
 after_one code lab None = lab
 after_one code lab (Some own) = after_own code lab own
 
-told_one : (code : List ℕ) (lab : Option Lab) (found : Option Own) (answer : List ℕ) → Told code lab found answer →
-    cons_option (option_map (λ (own : Own). answer) found) [] ≡ alone_answers code lab (cons_option found [])
+told_one : (code : List ℕ) (lab : Option Lab) (found : Option Own) (answer : List ℕ) →
+    Told code lab found answer →
+    cons_option (option_map (λ (own : Own). answer) found) []
+    ≡ alone_answers code lab (cons_option found [])
 told_one code lab None answer told = refl
 told_one code lab (Some own) answer told = ap (λ (one : List ℕ). one ∷ []) told
 
-after_own_one : (code : List ℕ) (lab : Option Lab) (found : Option Own) → after_one code lab found ≡ alone_after code lab (cons_option found [])
+after_own_one : (code : List ℕ) (lab : Option Lab) (found : Option Own) →
+    after_one code lab found ≡ alone_after code lab (cons_option found [])
 after_own_one code lab None = refl
 after_own_one code lab (Some own) = refl
 
 -- one event, from what it makes of each laboratory
 record IsOne (old new : World) (one : Handled) : Type 0 where
   each : IsAnswer old.may_refuse one
-  told : (start : Meaning) → Tells old start → (code : List ℕ) → Told code (start code) (own_in code one) one.answer
-  after : (start : Meaning) → Tells old start → new.is_live → (code : List ℕ) → new.meaning code ≡ after_one code (start code) (own_in code one)
+  told : (start : Meaning) → Tells old start → (code : List ℕ) →
+      Told code (start code) (own_in code one) one.answer
+  after : (start : Meaning) → Tells old start → new.is_live → (code : List ℕ) →
+      new.meaning code ≡ after_one code (start code) (own_in code one)
 
 one_run : (old new : World) (one : Handled) → IsOne old new one → IsRun old new (one ∷ [])
 one_run old new one is = record {
   each = All-cons (IsAnswer old.may_refuse) one [] is.each (All-nil (IsAnswer old.may_refuse));
-  alone = λ start tells code. told_one code (start code) (own_in code one) one.answer (is.told start tells code);
-  after = λ start tells live code. is.after start tells live code ∙ after_own_one code (start code) (own_in code one);
+  alone = λ start tells code. told_one code (start code) (own_in code one) one.answer
+      (is.told start tells code);
+  after = λ start tells live code. is.after start tells live code
+      ∙ after_own_one code (start code) (own_in code one);
 }
 
 -- a laboratory of another code
 other_code : (named code : List ℕ) → bytes_eq named code ≡ false → code ≢ named
-other_code named code differs same = false≢true (sym differs ∙ (bytes_eq-Decides named code).1 (sym same))
+other_code named code differs same =
+    false≢true (sym differs ∙ (bytes_eq-Decides named code).1 (sym same))
 
 -- a founding that was refused, and a call that was refused, leave every laboratory
-left_alone : (old new : World) (start : Meaning) → (new.is_live → old.is_live) → Tells old start → Leaves old new → new.is_live → (code : List ℕ) → new.meaning code ≡ start code
+left_alone : (old new : World) (start : Meaning) → (new.is_live → old.is_live) → Tells old start →
+    Leaves old new → new.is_live → (code : List ℕ) → new.meaning code ≡ start code
 left_alone old new start back tells left live code = left live code ∙ tells (back live) code
 
 -- ---- a founding
 
 -- a body that says nothing is refused whatever laboratory there is
-born_seen : (body : Body) (seen start : Option Lab) (code : List ℕ) (tick : Tick) → (IsOk body → seen ≡ start) → born_of seen code tick body ≡ born_of start code tick body
+born_seen : (body : Body) (seen start : Option Lab) (code : List ℕ) (tick : Tick) →
+    (IsOk body → seen ≡ start) → born_of seen code tick body ≡ born_of start code tick body
 born_seen (Err refusal) seen start code tick same = refl
-born_seen (Ok founding) seen start code tick same = ap (λ (lab : Option Lab). born_of lab code tick (Ok founding)) (same refl)
+born_seen (Ok founding) seen start code tick same =
+    ap (λ (lab : Option Lab). born_of lab code tick (Ok founding)) (same refl)
 
-founding_told : (old new : World) (start : Meaning) (lab code : List ℕ) (tick : Tick) (body answer : List ℕ) (b : Bool) → bytes_eq lab code ≡ b → Tells old start → TakesFounding old new lab tick (founding_named body) answer →
+founding_told : (old new : World) (start : Meaning) (lab code : List ℕ) (tick : Tick)
+    (body answer : List ℕ) (b : Bool) → bytes_eq lab code ≡ b → Tells old start →
+    TakesFounding old new lab tick (founding_named body) answer →
     Told code (start code) (cond b (Some (Founds tick body)) None) answer
 founding_told old new start lab code tick body answer true names tells takes =
     let same : lab ≡ code = (bytes_eq-Decides lab code).0 names in
-    subst (λ (named : List ℕ). answer ≡ line_of named (born_of (start named) named tick (founding_named body))) same
-    (takes.answered ∙ ap (line_of lab) (born_seen (founding_named body) (old.meaning lab) (start lab) lab tick (λ reads. tells (takes.lives reads).0 lab)))
+    subst (λ (named : List ℕ). answer
+    ≡ line_of named (born_of (start named) named tick (founding_named body))) same
+    (takes.answered ∙ ap (line_of lab)
+    (born_seen (founding_named body) (old.meaning lab) (start lab) lab tick
+    (λ reads. tells (takes.lives reads).0 lab)))
 founding_told old new start lab code tick body answer false names tells takes = tt
 
-founding_after : (old new : World) (start : Meaning) (lab code : List ℕ) (tick : Tick) (body answer : List ℕ) (b : Bool) → bytes_eq lab code ≡ b → old.is_live → Tells old start → TakesFounding old new lab tick (founding_named body) answer →
+founding_after : (old new : World) (start : Meaning) (lab code : List ℕ) (tick : Tick)
+    (body answer : List ℕ) (b : Bool) → bytes_eq lab code ≡ b → old.is_live → Tells old start →
+    TakesFounding old new lab tick (founding_named body) answer →
     new.meaning code ≡ after_one code (start code) (cond b (Some (Founds tick body)) None)
 founding_after old new start lab code tick body answer true names live tells takes =
     let same : lab ≡ code = (bytes_eq-Decides lab code).0 names in
-    subst (λ (named : List ℕ). new.meaning named ≡ after_birth (start named) (born_of (start named) named tick (founding_named body))) same
-    (takes.after.here ∙ ap (λ (seen : Option Lab). after_birth seen (born_of seen lab tick (founding_named body))) (tells live lab))
+    subst (λ (named : List ℕ). new.meaning named
+    ≡ after_birth (start named) (born_of (start named) named tick (founding_named body))) same
+    (takes.after.here ∙ ap (λ (seen : Option Lab).
+    after_birth seen (born_of seen lab tick (founding_named body))) (tells live lab))
 founding_after old new start lab code tick body answer false names live tells takes =
     takes.after.others code (other_code lab code names) ∙ tells live code
 
-founding_is : (old new : World) (lab : List ℕ) (tick : Tick) (body : List ℕ) (taken : Bool) (answer : List ℕ) → (new.is_live → old.is_live) →
-    (taken ≡ true → TakesFounding old new lab tick (founding_named body) answer) → (taken ≡ false → RefusesFounding old new (founding_named body) answer) →
+founding_is : (old new : World) (lab : List ℕ) (tick : Tick) (body : List ℕ) (taken : Bool)
+    (answer : List ℕ) → (new.is_live → old.is_live) →
+    (taken ≡ true → TakesFounding old new lab tick (founding_named body) answer) →
+    (taken ≡ false → RefusesFounding old new (founding_named body) answer) →
     IsOne old new (record { event = Found lab tick body; taken = taken; answer = answer })
 founding_is old new lab tick body true answer back takes refuses = record {
   each = tt;
-  told = λ start tells code. founding_told old new start lab code tick body answer (bytes_eq lab code) refl tells (takes refl);
-  after = λ start tells live code. founding_after old new start lab code tick body answer (bytes_eq lab code) refl (back live) tells (takes refl);
+  told = λ start tells code. founding_told old new start lab code tick body answer
+      (bytes_eq lab code) refl tells (takes refl);
+  after = λ start tells live code.
+      founding_after old new start lab code tick body answer (bytes_eq lab code) refl
+      (back live) tells (takes refl);
 }
 founding_is old new lab tick body false answer back takes refuses = record {
   each = (refuses refl).answered;
   told = λ start tells code. tt;
-  after = λ start tells live code. left_alone old new start back tells (refuses refl).same live code;
+  after = λ start tells live code.
+      left_alone old new start back tells (refuses refl).same live code;
 }
 
 -- a founding, taken or refused, is a run
-pub one_founding : (old new : World) (event : Event) (lab : List ℕ) (tick : Tick) (body read : List ℕ) (taken : Bool) (answer line : List ℕ) →
+pub one_founding : (old new : World) (event : Event) (lab : List ℕ) (tick : Tick)
+    (body read : List ℕ) (taken : Bool) (answer line : List ℕ) →
     event ≡ Found lab tick body → read ≡ body → answer ≡ line → (new.is_live → old.is_live) →
-    (taken ≡ true → TakesFounding old new lab tick (founding_named read) line) → (taken ≡ false → RefusesFounding old new (founding_named read) line) →
+    (taken ≡ true → TakesFounding old new lab tick (founding_named read) line) →
+    (taken ≡ false → RefusesFounding old new (founding_named read) line) →
     IsRun old new (record { event = event; taken = taken; answer = answer } ∷ [])
 one_founding old new event lab tick body read taken answer line is reads lines back takes refuses =
-    rw (is, lines, ← reads) (one_run old new (record { event = Found lab tick read; taken = taken; answer = line }) (founding_is old new lab tick read taken line back takes refuses))
+    rw (is, lines, ← reads) (one_run old new
+    (record { event = Found lab tick read; taken = taken; answer = line })
+    (founding_is old new lab tick read taken line back takes refuses))
 
 -- ---- a call
 
-call_told : (old new : World) (start : Meaning) (asked_here : Asked) (code : List ℕ) (tick : Tick) (answer : List ℕ) (b : Bool) → bytes_eq asked_here.lab code ≡ b → Tells old start → TakesRequest old new tick (Ok asked_here) answer →
+call_told : (old new : World) (start : Meaning) (asked_here : Asked) (code : List ℕ) (tick : Tick)
+    (answer : List ℕ) (b : Bool) → bytes_eq asked_here.lab code ≡ b → Tells old start →
+    TakesRequest old new tick (Ok asked_here) answer →
     Told code (start code) (cond b (Some (Obeys tick asked_here.instruction)) None) answer
 call_told old new start asks code tick answer true names tells takes =
     let same : asks.lab ≡ code = (bytes_eq-Decides asks.lab code).0 names in
-    subst (λ (named : List ℕ). answer ≡ reply_text tick (Replied (step (start named) tick asks.instruction).reply)) same
-    (takes.replied ∙ ap (λ (seen : Option Lab). reply_text tick (Replied (step seen tick asks.instruction).reply)) (tells (takes.lives refl).0 asks.lab))
+    subst (λ (named : List ℕ). answer
+    ≡ reply_text tick (Replied (step (start named) tick asks.instruction).reply)) same
+    (takes.replied ∙ ap (λ (seen : Option Lab).
+    reply_text tick (Replied (step seen tick asks.instruction).reply))
+    (tells (takes.lives refl).0 asks.lab))
 call_told old new start asks code tick answer false names tells takes = tt
 
-asks_told : (old new : World) (start : Meaning) (asks : Asks) (code : List ℕ) (tick : Tick) (answer : List ℕ) → Tells old start → TakesRequest old new tick asks answer →
+asks_told : (old new : World) (start : Meaning) (asks : Asks) (code : List ℕ) (tick : Tick)
+    (answer : List ℕ) → Tells old start → TakesRequest old new tick asks answer →
     Told code (start code) (own_call code tick asks) answer
 asks_told old new start (Err refusal) code tick answer tells takes = tt
-asks_told old new start (Ok asks) code tick answer tells takes = call_told old new start asks code tick answer (bytes_eq asks.lab code) refl tells takes
+asks_told old new start (Ok asks) code tick answer tells takes =
+    call_told old new start asks code tick answer (bytes_eq asks.lab code) refl tells takes
 
-call_after : (old new : World) (start : Meaning) (asked_here : Asked) (code : List ℕ) (tick : Tick) (answer : List ℕ) (b : Bool) → bytes_eq asked_here.lab code ≡ b → old.is_live → Tells old start → TakesRequest old new tick (Ok asked_here) answer →
-    new.meaning code ≡ after_one code (start code) (cond b (Some (Obeys tick asked_here.instruction)) None)
+call_after : (old new : World) (start : Meaning) (asked_here : Asked) (code : List ℕ) (tick : Tick)
+    (answer : List ℕ) (b : Bool) → bytes_eq asked_here.lab code ≡ b → old.is_live →
+    Tells old start → TakesRequest old new tick (Ok asked_here) answer →
+    new.meaning code ≡ after_one code (start code)
+    (cond b (Some (Obeys tick asked_here.instruction)) None)
 call_after old new start asks code tick answer true names live tells takes =
     let same : asks.lab ≡ code = (bytes_eq-Decides asks.lab code).0 names in
-    subst (λ (named : List ℕ). new.meaning named ≡ (step (start named) tick asks.instruction).after) same
-    (takes.after.here ∙ ap (λ (seen : Option Lab). (step seen tick asks.instruction).after) (tells live asks.lab))
+    subst (λ (named : List ℕ). new.meaning named ≡ (step (start named) tick asks.instruction).after)
+    same
+    (takes.after.here ∙ ap (λ (seen : Option Lab). (step seen tick asks.instruction).after)
+    (tells live asks.lab))
 call_after old new start asks code tick answer false names live tells takes =
     takes.after.others code (other_code asks.lab code names) ∙ tells live code
 
-asks_after : (old new : World) (start : Meaning) (asks : Asks) (code : List ℕ) (tick : Tick) (answer : List ℕ) → old.is_live → Tells old start → TakesRequest old new tick asks answer →
+asks_after : (old new : World) (start : Meaning) (asks : Asks) (code : List ℕ) (tick : Tick)
+    (answer : List ℕ) → old.is_live → Tells old start → TakesRequest old new tick asks answer →
     new.meaning code ≡ after_one code (start code) (own_call code tick asks)
-asks_after old new start (Err refusal) code tick answer live tells takes = takes.after code ∙ tells live code
-asks_after old new start (Ok asks) code tick answer live tells takes = call_after old new start asks code tick answer (bytes_eq asks.lab code) refl live tells takes
+asks_after old new start (Err refusal) code tick answer live tells takes =
+    takes.after code ∙ tells live code
+asks_after old new start (Ok asks) code tick answer live tells takes =
+    call_after old new start asks code tick answer (bytes_eq asks.lab code) refl live tells takes
 
 -- bytes that ask nothing are answered from themselves and the tick alone
-nobodys : (old new : World) (tick : Tick) (asks : Asks) (answer : List ℕ) → TakesRequest old new tick asks answer → IsAnswerToNobody tick asks answer
+nobodys : (old new : World) (tick : Tick) (asks : Asks) (answer : List ℕ) →
+    TakesRequest old new tick asks answer → IsAnswerToNobody tick asks answer
 nobodys old new tick (Err refusal) answer takes = takes.replied
 nobodys old new tick (Ok asks) answer takes = tt
 
-call_is : (old new : World) (tick : Tick) (bytes : List ℕ) (taken : Bool) (answer : List ℕ) → (new.is_live → old.is_live) →
-    (taken ≡ true → TakesRequest old new tick (asked bytes) answer) → (taken ≡ false → RefusesRequest old new tick (asked bytes) answer) →
+call_is : (old new : World) (tick : Tick) (bytes : List ℕ) (taken : Bool) (answer : List ℕ) →
+    (new.is_live → old.is_live) →
+    (taken ≡ true → TakesRequest old new tick (asked bytes) answer) →
+    (taken ≡ false → RefusesRequest old new tick (asked bytes) answer) →
     IsOne old new (record { event = Call tick bytes; taken = taken; answer = answer })
 call_is old new tick bytes true answer back takes refuses = record {
   each = nobodys old new tick (asked bytes) answer (takes refl);
-  told = λ start tells code. asks_told old new start (asked bytes) code tick answer tells (takes refl);
-  after = λ start tells live code. asks_after old new start (asked bytes) code tick answer (back live) tells (takes refl);
+  told = λ start tells code. asks_told old new start (asked bytes) code tick answer tells
+      (takes refl);
+  after = λ start tells live code.
+      asks_after old new start (asked bytes) code tick answer (back live) tells (takes refl);
 }
 call_is old new tick bytes false answer back takes refuses = record {
   each = (refuses refl).replied;
   told = λ start tells code. tt;
-  after = λ start tells live code. left_alone old new start back tells (refuses refl).same live code;
+  after = λ start tells live code.
+      left_alone old new start back tells (refuses refl).same live code;
 }
 
 -- a call, taken or refused, is a run
-pub one_call : (old new : World) (event : Event) (tick : Tick) (bytes read : List ℕ) (taken : Bool) (answer reply : List ℕ) →
+pub one_call : (old new : World) (event : Event) (tick : Tick) (bytes read : List ℕ) (taken : Bool)
+    (answer reply : List ℕ) →
     event ≡ Call tick bytes → read ≡ bytes → answer ≡ reply → (new.is_live → old.is_live) →
-    (taken ≡ true → TakesRequest old new tick (asked read) reply) → (taken ≡ false → RefusesRequest old new tick (asked read) reply) →
+    (taken ≡ true → TakesRequest old new tick (asked read) reply) →
+    (taken ≡ false → RefusesRequest old new tick (asked read) reply) →
     IsRun old new (record { event = event; taken = taken; answer = answer } ∷ [])
 one_call old new event tick bytes read taken answer reply is reads replies back takes refuses =
-    rw (is, replies, ← reads) (one_run old new (record { event = Call tick read; taken = taken; answer = reply }) (call_is old new tick read taken reply back takes refuses))
+    rw (is, replies, ← reads) (one_run old new
+    (record { event = Call tick read; taken = taken; answer = reply })
+    (call_is old new tick read taken reply back takes refuses))
 
 -- ---- what is told and written
 
 -- what went out, from the clauses of sending
-pub sent_as : (answer : List ℕ) (sent : Result (Unit {0}) WriteFault) (before after : Option (List ℕ)) → OnOk sent (Appends before after answer) →
-    IfErr sent (λ fault. Appends before after (take fault.sent answer)) → IfErr sent (λ fault. fault.sent < length answer) → Sends answer sent before after
+pub sent_as : (answer : List ℕ) (sent : Result (Unit {0}) WriteFault)
+    (before after : Option (List ℕ)) → OnOk sent (Appends before after answer) →
+    IfErr sent (λ fault. Appends before after (take fault.sent answer)) →
+    IfErr sent (λ fault. fault.sent < length answer) → Sends answer sent before after
 sent_as answer (Ok done) before after whole cut short = whole
 sent_as answer (Err fault) before after whole cut short = (cut, short)
 
 -- no event was handled yet
-pub runs_none : (world : World) (events : List Event) (contents : Option (List ℕ)) → Runs world world (take 0 events) [] contents contents
+pub runs_none : (world : World) (events : List Event) (contents : Option (List ℕ)) →
+    Runs world world (take 0 events) [] contents contents
 runs_none world events contents = record {
   handled = [];
   told = record { events_are = refl; taken_are = refl };
@@ -250,17 +336,23 @@ runs_none world events contents = record {
 }
 
 -- one event more is told
-told_more : (events : List Event) (at : ℕ) (taken : List Bool) (handled : List Handled) (one : Handled) → one.event ≡ get_or events at one.event → at < length events →
-    IsTold (take at events) taken handled → IsTold (take (at + 1) events) (taken ++ one.taken ∷ []) (handled ++ one ∷ [])
+told_more : (events : List Event) (at : ℕ) (taken : List Bool) (handled : List Handled)
+    (one : Handled) → one.event ≡ get_or events at one.event → at < length events →
+    IsTold (take at events) taken handled →
+    IsTold (take (at + 1) events) (taken ++ one.taken ∷ []) (handled ++ one ∷ [])
 told_more events at taken handled one is within told = record {
   events_are =
-      map-append (λ (h : Handled). h.event) handled (one ∷ []) ∙ ap (λ (es : List Event). es ++ one.event ∷ []) told.events_are
-      ∙ ap (λ (last : Event). take at events ++ last ∷ []) is ∙ sym (take_more events at one.event within);
-  taken_are = map-append (λ (h : Handled). h.taken) handled (one ∷ []) ∙ ap (λ (ts : List Bool). ts ++ one.taken ∷ []) told.taken_are;
+      map-append (λ (h : Handled). h.event) handled (one ∷ [])
+      ∙ ap (λ (es : List Event). es ++ one.event ∷ []) told.events_are
+      ∙ ap (λ (last : Event). take at events ++ last ∷ []) is
+      ∙ sym (take_more events at one.event within);
+  taken_are = map-append (λ (h : Handled). h.taken) handled (one ∷ [])
+      ∙ ap (λ (ts : List Bool). ts ++ one.taken ∷ []) told.taken_are;
 }
 
 -- a run so far, and one event more that comes next
-pub record GoesOn (old mid new : World) (events : List Event) (at : ℕ) (taken : List Bool) (before between : Option (List ℕ)) (one : Handled) : Type 0 where
+pub record GoesOn (old mid new : World) (events : List Event) (at : ℕ) (taken : List Bool)
+    (before between : Option (List ℕ)) (one : Handled) : Type 0 where
   pub so_far : Runs old mid (take at events) taken before between
   pub passes : mid.may_refuse → old.may_refuse
   pub next : IsRun mid new (one ∷ [])
@@ -268,32 +360,40 @@ pub record GoesOn (old mid new : World) (events : List Event) (at : ℕ) (taken 
   pub within : at < length events
 
 -- the answers so far, and one more
-answers_more : (handled : List Handled) (one : Handled) → answers_of handled ++ one.answer ≡ answers_of (handled ++ one ∷ [])
+answers_more : (handled : List Handled) (one : Handled) →
+    answers_of handled ++ one.answer ≡ answers_of (handled ++ one ∷ [])
 answers_more handled one =
     sym (ap concat (map-append (λ (h : Handled). h.answer) handled (one ∷ []))
     ∙ concat-append (map (λ (h : Handled). h.answer) handled) (one.answer ∷ [])
     ∙ ap (λ (last : List ℕ). answers_of handled ++ last) (append-nil one.answer))
 
 -- a run goes on by an event whose answer went out whole
-pub run_more : (old mid new : World) (events : List Event) (at : ℕ) (taken : List Bool) (before between after : Option (List ℕ)) (one : Handled) →
+pub run_more : (old mid new : World) (events : List Event) (at : ℕ) (taken : List Bool)
+    (before between after : Option (List ℕ)) (one : Handled) →
     GoesOn old mid new events at taken before between one → Appends between after one.answer →
     Runs old new (take (at + 1) events) (taken ++ one.taken ∷ []) before after
 run_more old mid new events at taken before between after one on sent = record {
   handled = on.so_far.handled ++ one ∷ [];
   told = told_more events at taken on.so_far.handled one on.is on.within on.so_far.told;
   run = run_then old mid new on.so_far.handled (one ∷ []) on.passes on.so_far.run on.next;
-  written = subst (Appends before after) (answers_more on.so_far.handled one) (Appends-trans before between after _ _ on.so_far.written sent);
+  written = subst (Appends before after) (answers_more on.so_far.handled one)
+      (Appends-trans before between after _ _ on.so_far.written sent);
 }
 
 -- and ends by one whose answer was cut
-pub run_cut : (old mid new : World) (events : List Event) (at : ℕ) (taken told : List Bool) (before between after : Option (List ℕ)) (one : Handled) (sent : ℕ) →
-    GoesOn old mid new events at taken before between one → told ≡ taken ++ one.taken ∷ [] → length told ≡ at + 1 →
-    Appends between after (take sent one.answer) × (sent < length one.answer) → RunsCut old new events told sent before after
-run_cut old mid new events at taken told before between after one sent on pushed counted out = record {
-  handled = on.so_far.handled;
-  last = one;
-  told = rw (counted, pushed) (told_more events at taken on.so_far.handled one on.is on.within on.so_far.told);
-  run = run_then old mid new on.so_far.handled (one ∷ []) on.passes on.so_far.run on.next;
-  written = Appends-trans before between after _ _ on.so_far.written out.0;
-  short = out.1;
-}
+pub run_cut : (old mid new : World) (events : List Event) (at : ℕ) (taken told : List Bool)
+    (before between after : Option (List ℕ)) (one : Handled) (sent : ℕ) →
+    GoesOn old mid new events at taken before between one → told ≡ taken ++ one.taken ∷ [] →
+    length told ≡ at + 1 →
+    Appends between after (take sent one.answer) × (sent < length one.answer) →
+    RunsCut old new events told sent before after
+run_cut old mid new events at taken told before between after one sent on pushed counted out =
+    record {
+      handled = on.so_far.handled;
+      last = one;
+      told = rw (counted, pushed) (told_more events at taken on.so_far.handled one on.is on.within
+          on.so_far.told);
+      run = run_then old mid new on.so_far.handled (one ∷ []) on.passes on.so_far.run on.next;
+      written = Appends-trans before between after _ _ on.so_far.written out.0;
+      short = out.1;
+    }

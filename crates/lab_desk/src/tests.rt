@@ -1,5 +1,5 @@
-//! Foundings and a card at a desk, over a list and over a keeper that refuses every second call, and runs whose
-//! writer fails.
+//! Foundings and a card at a desk, over a list and over a keeper that refuses every second call,
+//! and runs whose writer fails.
 
 use crate::{Desk, Event, FoundFault, Lists, RunFault};
 use lab_records::{
@@ -7,9 +7,9 @@ use lab_records::{
 };
 use lab_wire::BodyRefusal;
 use std::alloc::Global;
-use std::io;
 use std::io::{ErrorKind, Write};
-use std::test::Fail;
+use std::process::Abort;
+use std::{fmt, io};
 
 const BODY: &[u8] = b"{\"name\":\"Aqua Lab\"}";
 
@@ -52,31 +52,140 @@ const MEMORY_REPLY: &[u8] = b"HTTP/1.1 503 Service Unavailable\r\n\
     Content-Type: application/json\r\nContent-Length: 30\r\nConnection: close\r\n\r\n\
     {\"error\":\"memory\",\"number\":90}";
 
-fn tick(seconds: i64, first: u64) -> Result<Tick, Fail> {
-    let moment = Moment::from_seconds(seconds)?;
-    Ok(Tick {
-        moment,
+fn tick(rt: &impl Abort, seconds: i64, first: u64) -> Tick {
+    Tick {
+        moment: Moment::from_seconds(seconds).expect(rt, "a moment"),
         words: [first, 2, 3, 4, 5, 6, 7, 8],
-    })
+    }
 }
 
-fn founding(alloc: Global, code: &str, body: &[u8]) -> Result<Event, Fail> {
-    Ok(Event::Found {
-        lab: LabCode::parse(alloc, code)?,
-        tick: tick(50, 1)?,
-        body: Series::from_vec(body.to_vec(alloc)?),
-    })
+fn code<R: Abort + AllocGlobal>(rt: &R, code: &str) -> LabCode {
+    LabCode::parse(rt.alloc(), code).expect(rt, "a code")
 }
 
-fn call(alloc: Global, bytes: &[u8]) -> Result<Event, Fail> {
-    Ok(Event::Call {
-        tick: tick(100, 9)?,
-        bytes: Series::from_vec(bytes.to_vec(alloc)?),
-    })
+fn series<R: Abort + AllocGlobal>(rt: &R, bytes: &[u8]) -> Series<u8> {
+    Series::from_vec(bytes.to_vec(rt.alloc()).expect(rt, "the bytes"))
 }
 
-/// A list of laboratories that refuses every second call, for memory and for storage by turns. It tells nothing of
-/// what it keeps, so that its calls are proved without it.
+fn founding<R: Abort + AllocGlobal>(rt: &R, lab: &str, body: &[u8]) -> Event {
+    let tick = tick(rt, 50, 1);
+    let lab = code(rt, lab);
+    Event::Found {
+        lab,
+        tick,
+        body: series(rt, body),
+    }
+}
+
+fn call<R: Abort + AllocGlobal>(rt: &R, bytes: &[u8]) -> Event {
+    Event::Call {
+        tick: tick(rt, 100, 9),
+        bytes: series(rt, bytes),
+    }
+}
+
+fn copied(rt: &impl Abort, event: &Event) -> Event {
+    event.copy().expect(rt, "a copy")
+}
+
+/// A desk with no laboratory.
+fn empty_desk<R: Abort + AllocGlobal>(rt: &R) -> Desk<Lists> {
+    Desk::new(rt.alloc(), Lists::new(rt.alloc())).expect(rt, "a desk")
+}
+
+/// A desk with no laboratory, over a keeper that refuses every second call.
+fn moody_desk<R: Abort + AllocGlobal>(rt: &R) -> Desk<Moody> {
+    Desk::new(rt.alloc(), Moody::new(rt.alloc())).expect(rt, "a desk")
+}
+
+/// Founds a laboratory at a second.
+fn found<R: Abort + AllocGlobal, S: Keeper + Drop>(
+    rt: &R,
+    desk: &mut Desk<S>,
+    lab: &str,
+    seconds: i64,
+) {
+    let founded = desk.found(&code(rt, lab), &tick(rt, seconds, 1), BODY);
+    assert_eq!(rt; founded, Ok(()), "at {lab}");
+}
+
+/// Asserts that a founding at a second is refused, and for what.
+fn assert_unfounded<R: Abort + AllocGlobal>(
+    rt: &R,
+    desk: &mut Desk<Lists>,
+    seconds: i64,
+    body: &[u8],
+    fault: FoundFault,
+) {
+    let founded = desk.found(&code(rt, "aqua"), &tick(rt, seconds, 1), body);
+    assert_eq!(rt; founded, Err(fault));
+}
+
+/// Asserts whether a request at a second is taken, and the whole reply.
+fn assert_reply<S: Keeper + Drop>(
+    rt: &impl Abort,
+    desk: &mut Desk<S>,
+    (seconds, request): (i64, &[u8]),
+    taken: bool,
+    reply: &[u8],
+) {
+    assert_eq!(rt; desk.handle(&tick(rt, seconds, 9), request), taken);
+    assert_eq!(rt; desk.reply(), reply);
+}
+
+fn heading<R: Abort + AllocGlobal>(rt: &R, lists: &mut Lists, lab: &str) -> Slice {
+    let loaded = lists.load(&code(rt, lab), &Need::Heading);
+    loaded.expect(rt, "an answer").expect(rt, "a laboratory")
+}
+
+/// Asserts the code, the name and the last second of a laboratory.
+fn assert_heading<R: Abort + AllocGlobal>(
+    rt: &R,
+    lists: &mut Lists,
+    lab: &str,
+    name: &str,
+    last: i64,
+) {
+    let slice = heading(rt, lists, lab);
+    let shown = (
+        slice.last.seconds(),
+        slice.code.as_str(),
+        slice.name.as_str(),
+    );
+    assert_eq!(rt; shown, (last, lab, name));
+}
+
+fn joined<R: Abort + AllocGlobal>(rt: &R, parts: &[&[u8]]) -> Vec<u8> {
+    let mut bytes = Vec::new(rt.alloc());
+    for part in parts {
+        bytes.extend_from_slice(part).expect(rt, "the bytes");
+    }
+    bytes
+}
+
+/// Asserts which events of a run are taken, and all that is written: its parts, joined.
+fn assert_run<R: Abort + AllocGlobal, S: Keeper + Drop>(
+    rt: &R,
+    desk: &mut Desk<S>,
+    events: &[Event],
+    taken: &[bool],
+    written: &[&[u8]],
+) {
+    let wanted = joined(rt, written);
+    let mut out = Vec::new(rt.alloc());
+    let told = desk.run(events, &mut out).expect(rt, "a run");
+    assert_eq!(rt; told.as_slice(), taken);
+    assert_eq!(rt; out.as_slice(), wanted.as_slice());
+}
+
+/// Asserts the text that a value prints.
+fn assert_text<R: Abort + AllocGlobal>(rt: &R, value: &impl fmt::Display, text: &str) {
+    let printed = format!(in rt.alloc(); "{value}").expect(rt, "a text");
+    assert_eq!(rt; printed.as_str(), text);
+}
+
+/// A list of laboratories that refuses every second call, for memory and for storage by turns. It
+/// tells nothing of what it keeps, so that its calls are proved without it.
 #[derive(Drop)]
 struct Moody {
     lists: Lists,
@@ -181,78 +290,65 @@ impl Write for Narrow {
 }
 
 #[test]
-fn a_founded_laboratory_shows_its_card(rt: HostRuntime) -> Result<(), Fail> {
-    let mut desk = Desk::new(rt.alloc(), Lists::new(rt.alloc()))?;
-    let aqua = LabCode::parse(rt.alloc(), "aqua")?;
-    desk.found(&aqua, &tick(50, 1)?, BODY)?;
+fn a_founded_laboratory_shows_its_card(rt: HostRuntime) {
+    let mut desk = empty_desk(&rt);
+    found(&rt, &mut desk, "aqua", 50);
     assert_eq!(rt; desk.reply(), b"".as_slice());
-    assert_eq!(rt; desk.handle(&tick(100, 9)?, CARD), true);
-    assert_eq!(rt; desk.reply(), CARD_REPLY);
-    Ok(())
+    assert_reply(&rt, &mut desk, (100, CARD), true, CARD_REPLY);
 }
 
 #[test]
-fn a_card_before_the_founding_is_refused(rt: HostRuntime) -> Result<(), Fail> {
-    let mut desk = Desk::new(rt.alloc(), Lists::new(rt.alloc()))?;
-    let aqua = LabCode::parse(rt.alloc(), "aqua")?;
-    desk.found(&aqua, &tick(50, 1)?, BODY)?;
-    assert_eq!(rt; desk.handle(&tick(49, 9)?, CARD), true);
-    assert_eq!(rt; desk.reply(), CLOCK_BEHIND_REPLY);
-    Ok(())
+fn a_card_before_the_founding_is_refused(rt: HostRuntime) {
+    let mut desk = empty_desk(&rt);
+    found(&rt, &mut desk, "aqua", 50);
+    assert_reply(&rt, &mut desk, (49, CARD), true, CLOCK_BEHIND_REPLY);
 }
 
 #[test]
-fn a_missing_laboratory_is_told(rt: HostRuntime) -> Result<(), Fail> {
-    let mut desk = Desk::new(rt.alloc(), Lists::new(rt.alloc()))?;
-    assert_eq!(rt; desk.handle(&tick(100, 9)?, NO_SUCH_LAB), true);
-    assert_eq!(rt; desk.reply(), NO_SUCH_LAB_REPLY);
-    Ok(())
+fn a_missing_laboratory_is_told(rt: HostRuntime) {
+    let mut desk = empty_desk(&rt);
+    assert_reply(&rt, &mut desk, (100, NO_SUCH_LAB), true, NO_SUCH_LAB_REPLY);
 }
 
 #[test]
-fn a_founding_is_refused_for_its_body(rt: HostRuntime) -> Result<(), Fail> {
-    let mut desk = Desk::new(rt.alloc(), Lists::new(rt.alloc()))?;
-    let aqua = LabCode::parse(rt.alloc(), "aqua")?;
-    let bad_body = desk.found(&aqua, &tick(50, 1)?, b"{");
-    assert_eq!(rt; bad_body, Err(FoundFault::Body(BodyRefusal::BadBody)));
-    let bad_name = desk.found(&aqua, &tick(50, 1)?, b"{\"name\":\"\"}");
-    assert_eq!(rt; bad_name, Err(FoundFault::Body(BodyRefusal::BadName)));
-    Ok(())
+fn a_founding_is_refused_for_its_body(rt: HostRuntime) {
+    let mut desk = empty_desk(&rt);
+    let bad_body = FoundFault::Body(BodyRefusal::BadBody);
+    assert_unfounded(&rt, &mut desk, 50, b"{", bad_body);
+    let bad_name = FoundFault::Body(BodyRefusal::BadName);
+    assert_unfounded(&rt, &mut desk, 50, b"{\"name\":\"\"}", bad_name);
 }
 
 #[test]
-fn a_laboratory_is_founded_once(rt: HostRuntime) -> Result<(), Fail> {
-    let mut desk = Desk::new(rt.alloc(), Lists::new(rt.alloc()))?;
-    let aqua = LabCode::parse(rt.alloc(), "aqua")?;
-    desk.found(&aqua, &tick(50, 1)?, BODY)?;
-    let again = desk.found(&aqua, &tick(60, 1)?, BODY);
-    assert_eq!(rt; again, Err(FoundFault::Placing(PlacingFault::LabExists)));
+fn a_laboratory_is_founded_once(rt: HostRuntime) {
+    let mut desk = empty_desk(&rt);
+    found(&rt, &mut desk, "aqua", 50);
+    let again = FoundFault::Placing(PlacingFault::LabExists);
+    assert_unfounded(&rt, &mut desk, 60, BODY, again);
+    assert_heading(&rt, &mut desk.into_keeper(), "aqua", "Aqua Lab", 50);
+}
+
+#[test]
+fn changes_are_made_of_the_laboratory_that_is_named(rt: HostRuntime) {
+    let last = Moment::from_seconds(2000).expect(&rt, "a moment");
+    let mut desk = empty_desk(&rt);
+    found(&rt, &mut desk, "zinc", 40);
+    found(&rt, &mut desk, "aqua", 50);
     let mut lists = desk.into_keeper();
-    let slice = lists.load(&aqua, &Need::Heading)?.ok_or("no laboratory")?;
-    assert_eq!(rt; slice.last.seconds(), 50);
-    assert_eq!(rt; slice.code.as_str(), "aqua");
-    assert_eq!(rt; slice.name.as_str(), "Aqua Lab");
-    Ok(())
+    let changed = lists.apply(&code(&rt, "aqua"), &[Change::Last(last)]);
+    assert_eq!(rt; changed, Ok(()));
+    assert_heading(&rt, &mut lists, "aqua", "Aqua Lab", 2000);
+    assert_heading(&rt, &mut lists, "zinc", "Aqua Lab", 40);
+}
+
+fn assert_entry<R: Abort + AllocGlobal>(rt: &R, fault: FoundFault, number: u32, word: &str) {
+    assert_eq!(rt; fault.number(), Some(number), "at {word}");
+    assert_eq!(rt; fault.word(), word);
+    assert_text(rt, &fault, word);
 }
 
 #[test]
-fn changes_are_made_of_the_laboratory_that_is_named(rt: HostRuntime) -> Result<(), Fail> {
-    let mut desk = Desk::new(rt.alloc(), Lists::new(rt.alloc()))?;
-    let aqua = LabCode::parse(rt.alloc(), "aqua")?;
-    let zinc = LabCode::parse(rt.alloc(), "zinc")?;
-    desk.found(&zinc, &tick(40, 1)?, BODY)?;
-    desk.found(&aqua, &tick(50, 1)?, BODY)?;
-    let mut lists = desk.into_keeper();
-    lists.apply(&aqua, &[Change::Last(Moment::from_seconds(2000)?)])?;
-    let slice = lists.load(&aqua, &Need::Heading)?.ok_or("no laboratory")?;
-    assert_eq!(rt; slice.last.seconds(), 2000);
-    let slice = lists.load(&zinc, &Need::Heading)?.ok_or("no laboratory")?;
-    assert_eq!(rt; slice.last.seconds(), 40);
-    Ok(())
-}
-
-#[test]
-fn faults_of_foundings_have_their_numbers_and_words(rt: HostRuntime) -> Result<(), Fail> {
+fn faults_of_foundings_have_their_numbers_and_words(rt: HostRuntime) {
     for (fault, number, word) in [
         (FoundFault::Body(BodyRefusal::BadName), 1, "bad_name"),
         (FoundFault::Placing(PlacingFault::Storage), 63, "storage"),
@@ -264,132 +360,113 @@ fn faults_of_foundings_have_their_numbers_and_words(rt: HostRuntime) -> Result<(
         (FoundFault::Body(BodyRefusal::BadBody), 88, "bad_body"),
         (FoundFault::Placing(PlacingFault::Memory), 90, "memory"),
     ] {
-        assert_eq!(rt; fault.number(), Some(number), "at {word}");
-        assert_eq!(rt; fault.word(), word);
-        assert_eq!(rt; format!(in rt.alloc(); "{fault}")?.as_str(), word);
+        assert_entry(&rt, fault, number, word);
     }
-    Ok(())
 }
 
 #[test]
-fn faults_of_runs_have_their_numbers_and_words(rt: HostRuntime) -> Result<(), Fail> {
+fn faults_of_runs_have_their_numbers_and_words(rt: HostRuntime) {
     let memory = RunFault::Memory;
     assert_eq!(rt; memory.number(), Some(90));
-    assert_eq!(rt; format!(in rt.alloc(); "{memory}")?.as_str(), "memory");
+    assert_text(&rt, &memory, "memory");
     let cut = RunFault::Write {
         taken: Vec::new(rt.alloc()),
         sent: 7,
     };
     assert_eq!(rt; cut.number(), None);
-    assert_eq!(rt; format!(in rt.alloc(); "{cut}")?.as_str(), "write_fault");
-    Ok(())
+    assert_text(&rt, &cut, "write_fault");
 }
 
 #[test]
-fn a_run_answers_in_order_and_tells_what_was_taken(rt: HostRuntime) -> Result<(), Fail> {
-    let mut desk = Desk::new(rt.alloc(), Lists::new(rt.alloc()))?;
+fn a_run_answers_in_order_and_tells_what_was_taken(rt: HostRuntime) {
+    let mut desk = empty_desk(&rt);
     let events = [
-        founding(rt.alloc(), "aqua", BODY)?,
-        founding(rt.alloc(), "aqua", BODY)?,
-        founding(rt.alloc(), "brick", b"{\"name\":\"\"}")?,
-        founding(rt.alloc(), "brick", b"{")?,
-        call(rt.alloc(), CARD)?,
+        founding(&rt, "aqua", BODY),
+        founding(&rt, "aqua", BODY),
+        founding(&rt, "brick", b"{\"name\":\"\"}"),
+        founding(&rt, "brick", b"{"),
+        call(&rt, CARD),
     ];
-    let mut out = Vec::new(rt.alloc());
-    let taken = desk.run(&events, &mut out)?;
-    assert_eq!(rt; taken.as_slice(), [true; 5].as_slice());
-    let mut wanted =
-        b"founded aqua\nrefused 64 lab_exists\nrefused 1 bad_name\nrefused 88 bad_body\n".to_vec(
-            rt.alloc(),
-        )?;
-    wanted.extend_from_slice(CARD_REPLY)?;
-    assert_eq!(rt; out.as_slice(), wanted.as_slice());
-    Ok(())
+    let lines: &[u8] =
+        b"founded aqua\nrefused 64 lab_exists\nrefused 1 bad_name\nrefused 88 bad_body\n";
+    assert_run(&rt, &mut desk, &events, &[true; 5], &[lines, CARD_REPLY]);
 }
 
 #[test]
-fn a_copied_event_is_answered_like_the_first(rt: HostRuntime) -> Result<(), Fail> {
-    let mut desk = Desk::new(rt.alloc(), Lists::new(rt.alloc()))?;
-    let founding = founding(rt.alloc(), "aqua", BODY)?;
-    let call = call(rt.alloc(), CARD)?;
-    let mut out = Vec::new(rt.alloc());
-    desk.run(&[founding.copy()?, call.copy()?], &mut out)?;
-    let mut wanted = b"founded aqua\n".to_vec(rt.alloc())?;
-    wanted.extend_from_slice(CARD_REPLY)?;
-    assert_eq!(rt; out.as_slice(), wanted.as_slice());
-    Ok(())
+fn a_copied_event_is_answered_like_the_first(rt: HostRuntime) {
+    let mut desk = empty_desk(&rt);
+    let events = [
+        copied(&rt, &founding(&rt, "aqua", BODY)),
+        copied(&rt, &call(&rt, CARD)),
+    ];
+    let written = [b"founded aqua\n".as_slice(), CARD_REPLY];
+    assert_run(&rt, &mut desk, &events, &[true; 2], &written);
 }
 
 #[test]
-fn bytes_that_ask_nothing_never_reach_the_keeper(rt: HostRuntime) -> Result<(), Fail> {
-    let mut desk = Desk::new(rt.alloc(), Moody::new(rt.alloc()))?;
+fn bytes_that_ask_nothing_never_reach_the_keeper(rt: HostRuntime) {
+    let mut desk = moody_desk(&rt);
     for _ in 0..4u8 {
-        assert_eq!(rt; desk.handle(&tick(100, 9)?, NO_ROUTE), true);
-        assert_eq!(rt; desk.reply(), NO_ROUTE_REPLY);
-        assert_eq!(rt; desk.handle(&tick(100, 9)?, BAD_HEAD), true);
-        assert_eq!(rt; desk.reply(), BAD_HEAD_REPLY);
+        assert_reply(&rt, &mut desk, (100, NO_ROUTE), true, NO_ROUTE_REPLY);
+        assert_reply(&rt, &mut desk, (100, BAD_HEAD), true, BAD_HEAD_REPLY);
     }
     assert_eq!(rt; desk.into_keeper().calls, 0);
-    Ok(())
 }
 
 #[test]
-fn requests_that_are_refused_change_nothing(rt: HostRuntime) -> Result<(), Fail> {
-    let mut desk = Desk::new(rt.alloc(), Moody::new(rt.alloc()))?;
-    let aqua = LabCode::parse(rt.alloc(), "aqua")?;
-    desk.found(&aqua, &tick(50, 1)?, BODY)?;
+fn requests_that_are_refused_change_nothing(rt: HostRuntime) {
+    let mut desk = moody_desk(&rt);
+    found(&rt, &mut desk, "aqua", 50);
     // Of the card's two calls, the load is refused, then the change, by turns.
-    assert_eq!(rt; desk.handle(&tick(100, 9)?, CARD), false);
-    assert_eq!(rt; desk.reply(), MEMORY_REPLY);
-    assert_eq!(rt; desk.handle(&tick(100, 9)?, CARD), false);
-    assert_eq!(rt; desk.reply(), STORAGE_REPLY);
-    let mut lists = desk.into_keeper().lists;
-    let slice = lists.load(&aqua, &Need::Heading)?.ok_or("no laboratory")?;
-    assert_eq!(rt; slice.last.seconds(), 50);
-    Ok(())
+    assert_reply(&rt, &mut desk, (100, CARD), false, MEMORY_REPLY);
+    assert_reply(&rt, &mut desk, (100, CARD), false, STORAGE_REPLY);
+    assert_heading(&rt, &mut desk.into_keeper().lists, "aqua", "Aqua Lab", 50);
 }
 
 #[test]
-fn foundings_that_are_refused_found_nothing(rt: HostRuntime) -> Result<(), Fail> {
-    let mut desk = Desk::new(rt.alloc(), Moody::new(rt.alloc()))?;
+fn foundings_that_are_refused_found_nothing(rt: HostRuntime) {
+    let mut desk = moody_desk(&rt);
     let events = [
-        founding(rt.alloc(), "aqua", BODY)?,
-        founding(rt.alloc(), "brick", BODY)?,
-        founding(rt.alloc(), "aqua", BODY)?,
-        founding(rt.alloc(), "brick", BODY)?,
-        founding(rt.alloc(), "brick", BODY)?,
+        founding(&rt, "aqua", BODY),
+        founding(&rt, "brick", BODY),
+        founding(&rt, "aqua", BODY),
+        founding(&rt, "brick", BODY),
+        founding(&rt, "brick", BODY),
     ];
-    let mut out = Vec::new(rt.alloc());
-    let taken = desk.run(&events, &mut out)?;
-    assert_eq!(rt;
-        taken.as_slice(),
-        [true, false, true, false, true].as_slice()
-    );
-    let wanted: &[u8] = b"founded aqua\nrefused 90 memory\nrefused 64 lab_exists\n\
+    let taken = [true, false, true, false, true];
+    let written: &[u8] = b"founded aqua\nrefused 90 memory\nrefused 64 lab_exists\n\
         refused 63 storage\nfounded brick\n";
-    assert_eq!(rt; out.as_slice(), wanted);
-    Ok(())
+    assert_run(&rt, &mut desk, &events, &taken, &[written]);
+}
+
+/// Asserts how a run of the events ends at a writer: how many were handled, and how many bytes of
+/// the last one's answer went out.
+fn assert_cut<R: Abort + AllocGlobal>(
+    rt: &R,
+    events: &[Event],
+    mut writer: Narrow,
+    handled: usize,
+    gone: usize,
+) {
+    let room = writer.room;
+    let fault = empty_desk(rt).run(events, &mut writer);
+    let Err(RunFault::Write { taken, sent }) = fault else {
+        panic!(rt; "no write fault at {room}")
+    };
+    assert_eq!(rt; taken.len(), handled, "at {room}");
+    assert_eq!(rt; sent, gone, "at {room}");
 }
 
 #[test]
-fn a_failing_writer_ends_a_run_after_its_event(rt: HostRuntime) -> Result<(), Fail> {
+fn a_failing_writer_ends_a_run_after_its_event(rt: HostRuntime) {
+    let events = [
+        founding(&rt, "aqua", BODY),
+        call(&rt, CARD),
+        call(&rt, CARD),
+    ];
     for (room, handled, gone) in [(0, 1, 0), (12, 1, 12), (13, 2, 0), (40, 2, 27)] {
         for fails in [true, false] {
-            let mut desk = Desk::new(rt.alloc(), Lists::new(rt.alloc()))?;
-            let events = [
-                founding(rt.alloc(), "aqua", BODY)?,
-                call(rt.alloc(), CARD)?,
-                call(rt.alloc(), CARD)?,
-            ];
-            let mut writer = Narrow { room, fails };
-            match desk.run(&events, &mut writer) {
-                Err(RunFault::Write { taken, sent }) => {
-                    assert_eq!(rt; taken.len(), handled, "at {room}");
-                    assert_eq!(rt; sent, gone, "at {room}");
-                }
-                Err(RunFault::Memory) | Ok(_) => panic!(rt; "no write fault at {room}"),
-            }
+            assert_cut(&rt, &events, Narrow { room, fails }, handled, gone);
         }
     }
-    Ok(())
 }

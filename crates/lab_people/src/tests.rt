@@ -2,12 +2,11 @@
 //! `hashlib.pbkdf2_hmac` gives.
 
 use crate::{
-    Ask, Digest, Failure, Moment, Name, Ordinal, Password, PeopleFault, Person, PersonCode, Role,
-    Roles, Session, Tick, Verifier,
+    Ask, Digest, Failure, Moment, Name, Ordinal, Password, PeopleFault, PeopleRefusal, Person,
+    PersonCode, Role, Roles, Session, Tick, Verifier,
 };
 use std::alloc::Global;
 use std::process::Abort;
-use std::test::Fail;
 
 // The right password of the persons here, and a wrong one.
 pub(crate) const RIGHT: &str = "dan password 1";
@@ -21,157 +20,139 @@ pub(crate) const SECOND: &str = "000000000000001f0000000000000020";
 
 pub(crate) const WORD: &str = "00000000000000150000000000000016000000000000001f0000000000000020";
 
-pub(crate) fn moment(seconds: i64) -> Result<Moment, Fail> {
-    Ok(Moment::from_seconds(seconds)?)
+pub(crate) fn moment(rt: &impl Abort, seconds: i64) -> Moment {
+    Moment::from_seconds(seconds).expect(rt, "a moment")
 }
 
 // The tick at a second. A half is made of the number and the next, a salt of the fourth and fifth after it.
-pub(crate) fn tick(seconds: i64, first: u32) -> Result<Tick, Fail> {
+pub(crate) fn tick(rt: &impl Abort, seconds: i64, first: u32) -> Tick {
     let n = u64::from(first);
-    Ok(Tick {
-        moment: moment(seconds)?,
+    Tick {
+        moment: moment(rt, seconds),
         words: [n, n + 1, n + 2, n + 3, n + 4, n + 5, 0, 0],
-    })
+    }
 }
 
-pub(crate) fn code(alloc: Global, text: &str) -> Result<PersonCode, Fail> {
-    Ok(PersonCode::parse(alloc, text)?)
+pub(crate) fn code(rt: &impl Abort, alloc: Global, text: &str) -> PersonCode {
+    PersonCode::parse(alloc, text).expect(rt, "a person's code")
+}
+
+pub(crate) fn name(rt: &impl Abort, alloc: Global) -> Name {
+    Name::parse(alloc, "Dan Dorn").expect(rt, "a name")
 }
 
 // The bytes that 64 hexadecimal digits stand for.
-pub(crate) fn bytes_of(digits: &str) -> Result<[u8; 32], Fail> {
+pub(crate) fn bytes_of(rt: &impl Abort, digits: &str) -> [u8; 32] {
     let mut bytes = [0; 32];
-    hex::decode_to_slice(digits, &mut bytes)?;
-    Ok(bytes)
+    hex::decode_to_slice(digits, &mut bytes).expect(rt, "64 digits");
+    bytes
 }
 
 // A verifier of two rounds, so that the tests are quick.
-pub(crate) fn verifier(digits: &str) -> Result<Verifier, Fail> {
-    Ok(Verifier::from_parts([7; 16], 2, bytes_of(digits)?))
+pub(crate) fn verifier(rt: &impl Abort, digits: &str) -> Verifier {
+    Verifier::from_parts([7; 16], 2, bytes_of(rt, digits))
 }
 
 // `RIGHT`, chosen at the second.
-pub(crate) fn chosen(changed: i64) -> Result<Password, Fail> {
-    Ok(Password::Chosen {
-        verifier: verifier("fc6eacb9ff886431a50724829c349fd09923ad7df5ade22fb05f308e0d48957e")?,
-        changed: moment(changed)?,
-    })
+pub(crate) fn chosen(rt: &impl Abort, changed: i64) -> Password {
+    let digits = "fc6eacb9ff886431a50724829c349fd09923ad7df5ade22fb05f308e0d48957e";
+    Password::Chosen {
+        verifier: verifier(rt, digits),
+        changed: moment(rt, changed),
+    }
+}
+
+// The first half of `WORD`.
+pub(crate) fn first_half(rt: &impl Abort) -> Verifier {
+    let digits = "c1f79c2ac091dec5f066205443b505951bf5da3dd1ecb61122490db066f38e25";
+    verifier(rt, digits)
 }
 
 // `WORD`, confirmed at the second.
-pub(crate) fn one_time(confirmed: i64) -> Result<Password, Fail> {
-    Ok(Password::OneTime {
-        first: verifier("c1f79c2ac091dec5f066205443b505951bf5da3dd1ecb61122490db066f38e25")?,
-        second: verifier("1068fcc90a80c8532b005e99d594ba0ab6fb65e5e6927f3152dee19afda397ce")?,
-        confirmed: moment(confirmed)?,
-    })
+pub(crate) fn one_time(rt: &impl Abort, confirmed: i64) -> Password {
+    let digits = "1068fcc90a80c8532b005e99d594ba0ab6fb65e5e6927f3152dee19afda397ce";
+    Password::OneTime {
+        first: first_half(rt),
+        second: verifier(rt, digits),
+        confirmed: moment(rt, confirmed),
+    }
 }
 
-// dan, an analyst, of a password.
-pub(crate) fn person(alloc: Global, password: Password) -> Result<Person, Fail> {
-    let code = PersonCode::parse(alloc, "dan")?;
-    let name = Name::parse(alloc, "Dan Dorn")?;
-    Ok(Person {
-        code,
-        name,
+// dan, an analyst of a password.
+pub(crate) fn person(rt: &impl Abort, alloc: Global, password: Password) -> Person {
+    Person {
+        code: code(rt, alloc, "dan"),
+        name: name(rt, alloc),
         roles: Roles::none().with(Role::Analyst),
         retired: false,
         failures: 0,
         locked: None,
         password,
         ask: None,
-    })
+    }
 }
 
 // dan with so many failed passwords, and perhaps a lock from a second on.
-pub(crate) fn counted(alloc: Global, failures: u32, locked: Option<i64>) -> Result<Person, Fail> {
-    let locked = match locked {
-        Some(since) => Some(moment(since)?),
-        None => None,
-    };
-    let dan = person(alloc, chosen(500)?)?;
-    Ok(Person {
-        failures,
-        locked,
-        ..dan
-    })
+pub(crate) fn counted(rt: &impl Abort, alloc: Global, failures: u32, lock: Option<i64>) -> Person {
+    let mut dan = person(rt, alloc, chosen(rt, 500));
+    dan.failures = failures;
+    if let Some(since) = lock {
+        dan.locked = Some(moment(rt, since));
+    }
+    dan
 }
 
-// What a text comes to, with the failed passwords and the lock that it leaves.
+// What a text comes to, with the failed passwords and the lock that it leaves. A stray one leaves
+// nothing.
 #[derive(Clone, Copy)]
 pub(crate) enum Left {
     Accepted,
     Counted(u32),
     Locking(i64),
     AlreadyLocked(u32, i64),
-}
-
-// The whole answer of dan's attempt.
-pub(crate) fn answer(alloc: Global, left: Left) -> Result<Result<Person, Failure>, Fail> {
-    Ok(match left {
-        Left::Accepted => Ok(counted(alloc, 0, None)?),
-        Left::Counted(count) => Err(Failure::Counted(counted(alloc, count, None)?)),
-        Left::Locking(since) => Err(Failure::Locking(counted(alloc, 5, Some(since))?)),
-        Left::AlreadyLocked(count, since) => {
-            let dan = counted(alloc, count, Some(since))?;
-            Err(Failure::AlreadyLocked(dan))
-        }
-    })
+    Stray,
 }
 
 // dan, for whom somebody asked for a one-time word at a second.
-pub(crate) fn asked(alloc: Global, asker: &str, seconds: i64) -> Result<Person, Fail> {
-    let asked = moment(seconds)?;
-    let first = verifier("c1f79c2ac091dec5f066205443b505951bf5da3dd1ecb61122490db066f38e25")?;
-    let password = chosen(500)?;
-    let asker = code(alloc, asker)?;
-    let dan = person(alloc, password)?;
-    Ok(Person {
-        ask: Some(Ask {
-            asker,
-            asked,
-            first,
-        }),
-        ..dan
-    })
+pub(crate) fn asked(rt: &impl Abort, alloc: Global, asker: &str, seconds: i64) -> Person {
+    let mut dan = counted(rt, alloc, 0, None);
+    dan.ask = Some(Ask {
+        asker: code(rt, alloc, asker),
+        asked: moment(rt, seconds),
+        first: first_half(rt),
+    });
+    dan
 }
 
 // dan's session of the number 4, in which something was signed.
-pub(crate) fn session(alloc: Global, opened: i64, last: i64) -> Result<Session, Fail> {
-    let number = Ordinal::new(4).ok_or("an ordinal")?;
-    let (opened, last) = (moment(opened)?, moment(last)?);
-    Ok(Session {
-        number,
-        person: code(alloc, "dan")?,
+pub(crate) fn session(rt: &impl Abort, alloc: Global, opened: i64, last: i64) -> Session {
+    Session {
+        number: Ordinal::new(4).expect(rt, "an ordinal"),
+        person: code(rt, alloc, "dan"),
         token: Digest::from_bytes([9; 32]),
-        opened,
-        last,
+        opened: moment(rt, opened),
+        last: moment(rt, last),
         closed: false,
         signed: true,
-    })
+    }
 }
 
-fn assert_verifier(rt: &impl Abort, found: &Verifier, wanted: &Verifier) {
+fn is_same_verifier(found: &Verifier, wanted: &Verifier) -> bool {
     let (found, wanted) = (found.parts(), wanted.parts());
-    assert_eq!(rt; found.salt, wanted.salt);
-    assert_eq!(rt; found.rounds, wanted.rounds);
-    assert_eq!(rt; found.bytes, wanted.bytes);
+    found.salt == wanted.salt && found.rounds == wanted.rounds && found.bytes == wanted.bytes
 }
 
-// The two passwords are one.
-pub(crate) fn assert_password(rt: &impl Abort, found: &Password, wanted: &Password) {
+// Whether the two passwords are one.
+pub(crate) fn is_same_password(found: &Password, wanted: &Password) -> bool {
     match (found, wanted) {
-        (Password::Unset, Password::Unset) => {}
+        (Password::Unset, Password::Unset) => true,
         (
             Password::Chosen { verifier, changed },
             Password::Chosen {
                 verifier: other,
                 changed: when,
             },
-        ) => {
-            assert_verifier(rt, verifier, other);
-            assert_eq!(rt; changed, when);
-        }
+        ) => is_same_verifier(verifier, other) && changed == when,
         (
             Password::OneTime {
                 first,
@@ -184,82 +165,94 @@ pub(crate) fn assert_password(rt: &impl Abort, found: &Password, wanted: &Passwo
                 confirmed: when,
             },
         ) => {
-            assert_verifier(rt, first, one);
-            assert_verifier(rt, second, other);
-            assert_eq!(rt; confirmed, when);
+            is_same_verifier(first, one) && is_same_verifier(second, other) && confirmed == when
         }
-        _ => assert!(rt; false, "a password of another kind"),
+        _ => false,
     }
 }
 
-fn assert_ask(rt: &impl Abort, found: &Option<Ask>, wanted: &Option<Ask>) {
+fn is_same_ask(found: &Option<Ask>, wanted: &Option<Ask>) -> bool {
     match (found, wanted) {
-        (None, None) => {}
+        (None, None) => true,
         (Some(found), Some(wanted)) => {
-            assert_eq!(rt; found.asker.as_str(), wanted.asker.as_str());
-            assert_eq!(rt; found.asked, wanted.asked);
-            assert_verifier(rt, &found.first, &wanted.first);
+            found.asker == wanted.asker
+                && found.asked == wanted.asked
+                && is_same_verifier(&found.first, &wanted.first)
         }
-        _ => assert!(rt; false, "something asked for, or nothing"),
+        _ => false,
     }
 }
 
 // The two persons are one, part by part.
 pub(crate) fn assert_person(rt: &impl Abort, found: &Person, wanted: &Person) {
-    assert_eq!(rt; found.code.as_str(), wanted.code.as_str());
-    assert_eq!(rt; found.name.as_str(), wanted.name.as_str());
-    assert_eq!(rt; found.roles, wanted.roles);
-    assert_eq!(rt; found.retired, wanted.retired);
-    assert_eq!(rt; found.failures, wanted.failures);
-    assert_eq!(rt; found.locked, wanted.locked);
-    assert_password(rt, &found.password, &wanted.password);
-    assert_ask(rt, &found.ask, &wanted.ask);
+    assert!(rt; found.code == wanted.code && found.name == wanted.name);
+    assert!(rt; found.roles == wanted.roles && found.retired == wanted.retired);
+    assert!(rt; found.failures == wanted.failures && found.locked == wanted.locked);
+    assert!(rt; is_same_password(&found.password, &wanted.password));
+    assert!(rt; is_same_ask(&found.ask, &wanted.ask));
+}
+
+// The person is the one that was wanted. Both end here, so that no test carries them.
+pub(crate) fn assert_is(rt: &impl Abort, found: Person, wanted: Person) {
+    assert_person(rt, &found, &wanted);
 }
 
 // The two sessions are one, part by part.
 pub(crate) fn assert_session(rt: &impl Abort, found: &Session, wanted: &Session) {
-    assert_eq!(rt; found.number, wanted.number);
-    assert_eq!(rt; found.person.as_str(), wanted.person.as_str());
-    assert_eq!(rt; found.token.bytes(), wanted.token.bytes());
-    assert_eq!(rt; (found.opened, found.last), (wanted.opened, wanted.last));
-    assert_eq!(rt; found.closed, wanted.closed);
-    assert_eq!(rt; found.signed, wanted.signed);
+    assert!(rt; found.number == wanted.number && found.person == wanted.person);
+    assert!(rt; found.token == wanted.token);
+    assert!(rt; found.opened == wanted.opened && found.last == wanted.last);
+    assert!(rt; found.closed == wanted.closed && found.signed == wanted.signed);
 }
 
-// The two failures are one.
-pub(crate) fn assert_failure(rt: &impl Abort, found: &Failure, wanted: &Failure) {
-    match (found, wanted) {
-        (Failure::Counted(found), Failure::Counted(wanted))
-        | (Failure::Locking(found), Failure::Locking(wanted))
-        | (Failure::AlreadyLocked(found), Failure::AlreadyLocked(wanted)) => {
-            assert_person(rt, found, wanted)
+// The failure is what a text comes to, with all of dan that it leaves.
+fn assert_failure(rt: &impl Abort, alloc: Global, found: &Failure, wanted: Left) {
+    let (dan, failures, locked) = match (found, wanted) {
+        (Failure::Counted(dan), Left::Counted(count)) => (dan, count, None),
+        (Failure::Locking(dan), Left::Locking(since)) => (dan, 5, Some(since)),
+        (Failure::AlreadyLocked(dan), Left::AlreadyLocked(count, since)) => {
+            (dan, count, Some(since))
         }
-        (Failure::Stray, Failure::Stray) => {}
-        _ => assert!(rt; false, "a failure of another kind"),
-    }
+        (Failure::Stray, Left::Stray) => return,
+        _ => panic!(rt; "a failure of another kind"),
+    };
+    assert_person(rt, dan, &counted(rt, alloc, failures, locked));
 }
 
-// The two answers to an attempt are one.
+// The whole answer of dan's attempt is what the text comes to.
 pub(crate) fn assert_attempt(
     rt: &impl Abort,
-    found: &Result<Person, Failure>,
-    wanted: &Result<Person, Failure>,
+    alloc: Global,
+    found: Result<Person, Failure>,
+    wanted: Left,
 ) {
-    match (found, wanted) {
-        (Ok(found), Ok(wanted)) => assert_person(rt, found, wanted),
-        (Err(found), Err(wanted)) => assert_failure(rt, found, wanted),
-        _ => assert!(rt; false, "accepted, or failed"),
+    match wanted {
+        Left::Accepted => {
+            let dan = found.expect(rt, "accepted");
+            assert_is(rt, dan, counted(rt, alloc, 0, None));
+        }
+        _ => {
+            let failure = found.err().expect(rt, "a failed password");
+            assert_failure(rt, alloc, &failure, wanted);
+        }
     }
 }
 
 // The call failed by its password, which left of dan what an attempt would.
-pub(crate) fn assert_failed<T>(
+pub(crate) fn assert_failed(
     rt: &impl Abort,
-    found: &Result<T, PeopleFault>,
-    wanted: &Result<Person, Failure>,
+    alloc: Global,
+    found: Option<PeopleFault>,
+    wanted: Left,
 ) {
-    match (found, wanted) {
-        (Err(PeopleFault::Failed(found)), Err(wanted)) => assert_failure(rt, found, wanted),
-        _ => assert!(rt; false, "a failed password"),
+    match &found {
+        Some(PeopleFault::Failed(failure)) => assert_failure(rt, alloc, failure, wanted),
+        _ => panic!(rt; "no failed password"),
     }
+}
+
+// The call was refused so.
+pub(crate) fn assert_refused(rt: &impl Abort, found: Option<PeopleFault>, wanted: PeopleRefusal) {
+    let fault = found.expect(rt, "a refusal");
+    assert!(rt; fault.refusal() == wanted);
 }

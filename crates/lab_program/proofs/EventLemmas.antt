@@ -12,12 +12,15 @@ use Rattle.std.specs.Str.{IsAscii, IsUtf8}
 use Rattle.lab_names.specs.Names.{is_code_byte, is_lab_code}
 use Rattle.lab_program.specs.Event.{cut_at, lab_code}
 
-position_step : (b : Bool) (n l : ℕ) → cond (nat_lt (cond (not b) (1 + n) 0) (suc l)) (Some (cond (not b) (1 + n) 0)) None ≡ cond b (Some 0) (option_map (λ k. k + 1) (cond (nat_lt n l) (Some n) None))
+position_step : (b : Bool) (n l : ℕ) →
+    cond (nat_lt (cond (not b) (1 + n) 0) (suc l)) (Some (cond (not b) (1 + n) 0)) None
+    ≡ cond b (Some 0) (option_map (λ k. k + 1) (cond (nat_lt n l) (Some n) None))
 position_step true n l = grind (arith, nat_tests)
 position_step false n l = grind (arith, nat_tests)
 
 -- the first place in a longer list
-pub position-cons : (p : ℕ → Bool) (x : ℕ) (xs : List ℕ) → position p (x ∷ xs) ≡ cond (p x) (Some 0) (option_map (λ k. k + 1) (position p xs))
+pub position-cons : (p : ℕ → Bool) (x : ℕ) (xs : List ℕ) →
+    position p (x ∷ xs) ≡ cond (p x) (Some 0) (option_map (λ k. k + 1) (position p xs))
 position-cons p x xs = position_step (p x) (prefix_len (λ y. not (p y)) xs) (length xs)
 
 abbrev pub around : List ℕ → ℕ → List ℕ × List ℕ
@@ -37,7 +40,8 @@ cut_step false b bs None = refl
 cut_step false b bs (Some k) = simp add-one
 
 -- a cut is at the byte's first place
-cut_at_position : (byte : ℕ) (text : List ℕ) → cut_at byte text ≡ option_map (around text) (position (λ b. b == byte) text)
+cut_at_position : (byte : ℕ) (text : List ℕ) →
+    cut_at byte text ≡ option_map (around text) (position (λ b. b == byte) text)
 unfolding cut_at
 cut_at_position byte [] = refl
 cut_at_position byte (b ∷ bs) =
@@ -45,10 +49,12 @@ cut_at_position byte (b ∷ bs) =
     ∙ cut_step (b == byte) b bs (position (λ b. b == byte) bs)
     ∙ ap (option_map (around (b ∷ bs))) (sym (position-cons (λ b. b == byte) b bs))
 
-pub cut_at_none : (byte : ℕ) (text : List ℕ) → position (λ b. b == byte) text ≡ None → cut_at byte text ≡ None
+pub cut_at_none : (byte : ℕ) (text : List ℕ) → position (λ b. b == byte) text ≡ None →
+    cut_at byte text ≡ None
 cut_at_none byte text h = cut_at_position byte text ∙ ap (option_map (around text)) h
 
-pub cut_at_some : (byte : ℕ) (text : List ℕ) (at : ℕ) → position (λ b. b == byte) text ≡ Some at → cut_at byte text ≡ Some (around text at)
+pub cut_at_some : (byte : ℕ) (text : List ℕ) (at : ℕ) → position (λ b. b == byte) text ≡ Some at →
+    cut_at byte text ≡ Some (around text at)
 cut_at_some byte text at h = cut_at_position byte text ∙ ap (option_map (around text)) h
 
 -- a slice to the end
@@ -77,8 +83,10 @@ code_bytes_ascii (b ∷ bs) h =
 is_lab_code-text : (text : List ℕ) → is_lab_code text ≡ true → IsUtf8 text
 unfolding is_lab_code
 is_lab_code-text text h =
-    let length_and_first = nat_le 1 (length text) && nat_le (length text) 12 && is_ascii_lowercase (slice_index text 0) in
-    IsUtf8-from_ascii text (code_bytes_ascii text (and_true length_and_first (list_all is_lab_code_byte text) h).1)
+    let length_and_first = nat_le 1 (length text) && nat_le (length text) 12 && is_ascii_lowercase
+    (slice_index text 0) in
+    IsUtf8-from_ascii text (code_bytes_ascii text
+    (and_true length_and_first (list_all is_lab_code_byte text) h).1)
 
 unless : (b : Bool) (text : List ℕ) → (b ≡ true → ⊥) → cond b (Some text) None ≡ None
 unless true text h = absurd (h refl)

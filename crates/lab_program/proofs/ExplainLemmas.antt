@@ -9,11 +9,13 @@ use Rattle.lab_program.specs.CommandLine.{Explains, IsExplained}
 
 module _ (before after told_before told_after : Option (List ℕ)) (status : Result ℕ Untold) where
   -- by the kind that was given
-  pub explained_by : (kinds : Kinds) (k : ErrorKind) → (k ≡ kind.OutOfMemory) ⊎ IsAmong k kinds → Explains k before after told_before told_after status
+  pub explained_by : (kinds : Kinds) (k : ErrorKind) → (k ≡ kind.OutOfMemory) ⊎ IsAmong k kinds →
+      Explains k before after told_before told_after status
       → IsExplained kinds before after told_before told_after status
   explained_by [] k given told = tt
   explained_by (first ∷ rest) k given told = (k, given, told)
 
-  pub unexplained : (kinds : Kinds) → kinds ≡ [] → IsExplained kinds before after told_before told_after status
+  pub unexplained : (kinds : Kinds) → kinds ≡ [] →
+      IsExplained kinds before after told_before told_after status
   unexplained [] none = tt
   unexplained (first ∷ rest) none = absurd (cc)

@@ -1,5 +1,5 @@
--- Values of the definitions in `specs/`, computed: of the command line by the definitions of `clap`, and of the lines of
--- events.
+-- Values of the definitions in `specs/`, computed: of the command line by the definitions of
+-- `clap`, and of the lines of events.
 use Rattle.std.proofs.Common.{◌≡◌, ℕ, List, [], ◌∷◌, Some, None, refl, codes}
 use Rattle.clap.specs.Words.{Kinds, fault_of}
 use Rattle.clap.specs.declared.error.kind.ErrorKind.TheVariants.{DisplayHelp, DisplayVersion, MissingSubcommand}
@@ -25,7 +25,8 @@ module _ (program : List ℕ) where
   unfolding clap_on_literals
   help = refl
 
-  help_on_a_replay : fault_of labdesk_app (program ∷ codes "replay" ∷ codes "--help" ∷ []) ≡ DisplayHelp ∷ []
+  help_on_a_replay : fault_of labdesk_app (program ∷ codes "replay" ∷ codes "--help" ∷ [])
+      ≡ DisplayHelp ∷ []
   unfolding clap_on_literals
   help_on_a_replay = refl
 
@@ -39,12 +40,23 @@ the_end : next_event [] ≡ End
 unfolding next_event
 the_end = refl
 
-a_call : next_event (codes "call 100 9 2\nabrest") ≡ Taken (record { founded = None; moment = 100; words = 9 ∷ 10 ∷ 11 ∷ 12 ∷ 13 ∷ 14 ∷ 15 ∷ 16 ∷ []; bytes = codes "ab" }) (codes "rest")
+a_call : next_event (codes "call 100 9 2\nabrest")
+    ≡ Taken (record {
+      founded = None;
+      moment = 100;
+      words = 9 ∷ 10 ∷ 11 ∷ 12 ∷ 13 ∷ 14 ∷ 15 ∷ 16 ∷ [];
+      bytes = codes "ab";
+    }) (codes "rest")
 unfolding next_event cut_at founding_of heading_of number_where numbered
 a_call = refl
 
 a_founding_with_leading_zeros : next_event (codes "found aqua 00 1 000\n")
-    ≡ Taken (record { founded = Some (codes "aqua"); moment = 0; words = 1 ∷ 2 ∷ 3 ∷ 4 ∷ 5 ∷ 6 ∷ 7 ∷ 8 ∷ []; bytes = [] }) []
+    ≡ Taken (record {
+      founded = Some (codes "aqua");
+      moment = 0;
+      words = 1 ∷ 2 ∷ 3 ∷ 4 ∷ 5 ∷ 6 ∷ 7 ∷ 8 ∷ [];
+      bytes = [];
+    }) []
 unfolding next_event cut_at founding_of heading_of number_where numbered is_lab_code
 a_founding_with_leading_zeros = refl
 

@@ -1,5 +1,5 @@
--- The command line, as `clap` is told of it: `labdesk`, which has a version and wants one of its subcommands, and of these
--- `replay`.
+-- The command line, as `clap` is told of it: `labdesk`, which has a version and wants one of its
+-- subcommands, and of these `replay`.
 use Rattle.std.specs.Prelude.{◌≡◌, ◌⊎◌, ℕ, List, [], ◌∷◌, codes, true, Option, Result, Ok, IfOk}
 use Rattle.std.specs.Io.KnownBytes.{Keeps}
 use Rattle.clap.specs.Words.{App, IsAmong, Kinds, new_app, with_subcommand}
@@ -29,24 +29,31 @@ AsksReplay = Asks (codes "replay")
 
 -- the program stopped with this fault, and told it: the status is 1
 abbrev pub Stopped : ReplayFault → Option (List ℕ) → Option (List ℕ) → Result ℕ Untold → Type 0
-Stopped fault told_before told_after status = IfOk status (λ n. n ≡ 1) × IsTold fault status told_before told_after
+Stopped fault told_before told_after status =
+    IfOk status (λ n. n ≡ 1) × IsTold fault status told_before told_after
 
 -- a text that was asked for went to standard output, and nothing was told; or the output failed
 abbrev pub Shows : Option (List ℕ) → Option (List ℕ) → Result ℕ Untold → Type 0
 Shows told_before told_after status =
-    ((status ≡ Ok 0) × Keeps told_before told_after) ⊎ Stopped WriteFault told_before told_after status
+    ((status ≡ Ok 0) × Keeps told_before told_after)
+    ⊎ Stopped WriteFault told_before told_after status
 
--- what becomes of words that ask for no replay, by the kind of clap's error: help and the version are shown; where memory
--- ran out that is told; anything else is a fault in the words, with the status 2, and nothing goes to standard output
-abbrev pub Explains : ErrorKind → (before after told_before told_after : Option (List ℕ)) → Result ℕ Untold → Type 0
-Explains DisplayHelp before after told_before told_after status = Shows told_before told_after status
-Explains DisplayVersion before after told_before told_after status = Shows told_before told_after status
+-- what becomes of words that ask for no replay, by the kind of clap's error: help and the version
+-- are shown; where memory ran out that is told; anything else is a fault in the words, with the
+-- status 2, and nothing goes to standard output
+abbrev pub Explains : ErrorKind → (before after told_before told_after : Option (List ℕ)) →
+    Result ℕ Untold → Type 0
+Explains DisplayHelp before after told_before told_after status =
+    Shows told_before told_after status
+Explains DisplayVersion before after told_before told_after status =
+    Shows told_before told_after status
 Explains OutOfMemory before after told_before told_after status =
     Keeps before after × Stopped Memory told_before told_after status
 Explains _ before after told_before told_after status = (status ≡ Ok 2) × Keeps before after
 
 -- words with these faults are explained by one of them, or by memory that ran out
-abbrev pub IsExplained : Kinds → (before after told_before told_after : Option (List ℕ)) → Result ℕ Untold → Type 0
+abbrev pub IsExplained : Kinds → (before after told_before told_after : Option (List ℕ)) →
+    Result ℕ Untold → Type 0
 IsExplained [] before after told_before told_after status = Unit {0}
 IsExplained (kind ∷ kinds) before after told_before told_after status =
     (given : ErrorKind) × ((given ≡ OutOfMemory) ⊎ IsAmong given (kind ∷ kinds))

@@ -1,7 +1,7 @@
--- The events that `labdesk replay` reads. Each is a line and as many bytes after it as the line's last number says:
--- `found <lab> <seconds> <word> <length>` or `call <seconds> <word> <length>`, with numbers in decimal digits, one space
--- between, and a line feed at the end, before which it has at most 1,000 bytes. Digits, space and line feed are those of
--- ASCII, RFC 20.
+-- The events that `labdesk replay` reads. Each is a line and as many bytes after it as the line's
+-- last number says: `found <lab> <seconds> <word> <length>` or `call <seconds> <word> <length>`,
+-- with numbers in decimal digits, one space between, and a line feed at the end, before which it
+-- has at most 1,000 bytes. Digits, space and line feed are those of ASCII, RFC 20.
 use Rattle.std.specs.Prelude.{ℕ, Bool, if◌then◌else◌, ◌==◌, ◌&&◌, nat_le, nat_eq, codes, List, [], ◌∷◌, length, take, drop, Option, Some, None, option_map, option_and_then}
 use Rattle.std.specs.List.{range_with_len}
 use Rattle.std.specs.Str.{all_ascii_digits}
@@ -27,14 +27,20 @@ most_line = 1000
 -- what stands before the first such byte, and what stands after it
 unfoldable pub cut_at : ℕ → List ℕ → Option (List ℕ × List ℕ)
 cut_at byte [] = None
-cut_at byte (b ∷ bs) = if b == byte then Some ([], bs) else option_map (λ parts. (b ∷ parts.0, parts.1)) (cut_at byte bs)
+cut_at byte (b ∷ bs) =
+    if b == byte then Some ([], bs)
+    else option_map (λ parts. (b ∷ parts.0, parts.1)) (cut_at byte bs)
 
 -- the number that one or more decimal digits write, leading zeros among them, if it passes the test
 unfoldable pub number_where : (ℕ → Bool) → List ℕ → Option ℕ
 number_where admits [] = None
-number_where admits text = if all_ascii_digits text && admits (digits_value 10 text) then Some (digits_value 10 text) else None
+number_where admits text =
+    if all_ascii_digits text && admits (digits_value 10 text)
+    then Some (digits_value 10 text)
+    else None
 
--- what an event is: a founding of a laboratory, or a call, at a moment, with eight words of chance, and its bytes
+-- what an event is: a founding of a laboratory, or a call, at a moment, with eight words of chance,
+-- and its bytes
 pub record Event : Type 0 where
   pub founded : Option (List ℕ)
   pub moment : ℕ
@@ -48,7 +54,8 @@ pub record Heading : Type 0 where
   pub words : List ℕ
   pub length : ℕ
 
--- the three numbers at the end of a line: the seconds, the first of eight words that follow one another, and the length
+-- the three numbers at the end of a line: the seconds, the first of eight words that follow one
+-- another, and the length
 unfoldable pub numbered : Option (List ℕ) → List ℕ → Option Heading
 numbered founded text = do
   seconds ← cut_at space text
@@ -56,7 +63,12 @@ numbered founded text = do
   moment ← number_where is_moment seconds.0
   first ← number_where (λ n. nat_le n 18446744073709551608) word.0
   count ← number_where (λ n. nat_le n 1000000) word.1
-  Some (record { founded = founded; moment = moment; words = range_with_len first 8; length = count })
+  Some (record {
+    founded = founded;
+    moment = moment;
+    words = range_with_len first 8;
+    length = count;
+  })
 
 -- the text, if it is a laboratory's code
 abbrev pub lab_code : List ℕ → Option (List ℕ)
@@ -76,7 +88,8 @@ heading_of line = do
   if pointwise nat_eq kind.0 (codes "found") then founding_of kind.1
       else (if pointwise nat_eq kind.0 (codes "call") then numbered None kind.1 else None)
 
--- what the front of an input gives: nothing, as it has ended; no event; or an event, and what follows it
+-- what the front of an input gives: nothing, as it has ended; no event; or an event, and what
+-- follows it
 pub data Next : Type 0 where
   End : Next
   Bad : Next
@@ -86,7 +99,12 @@ abbrev pub with_bytes : Option Heading → List ℕ → Next
 with_bytes None rest = Bad
 with_bytes (Some heading) rest =
     if nat_le heading.length (length rest)
-    then Taken (record { founded = heading.founded; moment = heading.moment; words = heading.words; bytes = take heading.length rest }) (drop heading.length rest)
+    then Taken (record {
+      founded = heading.founded;
+      moment = heading.moment;
+      words = heading.words;
+      bytes = take heading.length rest;
+    }) (drop heading.length rest)
     else Bad
 
 abbrev pub next_of : Option (List ℕ × List ℕ) → Next

@@ -55,8 +55,9 @@ pub fn task_of<S: AsStr>(alloc: Global, words: &[S]) -> Result<Task, Error>
     Ok(Task::Replay)
 }
 
-/// Tells why the words name no task, and answers the status: 0 for help or the version, which go to the output, 2 for a
-/// fault in the words, and 1 where memory ran out or the text could not be written.
+/// Tells why the words name no task, and answers the status: 0 for help or the version, which go to
+/// the output, 2 for a fault in the words, and 1 where memory ran out or the text could not be
+/// written.
 ///
 /// # Errors
 /// What gives the status 1 could not be told, as standard error failed.

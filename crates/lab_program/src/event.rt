@@ -20,7 +20,8 @@ const LAST_FIRST_WORD: u64 = u64::MAX - 7;
 /// The most bytes of an event.
 const MOST_BYTES: u64 = 1_000_000;
 
-/// The most bytes of an event's line before its line feed. Leading zeros may be many, and memory is bounded.
+/// The most bytes of an event's line before its line feed. Leading zeros may be many, and memory is
+/// bounded.
 const MOST_LINE: usize = 1_000;
 
 /// What the line of an event says.
@@ -216,8 +217,8 @@ fn byte<R: Read>(reader: &mut R) -> Result<Option<u8>, ReplayFault>
     Ok(Some(byte[0]))
 }
 
-/// Takes the next line from the input, its line feed left off, and `None` at the input's end. What has no line feed
-/// within a line's length is no line, and no more of the input is taken.
+/// Takes the next line from the input, its line feed left off, and `None` at the input's end. What
+/// has no line feed within a line's length is no line, and no more of the input is taken.
 fn line<B: BufRead>(alloc: Global, reader: &mut B) -> Result<Option<Vec<u8>>, ReplayFault>
     ensures taken { IfSome (B.remaining reader.old)
         (λ input. TakesLine input (B.remaining reader.new) result) }

@@ -27,7 +27,8 @@ pub enum ReplayFault {
 impl ReplayFault {
     ghost use Rattle.lab_program.specs.Fault.{fault_line};
 
-    /// The line that tells the fault on standard error, with its line feed. No memory is taken for it.
+    /// The line that tells the fault on standard error, with its line feed. No memory is taken for
+    /// it.
     pub fn line(&self) -> &'static str
         ensures { result.now ≡ fault_line self.now }
     {

@@ -7,8 +7,8 @@ use std::io;
 use std::io::{ErrorKind, Read};
 use std::marker::Model;
 
-/// A reader that is asked for bytes a limited number of times, and then counts as failed. It is asked again where a
-/// signal interrupted it.
+/// A reader that is asked for bytes a limited number of times, and then counts as failed. It is
+/// asked again where a signal interrupted it.
 #[derive(Drop)]
 pub struct LimitedReader<R> {
     reader: R,

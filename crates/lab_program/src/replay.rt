@@ -17,8 +17,8 @@ use std::io::{BufRead, BufReader, Read, Write};
 /// How often the input is asked for bytes before it counts as failed.
 const MOST_ASKS: u64 = 1_000_000_000_000;
 
-/// Runs the events of the input on a desk until the input ends. After an error the events before it stand, and their
-/// answers were written.
+/// Runs the events of the input on a desk until the input ends. After an error the events before it
+/// stand, and their answers were written.
 ///
 /// # Errors
 /// What comes next is no event, the input or the output failed, or memory ran out.
@@ -68,8 +68,9 @@ pub fn tell<E: Write>(errors: &mut E, fault: ReplayFault) -> Result<(), WriteFau
     write_reply(errors, fault.line().as_bytes())
 }
 
-/// `labdesk replay`: runs the events of the input over no laboratories, writes their answers to the output, and tells on
-/// standard error why it stopped before the input's end. Answers the status: 0 for a whole replay, and else 1.
+/// `labdesk replay`: runs the events of the input over no laboratories, writes their answers to the
+/// output, and tells on standard error why it stopped before the input's end. Answers the status: 0
+/// for a whole replay, and else 1.
 ///
 /// # Errors
 /// The replay stopped, and standard error failed before the whole line was told.

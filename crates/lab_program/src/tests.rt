@@ -3,13 +3,12 @@ use crate::event::next_event;
 use crate::fault::ReplayFault;
 use crate::limited::LimitedReader;
 use crate::replay::replay;
-use lab_desk::{Desk, Lists};
+use lab_desk::{Desk, Event, Lists};
 use lab_wire::WriteFault;
-use std::alloc::{AllocError, Global};
-use std::io;
+use std::alloc::Global;
 use std::io::{BufReader, ErrorKind, Read, Write};
 use std::process::Abort;
-use std::test::Fail;
+use std::{fmt, io};
 
 const AQUA: &str = "found aqua 0 1 19\n{\"name\":\"Aqua Lab\"}";
 
@@ -19,88 +18,107 @@ const AQUA_CARD: &str = "call 100 9 36\nGET /labs/aqua HTTP/1.1\r\nHost: d\r\n\r
 
 const ZINC_CARD: &str = "call 100 17 36\nGET /labs/zinc HTTP/1.1\r\nHost: d\r\n\r\n";
 
-const AQUA_REPLY: &str =
-    "HTTP/1.1 200 OK\r\nDate: Thu, 01 Jan 1970 00:01:40 GMT\r\nContent-Type: application/json\r\nContent-Length: 32\r\nConnection: close\r\n\r\n{\"lab\":\"aqua\",\"name\":\"Aqua Lab\"}";
+const AQUA_REPLY: &str = "HTTP/1.1 200 OK\r\nDate: Thu, 01 Jan 1970 00:01:40 GMT\r\n\
+    Content-Type: application/json\r\nContent-Length: 32\r\nConnection: close\r\n\r\n\
+    {\"lab\":\"aqua\",\"name\":\"Aqua Lab\"}";
 
-const ZINC_REPLY: &str =
-    "HTTP/1.1 404 Not Found\r\nDate: Thu, 01 Jan 1970 00:01:40 GMT\r\nContent-Type: application/json\r\nContent-Length: 35\r\nConnection: close\r\n\r\n{\"error\":\"no_such_lab\",\"number\":40}";
+const ZINC_REPLY: &str = "HTTP/1.1 404 Not Found\r\nDate: Thu, 01 Jan 1970 00:01:40 GMT\r\n\
+    Content-Type: application/json\r\nContent-Length: 35\r\nConnection: close\r\n\r\n\
+    {\"error\":\"no_such_lab\",\"number\":40}";
 
-fn joined(alloc: Global, parts: &[&str]) -> Result<String, AllocError> {
-    let mut text = String::new(alloc);
+const CLOCK_BEHIND_REPLY: &str =
+    "HTTP/1.1 503 Service Unavailable\r\nDate: Thu, 01 Jan 1970 00:01:40 GMT\r\n\
+    Content-Type: application/json\r\nContent-Length: 36\r\nConnection: close\r\n\r\n\
+    {\"error\":\"clock_behind\",\"number\":41}";
+
+fn joined<R: Abort + AllocGlobal>(rt: &R, parts: &[&str]) -> String {
+    let mut text = String::new(rt.alloc());
     for part in parts {
-        text.push_str(part)?;
+        text.push_str(part).expect(rt, "the text");
     }
-    Ok(text)
+    text
 }
 
-/// Replays the parts, and asserts what was answered, what was told and the status.
-fn check<R: Abort + AllocGlobal>(
+/// A text, and so many of a character behind it.
+fn padded<R: Abort + AllocGlobal>(rt: &R, text: &str, padding: char, count: usize) -> String {
+    let mut text = String::from_str(rt.alloc(), text).expect(rt, "the text");
+    for _ in 0..count {
+        text.push(padding).expect(rt, "the padding");
+    }
+    text
+}
+
+fn assert_bytes(rt: &impl Abort, bytes: &[u8], wanted: &str, of: &impl fmt::Debug) {
+    assert!(rt; bytes == wanted.as_bytes(), "{bytes:?} to {of:?}");
+}
+
+/// Replays what a reader gives, and asserts what is answered, what is told and the status.
+fn assert_replay<R: Abort + AllocGlobal, I: Read + Drop>(
     rt: &R,
-    input: &[&str],
-    answers: &[&str],
+    (of, input): (&impl fmt::Debug, I),
+    answers: &str,
     told: &str,
     status: u8,
-) -> Result<(), AllocError> {
-    let input = joined(rt.alloc(), input)?;
-    let answers = joined(rt.alloc(), answers)?;
+) {
     let (mut output, mut errors) = (Vec::new(rt.alloc()), Vec::new(rt.alloc()));
-    let answered = replay(rt.alloc(), input.as_bytes(), &mut output, &mut errors);
-    assert!(rt;
-        output.as_slice() == answers.as_bytes(),
-        "{output:?} to {input}"
-    );
-    assert!(rt;
-        errors.as_slice() == told.as_bytes(),
-        "{errors:?} to {input}"
-    );
-    assert_eq!(rt; answered, Ok(status), "to {input}");
-    Ok(())
+    let answered = replay(rt.alloc(), input, &mut output, &mut errors);
+    assert_bytes(rt, &output, answers, of);
+    assert_bytes(rt, &errors, told, of);
+    assert_eq!(rt; answered, Ok(status), "to {of:?}");
+}
+
+/// Replays the parts, and asserts what is answered, what is told and the status.
+fn check<R: Abort + AllocGlobal>(rt: &R, input: &[&str], answers: &[&str], told: &str, status: u8) {
+    let input = joined(rt, input);
+    let answers = joined(rt, answers);
+    let of = (&input, input.as_bytes());
+    assert_replay(rt, of, answers.as_str(), told, status);
 }
 
 #[test]
-fn one_card_and_one_missing_laboratory(rt: HostRuntime) -> Result<(), Fail> {
+fn one_card_and_one_missing_laboratory(rt: HostRuntime) {
     let founded = "founded aqua\nfounded brick\n";
     let answers = [founded, AQUA_REPLY, ZINC_REPLY];
-    check(&rt, &[AQUA, BRICK, AQUA_CARD, ZINC_CARD], &answers, "", 0)?;
+    check(&rt, &[AQUA, BRICK, AQUA_CARD, ZINC_CARD], &answers, "", 0);
     let further = "refused 64 lab_exists\n";
     let answers = ["founded aqua\n", further, AQUA_REPLY];
-    check(&rt, &[AQUA, AQUA, AQUA_CARD], &answers, "", 0)?;
-    check(&rt, &[], &[], "", 0)?;
-    Ok(())
+    check(&rt, &[AQUA, AQUA, AQUA_CARD], &answers, "", 0);
+    check(&rt, &[], &[], "", 0);
 }
 
-#[test]
-fn each_event_of_the_first_run_is_taken(rt: HostRuntime) -> Result<(), Fail> {
-    let alloc = rt.alloc();
-    let input = joined(alloc, &[AQUA, BRICK, AQUA_CARD, ZINC_CARD])?;
+/// The events of an input, five at most.
+fn events_of<R: Abort + AllocGlobal>(rt: &R, input: &str) -> Vec<Event> {
     let mut reader = input.as_bytes();
-    let mut events = Vec::new(alloc);
+    let mut events = Vec::new(rt.alloc());
     for _ in 0..5 {
-        let event = next_event(alloc, &mut reader).map_err(|_| "an event")?;
-        let Some(event) = event else {
-            break;
+        let Some(event) = next_event(rt.alloc(), &mut reader).expect(rt, "an event") else {
+            return events;
         };
-        events.push(event)?;
+        events.push(event).expect(rt, "the event");
     }
+    events
+}
+
+#[test]
+fn each_event_of_the_first_run_is_taken(rt: HostRuntime) {
+    let input = joined(&rt, &[AQUA, BRICK, AQUA_CARD, ZINC_CARD]);
+    let events = events_of(&rt, input.as_str());
     assert_eq!(rt; events.len(), 4);
-    let mut output = Vec::new(alloc);
-    let mut desk = Desk::new(alloc, Lists::new(alloc)).map_err(|_| "a desk")?;
-    let taken = desk.run(&events, &mut output).map_err(|_| "a run")?;
-    assert_eq!(rt; taken.as_slice(), [true, true, true, true].as_slice());
-    Ok(())
+    let mut output = Vec::new(rt.alloc());
+    let mut desk = Desk::new(rt.alloc(), Lists::new(rt.alloc())).expect(&rt, "a desk");
+    let taken = desk.run(&events, &mut output).expect(&rt, "a run");
+    assert_eq!(rt; taken.as_slice(), [true; 4].as_slice());
 }
 
 #[test]
-fn a_clock_that_is_behind(rt: HostRuntime) -> Result<(), Fail> {
+fn a_clock_that_is_behind(rt: HostRuntime) {
     let later = "found aqua 101 1 19\n{\"name\":\"Aqua Lab\"}";
-    let reply =
-        "HTTP/1.1 503 Service Unavailable\r\nDate: Thu, 01 Jan 1970 00:01:40 GMT\r\nContent-Type: application/json\r\nContent-Length: 36\r\nConnection: close\r\n\r\n{\"error\":\"clock_behind\",\"number\":41}";
-    check(&rt, &[later, AQUA_CARD], &["founded aqua\n", reply], "", 0)?;
-    Ok(())
+    let answers = ["founded aqua\n", CLOCK_BEHIND_REPLY];
+    check(&rt, &[later, AQUA_CARD], &answers, "", 0);
 }
 
 #[test]
-fn what_is_no_event(rt: HostRuntime) -> Result<(), Fail> {
+fn what_is_no_event(rt: HostRuntime) {
     let bad = [
         "\n",
         "found",
@@ -133,44 +151,27 @@ fn what_is_no_event(rt: HostRuntime) -> Result<(), Fail> {
         let last = [AQUA, event];
         let told = "labdesk: bad_event\n";
         if !event.ends_with("ab") {
-            check(&rt, &input, &["founded aqua\n"], told, 1)?;
+            check(&rt, &input, &["founded aqua\n"], told, 1);
         }
-        check(&rt, &last, &["founded aqua\n"], told, 1)?;
+        check(&rt, &last, &["founded aqua\n"], told, 1);
     }
-    Ok(())
 }
 
 #[test]
-fn numbers_at_their_limits(rt: HostRuntime) -> Result<(), Fail> {
-    let zeros =
-        "found aqua 00000000000000000000000000 000000000000000000000001 019\n{\"name\":\"Aqua Lab\"}";
-    let last =
-        "found brick 253402300799 18446744073709551608 00000000000020\n{\"name\":\"Brick Lab\"}";
-    check(
-        &rt,
-        &[zeros, last],
-        &["founded aqua\nfounded brick\n"],
-        "",
-        0,
-    )?;
-    let mut long = joined(
-        rt.alloc(),
-        &["found aqua 0 1 1000000\n{\"name\":\"Aqua Lab\"}"],
-    )?;
-    for _ in 19..1_000_000 {
-        long.push(' ')?;
-    }
-    check(
-        &rt,
-        &[long.as_str(), BRICK],
-        &["founded aqua\nfounded brick\n"],
-        "",
-        0,
-    )?;
-    Ok(())
+fn numbers_at_their_limits(rt: HostRuntime) {
+    let founded = ["founded aqua\n", "founded brick\n"];
+    let zeros = "found aqua 00000000000000000000000000 000000000000000000000001 019\n\
+        {\"name\":\"Aqua Lab\"}";
+    let last = "found brick 253402300799 18446744073709551608 00000000000020\n\
+        {\"name\":\"Brick Lab\"}";
+    check(&rt, &[zeros, last], &founded, "", 0);
+    let long = "found aqua 0 1 1000000\n{\"name\":\"Aqua Lab\"}";
+    let long = padded(&rt, long, ' ', 1_000_000 - 19);
+    check(&rt, &[long.as_str(), BRICK], &founded, "", 0);
 }
 
-/// A reader that gives a few bytes at a time, is interrupted at each other call, and fails after so many calls.
+/// A reader that gives a few bytes at a time, is interrupted at each other call, and fails after so
+/// many calls.
 #[derive(Drop)]
 struct Halting<'a> {
     bytes: &'a [u8],
@@ -192,100 +193,72 @@ impl Read for Halting<'_> {
 }
 
 #[test]
-fn an_input_that_fails(rt: HostRuntime) -> Result<(), Fail> {
-    let input = joined(rt.alloc(), &[AQUA, BRICK])?;
-    for (calls, answers, told, status) in [
+fn an_input_that_fails(rt: HostRuntime) {
+    let input = joined(&rt, &[AQUA, BRICK]);
+    let both = "founded aqua\nfounded brick\n";
+    for (calls_left, answers, told, status) in [
         (0, "", "labdesk: read_fault\n", 1),
         (3, "", "labdesk: read_fault\n", 1),
         (5, "founded aqua\n", "labdesk: read_fault\n", 1),
-        (
-            7,
-            "founded aqua\nfounded brick\n",
-            "labdesk: read_fault\n",
-            1,
-        ),
-        (40, "founded aqua\nfounded brick\n", "", 0),
+        (7, both, "labdesk: read_fault\n", 1),
+        (40, both, "", 0),
     ] {
-        let (mut output, mut errors) = (Vec::new(rt.alloc()), Vec::new(rt.alloc()));
-        let halting = Halting {
-            bytes: input.as_bytes(),
-            calls_left: calls,
-        };
-        let answered = replay(rt.alloc(), halting, &mut output, &mut errors);
-        assert!(rt;
-            output.as_slice() == answers.as_bytes(),
-            "{output:?} after {calls}"
-        );
-        assert!(rt;
-            errors.as_slice() == told.as_bytes(),
-            "{errors:?} after {calls}"
-        );
-        assert_eq!(rt; answered, Ok(status), "after {calls}");
+        let bytes = input.as_bytes();
+        let halting = Halting { bytes, calls_left };
+        assert_replay(&rt, (&calls_left, halting), answers, told, status);
     }
-    Ok(())
 }
 
 #[test]
-fn a_reader_is_asked_no_more_than_it_may_be(rt: HostRuntime) -> Result<(), Fail> {
+fn a_reader_is_asked_no_more_than_it_may_be(rt: HostRuntime) {
     let mut reader = LimitedReader::new(io::repeat(b'a'), 3);
     let mut buffer = [0u8; 4];
     for _ in 0..3 {
-        assert_eq!(rt; reader.read(&mut buffer)?, 4);
+        let read = reader.read(&mut buffer).map_err(|error| error.kind());
+        assert_eq!(rt; read, Ok(4));
     }
     for _ in 0..2 {
         let fault = reader.read(&mut buffer).map_err(|error| error.kind());
         assert_eq!(rt; fault, Err(ErrorKind::TimedOut));
     }
-    Ok(())
 }
 
-/// The line of a founding that has so many bytes before its line feed, most of them leading zeros.
-fn long_founding(alloc: Global, bytes: usize) -> Result<String, AllocError> {
-    let mut line = String::from_str(alloc, "found aqua 0 1 ")?;
-    for _ in 17..bytes {
-        line.push('0')?;
-    }
-    line.push_str("19\n{\"name\":\"Aqua Lab\"}")?;
-    Ok(line)
+/// The line of a founding that has so many bytes before its line feed, most of them leading zeros,
+/// and the founding's body.
+fn long_founding<R: Abort + AllocGlobal>(rt: &R, bytes: usize) -> String {
+    let line = padded(rt, "found aqua 0 1 ", '0', bytes.saturating_sub(17));
+    joined(rt, &[line.as_str(), "19\n{\"name\":\"Aqua Lab\"}"])
 }
 
 #[test]
-fn a_line_of_the_greatest_length(rt: HostRuntime) -> Result<(), Fail> {
-    let line = long_founding(rt.alloc(), 1_000)?;
+fn a_line_of_the_greatest_length(rt: HostRuntime) {
+    let line = long_founding(&rt, 1_000);
     let answers = ["founded aqua\n", "founded brick\n"];
-    check(&rt, &[line.as_str(), BRICK], &answers, "", 0)?;
-    Ok(())
+    check(&rt, &[line.as_str(), BRICK], &answers, "", 0);
 }
 
 #[test]
-fn a_line_that_is_too_long(rt: HostRuntime) -> Result<(), Fail> {
-    let line = long_founding(rt.alloc(), 1_001)?;
+fn a_line_that_is_too_long(rt: HostRuntime) {
+    let line = long_founding(&rt, 1_001);
     let told = "labdesk: bad_event\n";
-    check(&rt, &[BRICK, line.as_str()], &["founded brick\n"], told, 1)?;
-    Ok(())
+    check(&rt, &[BRICK, line.as_str()], &["founded brick\n"], told, 1);
 }
 
-/// What comes without end is no line, and is found to be none by the first bytes: the reader is asked once.
+/// What comes without end is no line, and is found to be none by the first bytes: the reader is
+/// asked once.
 #[test]
-fn a_line_without_end(rt: HostRuntime) -> Result<(), Fail> {
-    let alloc = rt.alloc();
+fn a_line_without_end(rt: HostRuntime) {
     let endless = LimitedReader::new(io::repeat(b'0'), 1);
-    let mut reader = BufReader::new(alloc, endless)?;
-    let event = next_event(alloc, &mut reader).map(|event| event.is_some());
+    let mut reader = BufReader::new(rt.alloc(), endless).expect(&rt, "a reader");
+    let event = next_event(rt.alloc(), &mut reader).map(|event| event.is_some());
     assert_eq!(rt; event, Err(ReplayFault::BadEvent));
-    Ok(())
 }
 
 #[test]
-fn an_input_without_end(rt: HostRuntime) -> Result<(), Fail> {
-    let alloc = rt.alloc();
-    let (mut output, mut errors) = (Vec::new(alloc), Vec::new(alloc));
+fn an_input_without_end(rt: HostRuntime) {
     let input = AQUA.as_bytes().chain(io::repeat(b'0'));
-    let answered = replay(alloc, input, &mut output, &mut errors);
-    assert!(rt; output.as_slice() == b"founded aqua\n".as_slice());
-    assert!(rt; errors.as_slice() == b"labdesk: bad_event\n".as_slice());
-    assert_eq!(rt; answered, Ok(1));
-    Ok(())
+    let told = "labdesk: bad_event\n";
+    assert_replay(&rt, (&"zeros", input), "founded aqua\n", told, 1);
 }
 
 /// A writer with room for so many bytes, that then takes none, or fails.
@@ -294,6 +267,16 @@ struct Narrow {
     bytes: Vec<u8>,
     room: usize,
     fails: bool,
+}
+
+impl Narrow {
+    fn new(alloc: Global, room: usize, fails: bool) -> Narrow {
+        Narrow {
+            bytes: Vec::new(alloc),
+            room,
+            fails,
+        }
+    }
 }
 
 impl Write for Narrow {
@@ -312,9 +295,26 @@ impl Write for Narrow {
     }
 }
 
+/// Replays two foundings at a writer for the answers and one for what is told, each with its room,
+/// and asserts what both have then, and how the replay ended.
+fn assert_cut<R: Abort + AllocGlobal>(
+    rt: &R,
+    (room, told_room, fails): (usize, usize, bool),
+    told: &str,
+    status: Result<u8, WriteFault>,
+) {
+    let input = joined(rt, &[AQUA, BRICK]);
+    let mut output = Narrow::new(rt.alloc(), room, fails);
+    let mut errors = Narrow::new(rt.alloc(), told_room, fails);
+    let answered = replay(rt.alloc(), input.as_bytes(), &mut output, &mut errors);
+    let written = "founded aqua\nfounded brick\n".get(..room);
+    assert_bytes(rt, &output.bytes, written.expect(rt, "room"), &room);
+    assert_bytes(rt, &errors.bytes, told, &room);
+    assert_eq!(rt; answered, status, "{room}");
+}
+
 #[test]
-fn an_output_that_fails(rt: HostRuntime) -> Result<(), Fail> {
-    let input = joined(rt.alloc(), &[AQUA, BRICK])?;
+fn an_output_that_fails(rt: HostRuntime) {
     for (room, fails, told_room, told, status) in [
         (0, true, 99, "labdesk: write_fault\n", Ok(1)),
         (0, false, 99, "labdesk: write_fault\n", Ok(1)),
@@ -324,24 +324,8 @@ fn an_output_that_fails(rt: HostRuntime) -> Result<(), Fail> {
         (15, false, 0, "", Err(WriteFault { sent: 0 })),
         (27, true, 0, "", Ok(0)),
     ] {
-        let mut output = Narrow {
-            bytes: Vec::new(rt.alloc()),
-            room,
-            fails,
-        };
-        let mut errors = Narrow {
-            bytes: Vec::new(rt.alloc()),
-            room: told_room,
-            fails,
-        };
-        let answered = replay(rt.alloc(), input.as_bytes(), &mut output, &mut errors);
-        let answers = "founded aqua\nfounded brick\n".as_bytes();
-        let written = answers.get(..room).ok_or("room")?;
-        assert!(rt; output.bytes.as_slice() == written, "{room}");
-        assert!(rt; errors.bytes.as_slice() == told.as_bytes(), "{room}");
-        assert_eq!(rt; answered, status, "{room}");
+        assert_cut(&rt, (room, told_room, fails), told, status);
     }
-    Ok(())
 }
 
 /// Gives the words to a program, and asserts the status and what is written and told.
@@ -354,14 +338,8 @@ fn check_words<R: Abort + AllocGlobal>(
 ) {
     let (mut output, mut errors) = (Vec::new(rt.alloc()), Vec::new(rt.alloc()));
     let answered = labdesk(rt.alloc(), words, AQUA.as_bytes(), &mut output, &mut errors);
-    assert!(rt;
-        output.as_slice() == written.as_bytes(),
-        "{output:?} to {words:?}"
-    );
-    assert!(rt;
-        errors.as_slice() == told.as_bytes(),
-        "{errors:?} to {words:?}"
-    );
+    assert_bytes(rt, &output, written, &words);
+    assert_bytes(rt, &errors, told, &words);
     assert_eq!(rt; answered, Ok(status), "to {words:?}");
 }
 
@@ -390,7 +368,7 @@ The input is described in docs/FORMATS.md. An example:
 ";
 
 #[test]
-fn help(rt: HostRuntime) -> Result<(), Fail> {
+fn help(rt: HostRuntime) {
     let head = "Signed laboratory records
 
 Usage: labdesk <COMMAND>
@@ -404,14 +382,13 @@ Options:
   -V, --version  Print version
 
 ";
-    let help = joined(rt.alloc(), &[head, INPUT_HELP])?;
+    let help = joined(&rt, &[head, INPUT_HELP]);
     check_words(&rt, &["out/lab_program", "--help"], help.as_str(), "", 0);
     check_words(&rt, &["labdesk", "help"], help.as_str(), "", 0);
-    Ok(())
 }
 
 #[test]
-fn help_on_a_replay(rt: HostRuntime) -> Result<(), Fail> {
+fn help_on_a_replay(rt: HostRuntime) {
     let head = "Run the events of standard input, and write their answers to standard output
 
 Usage: labdesk replay
@@ -420,51 +397,53 @@ Options:
   -h, --help  Print help
 
 ";
-    let help = joined(rt.alloc(), &[head, INPUT_HELP])?;
+    let help = joined(&rt, &[head, INPUT_HELP]);
     let words = ["out/lab_program", "help", "replay"];
     check_words(&rt, &words, help.as_str(), "", 0);
     let words = ["labdesk", "replay", "--help"];
     check_words(&rt, &words, help.as_str(), "", 0);
-    Ok(())
 }
 
 #[test]
 fn words_that_ask_for_nothing(rt: HostRuntime) {
-    let told =
-        "error: 'labdesk' requires a subcommand but one was not provided\n  [subcommands: replay, help]\n\nUsage: labdesk <COMMAND>\n\nFor more information, try '--help'.\n";
+    let told = "error: 'labdesk' requires a subcommand but one was not provided\n  \
+        [subcommands: replay, help]\n\nUsage: labdesk <COMMAND>\n\n\
+        For more information, try '--help'.\n";
     check_words(&rt, &["out/lab_program"], "", told, 2);
 }
 
 #[test]
 fn a_word_that_is_no_command(rt: HostRuntime) {
-    let told =
-        "error: unrecognized subcommand 'relay'\n\n  tip: a similar subcommand exists: 'replay'\n\nUsage: labdesk <COMMAND>\n\nFor more information, try '--help'.\n";
+    let told = "error: unrecognized subcommand 'relay'\n\n  \
+        tip: a similar subcommand exists: 'replay'\n\nUsage: labdesk <COMMAND>\n\n\
+        For more information, try '--help'.\n";
     check_words(&rt, &["out/lab_program", "relay"], "", told, 2);
 }
 
 #[test]
 fn words_that_are_too_many(rt: HostRuntime) {
-    let told =
-        "error: unexpected argument '--file' found\n\nUsage: labdesk <COMMAND>\n\nFor more information, try '--help'.\n";
+    let told = "error: unexpected argument '--file' found\n\nUsage: labdesk <COMMAND>\n\n\
+        For more information, try '--help'.\n";
     check_words(&rt, &["out/lab_program", "--file"], "", told, 2);
-    let told =
-        "error: unexpected argument 'twice' found\n\nUsage: labdesk replay\n\nFor more information, try '--help'.\n";
+    let told = "error: unexpected argument 'twice' found\n\nUsage: labdesk replay\n\n\
+        For more information, try '--help'.\n";
     let words = ["out/lab_program", "replay", "twice"];
     check_words(&rt, &words, "", told, 2);
 }
 
 #[test]
 fn a_version_that_cannot_be_written(rt: HostRuntime) {
-    let alloc = rt.alloc();
     let words = ["labdesk", "--version"];
-    let mut output = Narrow {
-        bytes: Vec::new(alloc),
-        room: 9,
-        fails: true,
-    };
-    let mut errors = Vec::new(alloc);
-    let answered = labdesk(alloc, &words, AQUA.as_bytes(), &mut output, &mut errors);
-    assert!(rt; output.bytes.as_slice() == b"labdesk 0".as_slice());
-    assert!(rt; errors.as_slice() == b"labdesk: write_fault\n".as_slice());
+    let mut output = Narrow::new(rt.alloc(), 9, true);
+    let mut errors = Vec::new(rt.alloc());
+    let answered = labdesk(
+        rt.alloc(),
+        &words,
+        AQUA.as_bytes(),
+        &mut output,
+        &mut errors,
+    );
+    assert_bytes(&rt, &output.bytes, "labdesk 0", &words);
+    assert_bytes(&rt, &errors, "labdesk: write_fault\n", &words);
     assert_eq!(rt; answered, Ok(1));
 }

@@ -86,7 +86,8 @@ Quiet old new = old.is_live → (held : Meaning) → new.may_leave held → old.
 -- no more than before the call, or what its commit makes of what was kept
 abbrev pub CommitsAs : (Meaning → Meaning → Type 0) → World → World → Type 0
 CommitsAs Makes old new =
-    old.is_live → (held : Meaning) → new.may_leave held → old.may_leave held ⊎ Makes old.meaning held
+    old.is_live → (held : Meaning) → new.may_leave held
+    → old.may_leave held ⊎ Makes old.meaning held
 
 -- only what is kept
 abbrev pub IsSettled : World → Type 0

@@ -99,7 +99,8 @@ pub trait Keeper {
         ensures lives { Given (world self.old) (world self.new)
             (OnPlaced result (Lives (world self.old) (world self.new))) }
         ensures fault { IfErr result (PlacingFaultFits (world self.old).may_refuse
-            (Given (world self.old) (world self.new) (IsSome ((world self.old).meaning code.now)))) }
+            (Given (world self.old) (world self.new)
+            (IsSome ((world self.old).meaning code.now)))) }
         ensures crash { Given (world self.old) (world self.new)
             (CommitsAs (Places (newborn code.now tick.now founding.now)) (world self.old)
             (world self.new)) }

@@ -1,5 +1,6 @@
--- The seal of a signature: the SHA-256 (FIPS 180-4) of seven items: what was signed, by whom, as what, when and why
--- (21 CFR 11.50 and 11.70). How they are written is this system's own (docs/VERSIONS.md).
+-- The seal of a signature: the SHA-256 (FIPS 180-4) of seven items: what was signed, by whom, as
+-- what, when and why (21 CFR 11.50 and 11.70). How they are written is this system's own
+-- (docs/VERSIONS.md).
 use Rattle.std.specs.Prelude.{ℕ, List, [], ◌++◌, codes}
 use Rattle.hex.specs.Hex.{encode_lower}
 use Rattle.sha2.specs.Sha256.{sha256}
@@ -23,7 +24,8 @@ meaning_reason Review = []
 meaning_reason (Rejection reason) = reason
 meaning_reason Approval = []
 
--- what is signed, and by whom: the version's digest, the laboratory, the person's code and printed name
+-- what is signed, and by whom: the version's digest, the laboratory, the person's code and printed
+-- name
 unfoldable pub signer_text : SealParts → List ℕ
 signer_text parts =
     item (encode_lower parts.version) ++ item parts.lab ++ item parts.person ++ item parts.name

@@ -1,5 +1,6 @@
--- The state of a version, read off the meanings of its signatures (ISO/IEC 17025:2017, 7.8.1.1: results are reviewed and
--- authorised before they are released). Whether an approval is wanted is said by the form that the record is filled in by.
+-- The state of a version, read off the meanings of its signatures (ISO/IEC 17025:2017, 7.8.1.1:
+-- results are reviewed and authorised before they are released). Whether an approval is wanted is
+-- said by the form that the record is filled in by.
 use Rattle.std.specs.Prelude.{ℕ, Bool, true, false, List, [], ◌∷◌, codes, Option, Some, None}
 use Rattle.lab_seal.specs.declared.seals.Meaning.{Meaning}
 use Rattle.lab_seal.specs.declared.seals.Meaning.TheVariants.{Authorship, Review, Rejection, Approval}
@@ -22,7 +23,8 @@ is_settled Reviewed = false
 is_settled Released = true
 is_settled Rejected = true
 
--- the state by the signatures, in order, and whether an approval is wanted; no version has other signatures
+-- the state by the signatures, in order, and whether an approval is wanted; no version has other
+-- signatures
 abbrev pub state_of : List Meaning → Bool → Option State
 state_of [] approval = Some Open
 state_of (Authorship ∷ []) approval = Some Signed

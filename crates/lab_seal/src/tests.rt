@@ -1,21 +1,28 @@
-use crate::{
-    Digest, LabCode, Meaning, Moment, Name, Note, PersonCode, Seal, SealParts, State, seal,
-    state_of,
-};
-use std::alloc::Global;
+use crate::{Digest, Meaning, Moment, Seal, SealParts, State, seal, state_of};
+use lab_names::{Rule, Text};
+use std::fmt::Debug;
 use std::process::Abort;
-use std::test::Fail;
+
+pub(crate) fn same<T: PartialEq + Debug>(rt: &impl Abort, found: &T, expected: &T) {
+    assert_eq!(rt; found, expected);
+}
+
+// A code, key, name, note or unit.
+pub(crate) fn text<R: Rule>(rt: &(impl Abort + AllocGlobal), text: &str) -> Text<R> {
+    Text::parse(rt.alloc(), text).expect(rt, "a text that its rule admits")
+}
 
 // The bytes that 64 hexadecimal digits stand for.
-fn bytes_of(digits: &str) -> Result<[u8; 32], Fail> {
+pub(crate) fn bytes_of(rt: &impl Abort, digits: &str) -> [u8; 32] {
     let mut bytes = [0; 32];
-    hex::decode_to_slice(digits, &mut bytes)?;
-    Ok(bytes)
+    hex::decode_to_slice(digits, &mut bytes).expect(rt, "64 digits");
+    bytes
 }
 
 // The SHA-256 of the 142 bytes of a version's text, by Python's `hashlib`.
 const VERSION_DIGITS: &str = "4de86afe6c7333e1c5bf6582c621445ce648c9d770e46b4ef596f3f9c4699623";
 
+// The words and reasons of the meanings.
 const MEANINGS: [(&str, &str); 4] = [
     ("authorship", ""),
     ("review", ""),
@@ -23,23 +30,28 @@ const MEANINGS: [(&str, &str); 4] = [
     ("approval", ""),
 ];
 
-fn meaning_of(alloc: Global, place: usize) -> Result<Meaning, Fail> {
+fn meaning_of(rt: &(impl Abort + AllocGlobal), place: usize) -> Meaning {
     match place {
-        0 => Ok(Meaning::Authorship),
-        1 => Ok(Meaning::Review),
-        2 => Ok(Meaning::Rejection(Note::parse(alloc, "misread scale")?)),
-        _ => Ok(Meaning::Approval),
+        0 => Meaning::Authorship,
+        1 => Meaning::Review,
+        2 => Meaning::Rejection(text(rt, "misread scale")),
+        _ => Meaning::Approval,
     }
 }
 
+fn copied_meaning(rt: &(impl Abort + AllocGlobal), place: usize) -> Meaning {
+    meaning_of(rt, place).copy().expect(rt, "a copy")
+}
+
+fn has_word_and_reason(rt: &impl Abort, meaning: &Meaning, told: &(&str, &str)) {
+    same(rt, &(meaning.word(), meaning.reason()), told);
+}
+
 #[test]
-fn meanings_have_words_and_reasons(rt: HostRuntime) -> Result<(), Fail> {
-    for (place, (word, reason)) in MEANINGS.iter().enumerate() {
-        let meaning = meaning_of(rt.alloc(), place)?.copy()?;
-        assert_eq!(rt; meaning.word(), *word);
-        assert_eq!(rt; meaning.reason(), *reason);
+fn meanings_have_words_and_reasons(rt: HostRuntime) {
+    for (place, told) in MEANINGS.iter().enumerate() {
+        has_word_and_reason(&rt, &copied_meaning(&rt, place), told);
     }
-    Ok(())
 }
 
 // The signatures of each state, as places in `MEANINGS`, without and with an approval.
@@ -52,139 +64,130 @@ const STATES: [(&[usize], [Option<State>; 2]); 6] = [
     (&[0, 1, 2], [None, Some(State::Rejected)]),
 ];
 
-fn expected(places: &[usize], column: usize) -> Option<State> {
-    for (known, states) in STATES {
-        if known == places {
-            return states.get(column).copied().flatten();
+fn expected(places: &[usize]) -> [Option<State>; 2] {
+    for (known, states) in &STATES {
+        if *known == places {
+            return *states;
         }
     }
-    None
+    [None, None]
 }
 
-fn states_of(rt: &(impl Abort + AllocGlobal), places: &[usize]) -> Result<(), Fail> {
+fn meanings_of(rt: &(impl Abort + AllocGlobal), places: &[usize]) -> Vec<Meaning> {
     let mut meanings = Vec::new(rt.alloc());
     for place in places {
-        meanings.push(meaning_of(rt.alloc(), *place)?)?;
+        meanings.push(meaning_of(rt, *place)).expect(rt, "memory");
     }
-    assert_eq!(rt; state_of(&meanings, false), expected(places, 0));
-    assert_eq!(rt; state_of(&meanings, true), expected(places, 1));
-    Ok(())
+    meanings
+}
+
+fn states_of(rt: &(impl Abort + AllocGlobal), places: &[usize]) {
+    let found = found_states(&meanings_of(rt, places));
+    same(rt, &found, &expected(places));
+}
+
+fn found_states(meanings: &[Meaning]) -> [Option<State>; 2] {
+    [state_of(meanings, false), state_of(meanings, true)]
 }
 
 // Every list of up to three signatures.
 #[test]
-fn states_are_those_of_the_table(rt: HostRuntime) -> Result<(), Fail> {
-    states_of(&rt, &[])?;
+fn states_are_those_of_the_table(rt: HostRuntime) {
+    states_of(&rt, &[]);
     for first in 0..4 {
-        states_of(&rt, &[first])?;
+        states_of(&rt, &[first]);
         for second in 0..4 {
-            states_of(&rt, &[first, second])?;
+            states_of(&rt, &[first, second]);
             for third in 0..4 {
-                states_of(&rt, &[first, second, third])?;
+                states_of(&rt, &[first, second, third]);
             }
         }
     }
-    Ok(())
 }
+
+// The states' words, and whether a version is settled then.
+const STATE_WORDS: [(State, (&str, bool)); 5] = [
+    (State::Open, ("open", false)),
+    (State::Signed, ("signed", false)),
+    (State::Reviewed, ("reviewed", false)),
+    (State::Released, ("released", true)),
+    (State::Rejected, ("rejected", true)),
+];
 
 #[test]
 fn states_have_words(rt: HostRuntime) {
-    let states = [
-        (State::Open, "open", false),
-        (State::Signed, "signed", false),
-        (State::Reviewed, "reviewed", false),
-        (State::Released, "released", true),
-        (State::Rejected, "rejected", true),
-    ];
-    for (state, word, is_settled) in states {
-        assert_eq!(rt; state.word(), word);
-        assert_eq!(rt; state.is_settled(), is_settled);
+    for (state, told) in &STATE_WORDS {
+        same(&rt, &(state.word(), state.is_settled()), told);
     }
 }
 
-fn signer(alloc: Global, person: &str, name: &str) -> Result<(PersonCode, Name), Fail> {
-    let person = PersonCode::parse(alloc, person)?;
-    Ok((person, Name::parse(alloc, name)?))
-}
-
+// What a seal covers: who signs, as what, and when.
 fn seal_parts(
-    alloc: Global,
-    person: &str,
-    name: &str,
+    rt: &(impl Abort + AllocGlobal),
+    (person, name): (&str, &str),
     place: usize,
     seconds: i64,
-) -> Result<SealParts, Fail> {
-    let moment = Moment::from_seconds(seconds)?;
-    let version = Digest::from_bytes(bytes_of(VERSION_DIGITS)?);
-    let (person, name) = signer(alloc, person, name)?;
-    Ok(SealParts {
-        version,
-        lab: LabCode::parse(alloc, "aqua")?,
-        person,
-        name,
-        meaning: meaning_of(alloc, place)?,
-        moment,
-    })
+) -> SealParts {
+    SealParts {
+        version: Digest::from_bytes(bytes_of(rt, VERSION_DIGITS)),
+        moment: Moment::from_seconds(seconds).expect(rt, "a moment"),
+        lab: text(rt, "aqua"),
+        person: text(rt, person),
+        name: text(rt, name),
+        meaning: meaning_of(rt, place),
+    }
 }
 
-fn has_seal(rt: &impl Abort, parts: &SealParts, digits: &[u8; 64]) {
-    assert_eq!(rt; seal(parts).digits(), *digits);
+fn seal_of(parts: SealParts) -> Seal {
+    seal(&parts)
+}
+
+fn has_digits(rt: &impl Abort, seal: Seal, digits: &[u8; 64]) {
+    same(rt, &seal.digits(), digits);
 }
 
 // The seals are those that Python's `hashlib` gives of the seven items.
 #[test]
-fn seal_of_an_authorship(rt: HostRuntime) -> Result<(), Fail> {
-    let parts = seal_parts(rt.alloc(), "dan", "Dan D\u{fc}r", 0, 1300)?;
-    has_seal(
-        &rt,
-        &parts,
-        b"9863b66df0088378760b1aaab4eea6128e132387df97bb1dd73dadedbc443a89",
-    );
-    Ok(())
+fn seal_of_an_authorship(rt: HostRuntime) {
+    let seal = seal_of(seal_parts(&rt, ("dan", "Dan D\u{fc}r"), 0, 1300));
+    let digits = b"9863b66df0088378760b1aaab4eea6128e132387df97bb1dd73dadedbc443a89";
+    has_digits(&rt, seal, digits);
 }
 
 #[test]
-fn seal_of_a_review(rt: HostRuntime) -> Result<(), Fail> {
-    let parts = seal_parts(rt.alloc(), "eve", "Eve Eden", 1, 1400)?;
-    has_seal(
-        &rt,
-        &parts,
-        b"283cd999dd2b5ac3e31bcefe8e2e7747896b395c8c15c9777b2debae5f6d6e6b",
-    );
-    Ok(())
+fn seal_of_a_review(rt: HostRuntime) {
+    let seal = seal_of(seal_parts(&rt, ("eve", "Eve Eden"), 1, 1400));
+    let digits = b"283cd999dd2b5ac3e31bcefe8e2e7747896b395c8c15c9777b2debae5f6d6e6b";
+    has_digits(&rt, seal, digits);
+}
+
+fn copied_parts(rt: &impl Abort, parts: &SealParts) -> SealParts {
+    parts.copy().expect(rt, "a copy")
 }
 
 #[test]
-fn seal_of_a_copied_rejection(rt: HostRuntime) -> Result<(), Fail> {
-    let parts = seal_parts(rt.alloc(), "eve", "Eve Eden", 2, 1400)?;
-    let copy = parts.copy()?;
-    has_seal(
-        &rt,
-        &copy,
-        b"e712259c7184fb7dc48eb62e198c3731e152be56999339519e1fb7e49c2b9156",
-    );
-    Ok(())
+fn seal_of_a_copied_rejection(rt: HostRuntime) {
+    let parts = seal_parts(&rt, ("eve", "Eve Eden"), 2, 1400);
+    let seal = seal_of(copied_parts(&rt, &parts));
+    let digits = b"e712259c7184fb7dc48eb62e198c3731e152be56999339519e1fb7e49c2b9156";
+    has_digits(&rt, seal, digits);
 }
 
 #[test]
-fn seal_of_an_approval(rt: HostRuntime) -> Result<(), Fail> {
-    let parts = seal_parts(rt.alloc(), "gus", "Gus Gold", 3, 1500)?;
-    has_seal(
-        &rt,
-        &parts,
-        b"fdeb3d3313ae7fdc89ec717d60cedce483f19f19309408619502c4adbf2728b9",
-    );
-    Ok(())
+fn seal_of_an_approval(rt: HostRuntime) {
+    let seal = seal_of(seal_parts(&rt, ("gus", "Gus Gold"), 3, 1500));
+    let digits = b"fdeb3d3313ae7fdc89ec717d60cedce483f19f19309408619502c4adbf2728b9";
+    has_digits(&rt, seal, digits);
 }
 
 #[test]
-fn seals_are_read_of_their_digits(rt: HostRuntime) -> Result<(), Fail> {
+fn seals_are_read_of_their_digits(rt: HostRuntime) {
     let digits = b"9863b66df0088378760b1aaab4eea6128e132387df97bb1dd73dadedbc443a89";
     let known = Seal::from_bytes(bytes_of(
+        &rt,
         "9863b66df0088378760b1aaab4eea6128e132387df97bb1dd73dadedbc443a89",
-    )?);
-    assert_eq!(rt; Seal::from_digits(digits), Some(known));
-    assert_eq!(rt; known.digits(), *digits);
-    assert_eq!(rt; Seal::from_digits(&digits[..63]), None);
-    Ok(())
+    ));
+    has_digits(&rt, known, digits);
+    let read = [Seal::from_digits(digits), Seal::from_digits(&digits[..63])];
+    same(&rt, &read, &[Some(known), None]);
 }

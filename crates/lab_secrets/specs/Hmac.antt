@@ -1,5 +1,6 @@
--- HMAC of RFC 2104 with the hash function SHA-256 of FIPS 180-4, as equations on lists of bytes. The strings in quotes are
--- those of the RFC's sections 2 and 3, where B, the length of a block, is 64 bytes.
+-- HMAC of RFC 2104 with the hash function SHA-256 of FIPS 180-4, as equations on lists of bytes.
+-- The strings in quotes are those of the RFC's sections 2 and 3, where B, the length of a block, is
+-- 64 bytes.
 use Rattle.std.specs.Prelude.{ℕ, ◌-◌, nat_lt, if◌then◌else◌, List, ◌++◌, length, map, replicate, bit_xor}
 use Rattle.sha2.specs.Sha256.{sha256}
 

@@ -1,4 +1,5 @@
--- A key of HMAC (RFC 2104, section 4: the results of hashing the two blocks of a key may be kept and used again).
+-- A key of HMAC (RFC 2104, section 4: the results of hashing the two blocks of a key may be kept
+-- and used again).
 use Rattle.std.specs.Prelude.{ℕ, List}
 use Rattle.sha2.specs.Hashers.{Holds256}
 use Rattle.lab_secrets.specs.Hmac.{inner_block, outer_block}

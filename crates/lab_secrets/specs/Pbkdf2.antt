@@ -1,5 +1,5 @@
--- PBKDF2 of RFC 8018, section 5.2, with HMAC-SHA-256 (appendix B.1.2) as its pseudorandom function, for a derived key of one
--- block, which has 32 bytes.
+-- PBKDF2 of RFC 8018, section 5.2, with HMAC-SHA-256 (appendix B.1.2) as its pseudorandom function,
+-- for a derived key of one block, which has 32 bytes.
 use Rattle.std.specs.Prelude.{ℕ, zero, suc, List, [], ◌++◌, map, bit_xor}
 use Rattle.std.specs.List.{zip}
 use Rattle.std.specs.Int.{w32, to_be_bytes}

@@ -1,4 +1,5 @@
--- A verifier of a password: a salt, a number of rounds, and what PBKDF2 of RFC 8018 made of them and the password.
+-- A verifier of a password: a salt, a number of rounds, and what PBKDF2 of RFC 8018 made of them
+-- and the password.
 use Rattle.std.specs.Prelude.{ℕ, Bool, List, bytes_eq}
 use Rattle.lab_secrets.specs.Pbkdf2.{pbkdf2_block}
 use Rattle.lab_secrets.specs.declared.verifiers.VerifierParts.{VerifierParts}
@@ -13,4 +14,5 @@ verifier_of password salt rounds = record {
 
 -- a verifier is that of a password of which PBKDF2 makes its bytes
 abbrev pub is_verified : VerifierParts → List ℕ → Bool
-is_verified verifier password = bytes_eq verifier.bytes (pbkdf2_block password verifier.salt verifier.rounds)
+is_verified verifier password =
+    bytes_eq verifier.bytes (pbkdf2_block password verifier.salt verifier.rounds)

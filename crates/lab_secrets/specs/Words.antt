@@ -1,4 +1,5 @@
--- What the eight random words of a tick are used as. A word has 64 bits, and its bytes go most significant first.
+-- What the eight random words of a tick are used as. A word has 64 bits, and its bytes go most
+-- significant first.
 use Rattle.std.specs.Prelude.{ℕ, ◌*◌, List, [], ◌∷◌, ◌++◌, take, drop}
 use Rattle.std.specs.Int.{w64, to_be_bytes}
 use Rattle.hex.specs.Hex.{encode_lower}
@@ -16,8 +17,9 @@ token_of words = big_endian (take 4 words)
 abbrev pub half_of : List ℕ → List ℕ
 half_of words = big_endian (take 2 words)
 
--- a one-time word is two halves as they are written, one after the other: 64 lower hexadecimal digits, of which two persons
--- are given 32 each (21 CFR 11.200(a)(3), use by anyone else "requires collaboration of two or more individuals")
+-- a one-time word is two halves as they are written, one after the other: 64 lower hexadecimal
+-- digits, of which two persons are given 32 each (21 CFR 11.200(a)(3), use by anyone else "requires
+-- collaboration of two or more individuals")
 abbrev pub one_time_word : List ℕ → List ℕ → List ℕ
 one_time_word first second = encode_lower first ++ encode_lower second
 

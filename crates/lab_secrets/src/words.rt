@@ -123,7 +123,8 @@ pub fn salt(words: &[u64; 8]) -> [u8; 16]
     salt_at(words, 2)
 }
 
-/// The salts of the three founders of a laboratory: words 0 and 1, words 2 and 3, and words 4 and 5 of a tick.
+/// The salts of the three founders of a laboratory: words 0 and 1, words 2 and 3, and words 4 and 5
+/// of a tick.
 pub fn founder_salts(words: &[u64; 8]) -> [[u8; 16]; 3]
     ensures { result ≡ founder_salts words.now }
 {

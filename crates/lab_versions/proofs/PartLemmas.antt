@@ -1,6 +1,6 @@
 -- Ways to write values at the front of a text, and to read them back: each reads exactly what it writes. Where one stands
 -- behind another, so does what they write and read together.
-use Rattle.std.proofs.Common.{◌≡◌, ℕ, ◌<◌, ◌^◌, List, ◌++◌, length, Option, Some, None, refl, sym, ap, subst, ◌∙◌, append_assoc}
+use Rattle.std.proofs.Common.{◌≡◌, ℕ, ◌<◌, ◌^◌, List, ◌++◌, length, Option, Some, refl, sym, ap, subst, ◌∙◌, append_assoc}
 use Rattle.lab_versions.specs.Versions.{item}
 use Rattle.lab_versions.specs.Reading.{first_item, first_as, ◌>>=◌}
 use Rattle.lab_versions.proofs.ReadLemmas.{bind_some, some_same, item_sound, item_complete}

@@ -1,5 +1,5 @@
 -- Numbers, and the item at the front of a text, are read exactly: what was written is read back, and what is read was written.
-use Rattle.std.proofs.Common.{◌≡◌, ◌≢◌, ℕ, suc, ◌+◌, ◌<◌, ◌≤◌, ◌^◌, Bool, true, false, List, [], ◌∷◌, ◌++◌, length, take, drop, Option, Some, None, Result, Ok, Err, ◌==◌, refl, sym, ap, subst, ◌∙◌, arith, append_assoc, length-append, IsTrue, get_or}
+use Rattle.std.proofs.Common.{◌≡◌, ◌≢◌, ℕ, suc, ◌+◌, ◌*◌, ◌/◌, ◌%◌, ◌<◌, ◌≤◌, ◌^◌, Bool, true, false, List, [], ◌∷◌, ◌++◌, length, take, drop, Option, Some, None, Result, Ok, Err, ◌==◌, refl, sym, ap, subst, ◌∙◌, arith, append_assoc, length-append, get_or}
 use Rattle.std.specs.Prelude.{decimal, if◌then◌else◌, ◌&&◌, nat_lt, slice_index, MatchResult, option_map}
 use Rattle.std.specs.List.{position}
 use Rattle.std.specs.Option.{ok_or}
@@ -8,7 +8,7 @@ use Rattle.std.specs.Str.{bytes_eq, is_utf8, IsUtf8}
 use Rattle.std.specs.Str.Parse.{digits_value, ParsesUnsigned}
 use Rattle.std.proofs.lemmas.Bool.{and_parts, and_from, cond-true, cond-false, lt-ltb, ltb-true, eqb-true}
 use Rattle.std.proofs.lemmas.Bool.Decides.{nat_tests}
-use Rattle.std.proofs.lemmas.Fmt.{decimal_is_IsNumeral, length-decimal-le, IsAscii-decimal, parse-decimal}
+use Rattle.std.proofs.lemmas.Fmt.{decimal_digit, decimal_step, decimal_is_IsNumeral, length-decimal-le, IsAscii-decimal, parse-decimal}
 use Rattle.std.proofs.lemmas.List.{take-append-drop, drop_more, get_or_at, take_at, drop_at, length-take-le}
 use Rattle.std.proofs.lemmas.Slice.Eq.{bytes_eq-Decides}
 use Rattle.std.proofs.lemmas.Str.{IsUtf8-from_ascii, is_utf8-from_IsUtf8, IsUtf8-from_is_utf8}
@@ -196,6 +196,35 @@ pub number_read : (digits printed : List ℕ) (value : ℕ) → value < 2 ^ 64 �
 number_read digits printed value small prints equal =
     let same : printed ≡ digits = (bytes_eq-Decides printed digits).0 equal in
     ap number_of (sym same ∙ prints) ∙ number_complete value small
+
+-- digits that are read by themselves
+pub one_digit : (digits : List ℕ) (n : ℕ) → 1 ≤ length digits → length digits < 2 → 48 + n ≡ get_or digits 0 0 → n < 10
+    → Some n ≡ number_of digits
+one_digit [] n least most is small = absurd (grind (arith, nat_tests))
+one_digit (only ∷ []) n least most is small =
+    let spelled : decimal n ≡ only ∷ [] = decimal_digit n small ∙ ap (λ d. d ∷ []) is in
+    sym (ap number_of (sym spelled) ∙ number_complete n (omega arith))
+one_digit (only ∷ other ∷ more) n least most is small = absurd (grind (arith, nat_tests))
+
+two_spelled : (tens ones m n : ℕ) → 48 + m ≡ tens → 48 + n ≡ ones → 0 < m → m < 10 → n < 10
+    → decimal (10 * m + n) ≡ tens ∷ ones ∷ []
+two_spelled tens ones m n is_tens is_ones some small_tens small_ones =
+    let k : ℕ = 10 * m + n in
+    let front : k / 10 ≡ m = omega arith in
+    let back : 48 + k % 10 ≡ ones = omega arith in
+    decimal_step k (omega arith) (omega arith) ∙ ap (λ d. decimal (k / 10) ++ d ∷ []) back
+    ∙ ap (λ q. decimal q ++ ones ∷ []) front ∙ ap (λ l. l ++ ones ∷ []) (decimal_digit m small_tens)
+    ∙ ap (λ d. d ∷ ones ∷ []) is_tens
+
+pub two_digits : (digits : List ℕ) (m n : ℕ) → 2 ≤ length digits → length digits < 3 → 48 + m ≡ get_or digits 0 0
+    → 48 + n ≡ get_or digits 1 0 → 0 < m → m < 10 → n < 10 → Some (10 * m + n) ≡ number_of digits
+two_digits [] m n least most is_tens is_ones some small_tens small_ones = absurd (grind (arith, nat_tests))
+two_digits (only ∷ []) m n least most is_tens is_ones some small_tens small_ones = absurd (grind (arith, nat_tests))
+two_digits (tens ∷ ones ∷ []) m n least most is_tens is_ones some small_tens small_ones =
+    let spelled = two_spelled tens ones m n is_tens is_ones some small_tens small_ones in
+    sym (ap number_of (sym spelled) ∙ number_complete (10 * m + n) (omega arith))
+two_digits (tens ∷ ones ∷ other ∷ more) m n least most is_tens is_ones some small_tens small_ones =
+    absurd (grind (arith, nat_tests))
 
 -- bytes that are text
 pub read_as_text : {E : Type 0} {T : Type 0} (now : T → List ℕ) (bytes : List ℕ) (r : Result T E) (Q : E → Type 0)

@@ -1,17 +1,19 @@
 -- The parts of a version are read exactly, so a version is read from its text alone: no two versions share a text, and none is
 -- the front of another.
-use Rattle.std.proofs.Common.{◌≡◌, ◌≢◌, ℕ, zero, suc, ◌<◌, ◌^◌, Bool, true, false, List, [], ◌∷◌, ◌++◌, length, Option, Some, None, ◌==◌, refl, sym, ap, subst, ◌∙◌, arith, append_assoc, IsTrue}
+use Rattle.std.proofs.Common.{◌≡◌, ◌≢◌, ℕ, zero, suc, ◌<◌, ◌^◌, Bool, true, false, List, [], ◌∷◌, ◌++◌, length, Option, Some, None, ◌==◌, refl, sym, ap, subst, ◌∙◌, arith, append_assoc}
 use Rattle.std.specs.Prelude.{codes, decimal, if◌then◌else◌, option_map, All}
 use Rattle.std.specs.List.{flat_map}
 use Rattle.std.proofs.lemmas.Bool.{eqb-true}
-use Rattle.std.proofs.lemmas.Bool.Decides.{nat_tests}
 use Rattle.std.proofs.lemmas.List.{append-nil}
 use Rattle.std.proofs.lemmas.List.Elements.{All-nil, All-cons, All-head, All-tail}
 use Rattle.lab_names.specs.Moment.{moment_text}
 use Rattle.lab_names.specs.Names.{is_lab_code, is_person_code, is_key, is_name, is_note, is_unit}
 use Rattle.lab_versions.specs.Origins.{first_number, AmendsUnlessFirst}
 use Rattle.lab_versions.specs.Versions.{item, format_word, approval_text, reason_text, row_text, heading_text, subject_text, origin_text, opening_text, front_text, version_text, IsAmendment, IsRow, IsFront, IsVersion, IsNoVersion, IsSomeVersion, OneSpelling}
-use Rattle.lab_versions.specs.Reading.{first_as, which_word, text_where, first_heading, first_format, first_subject, first_no_amendment, first_amendment, first_origin, first_opening, first_front, first_row, first_rows, HeadingValue, SubjectValue, OpeningValue, FrontValue, version_of, ◌>>=◌}
+use Rattle.lab_versions.specs.Reading.{first_as, first_heading, first_format, first_subject, first_no_amendment, first_amendment, first_origin, first_opening, first_front, first_row, first_rows, HeadingValue, SubjectValue, OpeningValue, FrontValue, version_of, AreAllRows, ◌>>=◌}
+use Rattle.lab_versions.specs.Faults.{TextFaultFits}
+use Rattle.lab_versions.specs.declared.faults.TextFault.{TextFault}
+use Rattle.lab_versions.specs.declared.faults.TextFault.TheVariants.{BadText, Memory}
 use Rattle.lab_versions.specs.declared.origins.Amendment.{Amendment}
 use Rattle.lab_versions.specs.declared.rows.EntryRow.{EntryRow}
 use Rattle.lab_versions.specs.declared.versions.Format.{Format}
@@ -479,44 +481,40 @@ one_spelling one other rest more is_one is_other e =
 none_some : {A : Type 0} (x : A) → None ≡ Some x → ⊥
 none_some x e = absurd (cc)
 
-no_rest : (rest : List ℕ) → (length rest == 0) ≡ true → rest ≡ []
-no_rest [] h = refl
-no_rest (b ∷ bs) h = absurd (grind (arith, nat_tests))
-
-not_empty : (rest : List ℕ) → (length rest == 0) ≡ false → rest ≡ [] → ⊥
-not_empty [] longer none = absurd (cc)
-not_empty (b ∷ bs) longer none = absurd (cc)
-
 back : (bytes : List ℕ) (parts : VersionParts) → IsVersion parts → version_text parts ≡ bytes → IsReadBack parts bytes []
 back bytes parts is e =
     let P : List ℕ → Type 0 = λ l. IsReadBack parts l [] in
     subst P (append-nil (version_text parts) ∙ e) (version_complete parts [] is)
 
--- bytes with no front, and bytes with a front and no rows behind it
+-- bytes with no front
 pub no_front : (bytes : List ℕ) → first_front bytes ≡ None → IsNoVersion bytes
 no_front bytes none = λ parts is at.
     none_some (front_value parts, flat_map row_text parts.rows ++ []) (sym none ∙ (back bytes parts is at).front)
 
--- what follows the rows of a front
-abbrev pub RowsEnd : FrontValue → List ℕ → Option (List ℕ)
-RowsEnd front more = option_map (λ found. found.1) (first_rows front.opening.2 more)
-
 ends : (bytes : List ℕ) (front : FrontValue) (more : List ℕ) → first_front bytes ≡ Some (front, more)
-    → (parts : VersionParts) → IsVersion parts → version_text parts ≡ bytes → RowsEnd front more ≡ Some []
+    → (parts : VersionParts) → IsVersion parts → version_text parts ≡ bytes
+    → AreAllRows front.opening.2 more
 ends bytes front more e parts is at =
     let b = back bytes parts is at in
     let same : (front, more) ≡ (front_value parts, flat_map row_text parts.rows ++ []) = some_same _ _ (sym e ∙ b.front) in
-    ap (λ (p : FrontValue × List ℕ). RowsEnd p.0 p.1) same ∙ ap (option_map (λ found. found.1)) b.rows
+    ap (λ (p : FrontValue × List ℕ). option_map (λ found. found.1) (first_rows p.0.opening.2 p.1)) same ∙ ap (option_map (λ found. found.1)) b.rows
 
-pub no_end : (bytes : List ℕ) (front : FrontValue) (more : List ℕ) → first_front bytes ≡ Some (front, more)
-    → RowsEnd front more ≡ None → IsNoVersion bytes
-no_end bytes front more e none = λ parts is at.
-    none_some [] (sym none ∙ ends bytes front more e parts is at)
+-- bytes that are read to their end
+pub record IsRead (bytes : List ℕ) (front : FrontValue) (rows : List EntryRow) : Type 0 where
+  pub version : IsVersion (version_of front rows)
+  pub text : version_text (version_of front rows) ≡ bytes
 
-pub longer_end : (bytes : List ℕ) (front : FrontValue) (more rest : List ℕ) → first_front bytes ≡ Some (front, more)
-    → RowsEnd front more ≡ Some rest → (length rest == 0) ≡ false → IsNoVersion bytes
-longer_end bytes front more rest e end longer = λ parts is at.
-    not_empty rest longer (some_same rest [] (sym end ∙ ends bytes front more e parts is at))
+pub read_whole : (bytes : List ℕ) (front : FrontValue) (more : List ℕ) (rows : List EntryRow)
+    → first_front bytes ≡ Some (front, more) → first_rows front.opening.2 more ≡ Some (rows, []) → IsRead bytes front rows
+read_whole bytes front more rows e f =
+    let has = version_sound bytes front more rows [] e f in
+    record {
+      version = has.version;
+      text = sym (has.text_is ∙ append-nil (version_text (version_of front rows)));
+    }
+
+pub some_version : {bytes : List ℕ} {front : FrontValue} {rows : List EntryRow} → IsRead bytes front rows → IsSomeVersion bytes
+some_version {bytes} {front} {rows} read = record { parts = version_of front rows; version = read.version; text = read.text }
 
 rows_before : (o : Option (List EntryRow × List ℕ)) (rest : List ℕ) → option_map (λ found. found.1) o ≡ Some rest
     → (rows : List EntryRow) × (o ≡ Some (rows, rest))
@@ -524,31 +522,12 @@ rows_before None rest e = let never : None ≡ Some rest = e in absurd (cc)
 rows_before (Some found) rest e =
     (found.0, ap (λ l. Some (found.0, l)) (some_same found.1 rest e))
 
--- bytes that are read to their end
-pub record IsRead (bytes : List ℕ) (front : FrontValue) (more : List ℕ) : Type 0 where
-  pub rows : List EntryRow
-  pub rows_are : first_rows front.opening.2 more ≡ Some (rows, [])
-  pub version : IsVersion (version_of front rows)
-  pub text : version_text (version_of front rows) ≡ bytes
-
-pub read_whole : (bytes : List ℕ) (front : FrontValue) (more rest : List ℕ) → first_front bytes ≡ Some (front, more)
-    → RowsEnd front more ≡ Some rest → (length rest == 0) ≡ true → IsRead bytes front more
-read_whole bytes front more rest e end empty =
-    let none = no_rest rest empty in
-    let before = rows_before (first_rows front.opening.2 more) [] (end ∙ ap Some none) in
-    let rows : List EntryRow = before.0 in
-    let has = version_sound bytes front more rows [] e before.1 in
-    record {
-      rows = rows;
-      rows_are = before.1;
-      version = has.version;
-      text = sym (has.text_is ∙ append-nil (version_text (version_of front rows)));
-    }
-
-pub some_version : {bytes more : List ℕ} {front : FrontValue} → IsRead bytes front more → IsSomeVersion bytes
-some_version {bytes} {more} {front} read = record { parts = version_of front read.rows; version = read.version; text = read.text }
-
--- the rows that were read, told once more
-pub same_rows : {bytes more : List ℕ} {front : FrontValue} (read : IsRead bytes front more) (rows : List EntryRow)
-    → option_map (λ found. found.0) (first_rows front.opening.2 more) ≡ Some rows → read.rows ≡ rows
-same_rows read rows e = some_same read.rows rows (sym (ap (option_map (λ found. found.0)) read.rows_are) ∙ e)
+-- what is said of the rows behind a front is said of the bytes
+pub rows_fault : (bytes : List ℕ) (front : FrontValue) (more : List ℕ) (fault : TextFault)
+    → first_front bytes ≡ Some (front, more)
+    → TextFaultFits (AreAllRows front.opening.2 more → ⊥) (AreAllRows front.opening.2 more) fault
+    → TextFaultFits (IsNoVersion bytes) (IsSomeVersion bytes) fault
+rows_fault bytes front more BadText e none = λ parts is at. none (ends bytes front more e parts is at)
+rows_fault bytes front more (Memory fault) e all =
+    let found = rows_before (first_rows front.opening.2 more) [] all in
+    some_version (read_whole bytes front more found.0 e found.1)

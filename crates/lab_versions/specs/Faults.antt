@@ -1,4 +1,5 @@
--- The numbers and words by which the interface tells why bytes are no version's text (docs/REFUSALS.md).
+-- The numbers and words by which the interface tells why bytes are no version's text
+-- (docs/REFUSALS.md).
 use Rattle.std.specs.Prelude.{codes}
 use Rattle.lab_names.specs.Faults.{Entry, memory_entry}
 use Rattle.lab_versions.specs.declared.faults.TextFault.{TextFault}

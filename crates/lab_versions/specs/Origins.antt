@@ -1,5 +1,5 @@
--- Which version of a record it is, and what it amends (ISO/IEC 17025:2017, 7.5.2): the first version amends none, and every
--- later one the version before.
+-- Which version of a record it is, and what it amends (ISO/IEC 17025:2017, 7.5.2): the first
+-- version amends none, and every later one the version before.
 use Rattle.std.specs.Prelude.{◌≡◌, ◌≢◌, ℕ, ◌==◌, if◌then◌else◌, Option, Some, None}
 use Rattle.lab_versions.specs.declared.origins.Amendment.{Amendment}
 use Rattle.lab_versions.specs.declared.origins.OriginParts.{OriginParts}

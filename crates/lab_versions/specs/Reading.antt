@@ -1,6 +1,7 @@
--- The reading of a version's text, item by item: what stands at the front of a text, with the rest of the text. No public clause
--- names these steps; they are proved to read exactly the texts of `version_text`.
-use Rattle.std.specs.Prelude.{ℕ, zero, suc, ◌+◌, ◌^◌, ◌&&◌, ◌==◌, Bool, true, false, nat_lt, if◌then◌else◌, List, [], ◌∷◌, length, take, drop, slice_index, codes, decimal, Option, Some, None, option_and_then, option_map}
+-- The reading of a version's text, item by item: what stands at the front of a text, with the rest
+-- of the text. No public clause names these steps; they are proved to read exactly the texts of
+-- `version_text`.
+use Rattle.std.specs.Prelude.{◌≡◌, ℕ, zero, suc, ◌+◌, ◌^◌, ◌&&◌, ◌==◌, Bool, true, false, nat_lt, if◌then◌else◌, List, [], ◌∷◌, length, take, drop, slice_index, codes, decimal, Option, Some, None, option_and_then, option_map}
 use Rattle.std.specs.List.{position}
 use Rattle.std.specs.Str.{bytes_eq, is_utf8}
 use Rattle.std.specs.Str.Parse.{digits_value}
@@ -85,7 +86,8 @@ moment_in bytes = if is_utf8 bytes then moment_of bytes else None
 
 -- ---- the parts of a version, in order
 
--- which version it is: whether its format is the newer one, the laboratory, the record's number and its own
+-- which version it is: whether its format is the newer one, the laboratory, the record's number and
+-- its own
 abbrev pub HeadingValue : Type 0
 HeadingValue = Bool × List ℕ × ℕ × ℕ
 
@@ -192,6 +194,10 @@ first_rows (suc n) text = do
   row ← first_row text
   rows ← first_rows n row.1
   Some (row.0 ∷ rows.0, rows.1)
+
+-- so many rows are the whole text
+abbrev pub AreAllRows : ℕ → List ℕ → Type 0
+AreAllRows count text = option_map (λ found. found.1) (first_rows count text) ≡ Some []
 
 -- ---- what the code reads, as these values
 

@@ -1,5 +1,6 @@
--- The text of a version (ISO/IEC 17025:2017, 7.5.2), over which its digest is taken: items one after the other, each a text
--- behind its length in bytes. The form is this system's own (docs/VERSIONS.md).
+-- The text of a version (ISO/IEC 17025:2017, 7.5.2), over which its digest is taken: items one
+-- after the other, each a text behind its length in bytes. The form is this system's own
+-- (docs/VERSIONS.md).
 use Rattle.std.specs.Prelude.{◌≡◌, ◌≢◌, ℕ, ◌<◌, ◌^◌, IsTrue, true, false, List, [], ◌++◌, length, decimal, codes, Option, Some, None, All}
 use Rattle.std.specs.List.{flat_map}
 use Rattle.hex.specs.Hex.{encode_lower, IsBytes}
@@ -140,8 +141,9 @@ pub record IsSomeVersion (bytes : List ℕ) : Type 0 where
   pub version : IsVersion parts
   pub text : version_text parts ≡ bytes
 
--- no text of a version is the front of another, and a version has one text: where two texts of versions, of whichever
--- formats, stand at the front of the same bytes, the versions are the same, and so is what follows
+-- no text of a version is the front of another, and a version has one text: where two texts of
+-- versions, of whichever formats, stand at the front of the same bytes, the versions are the same,
+-- and so is what follows
 abbrev pub OneSpelling : Type 0
 OneSpelling =
     (one other : VersionParts) (rest more : List ℕ) → IsVersion one → IsVersion other

@@ -1,6 +1,6 @@
 //! Fields: the items at the front of a text, each read as a value of its type: a number, a word, a moment or a digest. The
 //! value comes with the rest of the text. None of them takes memory.
-ghost use Rattle.std.specs.Prelude.{◌≡◌, ◌==◌, if◌then◌else◌, Some, None, IfOk, IsTrue, option_map};
+ghost use Rattle.std.specs.Prelude.{◌≡◌, ◌==◌, ◌+◌, ◌<◌, ◌≤◌, if◌then◌else◌, Some, None, IfOk, IsTrue, option_map};
 ghost use Rattle.std.specs.List.{position};
 ghost use Rattle.std.specs.Str.{is_utf8};
 ghost use Rattle.lab_secrets.specs.Digits.{bytes_of_digits};
@@ -24,8 +24,30 @@ pub(crate) fn own<R: Rule>(alloc: Global, text: &str) -> Result<Text<R>, OutOfMe
     }
 }
 
-// The number of which these are the decimal digits, without leading zeros.
+// The number of which these are the decimal digits, without leading zeros. Most items are shorter than
+// a hundred bytes, and one or two digits are read by themselves.
 fn value_of(digits: &[u8]) -> Option<usize>
+    ensures { result ≡ number_of digits.now }
+{
+    match digits {
+        [only @ b'0'..=b'9'] => Some(value_of_digit(*only)),
+        [tens @ b'1'..=b'9', ones @ b'0'..=b'9'] => {
+            Some(10 * value_of_digit(*tens) + value_of_digit(*ones))
+        }
+        _ => parsed_value_of(digits),
+    }
+}
+
+fn value_of_digit(digit: u8) -> usize
+    requires from { 48 ≤ digit }
+    requires to { digit < 58 }
+    ensures value { 48 + result ≡ digit }
+    ensures small { result < 10 }
+{
+    usize::from(digit - b'0')
+}
+
+fn parsed_value_of(digits: &[u8]) -> Option<usize>
     ensures { result ≡ number_of digits.now }
 {
     let text = str::from_utf8(digits).ok()?;

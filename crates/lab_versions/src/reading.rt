@@ -1,11 +1,12 @@
-//! The reading of a version's text: of every text that `write_version` gives, and of no other bytes. The bytes are read to
-//! their end before memory is taken.
-ghost use Rattle.std.specs.Prelude.{◌≡◌, IsTrue, IfOk, IfErr, IsSome, Some, option_map};
+//! The reading of a version's text: of every text that `write_version` gives, and of no other bytes.
+//! The rows are made while they are read; where memory runs out for one, what is left is read before
+//! that is told.
+ghost use Rattle.std.specs.Prelude.{◌≡◌, [], ◌∷◌, ◌++◌, IsTrue, IfOk, IfErr, OnOk, Some, option_map};
 ghost use Rattle.lab_names.specs.Moment.{is_moment};
 ghost use Rattle.lab_names.specs.Ordinals.{is_ordinal};
 ghost use Rattle.lab_versions.specs.Faults.{TextFaultFits};
 ghost use Rattle.lab_versions.specs.Versions.{version_text, IsRow, IsOrigin, IsFront, IsVersion, IsNoVersion, IsSomeVersion, OneSpelling};
-ghost use Rattle.lab_versions.specs.Reading.{first_heading, first_format, first_subject, first_no_amendment, first_amendment, first_origin, first_opening, first_front, first_row, first_rows, heading_of, subject_of, amendment_of, amends_of, opening_of, front_of, row_of, version_of};
+ghost use Rattle.lab_versions.specs.Reading.{first_heading, first_format, first_subject, first_no_amendment, first_amendment, first_origin, first_opening, first_front, first_row, first_rows, heading_of, subject_of, amendment_of, amends_of, opening_of, front_of, row_of, version_of, AreAllRows};
 
 use crate::{
     Amendment, EntryRow, EntryRows, Format, Origin, OriginParts, TextFault, VersionParts, fields,
@@ -13,6 +14,9 @@ use crate::{
 use lab_names::{Keys, LabCodes, Moment, Names, Notes, Ordinal, OutOfMemory, PersonCodes, Units};
 use lab_secrets::Digest;
 use std::alloc::Global;
+
+/// The fewest bytes of a row's text. Room for no more rows than a text can have is made at once.
+const SHORTEST_ROW: usize = 43;
 
 // Which version it is.
 #[derive(Clone, Copy)]
@@ -73,12 +77,8 @@ pub fn read_version(alloc: Global, bytes: &[u8]) -> Result<VersionParts, TextFau
     ensures read { IfOk result (λ parts. IsVersion parts × (version_text parts ≡ bytes.now)) }
     ensures fault { IfErr result (TextFaultFits (IsNoVersion bytes.now) (IsSomeVersion bytes.now)) }
 {
-    let (front, rows) = first_front(bytes).ok_or(TextFault::BadText)?;
-    let rest = after_rows(front.opening.rows, rows).ok_or(TextFault::BadText)?;
-    if !rest.is_empty() {
-        return Err(TextFault::BadText);
-    }
-    let rows = owned_rows(alloc, front.opening.rows, rows)?;
+    let (front, rest) = first_front(bytes).ok_or(TextFault::BadText)?;
+    let rows = all_rows(alloc, front.opening.rows, rest)?;
     Ok(owned(alloc, &front, rows)?)
 }
 
@@ -230,22 +230,49 @@ fn after_rows(count: usize, text: &[u8]) -> Option<&[u8]>
     Some(rest)
 }
 
-// So many rows, copied.
-fn owned_rows(alloc: Global, count: usize, text: &[u8]) -> Result<EntryRows, OutOfMemory>
-    requires { IsSome (first_rows count text.now) }
-    ensures { IfOk result (λ rows. option_map (λ found. found.0) (first_rows count text.now)
-        ≡ Some rows) }
+// Why a row is not made that memory has run out for, where so many rows are left with it.
+fn fault_of_memory(left: usize, text: &[u8]) -> TextFault
+    ensures { TextFaultFits (AreAllRows left text.now → ⊥) (AreAllRows left text.now) result }
 {
-    let mut rows = Vec::new(alloc);
+    match after_rows(left, text) {
+        Some([]) => TextFault::Memory(OutOfMemory),
+        _ => TextFault::BadText,
+    }
+}
+
+// All rows of a text that has so many, copied.
+fn all_rows(alloc: Global, count: usize, text: &[u8]) -> Result<EntryRows, TextFault>
+    ensures rows { IfOk result (λ rows. first_rows count text.now ≡ Some (rows, [])) }
+    ensures fault { IfErr result
+        (TextFaultFits (AreAllRows count text.now → ⊥) (AreAllRows count text.now)) }
+{
+    let room = count.min(text.len() / SHORTEST_ROW);
+    let Ok(mut rows) = Vec::with_capacity(alloc, room) else {
+        return Err(fault_of_memory(count, text));
+    };
     let mut rest = text;
-    for _ in 0..count {
+    for at in 0..count {
         let Some((row, after)) = first_row(rest) else {
-            unreachable!()
+            return Err(TextFault::BadText);
         };
-        rows.push(owned_row(alloc, &row)?)?;
+        if let Err(_) = push_row(alloc, &mut rows, &row) {
+            return Err(fault_of_memory(count - at, rest));
+        }
         rest = after;
     }
+    if !rest.is_empty() {
+        return Err(TextFault::BadText);
+    }
     Ok(EntryRows::new(rows))
+}
+
+// Adds a row, copied.
+fn push_row(alloc: Global, rows: &mut Vec<EntryRow>, row: &Row<'_>) -> Result<(), OutOfMemory>
+    requires { IsRow (row_of row.now) }
+    ensures { OnOk result (rows.new.items ≡ rows.old.items ++ row_of row.now ∷ []) }
+{
+    rows.push(owned_row(alloc, row)?)?;
+    Ok(())
 }
 
 fn owned_row(alloc: Global, row: &Row<'_>) -> Result<EntryRow, OutOfMemory>

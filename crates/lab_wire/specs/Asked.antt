@@ -1,5 +1,5 @@
--- What the bytes of a request ask of which laboratory, or why they are refused (RFC 9112, sections 2 to 5).
--- The checks stand here in their order: the head, the route, the laboratory's code.
+-- What the bytes of a request ask of which laboratory, or why they are refused (RFC 9112, sections
+-- 2 to 5). The checks stand here in their order: the head, the route, the laboratory's code.
 use Rattle.std.specs.Prelude.{◌≡◌, ℕ, List, if◌then◌else◌, Option, Some, None, Result, Ok, Err, IsOk}
 use Rattle.lab_names.specs.Names.{is_lab_code}
 use Rattle.lab_records.specs.declared.command.Command.TheVariants as command
@@ -35,8 +35,8 @@ asked_by (Err refusal) = Err refusal
 unfoldable pub asked : List ℕ → Result Asked RequestRefusal
 asked bytes = asked_by (good_head bytes)
 
--- the faults of reading what is asked: the refusal that comes of it, or out of memory where something is
--- asked
+-- the faults of reading what is asked: the refusal that comes of it, or out of memory where
+-- something is asked
 abbrev pub RequestFaultFits : Result Asked RequestRefusal → RequestFault → Type 0
 RequestFaultFits asks (Refused refusal) = asks ≡ Err refusal
 RequestFaultFits asks Memory = IsOk asks

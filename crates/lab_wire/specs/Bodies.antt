@@ -1,5 +1,5 @@
--- What bodies say: JSON (RFC 8259, read as the kit's `serde_json` states it) that is an object of exactly the
--- members that a command names, each of its kind.
+-- What bodies say: JSON (RFC 8259, read as the kit's `serde_json` states it) that is an object of
+-- exactly the members that a command names, each of its kind.
 use Rattle.std.specs.Prelude.{◌≡◌, ◌<◌, ℕ, suc, ◌==◌, ◌&&◌, not, List, [], ◌∷◌, length, count_by, Bool, true, false, codes, if◌then◌else◌, is_some, Option, Some, None, option_and_then, Result, Ok, Err}
 use Rattle.std.specs.List.{list_all}
 use Rattle.std.specs.Str.{is_utf8}
@@ -76,7 +76,8 @@ founding_by (Some text) = if is_name text then Ok (record { name = text }) else 
 unfoldable pub founding_named : List ℕ → Result Founding BodyRefusal
 founding_named body = founding_by (option_and_then founding_name (json_of body))
 
--- the faults of reading a founding: the refusal that comes of it, or out of memory where a byte came
+-- the faults of reading a founding: the refusal that comes of it, or out of memory where a byte
+-- came
 abbrev pub FoundingFaultFits : List ℕ → BodyFault → Type 0
 FoundingFaultFits body (Refused refusal) = founding_named body ≡ Err refusal
 FoundingFaultFits body Memory = 0 < length body

@@ -5,7 +5,8 @@ use Rattle.lab_names.specs.Calendar.{day_of, year_of, month_of, day_of_month, we
 -- the name of a day of the week, from 1 for Monday
 abbrev pub day_name : ℕ → List ℕ
 day_name weekday =
-    slice_index_or (codes "Mon" ∷ codes "Tue" ∷ codes "Wed" ∷ codes "Thu" ∷ codes "Fri" ∷ codes "Sat" ∷ codes "Sun" ∷ [])
+    slice_index_or (codes "Mon" ∷ codes "Tue" ∷ codes "Wed" ∷ codes "Thu" ∷ codes "Fri"
+    ∷ codes "Sat" ∷ codes "Sun" ∷ [])
     (weekday - 1) []
 
 -- the name of a month, from 1 for January
@@ -30,5 +31,6 @@ fixdate_text weekday day month year clock =
 -- that of a moment, which is a number of seconds since 1970-01-01T00:00:00Z
 unfoldable pub imf_fixdate : ℕ → List ℕ
 imf_fixdate moment =
-    fixdate_text (weekday_of (day_of moment)) (day_of_month (day_of moment)) (month_of (day_of moment))
-    (year_of (day_of moment)) (clock_text (hour_of moment) (minute_of moment) (second_of moment))
+    fixdate_text (weekday_of (day_of moment)) (day_of_month (day_of moment))
+    (month_of (day_of moment)) (year_of (day_of moment))
+    (clock_text (hour_of moment) (minute_of moment) (second_of moment))

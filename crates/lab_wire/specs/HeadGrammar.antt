@@ -1,5 +1,5 @@
--- That reading a head by lines and words is the grammar of request heads (RFC 9112, sections 2.2, 3 and
--- 5), as the kit's `httparse` states it for its default settings.
+-- That reading a head by lines and words is the grammar of request heads (RFC 9112, sections 2.2, 3
+-- and 5), as the kit's `httparse` states it for its default settings.
 use Rattle.std.specs.Prelude.{◌≡◌, ℕ, ◌+◌, List, length, drop, map, Some}
 use Rattle.httparse.specs.Grammar.{print_version, RequestHead, ReadsRequest}
 use Rattle.httparse.specs.Grammar as grammar
@@ -28,8 +28,8 @@ pub record IsReadAs (text : List ℕ) (h : RequestHead) (after : List ℕ) : Typ
   pub lines : length (head_lines text) ≡ 1 + length h.fields
   pub rest : drop (head_length text) text ≡ after
 
--- the grammar's head at the front of the text is the one that is read, of as many lines and with the
--- same rest behind it, and none is read where the grammar has none
+-- the grammar's head at the front of the text is the one that is read, of as many lines and with
+-- the same rest behind it, and none is read where the grammar has none
 pub record IsReadByGrammar (text : List ℕ) : Type 0 where
   pub reads : (h : RequestHead) (rest : List ℕ) → ReadsRequest text h rest → IsReadAs text h rest
   pub only : (head : Head) → head_of text ≡ Some head → HasHead text

@@ -22,7 +22,8 @@ head_limit = 8192
 abbrev pub field_limit : ℕ
 field_limit = 64
 
--- the bytes from the first that is neither CR nor LF: a server passes over empty lines before a request line
+-- the bytes from the first that is neither CR nor LF: a server passes over empty lines before a
+-- request line
 abbrev pub without_front : List ℕ → List ℕ
 without_front [] = []
 without_front (b ∷ bytes) = if is_newline b then without_front bytes else b ∷ bytes
@@ -78,7 +79,8 @@ head_length text = lines_length (ended_lines text)
 -- may stand below the request line
 unfoldable pub is_over_limits : ℕ → List ℕ → Bool
 is_over_limits came text =
-    (nat_le head_limit came && not (has_end text)) || nat_lt (1 + field_limit) (length (head_lines text))
+    (nat_le head_limit came && not (has_end text))
+    || nat_lt (1 + field_limit) (length (head_lines text))
 
 -- the words between single spaces
 abbrev pub words : List ℕ → List (List ℕ)
@@ -152,7 +154,8 @@ abbrev pub head_of_lines : List (List ℕ) → Option Head
 head_of_lines [] = None
 head_of_lines (line ∷ lines) = head_of_words (words line) lines
 
--- the head at the front of the text, if one has come whole: its lines, each without the CR before its LF
+-- the head at the front of the text, if one has come whole: its lines, each without the CR before
+-- its LF
 unfoldable pub head_of : List ℕ → Option Head
 head_of text =
     if has_end text then head_of_lines (map strip_carriage_return (head_lines text)) else None

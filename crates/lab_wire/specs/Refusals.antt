@@ -1,4 +1,5 @@
--- What the wire refuses: the bytes of a request that ask nothing, and a body that is none of its kind.
+-- What the wire refuses: the bytes of a request that ask nothing, and a body that is none of its
+-- kind.
 use Rattle.std.specs.Prelude.{ℕ, List, codes}
 use Rattle.lab_names.specs.Faults.{Entry, memory_entry}
 use Rattle.lab_wire.specs.declared.refusals.RequestRefusal.{RequestRefusal}

@@ -1,4 +1,5 @@
--- Where a request goes, by its method and its path (RFC 3986, sections 3.3 and 3.4; RFC 9110, section 9).
+-- Where a request goes, by its method and its path (RFC 3986, sections 3.3 and 3.4; RFC 9110,
+-- section 9).
 use Rattle.std.specs.Prelude.{ℕ, Bool, List, ◌==◌, ◌&&◌, if◌then◌else◌, length, drop, nat_eq, Option, Some, None, option_map, option_and_then, codes}
 use Rattle.std.specs.List.{before_first, starts_with}
 use Rattle.std.specs.Str.{bytes_eq}

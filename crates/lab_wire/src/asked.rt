@@ -69,13 +69,14 @@ fn asked_at(alloc: Global, to: &Destination<'_>) -> Result<Asked, RequestFault>
     }
 }
 
-/// Reads what the bytes of a request ask, from its head alone: `GET /labs/CODE` asks for the card of that
-/// laboratory. A query is passed over, and CR and LF bytes in front of the request line are dropped.
+/// Reads what the bytes of a request ask, from its head alone: `GET /labs/CODE` asks for the card
+/// of that laboratory. A query is passed over, as are CR and LF in front of the request line.
 ///
 /// # Errors
-/// - `HeadTooLong` where 8,192 bytes came, those dropped counted, without an empty line, or over 64 field lines;
-/// - else `BadHead` where the head has not come whole, is no request head (RFC 9112, sections 3 and 5), or
-///   is one of HTTP/1.1 without exactly one Host;
+/// - `HeadTooLong` where 8,192 bytes came, those dropped counted, without an empty line, or over 64
+///   field lines;
+/// - else `BadHead` where the head has not come whole, is no request head (RFC 9112, sections 3 and
+///   5), or is one of HTTP/1.1 without exactly one Host;
 /// - else `NoRoute` where it asks for anything but a card;
 /// - that memory ran out, where it asks for one.
 pub fn ask(alloc: Global, bytes: &[u8]) -> Result<Asked, RequestFault>

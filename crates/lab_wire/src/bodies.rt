@@ -88,7 +88,8 @@ fn is_of(kind: Kind, value: &Value) -> bool
 }
 
 fn keeps(value: &Value, rule: &Member) -> bool
-    ensures { result ≡ keeps (rule_shown rule.now) (get (rule_shown rule.now).name (view value.now)) }
+    ensures { result ≡ keeps (rule_shown rule.now)
+        (get (rule_shown rule.now).name (view value.now)) }
 {
     match value.get(rule.name) {
         Some(found) => is_of(rule.kind, found),
@@ -103,14 +104,15 @@ fn is_there(value: &Value, rule: &Member) -> bool
 }
 
 fn all_kept(value: &Value, rules: &[Member]) -> bool
-    ensures { result ≡ list_all (λ rule. keeps (rule_shown rule) (get (rule_shown rule).name (view value.now)))
-        rules.now }
+    ensures { result ≡ list_all (λ rule. keeps (rule_shown rule)
+        (get (rule_shown rule).name (view value.now))) rules.now }
 {
     rules.iter().all(|rule| keeps(value, rule))
 }
 
 fn count_there(value: &Value, rules: &[Member]) -> usize
-    ensures { result ≡ count_by (λ rule. is_some (get (rule_shown rule).name (view value.now))) rules.now }
+    ensures { result ≡ count_by (λ rule. is_some (get (rule_shown rule).name (view value.now)))
+        rules.now }
 {
     rules.iter().filter(|rule| is_there(value, rule)).count()
 }
@@ -135,25 +137,21 @@ fn text_at<'v>(value: &'v Value, name: &str) -> Option<&'v str>
 #[cfg(test)]
 mod tests {
     use super::*;
+    use crate::tests::long;
     use std::process::Abort;
-    use std::test::Fail;
 
     const BAD_BODY: BodyFault = BodyFault::Refused(BodyRefusal::BadBody);
 
     const BAD_NAME: BodyFault = BodyFault::Refused(BodyRefusal::BadName);
 
     fn founds(rt: &(impl Abort + AllocGlobal), body: &[u8], name: &str) {
-        match founding_of(rt.alloc(), body) {
-            Ok(founding) => assert!(rt; founding.name.as_str() == name),
-            Err(fault) => panic!(rt; "refused: {fault}"),
-        }
+        let founding = founding_of(rt.alloc(), body).expect(rt, "a founding");
+        assert!(rt; founding.name.as_str() == name);
     }
 
     fn refuses(rt: &(impl Abort + AllocGlobal), body: &[u8], wanted: BodyFault) {
-        match founding_of(rt.alloc(), body) {
-            Ok(_) => panic!(rt; "read"),
-            Err(fault) => assert_eq!(rt; fault, wanted),
-        }
+        let fault = founding_of(rt.alloc(), body).err();
+        assert!(rt; fault == Some(wanted));
     }
 
     #[test]
@@ -211,33 +209,22 @@ mod tests {
     }
 
     #[test]
-    fn a_name_has_at_most_120_bytes(rt: HostRuntime) -> Result<(), Fail> {
-        let longest = "a".repeat(rt.alloc(), 120)?;
-        founds(
-            &rt,
-            format!(in rt.alloc(); "{{\"name\":\"{longest}\"}}")?.as_bytes(),
-            &longest,
-        );
-        refuses(
-            &rt,
-            format!(in rt.alloc(); "{{\"name\":\"{longest}a\"}}")?.as_bytes(),
-            BAD_NAME,
-        );
-        Ok(())
+    fn a_name_has_at_most_120_bytes(rt: HostRuntime) {
+        let longest = "a".repeat(rt.alloc(), 120).expect(&rt, "memory");
+        let front = b"{\"name\":\"";
+        founds(&rt, &long(&rt, front, (b"a", 120), b"\"}"), &longest);
+        refuses(&rt, &long(&rt, front, (b"a", 121), b"\"}"), BAD_NAME);
     }
 
     #[test]
-    fn values_nest_up_to_127_deep(rt: HostRuntime) -> Result<(), Fail> {
-        let opened = "[".repeat(rt.alloc(), 126)?;
-        let closed = "]".repeat(rt.alloc(), 126)?;
-        let deepest = format!(in rt.alloc();
-            "{{\"name\":{opened}{closed},\"name\":\"Aqua Lab\"}}"
-        )?;
-        founds(&rt, deepest.as_bytes(), "Aqua Lab");
-        let deeper = format!(in rt.alloc();
-            "{{\"name\":[{opened}{closed}],\"name\":\"Aqua Lab\"}}"
-        )?;
-        refuses(&rt, deeper.as_bytes(), BAD_BODY);
-        Ok(())
+    fn values_nest_up_to_127_deep(rt: HostRuntime) {
+        founds(&rt, &nested(&rt, 126), "Aqua Lab");
+        refuses(&rt, &nested(&rt, 127), BAD_BODY);
+    }
+
+    // A body whose first `name` is so many arrays in one another.
+    fn nested(rt: &(impl Abort + AllocGlobal), depth: usize) -> Vec<u8> {
+        let opened = long(rt, b"{\"name\":", (b"[", depth), b"");
+        long(rt, &opened, (b"]", depth), b",\"name\":\"Aqua Lab\"}")
     }
 }

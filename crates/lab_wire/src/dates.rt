@@ -17,10 +17,10 @@ pub fn http_date(moment: Moment) -> HttpDate
 #[cfg(test)]
 mod tests {
     use super::*;
-    use std::test::Fail;
+    use crate::tests::assert_bytes;
 
     #[test]
-    fn dates_are_those_of_the_calendar(rt: HostRuntime) -> Result<(), Fail> {
+    fn dates_are_those_of_the_calendar(rt: HostRuntime) {
         let dates = [
             (0, "Thu, 01 Jan 1970 00:00:00 GMT"),
             (784_111_777, "Sun, 06 Nov 1994 08:49:37 GMT"),
@@ -29,9 +29,9 @@ mod tests {
             (253_402_300_799, "Fri, 31 Dec 9999 23:59:59 GMT"),
         ];
         for (seconds, date) in dates {
-            let text = format!(in rt.alloc(); "{}", http_date(Moment::from_seconds(seconds)?))?;
-            assert!(rt; text.as_str() == date, "at {seconds}");
+            let moment = Moment::from_seconds(seconds).expect(&rt, "a moment");
+            let text = format!(in rt.alloc(); "{}", http_date(moment)).expect(&rt, "memory");
+            assert_bytes(&rt, text.as_bytes(), date.as_bytes());
         }
-        Ok(())
     }
 }

@@ -1,4 +1,4 @@
-//! The head of a request: its limits, its grammar, its Host and the words of its request line (RFC 9112).
+//! The head of a request (RFC 9112): its limits, grammar, Host and the words of its request line.
 ghost use Rattle.std.specs.Prelude.{◌≡◌, ◌+◌, ◌≤◌, ◌==◌, ◌||◌, not, ℕ, List, length, take, All, IsTrue, IfOk, IfErr, IfSome, IfNone, Ok, Err, position, count_by};
 ghost use Rattle.httparse.specs.Grammar.{ReadsRequest, RequestHead as GrammarHead};
 ghost use Rattle.httparse.specs.Spans.{IsHeaderWithin, IsRequestWithin, IsRequestOf, span_bytes};
@@ -118,8 +118,8 @@ fn is_over_limits(came: usize, text: &[u8]) -> bool
 fn parse_head(text: &[u8], headers: &mut [HeaderSpan]) -> Option<RequestSpans>
     ensures within { IfSome result (IsRequestWithin text.now headers.new) }
     ensures head { IfSome result (IsRequestOf text.now headers.new) }
-    ensures none { IfNone result ((head : GrammarHead) (rest : List ℕ) → ReadsRequest text.now head rest
-        → ¬ (length head.fields ≤ length headers.old)) }
+    ensures none { IfNone result ((head : GrammarHead) (rest : List ℕ)
+        → ReadsRequest text.now head rest → ¬ (length head.fields ≤ length headers.old)) }
 {
     match parse_request(text, headers) {
         Ok(Status::Complete(head)) => Some(head),
@@ -188,38 +188,44 @@ pub fn read_head(bytes: &[u8]) -> Result<RequestHead<'_>, RequestRefusal>
 #[cfg(test)]
 mod tests {
     use super::*;
+    use crate::tests::assert_bytes;
+    use httparse::spans::Span;
+    use std::process::Abort;
 
     const TEXT: &[u8] = b"\r\n\nPOST /labs/aqua/open?x HTTP/1.1\r\nHost: d\r\n\
         Authorization:\t LabSession \t a\t \r\nExpect:\nContent-Length:\t2 \r\n\r\n{}more";
 
     #[test]
     fn a_head_gives_its_request_line_and_its_end(rt: HostRuntime) {
-        let Ok(head) = read_head(TEXT) else {
-            panic!(rt; "refused");
-        };
-        assert_eq!(rt; head.method, b"POST".as_slice());
-        assert!(rt; head.target == "/labs/aqua/open?x");
+        let head = read_head(TEXT).expect(&rt, "a head");
         assert_eq!(rt; head.minor_version, 1);
-        assert_eq!(rt; TEXT.get(head.end..), Some(b"{}more".as_slice()));
+        assert_bytes(&rt, head.method, b"POST");
+        assert_bytes(&rt, head.target.as_bytes(), b"/labs/aqua/open?x");
+        assert_bytes(&rt, &TEXT[head.end.min(TEXT.len())..], b"{}more");
     }
 
     #[test]
     fn values_have_no_blanks_at_their_ends(rt: HostRuntime) {
-        let Ok(head) = read_head(TEXT) else {
-            panic!(rt; "refused");
-        };
-        let fields: [(&[u8], &[u8]); 4] = [
-            (b"Host", b"d"),
-            (b"Authorization", b"LabSession \t a"),
-            (b"Expect", b""),
-            (b"Content-Length", b"2"),
-        ];
+        let head = read_head(TEXT).expect(&rt, "a head");
         assert_eq!(rt; head.field_count, 4);
-        for (spans, (name, value)) in head.fields.iter().zip(fields) {
-            let (start, end) = (spans.name.start, spans.name.end);
-            assert_eq!(rt; head.text.get(start..end), Some(name));
-            let (start, end) = (spans.value.start, spans.value.end);
-            assert_eq!(rt; head.text.get(start..end), Some(value));
-        }
+        has_field(&rt, &head, 0, b"Host", b"d");
+        has_field(&rt, &head, 1, b"Authorization", b"LabSession \t a");
+        has_field(&rt, &head, 2, b"Expect", b"");
+        has_field(&rt, &head, 3, b"Content-Length", b"2");
+    }
+
+    // The field at a place has this name and value.
+    fn has_field(rt: &impl Abort, head: &RequestHead<'_>, at: usize, name: &[u8], value: &[u8]) {
+        let field = head.fields.get(at).expect(rt, "a place");
+        stands(rt, head.text, field.name, name);
+        stands(rt, head.text, field.value, value);
+    }
+
+    // The span of the text has these bytes.
+    fn stands(rt: &impl Abort, text: &[u8], span: Span, bytes: &[u8]) {
+        let found = text
+            .get(span.start..span.end)
+            .expect(rt, "a span of the text");
+        assert_bytes(rt, found, bytes);
     }
 }

@@ -1,5 +1,5 @@
-//! The wire of Koghdise: what the bytes of an HTTP/1.1 request ask, the bytes of each reply and how they are sent
-//! (RFC 9110 and RFC 9112), and what the body of a founding says (RFC 8259).
+//! The wire of Koghdise: what the bytes of an HTTP/1.1 request ask, the bytes of each reply and how
+//! they are sent (RFC 9110 and RFC 9112), and what the body of a founding says (RFC 8259).
 #![tactic(auto)]
 
 mod asked;

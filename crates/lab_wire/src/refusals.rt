@@ -174,29 +174,20 @@ impl fmt::Display for BodyFault {
 #[cfg(test)]
 mod tests {
     use super::*;
+    use crate::tests::assert_entry;
 
     #[test]
     fn faults_of_requests_have_their_numbers_and_words(rt: HostRuntime) {
-        for (fault, number, word) in [
-            (
-                RequestFault::Refused(RequestRefusal::BadHead),
-                80,
-                "bad_head",
-            ),
-            (
-                RequestFault::Refused(RequestRefusal::HeadTooLong),
-                81,
-                "head_too_long",
-            ),
-            (
-                RequestFault::Refused(RequestRefusal::NoRoute),
-                86,
-                "no_route",
-            ),
-            (RequestFault::Memory, 90, "memory"),
+        for (refusal, number, word) in [
+            (RequestRefusal::BadHead, 80, "bad_head"),
+            (RequestRefusal::HeadTooLong, 81, "head_too_long"),
+            (RequestRefusal::NoRoute, 86, "no_route"),
         ] {
-            assert_eq!(rt; (fault.number(), fault.word()), (Some(number), word));
+            let fault = RequestFault::Refused(refusal);
+            assert_entry(&rt, (fault.number(), fault.word()), (number, word));
         }
+        let memory = RequestFault::Memory;
+        assert_entry(&rt, (memory.number(), memory.word()), (90, "memory"));
     }
 
     #[test]
@@ -206,7 +197,7 @@ mod tests {
             (BodyFault::Refused(BodyRefusal::BadName), 1, "bad_name"),
             (BodyFault::Memory, 90, "memory"),
         ] {
-            assert_eq!(rt; (fault.number(), fault.word()), (Some(number), word));
+            assert_entry(&rt, (fault.number(), fault.word()), (number, word));
         }
     }
 }

@@ -93,7 +93,8 @@ fn card_value(alloc: Global, lab: &str, name: &str) -> Result<Value, OutOfMemory
 }
 
 fn refusal_value(alloc: Global, code: u32, word: &str) -> Result<Value, OutOfMemory>
-    ensures { IfOk result (λ value. view value ≡ refusal_data (record { number = code; word = word.now })) }
+    ensures { IfOk result (λ value. view value
+        ≡ refusal_data (record { number = code; word = word.now })) }
 {
     Ok(json!(in alloc; {"error": word, "number": code})?)
 }
@@ -101,90 +102,95 @@ fn refusal_value(alloc: Global, code: u32, word: &str) -> Result<Value, OutOfMem
 #[cfg(test)]
 mod tests {
     use super::*;
+    use crate::tests::assert_bytes;
     use lab_names::{LabCode, Moment, Name};
     use lab_records::Refusal;
-    use std::test::Fail;
+    use std::process::Abort;
 
-    fn tick_at(seconds: i64) -> Result<Tick, Fail> {
-        Ok(Tick {
-            moment: Moment::from_seconds(seconds)?,
+    fn card_of(rt: &(impl Abort + AllocGlobal), lab: &str, name: &str) -> Answer {
+        let lab = LabCode::parse(rt.alloc(), lab).expect(rt, "a code");
+        let name = Name::parse(rt.alloc(), name).expect(rt, "a name");
+        Answer::Replied(Reply::Card { lab, name })
+    }
+
+    // The answer at so many seconds has these bytes.
+    fn is_sent_as(rt: &(impl Abort + AllocGlobal), seconds: i64, answer: &Answer, wanted: &[u8]) {
+        let moment = Moment::from_seconds(seconds).expect(rt, "a moment");
+        let tick = Tick {
+            moment,
             words: [1; 8],
-        })
-    }
-
-    fn card_of(alloc: Global, lab: &str, name: &str) -> Result<Answer, Fail> {
-        Ok(Answer::Replied(Reply::Card {
-            lab: LabCode::parse(alloc, lab)?,
-            name: Name::parse(alloc, name)?,
-        }))
+        };
+        let bytes = reply_bytes(rt.alloc(), &tick, answer).expect(rt, "memory");
+        assert_bytes(rt, &bytes, wanted);
     }
 
     #[test]
-    fn one_card_and_one_missing_laboratory(rt: HostRuntime) -> Result<(), Fail> {
-        let tick = tick_at(100)?;
-        let card = reply_bytes(rt.alloc(), &tick, &card_of(rt.alloc(), "aqua", "Aqua Lab")?)?;
-        let card_text = b"HTTP/1.1 200 OK\r\nDate: Thu, 01 Jan 1970 00:01:40 GMT\r\n\
+    fn one_card_and_one_missing_laboratory(rt: HostRuntime) {
+        is_sent_as(
+            &rt,
+            100,
+            &card_of(&rt, "aqua", "Aqua Lab"),
+            b"HTTP/1.1 200 OK\r\nDate: Thu, 01 Jan 1970 00:01:40 GMT\r\n\
             Content-Type: application/json\r\nContent-Length: 32\r\nConnection: close\r\n\r\n\
-            {\"lab\":\"aqua\",\"name\":\"Aqua Lab\"}";
-        assert_eq!(rt; card.as_slice(), card_text.as_slice());
-        let missing = reply_bytes(
-            rt.alloc(),
-            &tick,
+            {\"lab\":\"aqua\",\"name\":\"Aqua Lab\"}",
+        );
+        is_sent_as(
+            &rt,
+            100,
             &Answer::Replied(Reply::Refused(Refusal::NoSuchLab)),
-        )?;
-        let missing_text = b"HTTP/1.1 404 Not Found\r\nDate: Thu, 01 Jan 1970 00:01:40 GMT\r\n\
+            b"HTTP/1.1 404 Not Found\r\nDate: Thu, 01 Jan 1970 00:01:40 GMT\r\n\
             Content-Type: application/json\r\nContent-Length: 35\r\nConnection: close\r\n\r\n\
-            {\"error\":\"no_such_lab\",\"number\":40}";
-        assert_eq!(rt; missing.as_slice(), missing_text.as_slice());
-        Ok(())
+            {\"error\":\"no_such_lab\",\"number\":40}",
+        );
     }
 
     #[test]
-    fn a_name_is_escaped_and_counted_in_bytes(rt: HostRuntime) -> Result<(), Fail> {
-        let card = card_of(rt.alloc(), "aqua", "A \"\u{e9}\" \\/")?;
-        let bytes = reply_bytes(rt.alloc(), &tick_at(0)?, &card)?;
-        let text = b"HTTP/1.1 200 OK\r\nDate: Thu, 01 Jan 1970 00:00:00 GMT\r\n\
+    fn a_name_is_escaped_and_counted_in_bytes(rt: HostRuntime) {
+        is_sent_as(
+            &rt,
+            0,
+            &card_of(&rt, "aqua", "A \"\u{e9}\" \\/"),
+            b"HTTP/1.1 200 OK\r\nDate: Thu, 01 Jan 1970 00:00:00 GMT\r\n\
             Content-Type: application/json\r\nContent-Length: 36\r\nConnection: close\r\n\r\n\
-            {\"lab\":\"aqua\",\"name\":\"A \\\"\xc3\xa9\\\" \\\\/\"}";
-        assert_eq!(rt; bytes.as_slice(), text.as_slice());
-        Ok(())
+            {\"lab\":\"aqua\",\"name\":\"A \\\"\xc3\xa9\\\" \\\\/\"}",
+        );
+    }
+
+    // The answer at 100 seconds has this status and, in so many bytes, tells of this refusal.
+    fn tells_of(
+        rt: &(impl Abort + AllocGlobal),
+        answer: &Answer,
+        (status, length): (&str, u32),
+        (word, number): (&str, u32),
+    ) {
+        let text = format!(in rt.alloc();
+            "HTTP/1.1 {status}\r\nDate: Thu, 01 Jan 1970 00:01:40 GMT\r\n\
+            Content-Type: application/json\r\nContent-Length: {length}\r\n\
+            Connection: close\r\n\r\n{{\"error\":\"{word}\",\"number\":{number}}}"
+        );
+        is_sent_as(rt, 100, answer, text.expect(rt, "memory").as_bytes());
     }
 
     #[test]
-    fn each_refusal_has_its_status_and_its_body(rt: HostRuntime) -> Result<(), Fail> {
-        let behind = Answer::Replied(Reply::Refused(Refusal::ClockBehind));
-        let [bad, long] = [RequestRefusal::BadHead, RequestRefusal::HeadTooLong];
+    fn each_refusal_has_its_status_and_its_body(rt: HostRuntime) {
+        let bad_head = Answer::Refused(RequestRefusal::BadHead);
+        tells_of(&rt, &bad_head, ("400 Bad Request", 32), ("bad_head", 80));
+        let too_long = Answer::Refused(RequestRefusal::HeadTooLong);
+        let status = "431 Request Header Fields Too Large";
+        tells_of(&rt, &too_long, (status, 37), ("head_too_long", 81));
         let no_route = Answer::Refused(RequestRefusal::NoRoute);
-        for (answer, status, word, number) in [
-            (Answer::Refused(bad), "400 Bad Request", "bad_head", 80),
-            (
-                Answer::Refused(long),
-                "431 Request Header Fields Too Large",
-                "head_too_long",
-                81,
-            ),
-            (no_route, "404 Not Found", "no_route", 86),
-            (behind, "503 Service Unavailable", "clock_behind", 41),
-            (Answer::Storage, "503 Service Unavailable", "storage", 63),
-        ] {
-            let body = format!(in rt.alloc(); "{{\"error\":\"{word}\",\"number\":{number}}}")?;
-            let text = format!(in rt.alloc();
-                "HTTP/1.1 {status}\r\nDate: Thu, 01 Jan 1970 00:01:40 GMT\r\n\
-                Content-Type: application/json\r\nContent-Length: {}\r\n\
-                Connection: close\r\n\r\n{body}",
-                body.len()
-            )?;
-            let bytes = reply_bytes(rt.alloc(), &tick_at(100)?, &answer)?;
-            assert_eq!(rt; bytes.as_slice(), text.as_bytes());
-        }
-        Ok(())
+        tells_of(&rt, &no_route, ("404 Not Found", 32), ("no_route", 86));
+        let behind = Answer::Replied(Reply::Refused(Refusal::ClockBehind));
+        let status = "503 Service Unavailable";
+        tells_of(&rt, &behind, (status, 36), ("clock_behind", 41));
+        tells_of(&rt, &Answer::Storage, (status, 31), ("storage", 63));
     }
 
     #[test]
-    fn the_memory_reply_is_the_same_always(rt: HostRuntime) -> Result<(), Fail> {
+    fn the_memory_reply_is_the_same_always(rt: HostRuntime) {
         let text = b"HTTP/1.1 503 Service Unavailable\r\nContent-Type: application/json\r\n\
             Content-Length: 30\r\nConnection: close\r\n\r\n{\"error\":\"memory\",\"number\":90}";
-        assert_eq!(rt; memory_reply(rt.alloc())?.as_slice(), text.as_slice());
-        Ok(())
+        let reply = memory_reply(rt.alloc()).expect(&rt, "memory");
+        assert_bytes(&rt, &reply, text);
     }
 }

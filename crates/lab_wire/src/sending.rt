@@ -44,7 +44,8 @@ impl fmt::Display for WriteFault {
 
 /// Writes all the bytes of a reply. The first write that fails or takes no byte is the fault.
 pub fn write_reply<W: Write>(writer: &mut W, bytes: &[u8]) -> Result<(), WriteFault>
-    ensures whole { OnOk result (Appends (W.contents writer.old) (W.contents writer.new) bytes.now) }
+    ensures whole { OnOk result
+        (Appends (W.contents writer.old) (W.contents writer.new) bytes.now) }
     ensures cut { IfErr result
         (λ e. Appends (W.contents writer.old) (W.contents writer.new) (take e.sent bytes.now)) }
     ensures short { IfErr result (λ e. e.sent < length bytes.now) }
@@ -62,9 +63,10 @@ pub fn write_reply<W: Write>(writer: &mut W, bytes: &[u8]) -> Result<(), WriteFa
 #[cfg(test)]
 mod tests {
     use super::*;
+    use crate::tests::assert_bytes;
     use std::alloc::Global;
     use std::io;
-    use std::test::Fail;
+    use std::process::Abort;
 
     const REPLY: &[u8] = b"seven b";
 
@@ -109,36 +111,33 @@ mod tests {
         }
     }
 
-    #[test]
-    fn the_whole_reply_goes_out_however_little_is_taken_at_once(
-        rt: HostRuntime,
-    ) -> Result<(), Fail> {
-        for at_once in 1..9 {
-            let mut pipe = Pipe::new(rt.alloc(), at_once, 0, false);
-            write_reply(&mut pipe, REPLY)?;
-            assert_eq!(rt; pipe.taken.as_slice(), REPLY);
-        }
-        Ok(())
+    // Of the reply these bytes go out, with this answer.
+    fn goes_out(rt: &impl Abort, mut pipe: Pipe, wanted: Result<(), WriteFault>, bytes: &[u8]) {
+        assert!(rt; write_reply(&mut pipe, REPLY) == wanted);
+        assert_bytes(rt, &pipe.taken, bytes);
     }
 
     #[test]
-    fn a_fault_says_how_many_bytes_went_out(rt: HostRuntime) -> Result<(), Fail> {
-        for stops_at in 1..5 {
+    fn the_whole_reply_goes_out_however_little_is_taken_at_once(rt: HostRuntime) {
+        for at_once in 1..9 {
+            goes_out(&rt, Pipe::new(rt.alloc(), at_once, 0, false), Ok(()), REPLY);
+        }
+    }
+
+    #[test]
+    fn a_fault_says_how_many_bytes_went_out(rt: HostRuntime) {
+        for (stops_at, sent) in [(1, 0), (2, 2), (3, 4), (4, 6)] {
             for fails in [false, true] {
-                let mut pipe = Pipe::new(rt.alloc(), 2, stops_at, fails);
-                let sent = 2 * (stops_at - 1);
-                assert_eq!(rt; write_reply(&mut pipe, REPLY), Err(WriteFault { sent }));
-                assert!(rt; REPLY.starts_with(pipe.taken.as_slice()) && pipe.taken.len() == sent);
+                let pipe = Pipe::new(rt.alloc(), 2, stops_at, fails);
+                goes_out(&rt, pipe, Err(WriteFault { sent }), &REPLY[..sent.min(7)]);
             }
         }
-        Ok(())
     }
 
     #[test]
-    fn no_byte_needs_no_write(rt: HostRuntime) -> Result<(), Fail> {
+    fn no_byte_needs_no_write(rt: HostRuntime) {
         let mut pipe = Pipe::new(rt.alloc(), 1, 1, true);
-        write_reply(&mut pipe, b"")?;
+        write_reply(&mut pipe, b"").expect(&rt, "no byte to write");
         assert_eq!(rt; pipe.writes, 0);
-        Ok(())
     }
 }

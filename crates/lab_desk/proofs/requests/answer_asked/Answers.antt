@@ -7,8 +7,10 @@ pub returns-in_err-apply-clause-rows_err : goal.returns-in_err-apply-clause-rows
 returns-in_err-apply-clause-rows_err g c = λ honest reached.
     let between = c.apply.ensures.passes in
     let loaded = c.load.ensures.reached (between.honest honest) reached in
-    let rested : (g.S.Keeper.world c.apply.new.self).is_live → g.S.Keeper.rests c.args.keeper.now c.apply.new.self = λ live.
-    g.met.S.Keeper.rests_on _ _ _ (c.load.ensures.rows (between.honest honest) reached (between.live honest live))
+    let rested : (g.S.Keeper.world c.apply.new.self).is_live →
+    g.S.Keeper.rests c.args.keeper.now c.apply.new.self = λ live.
+    g.met.S.Keeper.rests_on _ _ _ (c.load.ensures.rows (between.honest honest) reached
+    (between.live honest live))
     (rw c.in_err-apply.was at (c.apply.ensures.rows_err honest loaded) live) in
     search rules
 
@@ -17,13 +19,16 @@ returns-clause-rows g c = λ honest reached.
     let between = c.apply.ensures.passes in
     let loaded = c.load.ensures.reached (between.honest honest) reached in
     let lived = rw c.in_ok-apply.was at (c.apply.ensures.lives honest loaded) in
-    let decided : Decides ((g.S.Keeper.world c.args.keeper.now).meaning c.args.asked.lab) c.args.tick.now c.args.asked.instruction c.in_ok-reply.field-0 = search rules in
+    let decided : Decides ((g.S.Keeper.world c.args.keeper.now).meaning c.args.asked.lab)
+    c.args.tick.now c.args.asked.instruction c.in_ok-reply.field-0 = search rules in
     let kept = c.load.ensures.same (between.honest honest) reached lived.0 c.args.asked.lab in
-    let fits : ChangesFit ((g.S.Keeper.world c.load.new.self).meaning c.args.asked.lab) c.as_slice.result.now = rw (kept, c.as_slice.ensures) decided.fit in
+    let fits : ChangesFit ((g.S.Keeper.world c.load.new.self).meaning c.args.asked.lab)
+    c.as_slice.result.now = rw (kept, c.as_slice.ensures) decided.fit in
     record {
       changes = c.as_slice.result.now;
       fit = rw c.as_slice.ensures decided.fit;
       after = rw c.as_slice.ensures decided.after;
-      moved = g.met.S.Keeper.moves_on _ _ _ _ _ (c.load.ensures.rows (between.honest honest) reached lived.0)
+      moved = g.met.S.Keeper.moves_on _ _ _ _ _
+          (c.load.ensures.rows (between.honest honest) reached lived.0)
           (rw c.in_ok-apply.was at (c.apply.ensures.rows fits honest loaded));
     }

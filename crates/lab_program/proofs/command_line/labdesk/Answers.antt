@@ -16,7 +16,8 @@ returns-in-Err-clause-replayed g c = λ asks.
     let none = ap (fault_of labdesk_app) asks.1 ∙ unfaulted asks.0 in
     let kind = rw none at c.in-Err.ensures in
     elim kind [
-      | inl memory ↦ let told = rw memory at c.explain.ensures in no_replay _ _ _ _ _ _ told.1.0 told.0 told.1.1
+      | inl memory ↦ let told = rw memory at c.explain.ensures in
+          no_replay _ _ _ _ _ _ told.1.0 told.0 told.1.1
       | inr other ↦ absurd other
     ]
 

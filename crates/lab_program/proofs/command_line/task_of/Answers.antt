@@ -15,17 +15,22 @@ simple = refl
 told : (g : Over) (c : In_ok-command g) → app_of c.in_ok-command.command ≡ labdesk_app
 told g c =
     let bare : app_of c.subcommand_required.result ≡ bare_app = search rules in
-    let replay : shape_of c.after_help-replay.result ≡ (new_app (codes "replay")).top = search rules in
+    let replay : shape_of c.after_help-replay.result ≡ (new_app (codes "replay")).top =
+    search rules in
     c.in_ok-command.ensures.shape (search rules) ∙ ap₂ with_subcommand bare replay
 
 pub returns-in_err-try_get_matches_from : goal.returns-in_err-try_get_matches_from
 returns-in_err-try_get_matches_from g c =
-    let p = err_from_is_err_and c.from_residual-in_err-try_get_matches_from.result c.from_residual-in_err-try_get_matches_from.ensures.1 in
+    let p = err_from_is_err_and c.from_residual-in_err-try_get_matches_from.result
+    c.from_residual-in_err-try_get_matches_from.ensures.1 in
     let app = told g (goal.at.returns-in_err-try_get_matches_from g c).In_ok-command in
     let kinds = c.in_err-try_get_matches_from.ensures.kinds (ap is_simple_and_free app ∙ simple) in
-    rw (p.1, p.2) (subst (λ a. HasKind (fault_of a (map g.S.AsStr.text c.args.words.now)) c.in_err-try_get_matches_from.field-0.0) app kinds)
+    rw (p.1, p.2) (subst (λ a. HasKind
+    (fault_of a (map g.S.AsStr.text c.args.words.now)) c.in_err-try_get_matches_from.field-0.0)
+    app kinds)
 
 pub returns : goal.returns
 returns g c =
     let app = told g (goal.at.returns g c).In_ok-command in
-    sym (ap (λ a. fault_of a (map g.S.AsStr.text c.args.words.now)) app) ∙ c.in_ok-try_get_matches_from.ensures.kinds (ap is_simple_and_free app ∙ simple)
+    sym (ap (λ a. fault_of a (map g.S.AsStr.text c.args.words.now)) app)
+    ∙ c.in_ok-try_get_matches_from.ensures.kinds (ap is_simple_and_free app ∙ simple)

@@ -4,4 +4,5 @@ use Rattle.lab_program.proofs.NumberLemmas.{number_on}
 use Rattle.lab_program.proofs.event.number.Given as goal
 
 abbrev pub invariant-loop-byte : goal.invariant-loop-byte
-invariant-loop-byte l = number_where (λ n. nat_le n l.fn.most) l.fn.text ≡ number_on (λ n. nat_le n l.fn.most) l.value (drop l.byte-index l.fn.text)
+invariant-loop-byte l = number_where (λ n. nat_le n l.fn.most) l.fn.text
+    ≡ number_on (λ n. nat_le n l.fn.most) l.value (drop l.byte-index l.fn.text)

@@ -7,7 +7,9 @@ abbrev pub invariant-loop : goal.invariant-loop
 invariant-loop g l = record {
   sofar : Given (g.S.Keeper.world l.initial.desk.keeper) (g.S.Keeper.world l.desk.keeper)
       (SoFar (g.S.Keeper.world l.initial.desk.keeper) (g.S.Keeper.world l.desk.keeper)
-      (g.B.Read.remaining l.initial.reader) (g.B.Read.remaining l.reader) (g.W.Write.contents l.initial.output) (g.W.Write.contents l.output));
-  reached : Given (g.S.Keeper.world l.initial.desk.keeper) (g.S.Keeper.world l.desk.keeper) (g.S.Keeper.world l.desk.keeper).is_reached;
+      (g.B.Read.remaining l.initial.reader) (g.B.Read.remaining l.reader)
+      (g.W.Write.contents l.initial.output) (g.W.Write.contents l.output));
+  reached : Given (g.S.Keeper.world l.initial.desk.keeper) (g.S.Keeper.world l.desk.keeper)
+      (g.S.Keeper.world l.desk.keeper).is_reached;
   passes : Passes (g.S.Keeper.world l.initial.desk.keeper) (g.S.Keeper.world l.desk.keeper);
 }

@@ -1,4 +1,4 @@
-use Rattle.std.proofs.Common.{sym, ap, ◌∙◌}
+use Rattle.std.proofs.Common.{ap, ◌∙◌}
 use Rattle.std.specs.Prelude.{option_map}
 use Rattle.lab_versions.proofs.ReadLemmas.{read_as_text}
 use Rattle.lab_versions.proofs.fields.text_in.Goals as goal

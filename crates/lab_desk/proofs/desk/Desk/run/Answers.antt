@@ -10,7 +10,9 @@ loop-event-init g c = record {
   counted = search rules;
   room = search rules;
   run = λ honest reached.
-      rw c.in-Ok.ensures.empty (runs_none (g.S.Keeper.world c.args.self.now.keeper) c.args.events.now (g.W.Write.contents c.args.writer.now));
+      rw c.in-Ok.ensures.empty (runs_none
+      (g.S.Keeper.world c.args.self.now.keeper) c.args.events.now
+      (g.W.Write.contents c.args.writer.now));
 }
 
 pub loop-event-preserved : goal.loop-event-preserved
@@ -23,9 +25,15 @@ loop-event-preserved g c = record {
       let earlier = c.answer-answered.ensures.passes.honest honest in
       let middle = c.loop-event.invariant.reached earlier reached in
       let here = c.answer-answered.ensures.answered honest middle in
-      let pushed : c.push.new.self.items ≡ c.loop-event.taken.items ++ c.answer-answered.result.taken ∷ [] = search rules in
-      rw pushed (run_more _ _ _ c.args.events.now c.loop-event.event-index c.loop-event.taken.items _ _ _
-      (record { event = c.event-item.result; taken = c.answer-answered.result.taken; answer = here.0 })
+      let pushed : c.push.new.self.items
+      ≡ c.loop-event.taken.items ++ c.answer-answered.result.taken ∷ [] = search rules in
+      rw pushed (run_more _ _ _ c.args.events.now c.loop-event.event-index c.loop-event.taken.items
+      _ _ _
+      (record {
+        event = c.event-item.result;
+        taken = c.answer-answered.result.taken;
+        answer = here.0;
+      })
       (record {
         so_far = c.loop-event.invariant.run earlier reached;
         passes = c.loop-event.invariant.passes.refusing;
@@ -40,10 +48,16 @@ returns-in-Err-clause-cut g c = λ honest reached.
     let earlier = c.answer-answered.ensures.passes.honest honest in
     let middle = c.loop-event.invariant.reached earlier reached in
     let here = c.answer-answered.ensures.answered honest middle in
-    let pushed : c.push.new.self.items ≡ c.loop-event.taken.items ++ c.answer-answered.result.taken ∷ [] = search rules in
+    let pushed : c.push.new.self.items
+    ≡ c.loop-event.taken.items ++ c.answer-answered.result.taken ∷ [] = search rules in
     let counted : length c.push.new.self.items ≡ c.loop-event.event-index + 1 = search rules in
-    run_cut _ _ _ c.args.events.now c.loop-event.event-index c.loop-event.taken.items c.push.new.self.items _ _ _
-    (record { event = c.event-item.result; taken = c.answer-answered.result.taken; answer = here.0 }) _
+    run_cut _ _ _ c.args.events.now c.loop-event.event-index c.loop-event.taken.items
+    c.push.new.self.items _ _ _
+    (record {
+      event = c.event-item.result;
+      taken = c.answer-answered.result.taken;
+      answer = here.0;
+    }) _
     (record {
       so_far = c.loop-event.invariant.run earlier reached;
       passes = c.loop-event.invariant.passes.refusing;

@@ -7,10 +7,12 @@ use Rattle.lab_desk.proofs.desk.Desk.run.Given as goal
 abbrev pub invariant-loop-event : goal.invariant-loop-event
 invariant-loop-event g l = record {
   passes : Passes (g.S.Keeper.world l.fn.self.keeper) (g.S.Keeper.world l.self.keeper);
-  reached : Given (g.S.Keeper.world l.fn.self.keeper) (g.S.Keeper.world l.self.keeper) (g.S.Keeper.world l.self.keeper).is_reached;
+  reached : Given (g.S.Keeper.world l.fn.self.keeper) (g.S.Keeper.world l.self.keeper)
+      (g.S.Keeper.world l.self.keeper).is_reached;
   counted : length l.taken.items ≡ l.event-index;
   room : length l.events ≤ vec_capacity l.taken;
   run : Given (g.S.Keeper.world l.fn.self.keeper) (g.S.Keeper.world l.self.keeper)
-      (Runs (g.S.Keeper.world l.fn.self.keeper) (g.S.Keeper.world l.self.keeper) (take l.event-index l.events) l.taken.items
+      (Runs (g.S.Keeper.world l.fn.self.keeper) (g.S.Keeper.world l.self.keeper)
+      (take l.event-index l.events) l.taken.items
       (g.W.Write.contents l.fn.writer) (g.W.Write.contents l.writer));
 }
