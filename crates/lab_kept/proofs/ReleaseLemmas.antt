@@ -1,6 +1,6 @@
 -- Which signatures a released version bears, by cases on their meanings.
-use Rattle.std.proofs.Common.{◌≡◌, ◌≢◌, ℕ, Bool, true, false, List, [], ◌∷◌, Option, Some, None, refl, sym, ◌∙◌, ap, subst}
-use Rattle.std.specs.Prelude.{All, IsTrue, IsSome, map}
+use Rattle.std.proofs.Common.{◌≡◌, ◌≢◌, ℕ, Bool, true, false, List, [], ◌∷◌, Some, refl}
+use Rattle.std.specs.Prelude.{All, IsTrue, map}
 use Rattle.std.proofs.lemmas.List.Elements.{All-head, All-tail}
 use Rattle.lab_seal.specs.declared.seals.Meaning.{Meaning}
 use Rattle.lab_seal.specs.declared.seals.Meaning.TheVariants.{Authorship, Review, Rejection, Approval}
@@ -11,8 +11,8 @@ use Rattle.lab_kept.specs.declared.records.Version.{Version}
 use Rattle.lab_kept.specs.declared.records.Signature.{Signature}
 use Rattle.lab_kept.specs.declared.labs.Lab.{Lab}
 use Rattle.lab_kept.specs.Values.{meaning_of, version_state, has_entered}
-use Rattle.lab_kept.specs.Bound.{IsBoundTo, IsSealed, IsBoundRecord, IsBound}
-use Rattle.lab_kept.specs.Dual.{EnteredNone, ThirdDiffers, AreSigners, IsSignedDually, IsDualRecord, IsDual, Vouches, IsApproved, IsReleasedRightly, WhereReleased, AreReleasedRightly}
+use Rattle.lab_kept.specs.Bound.{IsBoundTo, IsSealed, IsBound}
+use Rattle.lab_kept.specs.Dual.{EnteredNone, AreSigners, IsSignedDually, IsDual, Vouches, IsApproved, IsReleasedRightly, AreReleasedRightly}
 
 -- two signatures release a version that wants no approval
 pub two_release : (first second : Meaning) (approval : Bool)

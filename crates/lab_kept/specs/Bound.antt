@@ -1,8 +1,8 @@
--- A laboratory whose signatures are bound to what they sign (21 CFR 11.70, "linked to their respective
--- electronic records to ensure that the signatures cannot be excised, copied, or otherwise transferred
--- to falsify an electronic record by ordinary means"), and whose versions are bound to those that they
--- amend (ISO/IEC 17025:2017, 7.5.2, "amendments to technical records can be tracked to previous
--- versions").
+-- A laboratory whose signatures are bound to what they sign (21 CFR 11.70, "linked to their
+-- respective electronic records to ensure that the signatures cannot be excised, copied, or
+-- otherwise transferred to falsify an electronic record by ordinary means"), and whose versions are
+-- bound to those that they amend (ISO/IEC 17025:2017, 7.5.2, "amendments to technical records can
+-- be tracked to previous versions").
 use Rattle.std.specs.Prelude.{◌≡◌, ℕ, List, [], ◌∷◌, All, Option, Some, None}
 use Rattle.lab_kept.specs.declared.records.Record.{Record}
 use Rattle.lab_kept.specs.declared.records.Version.{Version}

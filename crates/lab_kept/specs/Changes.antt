@@ -1,6 +1,6 @@
--- Changes of a laboratory: what each makes of it, and which fit it. Each adds something under its next
--- number, or sets what is there; none takes anything away (21 CFR 11.10(e), "record changes shall not
--- obscure previously recorded information").
+-- Changes of a laboratory: what each makes of it, and which fit it. Each adds something under its
+-- next number, or sets what is there; none takes anything away (21 CFR 11.10(e), "record changes
+-- shall not obscure previously recorded information").
 use Rattle.std.specs.Prelude.{◌≡◌, ◌≢◌, ◌⊎◌, ◌≤◌, ℕ, ◌+◌, All, option_map, List, [], ◌∷◌, ◌++◌, length, Option, Some, None, IsSome, MatchOption, bytes_eq, if◌then◌else◌}
 use Rattle.std.specs.List.{insert, position_or_len}
 use Rattle.lab_access.specs.declared.persons.Person.{Person}
@@ -16,7 +16,6 @@ use Rattle.lab_kept.specs.declared.records.FormVersion.{FormVersion}
 use Rattle.lab_kept.specs.declared.records.Record.{Record}
 use Rattle.lab_kept.specs.declared.records.Version.{Version}
 use Rattle.lab_kept.specs.declared.records.Signature.{Signature}
-use Rattle.lab_kept.specs.declared.trails.TrailRow.{TrailRow}
 use Rattle.lab_kept.specs.declared.labs.Lab.{Lab}
 use Rattle.lab_kept.specs.declared.changes.Change.{Change}
 use Rattle.lab_kept.specs.declared.changes.Change.TheVariants.{Last, Strays, PersonAdded, PersonSet, SessionAdded, SessionSet, SessionsClosed, FormAdded, RecordAdded, RowAdded, VersionOpened, SignatureAdded, TrailAdded}
@@ -144,8 +143,8 @@ IsKnownIfAny lab (Some code) = IsKnown lab code
 abbrev pub IsOfForm : Version → Record → Type 0
 IsOfForm version kept = version.format ≡ Two kept.form.form.approval
 
--- a new record: it is filled in by the last version of its form, and has one version, the first, without
--- rows and signatures
+-- a new record: it is filled in by the last version of its form, and has one version, the first,
+-- without rows and signatures
 pub record IsNewRecord (lab : Lab) (kept : Record) : Type 0 where
   pub number : kept.number ≡ length lab.records + 1
   pub alone : record_about lab.records kept.form.code kept.sample ≡ None
@@ -158,8 +157,8 @@ pub record IsNewRecord (lab : Lab) (kept : Record) : Type 0 where
   pub no_rows : first.rows ≡ []
   pub no_signatures : first.signatures ≡ []
 
--- a new version of a record: it has the next number, amends the last version as it is now, and has no
--- signatures
+-- a new version of a record: it has the next number, amends the last version as it is now, and has
+-- no signatures
 pub record IsNewVersion (lab : Lab) (version : Version) (kept : Record) : Type 0 where
   pub last : Version
   pub before : last_of kept.versions ≡ Some last

@@ -1,5 +1,5 @@
--- The digest of a version of a record as it is now, and what a signature's seal covers (21 CFR 11.70,
--- signatures "shall be linked to their respective electronic records").
+-- The digest of a version of a record as it is now, and what a signature's seal covers (21 CFR
+-- 11.70, signatures "shall be linked to their respective electronic records").
 use Rattle.std.specs.Prelude.{ℕ, List, Option, option_map}
 use Rattle.sha2.specs.Sha256.{sha256}
 use Rattle.lab_versions.specs.declared.versions.VersionParts.{VersionParts}

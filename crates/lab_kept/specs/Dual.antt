@@ -1,13 +1,12 @@
--- Dual control: who signs what. The author of a version entered a row of it, nobody who signs it later
--- did, and a third signer isn't the second (ISO/IEC 17025:2017, 7.5.1, "the identity of personnel
--- responsible for each laboratory activity and for checking data and results"; that these are different persons is
--- this system's own rule).
-use Rattle.std.specs.Prelude.{◌≡◌, ◌≢◌, ℕ, Bool, true, false, IsTrue, List, [], ◌∷◌, All, Option, Some, None, IsSome, MatchOption}
+-- Dual control: who signs what. The author of a version entered a row of it, nobody who signs it
+-- later did, and a third signer isn't the second (ISO/IEC 17025:2017, 7.5.1, "the identity of
+-- personnel responsible for each laboratory activity and for checking data and results"; that these
+-- are different persons is this system's own rule).
+use Rattle.std.specs.Prelude.{◌≡◌, ◌≢◌, ℕ, Bool, true, false, IsTrue, List, [], ◌∷◌, All, Some, IsSome, MatchOption}
 use Rattle.lab_versions.specs.declared.versions.Format.{Format}
 use Rattle.lab_versions.specs.declared.versions.Format.TheVariants.{One, Two}
 use Rattle.lab_seal.specs.declared.seals.Meaning.{Meaning}
 use Rattle.lab_seal.specs.declared.seals.Meaning.TheVariants.{Authorship, Review, Approval}
-use Rattle.lab_seal.specs.declared.states.State.{State}
 use Rattle.lab_seal.specs.declared.states.State.TheVariants.{Released}
 use Rattle.lab_seal.specs.States.{is_settled}
 use Rattle.lab_kept.specs.declared.records.Record.{Record}
@@ -84,9 +83,9 @@ IsApproved lab kept version author reviewer (approver ∷ []) true =
     × (approver.person ≢ reviewer.person) × EnteredNone version approver
 IsApproved lab kept version author reviewer _ true = ⊥
 
--- A released version of a record: it bears a signature of authorship and one of review, by different
--- persons, over the digest of its present text. The author entered a row of it, and the reviewer none.
--- Where its form wants an approval, it bears one by a third person too.
+-- A released version of a record: it bears a signature of authorship and one of review, by
+-- different persons, over the digest of its present text. The author entered a row of it, and the
+-- reviewer none. Where its form wants an approval, it bears one by a third person too.
 pub record IsReleasedRightly (lab : List ℕ) (kept : Record) (version : Version) : Type 0 where
   pub author : Signature
   pub reviewer : Signature

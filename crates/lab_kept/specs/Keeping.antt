@@ -1,7 +1,7 @@
--- What a laboratory keeps from one event to the next (21 CFR 11.10(e), "record changes shall not obscure
--- previously recorded information", and 11.100(a), a signature is not reassigned), and what the trail
--- tells where its records differ.
-use Rattle.std.specs.Prelude.{◌≡◌, ◌≢◌, ◌⊎◌, ℕ, ◌+◌, List, [], ◌∷◌, ◌++◌, length, Option, Some, None, MatchOption, All, option_map, option_and_then}
+-- What a laboratory keeps from one event to the next (21 CFR 11.10(e), "record changes shall not
+-- obscure previously recorded information", and 11.100(a), a signature is not reassigned), and what
+-- the trail tells where its records differ.
+use Rattle.std.specs.Prelude.{◌≡◌, ◌≢◌, ◌⊎◌, ℕ, ◌+◌, List, [], ◌∷◌, ◌++◌, length, Option, Some, MatchOption, All, option_map, option_and_then}
 use Rattle.lab_access.specs.declared.persons.Person.{Person}
 use Rattle.lab_access.specs.Persons.{person_of}
 use Rattle.lab_versions.specs.declared.rows.EntryRow.{EntryRow}
@@ -10,7 +10,6 @@ use Rattle.lab_kept.specs.declared.records.FormVersion.{FormVersion}
 use Rattle.lab_kept.specs.declared.records.Record.{Record as KeptRecord}
 use Rattle.lab_kept.specs.declared.records.Version.{Version}
 use Rattle.lab_kept.specs.declared.records.Signature.{Signature}
-use Rattle.lab_kept.specs.declared.trails.TrailRow.{TrailRow}
 use Rattle.lab_kept.specs.declared.trails.Deed.{Deed}
 use Rattle.lab_kept.specs.declared.trails.Deed.TheVariants.{Record, Entry, Amend, Sign}
 use Rattle.lab_kept.specs.declared.labs.Lab.{Lab}
@@ -18,8 +17,8 @@ use Rattle.lab_kept.specs.Trails.{row_of}
 use Rattle.lab_kept.specs.Lookups.{exact_form, record_of, last_of}
 use Rattle.lab_kept.specs.Changes.{SamePerson, SameSession, in_record, entered_in, opened_in, signed_in}
 
--- each item of the old list stands in its place in the new one, related to it so; the new one may have
--- more
+-- each item of the old list stands in its place in the new one, related to it so; the new one may
+-- have more
 abbrev pub Extends : {A : Type 0} → (A → A → Type 0) → List A → List A → Type 0
 Extends Same [] new = Unit {0}
 Extends Same (one ∷ others) [] = ⊥
@@ -81,7 +80,8 @@ last_number records number =
     (option_and_then (λ kept. last_of kept.versions) (record_of records number))
 
 -- a row of an amendment bears its person, its moment and its reason
-pub record IsAmended (opened : Version) (moment : ℕ) (person : List ℕ) (row : EntryRow) : Type 0 where
+pub record IsAmended (opened : Version) (moment : ℕ) (person : List ℕ) (row : EntryRow)
+    : Type 0 where
   pub by : row.person ≡ person
   pub at : row.moment ≡ moment
   pub why : row.reason ≡ option_map (λ amendment. amendment.reason) opened.origin.amendment

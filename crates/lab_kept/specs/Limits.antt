@@ -1,5 +1,5 @@
--- How much a laboratory holds at the most, in one place; and that what is numbered in it is numbered
--- from 1 on without gaps. The numbers are this system's own.
+-- How much a laboratory holds at the most, in one place; and that what is numbered in it is
+-- numbered from 1 on without gaps. The numbers are this system's own.
 use Rattle.std.specs.Prelude.{◌≡◌, ◌≤◌, ℕ, ◌+◌, IsTrue, false, List, [], ◌∷◌, ◌++◌, length, Some, All}
 use Rattle.lab_names.specs.Ordinals.{last_ordinal}
 use Rattle.lab_kept.specs.declared.records.FormVersion.{FormVersion}
@@ -55,8 +55,8 @@ AreNumbered number list = AreNumberedAfter number 0 list
 abbrev pub HasFewRows : Version → Type 0
 HasFewRows version = length version.rows ≤ row_limit
 
--- a record has at least one version, its versions are numbered, and there are no more of them, and of
--- their rows, than there may be
+-- a record has at least one version, its versions are numbered, and there are no more of them, and
+-- of their rows, than there may be
 pub record IsOrderly (kept : Record) : Type 0 where
   pub some : 1 ≤ length kept.versions
   pub few : length kept.versions ≤ version_limit

@@ -1,6 +1,6 @@
--- The part of a laboratory that is needed: its code, name, last moment, stray count, how many it has,
--- and what the need names. Nothing else of the laboratory is seen.
-use Rattle.std.specs.Prelude.{ℕ, List, [], length, Option, Some, None, option_and_then}
+-- The part of a laboratory that is needed: its code, name, last moment, stray count, how many it
+-- has, and what the need names. Nothing else of the laboratory is seen.
+use Rattle.std.specs.Prelude.{List, [], length, Option, Some, None, option_and_then}
 use Rattle.lab_access.specs.declared.persons.Person.{Person}
 use Rattle.lab_kept.specs.declared.records.FormVersion.{FormVersion}
 use Rattle.lab_kept.specs.declared.records.Record.{Record}

@@ -1,8 +1,8 @@
--- The trail: one row for each accepted command that is no reading, and, while there is room, one for each
--- failed password of an account and for each lock (21 CFR 11.10(e), "computer-generated, time-stamped
--- audit trails to independently record the date and time of operator entries and actions"). By
--- which word an action is known and how its subject is written is this system's own.
-use Rattle.std.specs.Prelude.{ℕ, List, [], ◌∷◌, ◌++◌, codes, decimal, Option}
+-- The trail: one row for each accepted command that is no reading, and, while there is room, one
+-- for each failed password of an account and for each lock (21 CFR 11.10(e), "computer-generated,
+-- time-stamped audit trails to independently record the date and time of operator entries and
+-- actions"). By which word an action is known and how its subject is written is this system's own.
+use Rattle.std.specs.Prelude.{ℕ, List, ◌++◌, codes, decimal, Option}
 use Rattle.std.specs.List.{flat_map}
 use Rattle.lab_access.specs.declared.roles.Role.{Role}
 use Rattle.lab_access.specs.declared.roles.Roles.{Roles}

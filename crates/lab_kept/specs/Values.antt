@@ -1,6 +1,6 @@
--- What the versions of a record say together: its present values, the keys that a version altered, and
--- the state of a version (ISO/IEC 17025:2017, 7.5.2: "both the original and amended data and files
--- shall be retained, including .. an indication of the altered aspects").
+-- What the versions of a record say together: its present values, the keys that a version altered,
+-- and the state of a version (ISO/IEC 17025:2017, 7.5.2: "both the original and amended data and
+-- files shall be retained, including .. an indication of the altered aspects").
 use Rattle.std.specs.Prelude.{ℕ, Bool, true, false, not, ◌-◌, List, reverse, take, map, find, filter, Option, Some, None, bytes_eq}
 use Rattle.std.specs.List.{flat_map, filter_map, list_any}
 use Rattle.lab_forms.specs.declared.forms.Field.{Field}
@@ -55,7 +55,8 @@ is_altered_by before (Some row) = differs before row
 abbrev pub is_altered : List EntryRow → List EntryRow → List ℕ → Bool
 is_altered before rows key = is_altered_by (value_of before key) (value_of rows key)
 
--- the keys that a version altered, in the order of the form; in a first version all that have a value
+-- the keys that a version altered, in the order of the form; in a first version all that have a
+-- value
 abbrev pub altered_at : Record → ℕ → List (List ℕ)
 altered_at kept number =
     filter (is_altered (rows_to (number - 1) kept) (rows_to number kept))

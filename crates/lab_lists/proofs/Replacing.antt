@@ -189,6 +189,6 @@ pub place_at_end : {A : Type 0} (p : A → Bool) (items : List A) → position p
     → length items ≡ position_or_len p items
 place_at_end p items none =
     let past = ltb-false (position_or_len p items) (length items)
-      (no_place (nat_lt (position_or_len p items) (length items)) (position_or_len p items) none) in
+    (no_place (nat_lt (position_or_len p items) (length items)) (position_or_len p items) none) in
     let within = place_within p items in
     omega arith

@@ -117,10 +117,7 @@ fn longer<T: Drop>(mut series: Series<T>, value: T) -> Result<Series<T>, OutOfMe
 }
 
 /// The persons with one more, in the order of their codes.
-fn with_person_added(
-    persons: Series<Person>,
-    person: Person,
-) -> Result<Series<Person>, OutOfMemory>
+fn with_person_added(persons: Series<Person>, person: Person) -> Result<Series<Person>, OutOfMemory>
     ensures { IfOk result (λ after. after ≡ added_person person persons) }
 {
     let mut list = persons.into_vec();
@@ -237,7 +234,8 @@ fn signed_in(
     version: Ordinal,
     signature: Signature,
 ) -> Result<Series<Record>, OutOfMemory>
-    ensures { IfOk result (λ after. after ≡ in_record number (signed_in version signature) records) }
+    ensures { IfOk result
+        (λ after. after ≡ in_record number (signed_in version signature) records) }
 {
     let mut list = records.into_vec();
     let Some(place) = place_of_record(&list, number) else {

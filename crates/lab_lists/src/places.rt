@@ -5,8 +5,8 @@ ghost use Rattle.lab_kept.specs.Lookups.{comes_before, has_number, is_numbered};
 ghost use Rattle.lab_kept.specs.Changes.{in_last, in_version, with_row, with_signature, entered_in, opened_in, signed_in};
 
 use lab_kept::{
-    Digest, EntryRow, EntryRows, FormVersion, Key, Ordinal, OutOfMemory, Person, PersonCode, Record,
-    Series, Session, Signature, Version,
+    Digest, EntryRow, EntryRows, FormVersion, Key, Ordinal, OutOfMemory, Person, PersonCode,
+    Record, Series, Session, Signature, Version,
 };
 use lab_names::{Rule, Text};
 use std::alloc::Global;
@@ -47,9 +47,7 @@ pub fn place_for_person(persons: &[Person], code: &PersonCode) -> usize
 fn later_person(persons: &[Person], code: &PersonCode) -> Option<usize>
     ensures { result ≡ position (λ one. comes_before code.now one.code) persons.now }
 {
-    persons
-        .iter()
-        .position(|one| comes_before(code, &one.code))
+    persons.iter().position(|one| comes_before(code, &one.code))
 }
 
 /// Where a version of a form of the code is added.

@@ -3,9 +3,9 @@
 use crate::{change, part};
 use lab_kept::{
     Action, Bound, Change, Closing, Deed, Digest, EntryRow, EntryRows, Field, Form, FormVersion,
-    FormWanted, Format, Kind, Lab, ListWanted, Meaning, Moment, Need, Note, Occasion, Ordinal, Origin,
-    Password, Person, Record, RecordWanted, Role, Roles, SealParts, Series, Session, Signature,
-    Slice, State, Subject, TrailRow, Version,
+    FormWanted, Format, Kind, Lab, ListWanted, Meaning, Moment, Need, Note, Occasion, Ordinal,
+    Origin, Password, Person, Record, RecordWanted, Role, Roles, SealParts, Series, Session,
+    Signature, Slice, State, Subject, TrailRow, Version,
 };
 use lab_names::{Rule, Text};
 use std::fmt::Debug;
@@ -178,14 +178,42 @@ fn counts_after(rt: &(impl Abort + AllocGlobal), one: Change, expected: &([usize
 // What is set or added is there afterwards, and nothing else is.
 #[test]
 fn each_change_adds_or_sets_one_thing(rt: HostRuntime) {
-    counts_after(&rt, Change::Last(moment(&rt, 1200)), &([1, 1, 1, 1, 1], 1200, 3));
+    counts_after(
+        &rt,
+        Change::Last(moment(&rt, 1200)),
+        &([1, 1, 1, 1, 1], 1200, 3),
+    );
     counts_after(&rt, Change::Strays(4), &([1, 1, 1, 1, 1], 1100, 4));
-    counts_after(&rt, Change::PersonAdded(person(&rt, "eve")), &([2, 1, 1, 1, 1], 1100, 3));
-    counts_after(&rt, Change::PersonSet(person(&rt, "dan")), &([1, 1, 1, 1, 1], 1100, 3));
-    counts_after(&rt, Change::SessionAdded(session(&rt, 2, "eve")), &([1, 2, 1, 1, 1], 1100, 3));
-    counts_after(&rt, Change::FormAdded(water(&rt)), &([1, 1, 2, 1, 1], 1100, 3));
-    counts_after(&rt, Change::RecordAdded(record(&rt)), &([1, 1, 1, 2, 1], 1100, 3));
-    counts_after(&rt, Change::TrailAdded(trail_row(&rt, 2)), &([1, 1, 1, 1, 2], 1100, 3));
+    counts_after(
+        &rt,
+        Change::PersonAdded(person(&rt, "eve")),
+        &([2, 1, 1, 1, 1], 1100, 3),
+    );
+    counts_after(
+        &rt,
+        Change::PersonSet(person(&rt, "dan")),
+        &([1, 1, 1, 1, 1], 1100, 3),
+    );
+    counts_after(
+        &rt,
+        Change::SessionAdded(session(&rt, 2, "eve")),
+        &([1, 2, 1, 1, 1], 1100, 3),
+    );
+    counts_after(
+        &rt,
+        Change::FormAdded(water(&rt)),
+        &([1, 1, 2, 1, 1], 1100, 3),
+    );
+    counts_after(
+        &rt,
+        Change::RecordAdded(record(&rt)),
+        &([1, 1, 1, 2, 1], 1100, 3),
+    );
+    counts_after(
+        &rt,
+        Change::TrailAdded(trail_row(&rt, 2)),
+        &([1, 1, 1, 1, 2], 1100, 3),
+    );
 }
 
 fn code_at(rt: &impl Abort, lab: &Lab, place: usize, expected: &str) {
@@ -206,7 +234,13 @@ fn a_person_is_added_in_place(rt: HostRuntime) {
 
 fn is_closed(rt: &(impl Abort + AllocGlobal), closing: Closing) -> bool {
     let dan = text(rt, "dan");
-    let lab = changed(rt, Change::SessionsClosed { person: dan, closing });
+    let lab = changed(
+        rt,
+        Change::SessionsClosed {
+            person: dan,
+            closing,
+        },
+    );
     lab.sessions.as_slice().iter().all(|session| session.closed)
 }
 
@@ -225,7 +259,10 @@ fn first_version(rt: &(impl Abort + AllocGlobal), lab: &Lab) -> Version {
 
 // A version's rows and signatures.
 fn holds(rt: &impl Abort, version: &Version, expected: &(usize, usize)) {
-    let found = (version.rows.rows().len(), version.signatures.as_slice().len());
+    let found = (
+        version.rows.rows().len(),
+        version.signatures.as_slice().len(),
+    );
     same(rt, &found, expected);
 }
 
@@ -273,7 +310,9 @@ const DIGITS: &str = "79610b0b80020b06ccc32eb56d5e2930ad6cea239d32569de11013459e
 fn a_version_has_the_digest_of_its_text(rt: HostRuntime) {
     let (lab, kept) = (text(&rt, "aqua"), record(&rt));
     let version = kept.current().expect(&rt, "a version");
-    let digest = kept.digest_of(rt.alloc(), &lab, version).expect(&rt, "memory");
+    let digest = kept
+        .digest_of(rt.alloc(), &lab, version)
+        .expect(&rt, "memory");
     assert!(rt; digest.digits().as_slice() == DIGITS.as_bytes());
     same(&rt, &kept.state_of(version), &Some(State::Open));
     assert!(rt; version.has_entered(&text(&rt, "dan")));
@@ -289,13 +328,17 @@ fn entered_twice(rt: &(impl Abort + AllocGlobal)) -> Record {
 }
 
 fn value_at(rt: &(impl Abort + AllocGlobal), kept: &Record, version: u32, expected: &str) {
-    let values = kept.values_at(rt.alloc(), ordinal(rt, version)).expect(rt, "memory");
+    let values = kept
+        .values_at(rt.alloc(), ordinal(rt, version))
+        .expect(rt, "memory");
     let value = values.as_slice().first().expect(rt, "a value");
     assert!(rt; value.value.as_str() == expected);
 }
 
 fn altered_at(rt: &(impl Abort + AllocGlobal), kept: &Record, version: u32) -> usize {
-    let keys = kept.altered_at(rt.alloc(), ordinal(rt, version)).expect(rt, "memory");
+    let keys = kept
+        .altered_at(rt.alloc(), ordinal(rt, version))
+        .expect(rt, "memory");
     keys.as_slice().len()
 }
 
@@ -305,7 +348,11 @@ fn values_are_the_last_rows(rt: HostRuntime) {
     let kept = entered_twice(&rt);
     value_at(&rt, &kept, 1, "7.50");
     value_at(&rt, &kept, 2, "7.5");
-    same(&rt, &[altered_at(&rt, &kept, 1), altered_at(&rt, &kept, 2)], &[1, 1]);
+    same(
+        &rt,
+        &[altered_at(&rt, &kept, 1), altered_at(&rt, &kept, 2)],
+        &[1, 1],
+    );
 }
 
 fn is_written(rt: &(impl Abort + AllocGlobal), deed: Deed, action: &str, subject: &str) {
@@ -324,7 +371,12 @@ fn deeds_are_written_down(rt: HostRuntime) {
     let occasion = Occasion::Signing;
     is_written(&rt, Deed::Refuse { occasion }, "refuse", "sign");
     let person = text(&rt, "dan");
-    is_written(&rt, Deed::Enrol { person, roles }, "enrol", "dan analyst reviewer");
+    is_written(
+        &rt,
+        Deed::Enrol { person, roles },
+        "enrol",
+        "dan analyst reviewer",
+    );
     let form = text(&rt, "water");
     is_written(&rt, Deed::Form { form, version: two }, "form", "water/2");
     let key = text(&rt, "lead");
@@ -374,12 +426,7 @@ fn holding(slice: &Slice) -> ([bool; 5], [usize; 3]) {
     (there, lists)
 }
 
-fn part_holds(
-    rt: &(impl Abort + AllocGlobal),
-    need: Need,
-    there: [bool; 5],
-    lists: [usize; 3],
-) {
+fn part_holds(rt: &(impl Abort + AllocGlobal), need: Need, there: [bool; 5], lists: [usize; 3]) {
     let slice = part_of(rt, need);
     same(rt, &holding(&slice), &(there, lists));
     let counts = [

@@ -1,6 +1,6 @@
 -- Values from outside, so that a wrong rule in the definitions does not check: what may be signed in which
 -- state, and by which rule a command is allowed.
-use Rattle.std.proofs.Common.{◌≡◌, ℕ, List, [], ◌∷◌, refl, true, false, Some, None}
+use Rattle.std.proofs.Common.{◌≡◌, ℕ, List, refl, true, false, Some, None}
 use Rattle.std.specs.Prelude.{codes}
 use Rattle.lab_access.specs.declared.policy.Rule.TheVariants.{CloseSession, SignRejection, SignApproval}
 use Rattle.lab_seal.specs.declared.states.State.TheVariants.{Open, Signed, Reviewed, Released, Rejected}

@@ -38,8 +38,8 @@ abbrev pub more_strays : ℕ → ℕ
 more_strays strays = if nat_le stray_limit strays then strays else strays + 1
 
 -- What a failed password changes, and what the trail tells of it: the person whose password it was
--- counted for, whether or not it locks; the sessions that a lock closes; or the stray count alone. A
--- locked person stays as they are.
+-- counted for, whether or not it locks; the sessions that a lock closes; or the stray count alone.
+-- A locked person stays as they are.
 abbrev pub failed : Lab → ℕ → Occasion → Failure → Lab
 failed lab moment occasion (Counted person) =
     noted moment person.code (Refuse occasion)

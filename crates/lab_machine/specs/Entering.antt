@@ -1,5 +1,5 @@
--- Values that are entered, and records that are amended (ISO/IEC 17025:2017, 7.5.1 and 7.5.2): over the
--- record that was looked up, the first refusal in order, or what is added.
+-- Values that are entered, and records that are amended (ISO/IEC 17025:2017, 7.5.1 and 7.5.2): over
+-- the record that was looked up, the first refusal in order, or what is added.
 use Rattle.std.specs.Prelude.{ℕ, ◌+◌, Bool, true, false, not, ◌&&◌, ◌||◌, nat_le, nat_lt, List, [], ◌∷◌, length, map, Option, Some, None, is_some, is_none, Result, Ok, Err, bytes_eq, if◌then◌else◌}
 use Rattle.std.specs.Option.{option_map_or}
 use Rattle.lab_forms.specs.Forms.{value_refusal}
@@ -79,7 +79,7 @@ abbrev pub entering_in : List ℕ → Record → Version → Item → Option (Li
 entering_in lab kept version item reason caller moment =
     if not (is_open (version_state kept version)) then Err NotOpen
     else option_map_or Err (item_refusal kept item)
-      (entering_last lab kept version item reason caller moment)
+    (entering_last lab kept version item reason caller moment)
 
 abbrev pub entering_of : List ℕ → Record → Option Version → Item → Option (List ℕ) → List ℕ → ℕ
     → Result EntryMade Refusal
@@ -88,7 +88,8 @@ entering_of lab kept (Some version) item reason caller moment =
     entering_in lab kept version item reason caller moment
 
 -- a value is entered
-abbrev pub entering : List ℕ → Option Record → Item → Option (List ℕ) → List ℕ → ℕ → Result EntryMade Refusal
+abbrev pub entering : List ℕ → Option Record → Item → Option (List ℕ) → List ℕ → ℕ
+    → Result EntryMade Refusal
 entering lab None item reason caller moment = Err NoSuchRecord
 entering lab (Some kept) item reason caller moment =
     entering_of lab kept (last_of kept.versions) item reason caller moment

@@ -1,5 +1,5 @@
--- What a call answers follows a rule: the value, or the refusal, that the rule gives. That memory ran out
--- is an answer of its own.
+-- What a call answers follows a rule: the value, or the refusal, that the rule gives. That memory
+-- ran out is an answer of its own.
 use Rattle.std.specs.Prelude.{◌≡◌, Result, Ok, Err}
 use Rattle.lab_machine.specs.declared.refusals.Refusal.{Refusal}
 use Rattle.lab_machine.specs.declared.faults.CommandFault.{CommandFault}

@@ -117,7 +117,8 @@ answered lab tick command (Barred session refusal) =
     stays (touched lab tick.moment session) (Refused refusal)
 answered lab tick command (Passes session caller) =
     ended (touched lab tick.moment session) tick.moment caller.code
-    (own (touched lab tick.moment session) tick (touched_session tick.moment session) caller command)
+    (own (touched lab tick.moment session) tick (touched_session tick.moment session) caller
+    command)
 
 -- one step
 abbrev pub step : Option Lab → Tick → Instruction → Stepped
@@ -125,4 +126,4 @@ step None tick instruction = record { reply = Refused NoSuchLab; after = None }
 step (Some lab) tick instruction =
     answered lab tick instruction.command
     (passage lab.last (named_session lab instruction.token)
-      (caller_of lab (named_session lab instruction.token)) tick.moment instruction.command)
+    (caller_of lab (named_session lab instruction.token)) tick.moment instruction.command)

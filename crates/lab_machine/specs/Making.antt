@@ -44,7 +44,8 @@ new_record form sample caller moment records = record {
 }
 
 -- it is opened by the last version of its form, once for a form and a sample
-abbrev pub opening_new : FormVersion → Option Record → List ℕ → List ℕ → ℕ → ℕ → Result Record Refusal
+abbrev pub opening_new : FormVersion → Option Record → List ℕ → List ℕ → ℕ → ℕ
+    → Result Record Refusal
 opening_new form (Some kept) sample caller moment records = Err (RecordExists kept.number)
 opening_new form None sample caller moment records =
     if nat_le record_limit records then Err (People LabFull)

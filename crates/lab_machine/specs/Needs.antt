@@ -1,6 +1,6 @@
--- Which part of a laboratory an instruction needs: the session of its token, or of the token that an
--- opening would make, with its person; and the person, the version of a form, the record or the list
--- that the command names. An entry needs one record, and no list of anything.
+-- Which part of a laboratory an instruction needs: the session of its token, or of the token that
+-- an opening would make, with its person; and the person, the version of a form, the record or the
+-- list that the command names. An entry needs one record, and no list of anything.
 use Rattle.std.specs.Prelude.{ℕ, List, Option, Some, None, option_map}
 use Rattle.sha2.specs.Sha256.{sha256}
 use Rattle.lab_names.specs.declared.tick.Tick.{Tick}
@@ -16,8 +16,9 @@ use Rattle.lab_machine.specs.declared.commands.Command.{Command}
 use Rattle.lab_machine.specs.declared.commands.Command.TheVariants.{Card, Open, Enrol, ReadPersons, AskIssue, ConfirmIssue, SetRoles, Retire, Unlock, MakeForm, ReadForm, OpenRecord, Enter, Amend, Sign, ReadRecord, ReadVersion, ReadRecords, ReadTrail}
 use Rattle.lab_machine.specs.declared.commands.Instruction.{Instruction}
 
--- the digest of the token by whose session the command is given; the card asks for none, and an opening
--- for the session that has its new token already (its person comes along, and nothing looks at them)
+-- the digest of the token by whose session the command is given; the card asks for none, and an
+-- opening for the session that has its new token already (its person comes along, and nothing looks
+-- at them)
 abbrev pub token_in : Tick → Option (List ℕ) → Command → Option (List ℕ)
 token_in tick token Card = None
 token_in tick token (Open code password) = Some (token_digest tick)

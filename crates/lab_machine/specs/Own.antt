@@ -1,7 +1,7 @@
 -- Each command's own case: what its rule says of what was looked up, and what that makes of the
--- laboratory. The rules of persons are those of lab_access and lab_people; nothing of them is said here
--- again.
-use Rattle.std.specs.Prelude.{ℕ, ◌+◌, List, [], ◌∷◌, ◌++◌, length, map, Result, Ok, Err, if◌then◌else◌}
+-- laboratory. The rules of persons are those of lab_access and lab_people; nothing of them is said
+-- here again.
+use Rattle.std.specs.Prelude.{ℕ, List, [], ◌∷◌, ◌++◌, length, map, Result, Ok, Err, if◌then◌else◌}
 use Rattle.lab_names.specs.declared.tick.Tick.{Tick}
 use Rattle.lab_access.specs.declared.persons.Person.{Person}
 use Rattle.lab_access.specs.declared.sessions.Session.{Session}
@@ -75,7 +75,7 @@ opened_case lab (Ok opened) =
 abbrev pub opening_case : Lab → Tick → List ℕ → List ℕ → Case
 opening_case lab tick code password =
     opened_case lab (opening code (person_at lab code) password tick (length lab.sessions)
-      (session_at lab (token_digest tick)))
+    (session_at lab (token_digest tick)))
 
 -- a session is closed by its person
 abbrev pub closing_case : Lab → Session → Case
@@ -91,7 +91,7 @@ abbrev pub with_changed : Lab → PasswordChanged → Lab
 with_changed lab changed = record lab {
   persons = with_person changed.person lab.persons;
   sessions =
-    sessions_after changed.closing changed.person.code (with_session changed.session lab.sessions);
+      sessions_after changed.closing changed.person.code (with_session changed.session lab.sessions);
 }
 
 abbrev pub changed_case : Lab → ℕ → Result PasswordChanged PeopleFault → Case
@@ -162,7 +162,7 @@ abbrev pub signing_by : Lab → ℕ → Session → ℕ → ℕ → List ℕ →
 signing_by lab moment session number version digest signing (Err failure) = Fails AtSigning failure
 signing_by lab moment session number version digest signing (Ok person) =
     then_case (signing_record lab.code (record_of lab.records number) version digest signing person
-      moment) (signature_case lab session person)
+    moment) (signature_case lab session person)
 
 -- ---- each command
 
@@ -183,36 +183,37 @@ own lab tick session caller (AskIssue code) =
     (λ issued. Makes (HalfTold issued.half) (IssueDeed issued.person.code) (with_issued lab issued))
 own lab tick session caller (ConfirmIssue code) =
     then_person (confirming caller.code (person_at lab code) tick)
-    (λ issued. Makes (HalfTold issued.half) (ConfirmDeed issued.person.code) (with_issued lab issued))
+    (λ issued. Makes (HalfTold issued.half) (ConfirmDeed issued.person.code)
+    (with_issued lab issued))
 own lab tick session caller (SetRoles code roles) =
     then_person (setting_roles caller.code (person_at lab code) roles)
     (λ effect. Makes (RolesSet effect.person.code effect.person.roles)
-      (RolesDeed effect.person.code effect.person.roles) (with_effect lab effect))
+    (RolesDeed effect.person.code effect.person.roles) (with_effect lab effect))
 own lab tick session caller (Retire code) =
     then_person (retiring caller.code (person_at lab code))
     (λ effect. Makes (PersonDone effect.person.code) (RetireDeed effect.person.code)
-      (with_effect lab effect))
+    (with_effect lab effect))
 own lab tick session caller (Unlock code) =
     then_person (unlocking caller.code (person_at lab code))
     (λ effect. Makes (PersonDone effect.person.code) (UnlockDeed effect.person.code)
-      (with_effect lab effect))
+    (with_effect lab effect))
 own lab tick session caller (MakeForm code form) =
     then_case (making code form (last_form lab.forms code)) (form_case lab)
 own lab tick session caller (ReadForm code version) =
     then_read (reading_form (exact_form lab.forms code version))
 own lab tick session caller (OpenRecord form sample) =
     then_case (opening_record (last_form lab.forms form) (record_about lab.records form sample)
-      sample caller.code tick.moment (length lab.records)) (record_case lab)
+    sample caller.code tick.moment (length lab.records)) (record_case lab)
 own lab tick session caller (Enter number item reason) =
     then_case (entering lab.code (record_of lab.records number) item reason caller.code tick.moment)
     (entry_case lab)
 own lab tick session caller (Amend number reason altered) =
     then_case (amending lab.code (record_of lab.records number) reason altered caller.code
-      tick.moment) (amendment_case lab)
+    tick.moment) (amendment_case lab)
 own lab tick session caller (Sign number version digest signing password code) =
     if is_code_wanted session code then Refuses CodeWanted
     else signing_by lab tick.moment session number version digest signing
-      (signing_attempt caller code password tick.moment)
+    (signing_attempt caller code password tick.moment)
 own lab tick session caller (ReadRecord number) =
     then_read (reading_record lab.code (record_of lab.records number))
 own lab tick session caller (ReadVersion number version) =

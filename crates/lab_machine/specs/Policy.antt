@@ -1,5 +1,5 @@
--- By which rule of the policy each command is allowed (21 CFR 11.10(g)): none where no session is asked
--- for.
+-- By which rule of the policy each command is allowed (21 CFR 11.10(g)): none where no session is
+-- asked for.
 use Rattle.std.specs.Prelude.{Option, Some, None}
 use Rattle.lab_access.specs.declared.policy.Rule.{Rule}
 use Rattle.lab_access.specs.declared.policy.Rule.TheVariants.{CloseSession, ChangePassword as ByChangePassword, Enrol as ByEnrol, ReadPersons as ByReadPersons, AskIssue as ByAskIssue, ConfirmIssue as ByConfirmIssue, SetRoles as BySetRoles, Retire as ByRetire, Unlock as ByUnlock, MakeForm as ByMakeForm, ReadForm as ByReadForm, OpenRecord as ByOpenRecord, Enter as ByEnter, Amend as ByAmend, SignAuthorship, SignReview, SignRejection, SignApproval, ReadRecord as ByReadRecord, ReadVersion as ByReadVersion, ReadRecords as ByReadRecords, ReadTrail as ByReadTrail}

@@ -1,5 +1,5 @@
--- What is read of a laboratory (21 CFR 11.10(c), "accurate and ready retrieval"): over what was looked up,
--- the refusal, or the reply.
+-- What is read of a laboratory (21 CFR 11.10(c), "accurate and ready retrieval"): over what was
+-- looked up, the refusal, or the reply.
 use Rattle.std.specs.Prelude.{ℕ, List, map, Option, Some, None, option_map, Result, Ok, Err}
 use Rattle.lab_access.specs.declared.persons.Person.{Person}
 use Rattle.lab_access.specs.Persons.{is_locked}

@@ -1,4 +1,5 @@
--- The numbers and words of what a laboratory's machine refuses: one table, which every reply follows.
+-- The numbers and words of what a laboratory's machine refuses: one table, which every reply
+-- follows.
 use Rattle.std.specs.Prelude.{codes}
 use Rattle.lab_names.specs.Faults.{Entry}
 use Rattle.lab_forms.specs.Faults.{form_refusal_entry}

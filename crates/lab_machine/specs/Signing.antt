@@ -1,5 +1,5 @@
--- Signatures (21 CFR 11.50, 11.70 and 11.200(a)): over the record that was looked up and the person whose
--- password was accepted, the first refusal in order, or the signature.
+-- Signatures (21 CFR 11.50, 11.70 and 11.200(a)): over the record that was looked up and the person
+-- whose password was accepted, the first refusal in order, or the signature.
 use Rattle.std.specs.Prelude.{ℕ, Bool, false, not, ◌&&◌, ◌||◌, ◌==◌, List, [], ◌∷◌, length, Option, Some, None, is_none, Result, Ok, Err, bytes_eq, if◌then◌else◌}
 use Rattle.std.specs.Option.{option_map_or}
 use Rattle.std.specs.List.{list_any}
@@ -59,8 +59,8 @@ abbrev pub is_second : List ℕ → List Signature → Bool
 is_second person (author ∷ second ∷ others) = bytes_eq second.person person
 is_second person _ = false
 
--- who signs as the author entered a row of the version; who signs later entered none, and didn't review
--- it either
+-- who signs as the author entered a row of the version; who signs later entered none, and didn't
+-- review it either
 abbrev pub signer_refusal : Signing → Version → List ℕ → Option Refusal
 signer_refusal Authorship version person =
     if has_entered person version then None else Some NotAuthor
@@ -72,8 +72,8 @@ signer_refusal signing version person =
 abbrev pub is_missing : List EntryRow → Field → Bool
 is_missing rows field = field.required && is_none (value_of rows field.key)
 
--- the author signs a version whose required fields have values, and, where it amends another, alters
--- something
+-- the author signs a version whose required fields have values, and, where it amends another,
+-- alters something
 abbrev pub content_refusal : Signing → Record → ℕ → Option Refusal
 content_refusal Authorship kept number =
     if list_any (is_missing (rows_to number kept)) kept.form.form.fields then Some EntriesMissing

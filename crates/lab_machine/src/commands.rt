@@ -77,11 +77,17 @@ pub enum Command {
     /// The laboratory's card: its code and its name.
     Card,
     /// A session for a person, by code and password.
-    Open { code: PersonCode, password: Typed },
+    Open {
+        code: PersonCode,
+        password: Typed,
+    },
     /// The end of the session.
     Close,
     /// Another password, by the old one.
-    ChangePassword { old: Typed, new: Typed },
+    ChangePassword {
+        old: Typed,
+        new: Typed,
+    },
     /// A new person.
     Enrol {
         code: PersonCode,
@@ -91,21 +97,41 @@ pub enum Command {
     /// The persons.
     ReadPersons,
     /// A one-time word for a person.
-    AskIssue { code: PersonCode },
+    AskIssue {
+        code: PersonCode,
+    },
     /// The confirmation of what another administrator asked for.
-    ConfirmIssue { code: PersonCode },
+    ConfirmIssue {
+        code: PersonCode,
+    },
     /// Other roles for a person.
-    SetRoles { code: PersonCode, roles: Roles },
+    SetRoles {
+        code: PersonCode,
+        roles: Roles,
+    },
     /// That a person has left.
-    Retire { code: PersonCode },
+    Retire {
+        code: PersonCode,
+    },
     /// That a person's lock is taken away.
-    Unlock { code: PersonCode },
+    Unlock {
+        code: PersonCode,
+    },
     /// A form, or its next version.
-    MakeForm { code: Key, form: Form },
+    MakeForm {
+        code: Key,
+        form: Form,
+    },
     /// A version of a form.
-    ReadForm { code: Key, version: Ordinal },
+    ReadForm {
+        code: Key,
+        version: Ordinal,
+    },
     /// A new record.
-    OpenRecord { form: Key, sample: Name },
+    OpenRecord {
+        form: Key,
+        sample: Name,
+    },
     /// A value of a record.
     Enter {
         number: Ordinal,
@@ -128,13 +154,24 @@ pub enum Command {
         code: Option<PersonCode>,
     },
     /// A record, by its versions' states.
-    ReadRecord { number: Ordinal },
+    ReadRecord {
+        number: Ordinal,
+    },
     /// A version of a record.
-    ReadVersion { number: Ordinal, version: Ordinal },
+    ReadVersion {
+        number: Ordinal,
+        version: Ordinal,
+    },
     /// The records from a number to a number.
-    ReadRecords { from: Ordinal, to: Ordinal },
+    ReadRecords {
+        from: Ordinal,
+        to: Ordinal,
+    },
     /// The rows of the trail from a number to a number.
-    ReadTrail { from: Ordinal, to: Ordinal },
+    ReadTrail {
+        from: Ordinal,
+        to: Ordinal,
+    },
 }
 
 /// The values of an amendment, in order. No key stands twice: a body with one is refused where it is read.

@@ -87,7 +87,10 @@ pub enum Reply {
     /// A refusal.
     Refused(Refusal),
     /// The laboratory's card.
-    Card { lab: LabCode, name: Name },
+    Card {
+        lab: LabCode,
+        name: Name,
+    },
     /// A session, its token, which is told once, and whether the password is due to be changed.
     Opened {
         session: Ordinal,
@@ -95,23 +98,40 @@ pub enum Reply {
         due: bool,
     },
     /// The session was closed.
-    Closed { session: Ordinal },
+    Closed {
+        session: Ordinal,
+    },
     /// The password was changed at the moment.
-    PasswordChanged { changed: Moment },
+    PasswordChanged {
+        changed: Moment,
+    },
     /// The person was enrolled, retired or unlocked.
-    PersonDone { code: PersonCode },
+    PersonDone {
+        code: PersonCode,
+    },
     /// A half of a one-time word, which is told once.
-    HalfTold { half: Half },
+    HalfTold {
+        half: Half,
+    },
     /// The person has these roles.
-    RolesSet { code: PersonCode, roles: Roles },
+    RolesSet {
+        code: PersonCode,
+        roles: Roles,
+    },
     /// The persons, by code.
     Persons(Series<PersonLine>),
     /// A version of a form was made.
-    FormMade { code: Key, version: Ordinal },
+    FormMade {
+        code: Key,
+        version: Ordinal,
+    },
     /// A version of a form.
     FormRead(FormVersion),
     /// A record was opened, with this version.
-    RecordOpened { number: Ordinal, version: Ordinal },
+    RecordOpened {
+        number: Ordinal,
+        version: Ordinal,
+    },
     /// A value was entered; so many rows has the version, and this digest.
     Entered {
         number: Ordinal,

@@ -64,11 +64,7 @@ fn is_second(person: &PersonCode, signatures: &[Signature]) -> bool
 }
 
 /// The refusal of a person who may not sign the version so.
-pub fn signer_refusal(
-    signing: &Signing,
-    version: &Version,
-    person: &PersonCode,
-) -> Option<Refusal>
+pub fn signer_refusal(signing: &Signing, version: &Version, person: &PersonCode) -> Option<Refusal>
     ensures { result ≡ signer_refusal signing.now version.now person.now }
 {
     let has_entered = version.has_entered(person);

@@ -69,7 +69,11 @@ fn a_command_needs_what_it_names(rt: HostRuntime) {
     wants(&rt, Command::Card, [false; 5]);
     wants(&rt, Command::Close, [true, false, false, false, false]);
     let code: PersonCode = text(&rt, "dan");
-    wants(&rt, Command::Retire { code }, [true, true, false, false, false]);
+    wants(
+        &rt,
+        Command::Retire { code },
+        [true, true, false, false, false],
+    );
     let entry = Command::Enter {
         number: Ordinal::FIRST,
         item: item(&rt),
@@ -117,7 +121,13 @@ fn session(rt: &(impl Abort + AllocGlobal)) -> Session {
 fn passage(rt: &(impl Abort + AllocGlobal), seconds: i64, command: &Command) -> Passage {
     let roles = Roles::none().with(Role::Analyst);
     let (session, caller) = (Some(session(rt)), Some(person(rt, roles)));
-    pass(moment(rt, 1000), session, caller, &tick(rt, seconds), command)
+    pass(
+        moment(rt, 1000),
+        session,
+        caller,
+        &tick(rt, seconds),
+        command,
+    )
 }
 
 // 0 to 4: early, needing none, a stranger's, barred, passing.
@@ -181,8 +191,16 @@ fn made(
 fn a_form_has_99_versions(rt: HostRuntime) {
     same(&rt, &made(&rt, None, false), &Ok(1));
     same(&rt, &made(&rt, Some(form_version(&rt, 98)), true), &Ok(99));
-    same(&rt, &made(&rt, Some(form_version(&rt, 1)), false), &Err("nothing_altered"));
-    same(&rt, &made(&rt, Some(form_version(&rt, 99)), true), &Err("lab_full"));
+    same(
+        &rt,
+        &made(&rt, Some(form_version(&rt, 1)), false),
+        &Err("nothing_altered"),
+    );
+    same(
+        &rt,
+        &made(&rt, Some(form_version(&rt, 99)), true),
+        &Err("lab_full"),
+    );
 }
 
 fn opened(
@@ -192,7 +210,15 @@ fn opened(
     records: u64,
 ) -> Result<Record, CommandFault> {
     let (sample, caller) = (text(rt, "S1"), text(rt, "dan"));
-    open_record(rt.alloc(), form, found, sample, caller, moment(rt, 1000), records)
+    open_record(
+        rt.alloc(),
+        form,
+        found,
+        sample,
+        caller,
+        moment(rt, 1000),
+        records,
+    )
 }
 
 fn is_refused(rt: &impl Abort, opened: Result<Record, CommandFault>, word: &str) {
@@ -213,14 +239,26 @@ fn a_record_is_opened_once(rt: HostRuntime) {
     ];
     same(&rt, &(numbers, first.opened.seconds()), &([5, 2, 1], 1000));
     is_refused(&rt, opened(&rt, None, None, 4), "no_such_form");
-    is_refused(&rt, opened(&rt, Some(form_version(&rt, 2)), Some(record), 4), "record_exists");
-    is_refused(&rt, opened(&rt, Some(form_version(&rt, 2)), None, 1_000_000), "lab_full");
+    is_refused(
+        &rt,
+        opened(&rt, Some(form_version(&rt, 2)), Some(record), 4),
+        "record_exists",
+    );
+    is_refused(
+        &rt,
+        opened(&rt, Some(form_version(&rt, 2)), None, 1_000_000),
+        "lab_full",
+    );
 }
 
 #[test]
 fn refusals_have_numbers(rt: HostRuntime) {
     same(&rt, &Refusal::NoSuchLab.number(), &Some(40));
-    same(&rt, &Refusal::RecordExists(Ordinal::FIRST).number(), &Some(43));
+    same(
+        &rt,
+        &Refusal::RecordExists(Ordinal::FIRST).number(),
+        &Some(43),
+    );
     same(&rt, &Refusal::ApprovalNotWanted.number(), &Some(58));
     same(&rt, &Signing::Approval.rule(), &Rule::SignApproval);
 }

@@ -21,6 +21,6 @@ returns c =
     let found : position (is_numbered c.args.number) list ≡ Some place = cc in
     c.from_vec-2.ensures ∙ ap (λ (next : Version). set list place next) c.in_ok-sign_version.ensures
     ∙ sym (in_version_at c.args.number (with_signature c.args.signature) list place version found
-      c.index_mut-version.ensures.value)
+    c.index_mut-version.ensures.value)
     ∙ ap (λ (versions : List Version). in_version c.args.number (with_signature c.args.signature) versions)
-      c.into_vec-list.ensures
+    c.into_vec-list.ensures
