@@ -11,7 +11,7 @@ use Rattle.lab_kept.specs.declared.trails.Occasion.{Occasion}
 use Rattle.lab_kept.specs.Limits.{count_limit, stray_limit}
 use Rattle.lab_kept.specs.Trails.{row_of}
 use Rattle.lab_kept.specs.Changes.{with_person}
-use Rattle.lab_machine.specs.declared.refusals.Refusal.{Refusal}
+use Rattle.lab_rules.specs.declared.refusals.Refusal.{Refusal}
 use Rattle.lab_machine.specs.declared.replies.Reply.{Reply}
 
 -- A command is refused; or a password fails; or something is read; or the command makes another

@@ -1,10 +1,4 @@
-pub mod Refusals
-pub mod Following
 pub mod Policy
-pub mod Making
-pub mod Entering
-pub mod Signing
-pub mod Reading
 pub mod Cases
 pub mod Own
 pub mod Machine

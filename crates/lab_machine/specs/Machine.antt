@@ -20,7 +20,7 @@ use Rattle.lab_machine.specs.declared.commands.Command.TheVariants.{Open}
 use Rattle.lab_machine.specs.declared.commands.Instruction.{Instruction}
 use Rattle.lab_machine.specs.declared.passages.Passage.{Passage}
 use Rattle.lab_machine.specs.declared.passages.Passage.TheVariants.{Early, NeedsNone, Stranger, Barred, Passes}
-use Rattle.lab_machine.specs.declared.refusals.Refusal.TheVariants.{NoSuchLab, ClockBehind, People}
+use Rattle.lab_rules.specs.declared.refusals.Refusal.TheVariants.{NoSuchLab, ClockBehind, People}
 use Rattle.lab_machine.specs.declared.replies.Reply.{Reply}
 use Rattle.lab_machine.specs.declared.replies.Reply.TheVariants.{Refused, Card as ShowsCard}
 use Rattle.lab_machine.specs.Policy.{rule_of}
@@ -43,7 +43,7 @@ session_passage _ _ moment rule = Stranger
 
 -- by the rule of the command, which the card and an opening have none of
 abbrev pub rule_passage : Option Session → Option Person → ℕ → Option Rule → Passage
-rule_passage session caller moment None = NeedsNone
+rule_passage session caller moment None = NeedsNone session
 rule_passage session caller moment (Some rule) = session_passage session caller moment rule
 
 -- the clock first
@@ -111,7 +111,7 @@ without_session lab tick command = stays lab (ShowsCard lab.code lab.name)
 -- the laboratory's answer, by how far the instruction gets
 abbrev pub answered : Lab → Tick → Command → Passage → Stepped
 answered lab tick command Early = stays lab (Refused ClockBehind)
-answered lab tick command NeedsNone = without_session lab tick command
+answered lab tick command (NeedsNone session) = without_session lab tick command
 answered lab tick command Stranger = stays lab (Refused (People NoSession))
 answered lab tick command (Barred session refusal) =
     stays (touched lab tick.moment session) (Refused refusal)

@@ -5,11 +5,13 @@ use Rattle.std.specs.Prelude.{ℕ, List, [], ◌∷◌, ◌++◌, length, map, R
 use Rattle.lab_names.specs.declared.tick.Tick.{Tick}
 use Rattle.lab_access.specs.declared.persons.Person.{Person}
 use Rattle.lab_access.specs.declared.sessions.Session.{Session}
+use Rattle.lab_access.specs.declared.sessions.Closing.{Closing}
 use Rattle.lab_access.specs.declared.openings.Opened.{Opened}
 use Rattle.lab_access.specs.declared.refusals.Failure.{Failure}
 use Rattle.lab_access.specs.declared.refusals.PeopleFault.{PeopleFault}
 use Rattle.lab_access.specs.declared.refusals.PeopleFault.TheVariants.{Failed, Refused as IsRefused}
 use Rattle.lab_access.specs.declared.refusals.PeopleRefusal.{PeopleRefusal}
+use Rattle.lab_access.specs.declared.refusals.PeopleRefusal.TheVariants.{NoSession}
 use Rattle.lab_access.specs.Attempts.{signing_attempt}
 use Rattle.lab_access.specs.Openings.{opening, token_digest}
 use Rattle.lab_access.specs.Sessions.{closed_session, signed_session, sessions_after}
@@ -25,20 +27,20 @@ use Rattle.lab_kept.specs.declared.trails.Deed.TheVariants.{Open as OpenDeed, Cl
 use Rattle.lab_kept.specs.declared.trails.Occasion.TheVariants.{Opening, Changing, Signing as AtSigning}
 use Rattle.lab_kept.specs.Lookups.{person_at, session_at, last_form, exact_form, record_of, record_about, records_within, rows_within}
 use Rattle.lab_kept.specs.Changes.{with_person, with_session, added_person, added_form, in_record, entered_in, opened_in, signed_in}
-use Rattle.lab_machine.specs.declared.outcomes.Signing.{Signing}
+use Rattle.lab_rules.specs.declared.outcomes.Signing.{Signing}
 use Rattle.lab_machine.specs.declared.commands.Command.{Command}
 use Rattle.lab_machine.specs.declared.commands.Command.TheVariants.{Card, Open, Close, ChangePassword, Enrol, ReadPersons, AskIssue, ConfirmIssue, SetRoles, Retire, Unlock, MakeForm, ReadForm, OpenRecord, Enter, Amend, Sign, ReadRecord, ReadVersion, ReadRecords, ReadTrail}
-use Rattle.lab_machine.specs.declared.refusals.Refusal.{Refusal}
-use Rattle.lab_machine.specs.declared.refusals.Refusal.TheVariants.{People, CodeWanted}
+use Rattle.lab_rules.specs.declared.refusals.Refusal.{Refusal}
+use Rattle.lab_rules.specs.declared.refusals.Refusal.TheVariants.{People, CodeWanted}
 use Rattle.lab_machine.specs.declared.replies.Reply.{Reply}
-use Rattle.lab_machine.specs.declared.replies.Reply.TheVariants.{Card as ShowsCard, Opened as TellsOpened, Closed, PasswordChanged as TellsChanged, PersonDone, HalfTold, RolesSet, Persons, FormMade, RecordOpened, Entered, Amended, Signed as TellsSigned, Records, Trail}
-use Rattle.lab_machine.specs.declared.outcomes.EntryMade.{EntryMade}
-use Rattle.lab_machine.specs.declared.outcomes.AmendmentMade.{AmendmentMade}
-use Rattle.lab_machine.specs.declared.outcomes.SignatureMade.{SignatureMade}
-use Rattle.lab_machine.specs.Making.{making, opening_record}
-use Rattle.lab_machine.specs.Entering.{entering, amending}
-use Rattle.lab_machine.specs.Signing.{is_code_wanted, signing_record}
-use Rattle.lab_machine.specs.Reading.{reading_form, reading_record, reading_version, record_line, person_line}
+use Rattle.lab_machine.specs.declared.replies.Reply.TheVariants.{Opened as TellsOpened, Closed, PasswordChanged as TellsChanged, PersonDone, HalfTold, RolesSet, Persons, FormMade, FormRead, RecordRead, VersionRead, RecordOpened, Entered, Amended, Signed as TellsSigned, Records, Trail}
+use Rattle.lab_rules.specs.declared.outcomes.EntryMade.{EntryMade}
+use Rattle.lab_rules.specs.declared.outcomes.AmendmentMade.{AmendmentMade}
+use Rattle.lab_rules.specs.declared.outcomes.SignatureMade.{SignatureMade}
+use Rattle.lab_rules.specs.Making.{making, opening_record}
+use Rattle.lab_rules.specs.Entering.{entering, amending}
+use Rattle.lab_rules.specs.Signing.{is_code_wanted, signing_record}
+use Rattle.lab_rules.specs.Reading.{reading_form, reading_record, reading_version, record_line, person_line}
 use Rattle.lab_machine.specs.Cases.{Case, Refuses, Fails, Reads, Makes}
 
 -- what follows a rule: its refusal, or what it gives
@@ -52,9 +54,9 @@ then_person (Err refusal) next = Refuses (People refusal)
 then_person (Ok value) next = next value
 
 -- what is read
-abbrev pub then_read : Result Reply Refusal → Case
-then_read (Err refusal) = Refuses refusal
-then_read (Ok reply) = Reads reply
+abbrev pub then_read : {A : Type 0} → Result A Refusal → (A → Reply) → Case
+then_read (Err refusal) reply = Refuses refusal
+then_read (Ok found) reply = Reads (reply found)
 
 -- ---- sessions
 
@@ -107,17 +109,39 @@ enrolled_case lab person =
     (record lab { persons = added_person person lab.persons })
 
 -- what an administrator does to an account, and which of its sessions are closed
-abbrev pub with_effect : Lab → Effect → Lab
-with_effect lab effect = record lab {
-  persons = with_person effect.person lab.persons;
-  sessions = sessions_after effect.closing effect.person.code lab.sessions;
+abbrev pub with_person_closed : Lab → Person → Closing → Lab
+with_person_closed lab person closing = record lab {
+  persons = with_person person lab.persons;
+  sessions = sessions_after closing person.code lab.sessions;
 }
 
-abbrev pub with_issued : Lab → Issued → Lab
-with_issued lab issued = record lab {
-  persons = with_person issued.person lab.persons;
-  sessions = sessions_after issued.closing issued.person.code lab.sessions;
-}
+-- half of a one-time password is told to who asks for it, and the other to who confirms it
+abbrev pub asked_case : Lab → Issued → Case
+asked_case lab issued =
+    Makes (HalfTold issued.half) (IssueDeed issued.person.code)
+    (with_person_closed lab issued.person issued.closing)
+
+abbrev pub confirmed_case : Lab → Issued → Case
+confirmed_case lab issued =
+    Makes (HalfTold issued.half) (ConfirmDeed issued.person.code)
+    (with_person_closed lab issued.person issued.closing)
+
+-- other roles, a person who left, and a lock that is taken away
+abbrev pub roles_case : Lab → Effect → Case
+roles_case lab effect =
+    Makes (RolesSet effect.person.code effect.person.roles)
+    (RolesDeed effect.person.code effect.person.roles)
+    (with_person_closed lab effect.person effect.closing)
+
+abbrev pub retired_case : Lab → Effect → Case
+retired_case lab effect =
+    Makes (PersonDone effect.person.code) (RetireDeed effect.person.code)
+    (with_person_closed lab effect.person effect.closing)
+
+abbrev pub unlocked_case : Lab → Effect → Case
+unlocked_case lab effect =
+    Makes (PersonDone effect.person.code) (UnlockDeed effect.person.code)
+    (with_person_closed lab effect.person effect.closing)
 
 -- ---- records
 
@@ -166,10 +190,10 @@ signing_by lab moment session number version digest signing (Ok person) =
 
 -- ---- each command
 
--- The first two are never asked here: the card and an opening come without a session.
+-- The card and an opening come without a session, and are no command of one.
 unfoldable pub own : Lab → Tick → Session → Person → Command → Case
-own lab tick session caller Card = Reads (ShowsCard lab.code lab.name)
-own lab tick session caller (Open code password) = opening_case lab tick code password
+own lab tick session caller Card = Refuses (People NoSession)
+own lab tick session caller (Open code password) = Refuses (People NoSession)
 own lab tick session caller Close = closing_case lab session
 own lab tick session caller (ChangePassword old new) =
     changed_case lab tick.moment (changing caller session old new tick)
@@ -179,28 +203,19 @@ own lab tick session caller (Enrol code name roles) =
 own lab tick session caller ReadPersons =
     Reads (Persons (map (person_line tick.moment) lab.persons))
 own lab tick session caller (AskIssue code) =
-    then_person (asking caller.code (person_at lab code) tick)
-    (λ issued. Makes (HalfTold issued.half) (IssueDeed issued.person.code) (with_issued lab issued))
+    then_person (asking caller.code (person_at lab code) tick) (asked_case lab)
 own lab tick session caller (ConfirmIssue code) =
-    then_person (confirming caller.code (person_at lab code) tick)
-    (λ issued. Makes (HalfTold issued.half) (ConfirmDeed issued.person.code)
-    (with_issued lab issued))
+    then_person (confirming caller.code (person_at lab code) tick) (confirmed_case lab)
 own lab tick session caller (SetRoles code roles) =
-    then_person (setting_roles caller.code (person_at lab code) roles)
-    (λ effect. Makes (RolesSet effect.person.code effect.person.roles)
-    (RolesDeed effect.person.code effect.person.roles) (with_effect lab effect))
+    then_person (setting_roles caller.code (person_at lab code) roles) (roles_case lab)
 own lab tick session caller (Retire code) =
-    then_person (retiring caller.code (person_at lab code))
-    (λ effect. Makes (PersonDone effect.person.code) (RetireDeed effect.person.code)
-    (with_effect lab effect))
+    then_person (retiring caller.code (person_at lab code)) (retired_case lab)
 own lab tick session caller (Unlock code) =
-    then_person (unlocking caller.code (person_at lab code))
-    (λ effect. Makes (PersonDone effect.person.code) (UnlockDeed effect.person.code)
-    (with_effect lab effect))
+    then_person (unlocking caller.code (person_at lab code)) (unlocked_case lab)
 own lab tick session caller (MakeForm code form) =
     then_case (making code form (last_form lab.forms code)) (form_case lab)
 own lab tick session caller (ReadForm code version) =
-    then_read (reading_form (exact_form lab.forms code version))
+    then_read (reading_form (exact_form lab.forms code version)) FormRead
 own lab tick session caller (OpenRecord form sample) =
     then_case (opening_record (last_form lab.forms form) (record_about lab.records form sample)
     sample caller.code tick.moment (length lab.records)) (record_case lab)
@@ -215,9 +230,9 @@ own lab tick session caller (Sign number version digest signing password code) =
     else signing_by lab tick.moment session number version digest signing
     (signing_attempt caller code password tick.moment)
 own lab tick session caller (ReadRecord number) =
-    then_read (reading_record lab.code (record_of lab.records number))
+    then_read (reading_record lab.code (record_of lab.records number)) RecordRead
 own lab tick session caller (ReadVersion number version) =
-    then_read (reading_version lab.code (record_of lab.records number) version)
+    then_read (reading_version lab.code (record_of lab.records number) version) VersionRead
 own lab tick session caller (ReadRecords from to) =
     Reads (Records (map record_line (records_within from to lab.records)))
 own lab tick session caller (ReadTrail from to) = Reads (Trail (rows_within from to lab.trail))

@@ -3,19 +3,10 @@
 use Rattle.std.specs.Prelude.{Option, Some, None}
 use Rattle.lab_access.specs.declared.policy.Rule.{Rule}
 use Rattle.lab_access.specs.declared.policy.Rule.TheVariants.{CloseSession, ChangePassword as ByChangePassword, Enrol as ByEnrol, ReadPersons as ByReadPersons, AskIssue as ByAskIssue, ConfirmIssue as ByConfirmIssue, SetRoles as BySetRoles, Retire as ByRetire, Unlock as ByUnlock, MakeForm as ByMakeForm, ReadForm as ByReadForm, OpenRecord as ByOpenRecord, Enter as ByEnter, Amend as ByAmend, SignAuthorship, SignReview, SignRejection, SignApproval, ReadRecord as ByReadRecord, ReadVersion as ByReadVersion, ReadRecords as ByReadRecords, ReadTrail as ByReadTrail}
-use Rattle.lab_machine.specs.declared.outcomes.Signing.{Signing}
-use Rattle.lab_machine.specs.declared.outcomes.Signing.TheVariants.{Authorship, Review, Rejection, Approval}
+use Rattle.lab_rules.specs.Signing.{signing_rule}
 use Rattle.lab_machine.specs.declared.commands.Command.{Command}
 use Rattle.lab_machine.specs.declared.commands.Command.TheVariants.{Card, Open, Close, ChangePassword, Enrol, ReadPersons, AskIssue, ConfirmIssue, SetRoles, Retire, Unlock, MakeForm, ReadForm, OpenRecord, Enter, Amend, Sign, ReadRecord, ReadVersion, ReadRecords, ReadTrail}
 
--- of a signing
-abbrev pub signing_rule : Signing → Rule
-signing_rule Authorship = SignAuthorship
-signing_rule Review = SignReview
-signing_rule (Rejection reason) = SignRejection
-signing_rule Approval = SignApproval
-
--- of a command
 abbrev pub rule_of : Command → Option Rule
 rule_of Card = None
 rule_of (Open code password) = None

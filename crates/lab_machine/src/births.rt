@@ -1,9 +1,9 @@
 //! What a founding gives a laboratory, and why one is refused.
-use crate::commands::Typed;
 use lab_names::{Name, PersonCode};
+use lab_rules::Typed;
 
 /// One of the persons by whom a laboratory is founded, who become its administrators.
-#[derive(Clone, Drop)]
+#[derive(Drop)]
 pub struct Founder {
     /// The code.
     pub code: PersonCode,
@@ -14,7 +14,7 @@ pub struct Founder {
 }
 
 /// What a founding gives a laboratory: its name, and three administrators.
-#[derive(Clone, Drop)]
+#[derive(Drop)]
 pub struct Founding {
     /// The laboratory's name.
     pub name: Name,

@@ -1,78 +1,15 @@
 //! What a laboratory can be asked.
-ghost use Rattle.std.specs.Prelude.{◌≡◌, IfOk, string_bytes};
+ghost use Rattle.std.specs.Prelude.{◌≡◌};
 ghost use Rattle.lab_machine.specs.Policy.{rule_of};
 
-use crate::outcomes::Signing;
 use lab_access::{Roles, Rule};
 use lab_forms::Form;
-use lab_names::{Key, Name, Note, Ordinal, OutOfMemory, PersonCode, Series, Unit};
+use lab_names::{Key, Name, Note, Ordinal, PersonCode};
+use lab_rules::{Altered, Item, Signing, Typed};
 use lab_secrets::{Digest, Token};
-use std::alloc::AllocError;
-use std::marker::Model;
-
-/// A text as somebody typed it: a password, or a value that no form has read yet.
-///
-/// A contract sees it as the list of its bytes.
-#[derive(Drop)]
-pub struct Typed {
-    text: String,
-}
-
-impl Model for Typed {
-    ghost use Rattle.std.specs.Prelude.{List, ℕ, string_bytes};
-
-    ghost Value = { List ℕ };
-
-    ghost view = { λ typed. string_bytes typed.text };
-}
-
-impl Typed {
-    /// The text, typed.
-    pub fn new(text: String) -> Typed
-        ensures { result ≡ string_bytes text }
-    {
-        Typed { text }
-    }
-
-    /// The text.
-    pub fn as_str(&self) -> &str
-        ensures { result.now ≡ self.now }
-    {
-        self.text.as_str()
-    }
-
-    /// A copy. The only error is out of memory.
-    pub fn copy(&self) -> Result<Typed, OutOfMemory>
-        ensures { IfOk result (λ copy. copy ≡ self.now) }
-    {
-        Ok(self.clone()?)
-    }
-}
-
-impl Clone for Typed {
-    ghost use Rattle.std.specs.Prelude.{◌≡◌};
-
-    ghost is_clone = { λ typed copy. copy ≡ typed };
-
-    fn clone(&self) -> Result<Typed, AllocError> {
-        let text = self.text.clone()?;
-        Ok(Typed { text })
-    }
-}
-
-/// A value of an amendment, as it was typed.
-#[derive(Clone, Drop)]
-pub struct Item {
-    /// The field's key.
-    pub key: Key,
-    /// The value.
-    pub value: Typed,
-    /// Its unit.
-    pub unit: Unit,
-}
 
 /// What is asked of a laboratory.
-#[derive(Clone, Drop)]
+#[derive(Drop)]
 pub enum Command {
     /// The laboratory's card: its code and its name.
     Card,
@@ -174,11 +111,8 @@ pub enum Command {
     },
 }
 
-/// The values of an amendment, in order. No key stands twice: a body with one is refused where it is read.
-pub type Altered = Series<Item>;
-
 /// A command, and the token of the session in which it is given, if one is named.
-#[derive(Clone, Drop)]
+#[derive(Drop)]
 pub struct Instruction {
     /// The token.
     pub token: Option<Token>,

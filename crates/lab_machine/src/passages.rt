@@ -4,17 +4,17 @@ ghost use Rattle.lab_access.specs.Policy.{denial};
 ghost use Rattle.lab_machine.specs.Machine.{passage, session_passage, allowed_passage};
 
 use crate::commands::Command;
-use crate::refusals::Refusal;
 use lab_access::{Person, Rule, Session, allowed, live};
 use lab_names::{Moment, Tick};
+use lab_rules::Refusal;
 
 /// How far an instruction gets.
 #[derive(Drop)]
 pub enum Passage {
     /// It comes before the laboratory's last moment.
     Early,
-    /// No session is asked for.
-    NeedsNone,
+    /// No session is asked for; the one of the token, where there is one.
+    NeedsNone(Option<Session>),
     /// There is no live session of its token.
     Stranger,
     /// The session lives; its person may not give the command.
@@ -39,7 +39,7 @@ pub fn pass(
     }
     match command.rule() {
         Some(rule) => pass_session(session, caller, tick, rule),
-        None => Passage::NeedsNone,
+        None => Passage::NeedsNone(session),
     }
 }
 

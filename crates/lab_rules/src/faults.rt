@@ -1,6 +1,6 @@
 //! Why a command makes nothing: it is refused, or memory ran out.
 ghost use Rattle.std.specs.Prelude.{◌≡◌};
-ghost use Rattle.lab_machine.specs.declared.faults.CommandFault.TheVariants.{Memory};
+ghost use Rattle.lab_rules.specs.declared.faults.CommandFault.TheVariants.{Memory};
 
 use crate::refusals::Refusal;
 use lab_names::OutOfMemory;

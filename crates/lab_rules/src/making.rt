@@ -1,7 +1,7 @@
 //! Forms that are made, and records that are opened.
 ghost use Rattle.std.specs.Prelude.{◌≡◌};
-ghost use Rattle.lab_machine.specs.Following.{Follows};
-ghost use Rattle.lab_machine.specs.Making.{making, first_version, opening_record};
+ghost use Rattle.lab_rules.specs.Following.{Follows};
+ghost use Rattle.lab_rules.specs.Making.{making, first_version, opening_record};
 
 use crate::faults::CommandFault;
 use crate::refusals::Refusal;

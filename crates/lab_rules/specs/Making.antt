@@ -8,8 +8,8 @@ use Rattle.lab_kept.specs.declared.records.FormVersion.{FormVersion}
 use Rattle.lab_kept.specs.declared.records.Record.{Record}
 use Rattle.lab_kept.specs.declared.records.Version.{Version}
 use Rattle.lab_kept.specs.Limits.{form_version_limit, record_limit}
-use Rattle.lab_machine.specs.declared.refusals.Refusal.{Refusal}
-use Rattle.lab_machine.specs.declared.refusals.Refusal.TheVariants.{People, NoSuchForm, RecordExists, NothingAltered}
+use Rattle.lab_rules.specs.declared.refusals.Refusal.{Refusal}
+use Rattle.lab_rules.specs.declared.refusals.Refusal.TheVariants.{People, NoSuchForm, RecordExists, NothingAltered}
 
 -- the version of a number
 abbrev pub form_version : List ℕ → ℕ → FormSheet → FormVersion

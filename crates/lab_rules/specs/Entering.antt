@@ -17,11 +17,11 @@ use Rattle.lab_kept.specs.Lookups.{last_of}
 use Rattle.lab_kept.specs.Values.{all_rows, value_of, version_state}
 use Rattle.lab_kept.specs.Digests.{digest_of}
 use Rattle.lab_kept.specs.Changes.{with_row}
-use Rattle.lab_machine.specs.declared.outcomes.EntryMade.{EntryMade}
-use Rattle.lab_machine.specs.declared.outcomes.AmendmentMade.{AmendmentMade}
-use Rattle.lab_machine.specs.declared.commands.Item.{Item}
-use Rattle.lab_machine.specs.declared.refusals.Refusal.{Refusal}
-use Rattle.lab_machine.specs.declared.refusals.Refusal.TheVariants.{People, Form, NoSuchRecord, NotOpen, ReasonWanted, NothingAltered, NotAltered, AmendmentOpen}
+use Rattle.lab_rules.specs.declared.outcomes.EntryMade.{EntryMade}
+use Rattle.lab_rules.specs.declared.outcomes.AmendmentMade.{AmendmentMade}
+use Rattle.lab_rules.specs.declared.items.Item.{Item}
+use Rattle.lab_rules.specs.declared.refusals.Refusal.{Refusal}
+use Rattle.lab_rules.specs.declared.refusals.Refusal.TheVariants.{People, Form, NoSuchRecord, NotOpen, ReasonWanted, NothingAltered, NotAltered, AmendmentOpen}
 
 -- a version is open; a version is released or rejected
 abbrev pub is_open : Option State → Bool

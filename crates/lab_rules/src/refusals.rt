@@ -1,6 +1,6 @@
 //! What a laboratory's machine refuses.
 ghost use Rattle.std.specs.Prelude.{◌≡◌, Some};
-ghost use Rattle.lab_machine.specs.Refusals.{refusal_entry};
+ghost use Rattle.lab_rules.specs.Refusals.{refusal_entry};
 
 use lab_access::PeopleRefusal;
 use lab_forms::FormRefusal;

@@ -1,5 +1,5 @@
 -- What is read of a laboratory (21 CFR 11.10(c), "accurate and ready retrieval"): over what was
--- looked up, the refusal, or the reply.
+-- looked up, the refusal, or what is read.
 use Rattle.std.specs.Prelude.{ℕ, List, map, Option, Some, None, option_map, Result, Ok, Err}
 use Rattle.lab_access.specs.declared.persons.Person.{Person}
 use Rattle.lab_access.specs.Persons.{is_locked}
@@ -10,20 +10,18 @@ use Rattle.lab_kept.specs.Lookups.{last_of, version_of}
 use Rattle.lab_kept.specs.Values.{values_at, altered_at, version_state}
 use Rattle.lab_kept.specs.Digests.{digest_of}
 use Rattle.lab_seal.specs.declared.states.State.{State}
-use Rattle.lab_machine.specs.declared.refusals.Refusal.{Refusal}
-use Rattle.lab_machine.specs.declared.refusals.Refusal.TheVariants.{NoSuchForm, NoSuchRecord, NoSuchVersion}
-use Rattle.lab_machine.specs.declared.replies.Reply.{Reply}
-use Rattle.lab_machine.specs.declared.replies.Reply.TheVariants.{FormRead, RecordRead as ShowsRecord, VersionRead as ShowsVersion}
-use Rattle.lab_machine.specs.declared.replies.VersionState.{VersionState}
-use Rattle.lab_machine.specs.declared.replies.RecordRead.{RecordRead}
-use Rattle.lab_machine.specs.declared.replies.RecordState.{RecordState}
-use Rattle.lab_machine.specs.declared.replies.PersonLine.{PersonLine}
-use Rattle.lab_machine.specs.declared.replies.VersionRead.{VersionRead}
+use Rattle.lab_rules.specs.declared.refusals.Refusal.{Refusal}
+use Rattle.lab_rules.specs.declared.refusals.Refusal.TheVariants.{NoSuchForm, NoSuchRecord, NoSuchVersion}
+use Rattle.lab_rules.specs.declared.readings.VersionState.{VersionState}
+use Rattle.lab_rules.specs.declared.readings.RecordRead.{RecordRead}
+use Rattle.lab_rules.specs.declared.readings.RecordState.{RecordState}
+use Rattle.lab_rules.specs.declared.readings.PersonLine.{PersonLine}
+use Rattle.lab_rules.specs.declared.readings.VersionRead.{VersionRead}
 
 -- a version of a form
-abbrev pub reading_form : Option FormVersion → Result Reply Refusal
+abbrev pub reading_form : Option FormVersion → Result FormVersion Refusal
 reading_form None = Err NoSuchForm
-reading_form (Some form) = Ok (FormRead form)
+reading_form (Some form) = Ok form
 
 -- the state and the digest of a version
 abbrev pub version_line : List ℕ → Record → Version → VersionState
@@ -42,9 +40,9 @@ record_read lab kept = record {
   versions = map (version_line lab kept) kept.versions;
 }
 
-abbrev pub reading_record : List ℕ → Option Record → Result Reply Refusal
+abbrev pub reading_record : List ℕ → Option Record → Result RecordRead Refusal
 reading_record lab None = Err NoSuchRecord
-reading_record lab (Some kept) = Ok (ShowsRecord (record_read lab kept))
+reading_record lab (Some kept) = Ok (record_read lab kept)
 
 -- a version of a record
 abbrev pub version_read : List ℕ → Record → Version → VersionRead
@@ -59,11 +57,11 @@ version_read lab kept version = record {
   values = values_at kept version.origin.number;
 }
 
-abbrev pub reading_found : List ℕ → Record → Option Version → Result Reply Refusal
+abbrev pub reading_found : List ℕ → Record → Option Version → Result VersionRead Refusal
 reading_found lab kept None = Err NoSuchVersion
-reading_found lab kept (Some version) = Ok (ShowsVersion (version_read lab kept version))
+reading_found lab kept (Some version) = Ok (version_read lab kept version)
 
-abbrev pub reading_version : List ℕ → Option Record → ℕ → Result Reply Refusal
+abbrev pub reading_version : List ℕ → Option Record → ℕ → Result VersionRead Refusal
 reading_version lab None number = Err NoSuchRecord
 reading_version lab (Some kept) number =
     reading_found lab kept (version_of kept.versions number)

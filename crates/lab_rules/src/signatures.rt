@@ -1,6 +1,6 @@
 //! Who may sign a version, as what, and when: each refusal by itself, in the order in which they are asked.
 ghost use Rattle.std.specs.Prelude.{◌≡◌, option_copied};
-ghost use Rattle.lab_machine.specs.Signing.{is_code_wanted, approval_refusal, state_refusal, digest_refusal, is_second, signer_refusal, reason_refusal};
+ghost use Rattle.lab_rules.specs.Signing.{is_code_wanted, approval_refusal, state_refusal, digest_refusal, is_second, signer_refusal, reason_refusal};
 
 use crate::outcomes::Signing;
 use crate::refusals::Refusal;

@@ -1,9 +1,9 @@
 -- What a call answers follows a rule: the value, or the refusal, that the rule gives. That memory
 -- ran out is an answer of its own.
 use Rattle.std.specs.Prelude.{◌≡◌, Result, Ok, Err}
-use Rattle.lab_machine.specs.declared.refusals.Refusal.{Refusal}
-use Rattle.lab_machine.specs.declared.faults.CommandFault.{CommandFault}
-use Rattle.lab_machine.specs.declared.faults.CommandFault.TheVariants.{Refused, Memory}
+use Rattle.lab_rules.specs.declared.refusals.Refusal.{Refusal}
+use Rattle.lab_rules.specs.declared.faults.CommandFault.{CommandFault}
+use Rattle.lab_rules.specs.declared.faults.CommandFault.TheVariants.{Refused, Memory}
 
 abbrev pub Follows : {A : Type 0} → Result A Refusal → Result A CommandFault → Type 0
 Follows rule (Ok value) = rule ≡ Ok value

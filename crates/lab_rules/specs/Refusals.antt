@@ -4,8 +4,8 @@ use Rattle.std.specs.Prelude.{codes}
 use Rattle.lab_names.specs.Faults.{Entry}
 use Rattle.lab_forms.specs.Faults.{form_refusal_entry}
 use Rattle.lab_access.specs.Refusals.{people_refusal_entry}
-use Rattle.lab_machine.specs.declared.refusals.Refusal.{Refusal}
-use Rattle.lab_machine.specs.declared.refusals.Refusal.TheVariants.{NoSuchLab, ClockBehind, People, Form, NoSuchForm, RecordExists, NoSuchRecord, NoSuchVersion, NotOpen, ReasonWanted, NothingAltered, NotAltered, AmendmentOpen, EntriesMissing, StaleDigest, AlreadySigned, OwnWork, NotAuthor, NotSigned, CodeWanted, ApprovalNotWanted}
+use Rattle.lab_rules.specs.declared.refusals.Refusal.{Refusal}
+use Rattle.lab_rules.specs.declared.refusals.Refusal.TheVariants.{NoSuchLab, ClockBehind, People, Form, NoSuchForm, RecordExists, NoSuchRecord, NoSuchVersion, NotOpen, ReasonWanted, NothingAltered, NotAltered, AmendmentOpen, EntriesMissing, StaleDigest, AlreadySigned, OwnWork, NotAuthor, NotSigned, CodeWanted, ApprovalNotWanted}
 
 -- the number and the word of a refusal
 abbrev pub refusal_entry : Refusal → Entry

@@ -1,0 +1,23 @@
+//! The rules on forms and records, over what was looked up: the first refusal in order, or what is made or read
+//! (ISO/IEC 17025:2017, 7.5; 21 CFR Part 11). They know no laboratory as a whole and no command.
+#![tactic(auto)]
+
+mod faults;
+mod items;
+mod making;
+mod outcomes;
+mod readings;
+mod refusals;
+mod signatures;
+#[cfg(test)]
+mod tests;
+
+pub use faults::CommandFault;
+pub use items::{Altered, Item, Typed};
+pub use making::{make_form, open_record};
+pub use outcomes::{AmendmentMade, EntryMade, SignatureMade, Signing};
+pub use readings::{PersonLine, RecordRead, RecordState, VersionRead, VersionState};
+pub use refusals::Refusal;
+pub use signatures::{
+    approval_refusal, digest_refusal, is_code_wanted, reason_refusal, signer_refusal, state_refusal,
+};
