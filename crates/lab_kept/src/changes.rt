@@ -6,7 +6,7 @@ use lab_names::{Moment, Ordinal, PersonCode};
 use lab_seal::EntryRow;
 
 /// One change of a laboratory.
-#[derive(Clone, Debug, Drop)]
+#[derive(Drop)]
 pub enum Change {
     /// The moment of the last activity becomes this one.
     Last(Moment),

@@ -7,7 +7,7 @@ use lab_access::{Person, Session};
 use lab_names::{LabCode, Moment, Name, OutOfMemory, Series};
 
 /// One laboratory, whole.
-#[derive(Clone, Debug, Drop)]
+#[derive(Clone, Drop)]
 pub struct Lab {
     /// The code by which requests name it.
     pub code: LabCode,

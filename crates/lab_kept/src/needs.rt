@@ -6,7 +6,7 @@ use lab_names::{Key, LabCode, Moment, Name, Ordinal, PersonCode, Series};
 use lab_seal::Digest;
 
 /// Which version of a form is needed.
-#[derive(Clone, Debug, Drop)]
+#[derive(Drop)]
 pub enum FormWanted {
     /// The last version of the form.
     Last { code: Key },
@@ -15,7 +15,7 @@ pub enum FormWanted {
 }
 
 /// Which record is needed.
-#[derive(Clone, Debug, Drop)]
+#[derive(Drop)]
 pub enum RecordWanted {
     /// The record of the number.
     Numbered { number: Ordinal },
@@ -35,7 +35,7 @@ pub enum ListWanted {
 }
 
 /// Which part of a laboratory is needed. Nothing else of it is.
-#[derive(Clone, Debug, Drop)]
+#[derive(Drop)]
 pub struct Need {
     /// The session whose token has the digest, and its person.
     pub token: Option<Digest>,
@@ -63,7 +63,7 @@ pub struct Counts {
 }
 
 /// A part of a laboratory.
-#[derive(Debug, Drop)]
+#[derive(Drop)]
 pub struct Slice {
     /// The laboratory's code.
     pub code: LabCode,

@@ -9,7 +9,7 @@ use lab_names::{Key, Moment, Name, Ordinal, OutOfMemory, PersonCode, Series};
 use lab_seal::{Digest, EntryRows, Format, Meaning, Origin, Seal, State};
 
 /// One version of a form.
-#[derive(Clone, Debug, Drop)]
+#[derive(Clone, Drop)]
 pub struct FormVersion {
     /// By what the form is known.
     pub code: Key,
@@ -20,7 +20,7 @@ pub struct FormVersion {
 }
 
 /// A signature of a version, with the printed name, the moment and the meaning (21 CFR 11.50(a)).
-#[derive(Clone, Debug, Drop)]
+#[derive(Clone, Drop)]
 pub struct Signature {
     /// Who signed.
     pub person: PersonCode,
@@ -37,7 +37,7 @@ pub struct Signature {
 }
 
 /// A version of a record.
-#[derive(Clone, Debug, Drop)]
+#[derive(Clone, Drop)]
 pub struct Version {
     /// The format of its text.
     pub format: Format,
@@ -54,7 +54,7 @@ pub struct Version {
 }
 
 /// A record: a form filled in for a sample.
-#[derive(Clone, Debug, Drop)]
+#[derive(Clone, Drop)]
 pub struct Record {
     /// Its number in the laboratory.
     pub number: Ordinal,

@@ -86,7 +86,7 @@ pub enum Occasion {
 }
 
 /// What was done, with what it was done to.
-#[derive(Debug, Drop)]
+#[derive(Drop)]
 pub enum Deed {
     /// The laboratory of the code was founded.
     Found {
@@ -196,7 +196,7 @@ impl Deed {
 /// The subject of a row of the trail, as it is written.
 ///
 /// A contract sees it as the list of its bytes.
-#[derive(Debug, Drop)]
+#[derive(Drop)]
 pub struct Subject {
     text: String,
 }
@@ -244,7 +244,7 @@ impl Clone for Subject {
 }
 
 /// A row of the trail.
-#[derive(Clone, Debug, Drop)]
+#[derive(Clone, Drop)]
 pub struct TrailRow {
     /// Its number in the laboratory, from 1 on.
     pub number: Ordinal,

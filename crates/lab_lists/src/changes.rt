@@ -1,5 +1,5 @@
 //! The changes that are made of a laboratory in memory.
-ghost use Rattle.std.specs.Prelude.{◌≡◌, ◌++◌, [], ◌∷◌, IfOk};
+ghost use Rattle.std.specs.Prelude.{◌≡◌, IfOk, OnOk};
 ghost use Rattle.lab_access.specs.Sessions.{session_after, sessions_after};
 ghost use Rattle.lab_kept.specs.Changes.{change, added_person, added_form, with_person, with_session, in_record, entered_in, opened_in, signed_in};
 
@@ -9,111 +9,130 @@ use crate::places::{
 };
 use lab_kept::{
     Change, Closing, EntryRow, FormVersion, Lab, Ordinal, OutOfMemory, Person, PersonCode, Record,
-    Series, Session, Signature, TrailRow, Version,
+    Series, Session, Signature, Version,
 };
+use std::alloc::Global;
+use std::mem;
 
-/// The laboratory after the change. The only error is out of memory.
-pub fn change(lab: Lab, one: Change) -> Result<Lab, OutOfMemory>
-    ensures { IfOk result (λ after. after ≡ change lab one) }
+/// Makes the change of the laboratory. The only error is out of memory; what the laboratory is like then isn't said.
+pub fn change(alloc: Global, lab: &mut Lab, one: Change) -> Result<(), OutOfMemory>
+    ensures { OnOk result (lab.new ≡ change lab.old one) }
 {
     match one {
-        Change::Last(last) => Ok(Lab { last, ..lab }),
-        Change::Strays(strays) => Ok(Lab { strays, ..lab }),
-        Change::PersonAdded(person) => add_person(lab, person),
-        Change::PersonSet(person) => Ok(Lab {
-            persons: with_person(lab.persons, person),
-            ..lab
-        }),
-        Change::SessionAdded(session) => add_session(lab, session),
-        Change::SessionSet(session) => Ok(Lab {
-            sessions: with_session(lab.sessions, session),
-            ..lab
-        }),
-        Change::SessionsClosed { person, closing } => Ok(Lab {
-            sessions: sessions_after(lab.sessions, &person, closing),
-            ..lab
-        }),
-        Change::FormAdded(form) => add_form(lab, form),
-        Change::RecordAdded(kept) => add_record(lab, kept),
-        Change::RowAdded { record, row } => add_row(lab, record, row),
-        Change::VersionOpened { record, version } => open_version(lab, record, version),
+        Change::Last(last) => lab.last = last,
+        Change::Strays(strays) => lab.strays = strays,
+        Change::PersonAdded(person) => add_person(alloc, &mut lab.persons, person)?,
+        Change::PersonSet(person) => set_person(alloc, &mut lab.persons, person),
+        Change::SessionAdded(session) => lab.sessions.push(session)?,
+        Change::SessionSet(session) => set_session(alloc, &mut lab.sessions, session),
+        Change::SessionsClosed { person, closing } => {
+            close_sessions(alloc, &mut lab.sessions, &person, closing)
+        }
+        Change::FormAdded(form) => add_form(alloc, &mut lab.forms, form)?,
+        Change::RecordAdded(kept) => lab.records.push(kept)?,
+        Change::RowAdded { record, row } => add_row(alloc, &mut lab.records, record, row)?,
+        Change::VersionOpened { record, version } => {
+            open_version(alloc, &mut lab.records, record, version)?
+        }
         Change::SignatureAdded {
             record,
             version,
             signature,
-        } => add_signature(lab, record, version, signature),
-        Change::TrailAdded(row) => add_to_trail(lab, row),
+        } => add_signature(alloc, &mut lab.records, record, version, signature)?,
+        Change::TrailAdded(row) => lab.trail.push(row)?,
     }
+    Ok(())
 }
 
-fn add_person(lab: Lab, person: Person) -> Result<Lab, OutOfMemory>
-    ensures { IfOk result (λ after. after ≡ change lab (Change.PersonAdded person)) }
+fn add_person(
+    alloc: Global,
+    persons: &mut Series<Person>,
+    person: Person,
+) -> Result<(), OutOfMemory>
+    ensures { OnOk result (persons.new ≡ added_person person persons.old) }
 {
-    let persons = with_person_added(lab.persons, person)?;
-    Ok(Lab { persons, ..lab })
+    let before = mem::replace(persons, Series::new(alloc));
+    *persons = with_person_added(before, person)?;
+    Ok(())
 }
 
-fn add_session(lab: Lab, session: Session) -> Result<Lab, OutOfMemory>
-    ensures { IfOk result (λ after. after ≡ change lab (Change.SessionAdded session)) }
+fn set_person(alloc: Global, persons: &mut Series<Person>, person: Person)
+    ensures { persons.new ≡ with_person person persons.old }
 {
-    let sessions = longer(lab.sessions, session)?;
-    Ok(Lab { sessions, ..lab })
+    let before = mem::replace(persons, Series::new(alloc));
+    *persons = with_person(before, person);
 }
 
-fn add_form(lab: Lab, form: FormVersion) -> Result<Lab, OutOfMemory>
-    ensures { IfOk result (λ after. after ≡ change lab (Change.FormAdded form)) }
+fn set_session(alloc: Global, sessions: &mut Series<Session>, session: Session)
+    ensures { sessions.new ≡ with_session session sessions.old }
 {
-    let forms = with_form_added(lab.forms, form)?;
-    Ok(Lab { forms, ..lab })
+    let before = mem::replace(sessions, Series::new(alloc));
+    *sessions = with_session(before, session);
 }
 
-fn add_record(lab: Lab, kept: Record) -> Result<Lab, OutOfMemory>
-    ensures { IfOk result (λ after. after ≡ change lab (Change.RecordAdded kept)) }
+fn close_sessions(
+    alloc: Global,
+    sessions: &mut Series<Session>,
+    person: &PersonCode,
+    closing: Closing,
+)
+    ensures { sessions.new ≡ sessions_after closing person.now sessions.old }
 {
-    let records = longer(lab.records, kept)?;
-    Ok(Lab { records, ..lab })
+    let before = mem::replace(sessions, Series::new(alloc));
+    *sessions = sessions_after(before, person, closing);
 }
 
-fn add_row(lab: Lab, number: Ordinal, row: EntryRow) -> Result<Lab, OutOfMemory>
-    ensures { IfOk result (λ after. after ≡ change lab (Change.RowAdded number row)) }
+fn add_form(
+    alloc: Global,
+    forms: &mut Series<FormVersion>,
+    form: FormVersion,
+) -> Result<(), OutOfMemory>
+    ensures { OnOk result (forms.new ≡ added_form form forms.old) }
 {
-    let records = entered_in(lab.records, number, row)?;
-    Ok(Lab { records, ..lab })
+    let before = mem::replace(forms, Series::new(alloc));
+    *forms = with_form_added(before, form)?;
+    Ok(())
 }
 
-fn open_version(lab: Lab, number: Ordinal, version: Version) -> Result<Lab, OutOfMemory>
-    ensures { IfOk result (λ after. after ≡ change lab (Change.VersionOpened number version)) }
+fn add_row(
+    alloc: Global,
+    records: &mut Series<Record>,
+    number: Ordinal,
+    row: EntryRow,
+) -> Result<(), OutOfMemory>
+    ensures { OnOk result (records.new ≡ in_record number (entered_in row) records.old) }
 {
-    let records = opened_in(lab.records, number, version)?;
-    Ok(Lab { records, ..lab })
+    let before = mem::replace(records, Series::new(alloc));
+    *records = entered_in(before, number, row)?;
+    Ok(())
+}
+
+fn open_version(
+    alloc: Global,
+    records: &mut Series<Record>,
+    number: Ordinal,
+    version: Version,
+) -> Result<(), OutOfMemory>
+    ensures { OnOk result (records.new ≡ in_record number (opened_in version) records.old) }
+{
+    let before = mem::replace(records, Series::new(alloc));
+    *records = opened_in(before, number, version)?;
+    Ok(())
 }
 
 fn add_signature(
-    lab: Lab,
+    alloc: Global,
+    records: &mut Series<Record>,
     number: Ordinal,
     version: Ordinal,
     signature: Signature,
-) -> Result<Lab, OutOfMemory>
-    ensures { IfOk result
-        (λ after. after ≡ change lab (Change.SignatureAdded number version signature)) }
+) -> Result<(), OutOfMemory>
+    ensures { OnOk result
+        (records.new ≡ in_record number (signed_in version signature) records.old) }
 {
-    let records = signed_in(lab.records, number, version, signature)?;
-    Ok(Lab { records, ..lab })
-}
-
-fn add_to_trail(lab: Lab, row: TrailRow) -> Result<Lab, OutOfMemory>
-    ensures { IfOk result (λ after. after ≡ change lab (Change.TrailAdded row)) }
-{
-    let trail = longer(lab.trail, row)?;
-    Ok(Lab { trail, ..lab })
-}
-
-/// A series with one value more.
-fn longer<T: Drop>(mut series: Series<T>, value: T) -> Result<Series<T>, OutOfMemory>
-    ensures { IfOk result (λ all. all ≡ series ++ value ∷ []) }
-{
-    series.push(value)?;
-    Ok(series)
+    let before = mem::replace(records, Series::new(alloc));
+    *records = signed_in(before, number, version, signature)?;
+    Ok(())
 }
 
 /// The persons with one more, in the order of their codes.

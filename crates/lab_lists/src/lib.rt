@@ -5,8 +5,6 @@ mod changes;
 mod lookups;
 mod parts;
 mod places;
-#[cfg(test)]
-mod tests;
 
 pub use changes::change;
 pub use parts::part;

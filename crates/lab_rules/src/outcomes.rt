@@ -8,7 +8,7 @@ use lab_names::{Note, Ordinal};
 use lab_seal::{Digest, EntryRow, State};
 
 /// What a person asks to sign a version as.
-#[derive(Clone, Debug, Drop)]
+#[derive(Drop)]
 pub enum Signing {
     /// As its author.
     Authorship,
@@ -35,7 +35,7 @@ impl Signing {
 }
 
 /// A value that is entered: the row, and what its version is like with it.
-#[derive(Clone, Debug, Drop)]
+#[derive(Drop)]
 pub struct EntryMade {
     /// The record's number.
     pub number: Ordinal,
@@ -50,7 +50,7 @@ pub struct EntryMade {
 }
 
 /// A version that an amendment opens.
-#[derive(Clone, Debug, Drop)]
+#[derive(Drop)]
 pub struct AmendmentMade {
     /// The record's number.
     pub number: Ordinal,
@@ -61,7 +61,7 @@ pub struct AmendmentMade {
 }
 
 /// A signature that is given.
-#[derive(Clone, Debug, Drop)]
+#[derive(Drop)]
 pub struct SignatureMade {
     /// The record's number.
     pub number: Ordinal,

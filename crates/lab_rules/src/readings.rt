@@ -5,7 +5,7 @@ use lab_names::{Key, Name, Ordinal, PersonCode, Series};
 use lab_seal::{Digest, EntryRow, State};
 
 /// The state of a version of a record, and its digest.
-#[derive(Clone, Debug, Drop)]
+#[derive(Drop)]
 pub struct VersionState {
     /// The version's number.
     pub version: Ordinal,
@@ -16,7 +16,7 @@ pub struct VersionState {
 }
 
 /// A record with the states of its versions.
-#[derive(Clone, Debug, Drop)]
+#[derive(Drop)]
 pub struct RecordRead {
     /// Its number.
     pub number: Ordinal,
@@ -29,7 +29,7 @@ pub struct RecordRead {
 }
 
 /// A version of a record, with what it comes to.
-#[derive(Clone, Debug, Drop)]
+#[derive(Drop)]
 pub struct VersionRead {
     /// The record's number.
     pub number: Ordinal,
@@ -50,7 +50,7 @@ pub struct VersionRead {
 }
 
 /// A record, by its last version.
-#[derive(Clone, Debug, Drop)]
+#[derive(Drop)]
 pub struct RecordState {
     /// Its number.
     pub number: Ordinal,
@@ -65,7 +65,7 @@ pub struct RecordState {
 }
 
 /// A person, as persons are read.
-#[derive(Clone, Debug, Drop)]
+#[derive(Drop)]
 pub struct PersonLine {
     /// The code.
     pub code: PersonCode,
