@@ -1,0 +1,4 @@
+pub mod LimitLists
+pub mod LimitOrder
+pub mod LimitParts
+pub mod LimitPersons
