@@ -1,3 +1,4 @@
+pub mod LimitForms
 pub mod LimitLists
 pub mod LimitOrder
 pub mod LimitParts

@@ -1,7 +1,7 @@
 -- A version of a form that is added among versions that stand in order.
-use Rattle.std.proofs.Common.{◌≡◌, ◌≤◌, ◌<◌, ◌+◌, ℕ, Bool, true, false, cond, ◌&&◌, List, [], ◌∷◌, ◌++◌, length, reverse, Option, Some, None, refl, sym, ◌∙◌, ap, subst, arith, append_assoc}
+use Rattle.std.proofs.Common.{◌≡◌, ◌≤◌, ◌<◌, ◌+◌, ℕ, Bool, true, false, cond, ◌&&◌, List, [], ◌∷◌, ◌++◌, length, reverse, Option, Some, None, refl, sym, ◌∙◌, ap, subst, arith, ◌==◌}
 use Rattle.std.specs.Prelude.{All, bytes_eq, find}
-use Rattle.std.proofs.lemmas.List.{reverse-append}
+use Rattle.std.proofs.lemmas.List.{reverse-append, append-nil, append_assoc}
 use Rattle.std.proofs.lemmas.Slice.Eq.{bytes_eq-Decides}
 use Rattle.std.proofs.lemmas.List.Elements.{All-weaker}
 use Rattle.lab_kept.specs.declared.records.FormVersion.{FormVersion}
@@ -107,7 +107,7 @@ last_later : (code : List ℕ) (before list : List FormVersion) → AreLater cod
     → last_form (before ++ list) code ≡ last_form before code
 last_later code before [] later = ap (λ l. last_form l code) (append-nil before)
 last_later code before (one ∷ others) later =
-    ap (λ l. last_form l code) (sym (append_assoc {s = before} {t = one ∷ []} {u = others}))
+    ap (λ l. last_form l code) (sym (append_assoc before (one ∷ []) others))
     ∙ last_later code (before ++ one ∷ []) others later.1
     ∙ last_more before one code
     ∙ ap (λ b. cond b (Some one) (last_form before code)) (other_text_back code one.code later.0)
@@ -166,7 +166,7 @@ placed_numbered form before (one ∷ others) ordered numbered next =
     number_case (form_later form one) form one before others refl ordered numbered next
     (placed_numbered form (before ++ one ∷ []) others (rest_ordered one others ordered) numbered.1
     (next ∙ ap (λ l. next_form_version (last_form l form.code))
-    (sym (append_assoc {s = before} {t = one ∷ []} {u = others}))))
+    (sym (append_assoc before (one ∷ []) others))))
 
 -- versions of forms with the next of one form are numbered
 pub forms_added_numbered : (form : FormVersion) (forms : List FormVersion) → AreFormsInOrder forms
@@ -238,12 +238,3 @@ by_form_added form forms records ordered all =
     All-weaker (IsByForm forms) (IsByForm (added_form form forms))
     (λ kept is. added_exact form forms kept.form.code kept.form.version kept.form ordered is)
     records all
-
--- ---- the last version of a form is the one of its number
-
--- the form's last version is the one of its number, and none has a greater one
-abbrev IsLastExact : List FormVersion → List ℕ → Option FormVersion → Type 0
-IsLastExact forms code None = (version : ℕ) → exact_form forms code version ≡ None
-IsLastExact forms code (Some last) =
-    (exact_form forms code last.version ≡ Some last)
-    × ((version : ℕ) → last.version < version → exact_form forms code version ≡ None)
