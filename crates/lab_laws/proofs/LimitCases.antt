@@ -1,6 +1,6 @@
 -- What each command makes of a laboratory is within the limits, and its trail is as before.
-use Rattle.std.proofs.Common.{◌≡◌, ◌≤◌, ◌<◌, ◌+◌, ℕ, Bool, true, false, not, cond, ◌&&◌, List, [], ◌∷◌, ◌++◌, length, Option, Some, None, Result, Ok, Err, refl, sym, ◌∙◌, ap, subst, arith, nat_lt, nat_le}
-use Rattle.std.specs.Prelude.{All, bytes_eq, is_some}
+use Rattle.std.proofs.Common.{◌≡◌, ◌≤◌, ◌<◌, ◌+◌, ℕ, Bool, true, false, not, cond, ◌&&◌, List, [], ◌∷◌, ◌++◌, length, Option, Some, None, Result, Ok, Err, refl, sym, subst, arith, nat_le}
+use Rattle.std.specs.Prelude.{bytes_eq, is_some}
 use Rattle.std.proofs.lemmas.Bool.{leb-false, leb-true}
 use Rattle.std.proofs.lemmas.List.{length-map}
 use Rattle.std.proofs.lemmas.List.Elements.{All-push}
@@ -11,26 +11,20 @@ use Rattle.lab_access.specs.declared.persons.Person.{Person}
 use Rattle.lab_access.specs.declared.roles.Roles.{Roles}
 use Rattle.lab_access.specs.declared.sessions.Session.{Session}
 use Rattle.lab_access.specs.declared.sessions.Closing.{Closing}
-use Rattle.lab_access.specs.declared.openings.Opened.{Opened}
 use Rattle.lab_access.specs.declared.refusals.Failure.{Failure}
-use Rattle.lab_access.specs.declared.refusals.PeopleFault.{PeopleFault}
-use Rattle.lab_access.specs.declared.refusals.PeopleFault.TheVariants.{Failed, Refused as IsRefused}
+use Rattle.lab_access.specs.declared.refusals.PeopleFault.TheVariants.{Refused as IsRefused}
 use Rattle.lab_access.specs.declared.refusals.PeopleRefusal.{PeopleRefusal}
 use Rattle.lab_access.specs.declared.refusals.PeopleRefusal.TheVariants.{RandomRepeated, LabFull, CodeTaken, BadPassword, SamePassword}
 use Rattle.lab_access.specs.Openings.{opening_by, numbered_opening, new_opening}
 use Rattle.lab_access.specs.Passwords.{is_password}
-use Rattle.lab_access.specs.Persons.{person_of}
-use Rattle.lab_access.specs.Sessions.{session_of, closed_session, signed_session, sessions_after}
-use Rattle.lab_people.specs.declared.accounts.Effect.{Effect}
-use Rattle.lab_people.specs.declared.accounts.PasswordChanged.{PasswordChanged}
+use Rattle.lab_access.specs.Sessions.{session_of, closed_session, signed_session}
 use Rattle.lab_people.specs.Accounts.{changing_by, with_new_password, newcomer}
 use Rattle.lab_kept.specs.declared.labs.Lab.{Lab}
 use Rattle.lab_kept.specs.declared.records.FormVersion.{FormVersion}
 use Rattle.lab_kept.specs.declared.records.Record.{Record}
-use Rattle.lab_kept.specs.declared.records.Version.{Version}
 use Rattle.lab_kept.specs.Limits.{IsWithin, IsOrderly, IsByForm, IsSmallForm, field_limit, person_limit, record_limit, row_limit}
-use Rattle.lab_kept.specs.Lookups.{person_at, last_form, record_of, record_about, exact_form, next_form_version}
-use Rattle.lab_kept.specs.Changes.{with_person, with_session, added_person, added_form, in_record, entered_in, opened_in, signed_in}
+use Rattle.lab_kept.specs.Lookups.{person_at, last_form, record_of, record_about, next_form_version}
+use Rattle.lab_kept.specs.Changes.{with_person, with_session, added_person, entered_in, opened_in, signed_in}
 use Rattle.lab_rules.specs.declared.items.Item.{Item}
 use Rattle.lab_rules.specs.declared.outcomes.Signing.{Signing}
 use Rattle.lab_rules.specs.declared.outcomes.EntryMade.{EntryMade}
@@ -38,11 +32,11 @@ use Rattle.lab_rules.specs.declared.outcomes.AmendmentMade.{AmendmentMade}
 use Rattle.lab_rules.specs.declared.outcomes.SignatureMade.{SignatureMade}
 use Rattle.lab_rules.specs.declared.refusals.Refusal.{Refusal}
 use Rattle.lab_rules.specs.Making.{making, opening_record, new_record, first_version}
-use Rattle.lab_rules.specs.Entering.{entering, amending, entered_row, entry_made, amendment_made, next_version}
-use Rattle.lab_rules.specs.Signing.{signing_record, signature_made, new_signature}
+use Rattle.lab_rules.specs.Entering.{entering, amending, entered_row, next_version}
+use Rattle.lab_rules.specs.Signing.{signing_record, new_signature}
 use Rattle.lab_machine.specs.declared.replies.Reply.{Reply}
-use Rattle.lab_machine.specs.Cases.{Case, Refuses, Fails, Reads, Makes}
-use Rattle.lab_machine.specs.Own.{then_case, then_person, then_read, with_opened, opened_case, closing_case, with_changed, changed_case, enrolled_case, with_person_closed, form_case, record_case, entry_case, amendment_case, with_signed, signature_case, signing_by}
+use Rattle.lab_machine.specs.Cases.{Case, Makes}
+use Rattle.lab_machine.specs.Own.{then_case, then_person, then_read, opened_case, closing_case, changed_case, enrolled_case, with_person_closed, form_case, record_case, entry_case, amendment_case, signature_case, signing_by}
 use Rattle.lab_laws.proofs.LimitLists.{longer, numbered_more}
 use Rattle.lab_laws.proofs.LimitOrder.{all_placed}
 use Rattle.lab_laws.proofs.LimitParts.{session_number}

@@ -1,5 +1,5 @@
 -- A version of a form that is added among versions that stand in order.
-use Rattle.std.proofs.Common.{◌≡◌, ◌≤◌, ◌<◌, ◌+◌, ℕ, Bool, true, false, cond, ◌&&◌, List, [], ◌∷◌, ◌++◌, length, reverse, Option, Some, None, refl, sym, ◌∙◌, ap, subst, arith, ◌==◌}
+use Rattle.std.proofs.Common.{◌≡◌, ℕ, Bool, true, false, cond, ◌&&◌, List, [], ◌∷◌, ◌++◌, Option, Some, None, refl, sym, ◌∙◌, ap, subst, ◌==◌}
 use Rattle.std.specs.Prelude.{All, bytes_eq, find}
 use Rattle.std.proofs.lemmas.List.{reverse-append, append-nil, append_assoc}
 use Rattle.std.proofs.lemmas.Slice.Eq.{bytes_eq-Decides}

@@ -1,6 +1,6 @@
 -- Lists whose items are numbered, and lists that differ in what isn't numbered.
-use Rattle.std.proofs.Common.{◌≡◌, ◌≤◌, ◌<◌, ◌+◌, ℕ, Bool, true, false, cond, List, [], ◌∷◌, ◌++◌, length, Option, Some, None, refl, sym, ◌∙◌, ap, subst, arith, length-append}
-use Rattle.std.specs.Prelude.{All, map, find, bytes_eq}
+use Rattle.std.proofs.Common.{◌≡◌, ◌+◌, ℕ, true, List, [], ◌∷◌, ◌++◌, length, refl, ◌∙◌, arith, length-append}
+use Rattle.std.specs.Prelude.{map, bytes_eq}
 use Rattle.std.proofs.lemmas.Slice.Eq.{bytes_eq-Decides}
 use Rattle.lab_kept.specs.Limits.{AreNumberedAfter, AreNumbered}
 

@@ -1,11 +1,10 @@
 -- Sessions, persons and the trail, as a command leaves them.
-use Rattle.std.proofs.Common.{◌≡◌, ◌≤◌, ◌<◌, ◌+◌, ℕ, Bool, true, false, cond, List, [], ◌∷◌, ◌++◌, length, Option, Some, None, refl, sym, ◌∙◌, ap, subst, arith}
-use Rattle.std.specs.Prelude.{All, map, find, bytes_eq, IsTrue}
+use Rattle.std.proofs.Common.{◌≡◌, ℕ, Bool, true, false, cond, List, [], ◌∷◌, Some, refl, sym, ◌∙◌, ap, subst}
+use Rattle.std.specs.Prelude.{map, bytes_eq, IsTrue}
 use Rattle.std.proofs.lemmas.Slice.Eq.{bytes_eq-Decides}
 use Rattle.lab_access.specs.declared.persons.Person.{Person}
 use Rattle.lab_access.specs.declared.sessions.Session.{Session}
 use Rattle.lab_access.specs.declared.sessions.Closing.{Closing}
-use Rattle.lab_access.specs.Persons.{person_of}
 use Rattle.lab_access.specs.Sessions.{session_of, closed_session, is_closed_by, sessions_after}
 use Rattle.lab_kept.specs.Changes.{with_person, with_session}
 use Rattle.lab_kept.specs.Lookups.{comes_before}

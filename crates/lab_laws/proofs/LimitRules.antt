@@ -1,6 +1,6 @@
 -- What stands behind what a rule gives: what was looked up, and that no refusal held.
-use Rattle.std.proofs.Common.{◌≡◌, ◌≤◌, ◌<◌, ◌+◌, ℕ, Bool, true, false, not, cond, ◌&&◌, ◌||◌, List, [], ◌∷◌, ◌++◌, length, Option, Some, None, Result, Ok, Err, refl, sym, ◌∙◌, ap, subst, arith, nat_lt, nat_le}
-use Rattle.std.specs.Prelude.{is_none, is_some}
+use Rattle.std.proofs.Common.{◌≡◌, ◌≤◌, ◌<◌, ◌+◌, ℕ, Bool, true, false, not, cond, ◌&&◌, ◌||◌, List, [], ◌∷◌, length, Option, Some, None, Result, Ok, Err, refl, ap, arith, nat_lt, nat_le}
+use Rattle.std.specs.Prelude.{is_none}
 use Rattle.std.specs.Option.{option_map_or}
 use Rattle.std.proofs.lemmas.Bool.{leb-false}
 use Rattle.lab_forms.specs.Forms.{FormSheet, form_eq}
@@ -18,10 +18,9 @@ use Rattle.lab_rules.specs.declared.outcomes.EntryMade.{EntryMade}
 use Rattle.lab_rules.specs.declared.outcomes.AmendmentMade.{AmendmentMade}
 use Rattle.lab_rules.specs.declared.outcomes.SignatureMade.{SignatureMade}
 use Rattle.lab_rules.specs.declared.outcomes.Signing.{Signing}
-use Rattle.lab_rules.specs.declared.refusals.Refusal.{Refusal}
 use Rattle.lab_rules.specs.declared.refusals.Refusal.TheVariants.{People, NothingAltered}
-use Rattle.lab_rules.specs.Making.{making, form_version, opening_record, opening_new, new_record}
-use Rattle.lab_rules.specs.Entering.{is_open, has_settled, entered_row, item_refusal, has_value, entry_made, entering, entering_of, entering_in, entering_last, first_altered_refusal, next_version, amendment_made, amending, amending_of, amending_by, amending_last}
+use Rattle.lab_rules.specs.Making.{making, form_version, opening_record, new_record}
+use Rattle.lab_rules.specs.Entering.{is_open, has_settled, entered_row, item_refusal, has_value, entry_made, entering, entering_of, first_altered_refusal, next_version, amendment_made, amending, amending_of, amending_by, amending_last}
 use Rattle.lab_rules.specs.Signing.{version_refusal, new_signature, signature_made, signing_record, signing_version}
 
 -- ---- a test that would refuse didn't hold

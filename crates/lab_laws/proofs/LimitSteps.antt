@@ -1,6 +1,5 @@
 -- A step leaves a laboratory within its limits.
-use Rattle.std.proofs.Common.{◌≡◌, ◌≤◌, ◌<◌, ◌+◌, ℕ, Bool, true, false, not, cond, ◌&&◌, List, [], ◌∷◌, ◌++◌, length, Option, Some, None, refl, sym, ◌∙◌, ap, subst, nat_lt, nat_le}
-use Rattle.std.specs.Prelude.{MatchOption}
+use Rattle.std.proofs.Common.{◌≡◌, ◌<◌, ℕ, Bool, true, false, cond, List, length, Option, Some, None, refl, sym, subst, nat_lt, nat_le}
 use Rattle.std.proofs.lemmas.Bool.{leb-false}
 use Rattle.sha2.specs.Sha256.{sha256}
 use Rattle.lab_names.specs.declared.tick.Tick.{Tick}
@@ -16,11 +15,8 @@ use Rattle.lab_people.specs.Accounts.{changing, enrolling, setting_roles, retiri
 use Rattle.lab_people.specs.Issues.{asking, confirming}
 use Rattle.lab_kept.specs.declared.labs.Lab.{Lab}
 use Rattle.lab_kept.specs.declared.trails.Deed.{Deed}
-use Rattle.lab_kept.specs.Changes.{with_session}
 use Rattle.lab_kept.specs.Limits.{IsWithin, count_limit, person_limit}
 use Rattle.lab_kept.specs.Lookups.{person_at, session_at, caller_of, last_form, exact_form, record_of, record_about}
-use Rattle.lab_rules.specs.declared.outcomes.Signing.{Signing}
-use Rattle.lab_rules.specs.declared.refusals.Refusal.{Refusal}
 use Rattle.lab_rules.specs.declared.refusals.Refusal.TheVariants.{CodeWanted}
 use Rattle.lab_rules.specs.Making.{making, opening_record}
 use Rattle.lab_rules.specs.Entering.{entering, amending}
@@ -34,7 +30,7 @@ use Rattle.lab_machine.specs.declared.passages.Passage.TheVariants.{Early, Needs
 use Rattle.lab_machine.specs.declared.replies.Reply.{Reply}
 use Rattle.lab_machine.specs.declared.replies.Reply.TheVariants.{FormRead, RecordRead, VersionRead}
 use Rattle.lab_machine.specs.Policy.{rule_of}
-use Rattle.lab_machine.specs.Cases.{Case, Refuses, Fails, Reads, Makes, told, failed}
+use Rattle.lab_machine.specs.Cases.{Case, Refuses, Fails, Reads, Makes, told}
 use Rattle.lab_machine.specs.Own.{own, opening_case, asked_case, confirmed_case, roles_case, retired_case, unlocked_case, form_case, record_case, entry_case, amendment_case, signing_by}
 use Rattle.lab_machine.specs.Machine.{Stepped, named_session, allowed_passage, session_passage, rule_passage, passage, stays, made, ended, touched, at_moment, opened, without_session, answered, step}
 use Rattle.lab_laws.specs.Asking.{IsCommandRight, IsAskedRightly}
