@@ -1,0 +1,11 @@
+pub mod LimitCases
+pub mod LimitForms
+pub mod LimitKept
+pub mod LimitLast
+pub mod LimitLists
+pub mod LimitOrder
+pub mod LimitParts
+pub mod LimitPersons
+pub mod LimitRecords
+pub mod LimitRules
+pub mod LimitSteps
