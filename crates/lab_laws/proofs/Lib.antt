@@ -1,0 +1,4 @@
+pub mod SigningFrame
+pub mod SigningStep
+pub mod SigningStates
+pub mod BoundLemmas
