@@ -2,3 +2,4 @@ pub mod SigningFrame
 pub mod SigningStep
 pub mod SigningStates
 pub mod BoundLemmas
+pub mod DualLemmas
