@@ -19,12 +19,8 @@ use Rattle.lab_rules.specs.declared.outcomes.Signing.{Signing}
 use Rattle.lab_rules.specs.Making.{new_record}
 use Rattle.lab_rules.specs.Entering.{has_settled, next_version}
 use Rattle.lab_rules.specs.Signing.{version_refusal, new_signature}
-use Rattle.lab_laws.proofs.SigningFrame.{StaysTrue, each_in_version}
+use Rattle.lab_laws.proofs.SigningFrame.{with_versions, StaysTrue, each_in_version}
 use Rattle.lab_laws.proofs.SigningStates.{one_last, later_last, open_none, given_digest}
-
--- a record with other versions: its texts say the same of it
-abbrev with_versions : Record → List Version → Record
-with_versions kept versions = record kept { versions = versions }
 
 -- a signature stays bound to a version whose text is the same
 same_bound : (lab : List ℕ) (kept : Record) (others : List Version) (version other : Version)
@@ -52,8 +48,8 @@ sealed_in_last : (lab : List ℕ) (kept : Record) (others : List Version) (row :
     → All (IsSealed lab (with_versions kept others)) (in_last (with_row row) versions)
 sealed_in_last lab kept others row last [] is none bound = absurd (cc)
 sealed_in_last lab kept others row last (one ∷ []) is none bound =
-    let same : one.signatures ≡ [] = ap (λ (v : Version). v.signatures) (one_last one last is) ∙ none
-    in
+    let same : one.signatures ≡ [] =
+    ap (λ (v : Version). v.signatures) (one_last one last is) ∙ none in
     All-cons (IsSealed lab (with_versions kept others)) (with_row row one) []
     (All-same (IsBoundTo lab (with_versions kept others) (with_row row one)) one.signatures [] same
     (All-nil (IsBoundTo lab (with_versions kept others) (with_row row one))))
@@ -69,8 +65,10 @@ chain_in_last : (lab : List ℕ) (kept : Record) (others : List Version) (row : 
     → IsChain lab (with_versions kept others) before (in_last (with_row row) versions)
 chain_in_last lab kept others row before [] chain = tt
 chain_in_last lab kept others row before (one ∷ []) chain = (chain.0, tt)
-chain_in_last lab kept others row before (one ∷ two ∷ more) chain =
-    (chain.0, chain_in_last lab kept others row (Some (digest_of lab kept one)) (two ∷ more) chain.1)
+chain_in_last lab kept others row before (one ∷ two ∷ more) chain = (
+  chain.0,
+  chain_in_last lab kept others row (Some (digest_of lab kept one)) (two ∷ more) chain.1,
+)
 
 -- ---- an amendment
 

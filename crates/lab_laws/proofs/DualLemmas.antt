@@ -25,12 +25,8 @@ use Rattle.lab_rules.specs.declared.refusals.Refusal.TheVariants.{OwnWork, NotAu
 use Rattle.lab_rules.specs.Making.{new_record, first_version}
 use Rattle.lab_rules.specs.Entering.{has_settled, next_version}
 use Rattle.lab_rules.specs.Signing.{is_second, state_refusal, signer_refusal, signed_meaning, version_refusal, new_signature}
-use Rattle.lab_laws.proofs.SigningFrame.{StaysTrue, each_in_version}
+use Rattle.lab_laws.proofs.SigningFrame.{with_versions, StaysTrue, each_in_version}
 use Rattle.lab_laws.proofs.SigningStates.{one_last, later_last, taken_said, IsAuthored, IsReviewed, are_in, open_none}
-
--- a record with other versions: it is filled in by the same form
-abbrev with_versions : Record → List Version → Record
-with_versions kept versions = record kept { versions = versions }
 
 -- a version that stays is signed as it was
 same_signed : (kept : Record) (others : List Version) (version : Version)
@@ -165,10 +161,13 @@ settled_if : (kept : Record) (others : List Version) (signature : Signature)
     → (later ≡ Some version → AreSettledButLast (with_versions kept others) (one ∷ changed))
     → AreSettledButLast (with_versions kept others)
     (cond here (with_signature signature one ∷ two ∷ more) (one ∷ changed))
-settled_if kept others signature version one two more later true found unsettled settled changed after =
+settled_if kept others signature version one two more later true found unsettled settled changed
+    after =
     let same : one ≡ version = cc in
     absurd (unsettled (subst (λ (v : Version). IsSettled kept v) same settled))
-settled_if kept others signature version one two more later false found unsettled settled changed after = after found
+settled_if kept others signature version one two more later false found unsettled settled changed
+    after =
+    after found
 
 settled_first : (kept : Record) (one : Version) (more : List Version) → IsSettled kept one
     → AreSettledButLast kept more → AreSettledButLast kept (one ∷ more)
@@ -199,6 +198,10 @@ settled_in_version kept others number signature version (one ∷ two ∷ more) f
     settled.1))
 
 -- ---- a signature: the signers
+
+-- signatures of these meanings are those of a state
+abbrev has_state : List Meaning → Bool → Bool
+has_state meanings approval = is_some (state_of meanings approval)
 
 -- signatures are those of a state, and are given by whom they may be
 abbrev AreRight : Version → List Signature → Bool → Type 0
@@ -236,22 +239,20 @@ third_right : (version : Version) (author second third : Signature) (approval : 
     → third.person ≢ second.person
     → AreRight version (author ∷ second ∷ third ∷ []) approval
 third_right version author second third approval meaning author_means second_means means wanted some
-    signers none differs = (
-      ap (λ (one : Meaning). is_some (state_of (one ∷ second.meaning ∷ third.meaning ∷ []) approval))
-          author_means
-          ∙ ap (λ (one : Meaning). is_some (state_of (AsAuthor ∷ one ∷ third.meaning ∷ []) approval))
-          second_means
-          ∙ ap (λ (one : Meaning). is_some (state_of (AsAuthor ∷ AsReviewer ∷ one ∷ []) approval)) means
-          ∙ ap (λ (one : Bool). is_some (state_of (AsAuthor ∷ AsReviewer ∷ meaning ∷ []) one)) wanted
-          ∙ some,
-      (
-        signers.0,
-        All-cons (EnteredNone version) second (third ∷ [])
-            (All-head (EnteredNone version) second [] signers.1)
-            (All-cons (EnteredNone version) third [] none (All-nil (EnteredNone version))),
-        differs,
-      ),
-    )
+    signers none differs =
+    let first_is =
+    ap (λ (one : Meaning). has_state (one ∷ second.meaning ∷ third.meaning ∷ []) approval)
+    author_means in
+    let second_is = ap (λ (one : Meaning). has_state (AsAuthor ∷ one ∷ third.meaning ∷ []) approval)
+    second_means in
+    let third_is =
+    ap (λ (one : Meaning). has_state (AsAuthor ∷ AsReviewer ∷ one ∷ []) approval) means in
+    let wanted_is =
+    ap (λ (one : Bool). has_state (AsAuthor ∷ AsReviewer ∷ meaning ∷ []) one) wanted in
+    let later = All-cons (EnteredNone version) second (third ∷ [])
+    (All-head (EnteredNone version) second [] signers.1)
+    (All-cons (EnteredNone version) third [] none (All-nil (EnteredNone version))) in
+    (first_is ∙ second_is ∙ third_is ∙ wanted_is ∙ some, (signers.0, later, differs))
 
 -- what a signer's refusal would have said
 entered_if : (entered : Bool) → cond entered None (Some NotAuthor) ≡ None → entered ≡ true
@@ -283,7 +284,8 @@ after_author : (version : Version) (signature : Signature) (approval : Bool) (me
 after_author version signature approval meaning means some authored signers none =
     subst (λ (list : List Signature). AreRight version (list ++ signature ∷ []) approval)
     (sym authored.signatures_are)
-    (second_right version authored.author signature approval meaning authored.author_means means some
+    (second_right version authored.author signature approval meaning authored.author_means means
+    some
     (subst (λ (list : List Signature). AreSigners version list) authored.signatures_are signers)
     none)
 
@@ -299,7 +301,8 @@ after_review version signature approval meaning means some reviewed signers none
     (sym reviewed.signatures_are)
     (third_right version reviewed.author reviewed.reviewer signature approval meaning
     reviewed.author_means reviewed.reviewer_means means reviewed.wanted some
-    (subst (λ (list : List Signature). AreSigners version list) reviewed.signatures_are signers) none
+    (subst (λ (list : List Signature). AreSigners version list) reviewed.signatures_are signers)
+    none
     (third_differs version.signatures reviewed.author reviewed.reviewer signature.person
     reviewed.signatures_are isnt))
 
@@ -344,7 +347,8 @@ one_more version signature Approval approval means state signer signers =
 one_more version signature (Rejection None) approval means state signer signers =
     let none = none_if (has_entered signature.person version)
     (is_second signature.person version.signatures) signer in
-    rejection_right version signature approval [] means (rejection_state None _ state) signers none.0
+    rejection_right version signature approval [] means (rejection_state None _ state) signers
+    none.0
     none.1
 one_more version signature (Rejection (Some reason)) approval means state signer signers =
     let none = none_if (has_entered signature.person version)

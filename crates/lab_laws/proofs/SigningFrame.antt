@@ -63,12 +63,14 @@ changed_if Old New next x one others changed later false found step same all mor
 -- the record of a number is changed, all others stay
 pub each_in_record : (Holds : Record → Type 0) (number : ℕ) (next : Record → Record)
     (kept : Record) (records : List Record) → record_of records number ≡ Some kept
-    → (Holds kept → Holds (next kept)) → All Holds records → All Holds (in_record number next records)
+    → (Holds kept → Holds (next kept)) → All Holds records
+    → All Holds (in_record number next records)
 each_in_record Holds number next kept [] found step all = absurd (cc)
 each_in_record Holds number next kept (one ∷ others) found step all =
     changed_if Holds Holds next kept one others (in_record number next others)
     (record_of others number) (has_number number one) found step (λ y holds. holds) all
-    (λ later. each_in_record Holds number next kept others later step (All-tail Holds one others all))
+    (λ later. each_in_record Holds number next kept others later step
+    (All-tail Holds one others all))
     (All-tail Holds one others all)
 
 -- and so it is with the version of a number
@@ -95,6 +97,10 @@ pub version_found : (versions : List Version) (number : ℕ) (version : Version)
 version_found versions number version found =
     eqb-true version.origin.number number
     (found_passes (is_numbered number) versions version found)
+
+-- a record with other versions: it is filled in by the same form, and its texts say the same of it
+abbrev pub with_versions : Record → List Version → Record
+with_versions kept versions = record kept { versions = versions }
 
 -- ---- what is asked of the rules
 
@@ -131,7 +137,8 @@ pub same_ok : {A : Type 0} (one other : A) → accepts one ≡ accepts other →
 same_ok one other is = cc
 
 -- a refusal wasn't given
-pub not_refused : {A : Type 0} (test : Bool) (refusal : Refusal) (rest : Result A Refusal) (answer : A)
+pub not_refused : {A : Type 0} (test : Bool) (refusal : Refusal) (rest : Result A Refusal)
+    (answer : A)
     → cond test (Err refusal) rest ≡ Ok answer → (test ≡ false) × (rest ≡ Ok answer)
 not_refused true refusal rest answer is = absurd (cc)
 not_refused false refusal rest answer is = (refl, is)

@@ -1,5 +1,5 @@
--- The state of a version and its signatures, what a signing that is taken says of them, and the last
--- of a list.
+-- The state of a version and its signatures, what a signing that is taken says of them, and the
+-- last of a list.
 use Rattle.std.proofs.Common.{◌≡◌, ℕ, ◌-◌, Bool, true, false, cond, List, [], ◌∷◌, length, Option, Some, None, refl, subst, suc, arith}
 use Rattle.std.specs.Prelude.{map, bytes_eq}
 use Rattle.std.proofs.lemmas.Slice.Eq.{bytes_eq-Decides}

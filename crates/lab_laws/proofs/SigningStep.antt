@@ -174,7 +174,7 @@ entry_keeps : (Holds : List ℕ → Record → Type 0) → StaysTrue Holds → (
 entry_keeps Holds true_still lab number item reason caller moment answer holds is =
     let said = entry_said lab.code (record_of lab.records number) item reason caller moment answer
     is in
-    rw (said.number) (rw (number_found lab.records number said.kept said.record_is)
+    rw said.number (rw (number_found lab.records number said.kept said.record_is)
     (each_in_record (Holds lab.code) number (entered_in answer.row) said.kept lab.records
     said.record_is
     (true_still.entered lab.code said.kept said.version answer.row said.last said.is_so) holds))
@@ -187,7 +187,7 @@ amendment_keeps : (Holds : List ℕ → Record → Type 0) → StaysTrue Holds �
 amendment_keeps Holds true_still lab number reason altered caller moment answer holds is =
     let said = amendment_said lab.code (record_of lab.records number) reason altered caller moment
     answer is in
-    rw (said.number) (rw (number_found lab.records number said.kept said.record_is) (rw (said.next)
+    rw said.number (rw (number_found lab.records number said.kept said.record_is) (rw said.next
     (each_in_record (Holds lab.code) number
     (opened_in (next_version lab.code said.kept said.version said.reason altered caller moment))
     said.kept lab.records said.record_is
@@ -204,9 +204,9 @@ signature_keeps : (Holds : List ℕ → Record → Type 0) → StaysTrue Holds �
 signature_keeps Holds true_still lab number version digest signing person moment answer holds is =
     let said = signature_said lab.code (record_of lab.records number) version digest signing person
     moment answer is in
-    rw (said.number_is) (rw (number_found lab.records number said.kept said.record_is)
-    (rw (said.signed_is) (rw (version_found said.kept.versions version said.version said.version_is)
-    (rw (said.signature_is) (each_in_record (Holds lab.code) number
+    rw said.number_is (rw (number_found lab.records number said.kept said.record_is)
+    (rw said.signed_is (rw (version_found said.kept.versions version said.version said.version_is)
+    (rw said.signature_is (each_in_record (Holds lab.code) number
     (signed_in version (new_signature lab.code person signing moment digest)) said.kept
     lab.records said.record_is
     (true_still.signed lab.code said.kept said.version version digest signing person moment
@@ -216,7 +216,8 @@ signing_keeps : (Holds : List ℕ → Record → Type 0) → StaysTrue Holds →
     (session : Session) (number version : ℕ) (digest : List ℕ) (signing : Signing)
     (result : Result Person Failure) → OfEach Holds lab
     → WhereMade Holds (signing_by lab moment session number version digest signing result)
-signing_keeps Holds true_still lab moment session number version digest signing (Err failure) holds =
+signing_keeps Holds true_still lab moment session number version digest signing (Err failure)
+    holds =
     tt
 signing_keeps Holds true_still lab moment session number version digest signing (Ok person) holds =
     then_case_keeps Holds
@@ -285,7 +286,8 @@ own_keeps Holds true_still lab tick session caller (Amend number reason altered)
     (amendment_case lab)
     (λ answer is. amendment_keeps Holds true_still lab number reason altered caller.code tick.moment
     answer holds is)
-own_keeps Holds true_still lab tick session caller (Sign number version digest signing password code)
+own_keeps Holds true_still lab tick session caller
+    (Sign number version digest signing password code)
     holds =
     wanted_if Holds _ (signing_by lab tick.moment session number version digest signing
     (signing_attempt caller code password tick.moment)) (is_code_wanted session code)
@@ -320,7 +322,8 @@ answered_keeps Holds true_still lab tick command Stranger holds = holds
 answered_keeps Holds true_still lab tick command (Barred session refusal) holds = holds
 answered_keeps Holds true_still lab tick command (Passes session caller) holds =
     ended_keeps Holds (touched lab tick.moment session) tick.moment caller.code
-    (own (touched lab tick.moment session) tick (touched_session tick.moment session) caller command)
+    (own (touched lab tick.moment session) tick (touched_session tick.moment session) caller
+    command)
     holds
     (own_keeps Holds true_still (touched lab tick.moment session) tick
     (touched_session tick.moment session) caller command holds)

@@ -6,8 +6,9 @@ ghost use Rattle.lab_machine.specs.declared.commands.Instruction.{Instruction};
 ghost use Rattle.lab_machine.specs.Machine.{step};
 ghost use Rattle.lab_laws.specs.Stepping.{WhereThere};
 
-/// Law: where the signatures of each version of a laboratory are those of a state and are given by whom they may be, and every
-/// version but the last of a record is released or rejected, they are so after a step as well, whatever the instruction.
+/// Law: where the signatures of each version of a laboratory are those of a state and are given by whom they may be, and
+/// every version but the last of a record is released or rejected, they are so after a step as well, whatever the
+/// instruction.
 pub fn a_step_keeps_dual()
     ensures { (lab : Lab) → (tick : Tick) → (instruction : Instruction) → IsDual lab
         → WhereThere IsDual (step (Some lab) tick instruction).after }
