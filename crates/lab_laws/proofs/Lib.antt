@@ -9,3 +9,8 @@ pub mod LimitPersons
 pub mod LimitRecords
 pub mod LimitRules
 pub mod LimitSteps
+pub mod SigningFrame
+pub mod SigningStep
+pub mod SigningStates
+pub mod BoundLemmas
+pub mod DualLemmas
