@@ -1,0 +1,5 @@
+pub mod KeepLists
+pub mod BirthLemmas
+pub mod KeepPersons
+pub mod KeepForms
+pub mod KeepRecords
