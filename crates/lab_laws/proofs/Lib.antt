@@ -3,3 +3,4 @@ pub mod BirthLemmas
 pub mod KeepPersons
 pub mod KeepForms
 pub mod KeepRecords
+pub mod KeepCases
