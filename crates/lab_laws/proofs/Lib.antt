@@ -4,3 +4,4 @@ pub mod KeepPersons
 pub mod KeepForms
 pub mod KeepRecords
 pub mod KeepCases
+pub mod KeepMade
