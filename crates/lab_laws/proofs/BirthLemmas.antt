@@ -1,5 +1,5 @@
 -- A laboratory as it is born: three persons in order, one row of the trail, and nothing else.
-use Rattle.std.proofs.Common.{◌≡◌, ◌≢◌, ◌≤◌, ℕ, ◌+◌, Bool, true, false, cond, not, ◌||◌, ◌&&◌, List, [], ◌∷◌, length, Option, Some, None, Result, Ok, Err, refl, sym, ◌∙◌, ap, subst, arith}
+use Rattle.std.proofs.Common.{◌≡◌, ℕ, ◌+◌, Bool, true, false, cond, not, ◌||◌, List, [], ◌∷◌, length, None, Ok, Err, refl, sym, ◌∙◌, ap, subst, arith}
 use Rattle.std.specs.Prelude.{bytes_eq, IsTrue}
 use Rattle.std.specs.Ordering.{nat_cmp, match_ordering, ordering_reverse, is_eq}
 use Rattle.std.proofs.Common.{Ordering, Less, Equal, Greater}
@@ -8,17 +8,14 @@ use Rattle.std.proofs.lemmas.Map.Text.{is_eq-slice_cmp}
 use Rattle.std.proofs.lemmas.List.Elements.{All-nil}
 use Rattle.lab_names.specs.declared.tick.Tick.{Tick}
 use Rattle.lab_access.specs.declared.persons.Person.{Person}
-use Rattle.lab_access.specs.Persons.{person_of}
 use Rattle.lab_secrets.specs.Words.{salt_at}
 use Rattle.lab_kept.specs.declared.labs.Lab.{Lab}
-use Rattle.lab_kept.specs.declared.records.Record.{Record}
 use Rattle.lab_kept.specs.Lookups.{comes_before}
 use Rattle.lab_kept.specs.Changes.{added_person}
-use Rattle.lab_kept.specs.Limits.{AreInOrder, IsWithin, IsOrderly, IsByForm, IsSmallForm, person_limit}
+use Rattle.lab_kept.specs.Limits.{AreInOrder, IsWithin, IsOrderly, IsByForm, IsSmallForm}
 use Rattle.lab_kept.specs.Bound.{IsBound, IsBoundRecord}
 use Rattle.lab_kept.specs.Dual.{IsDual, IsDualRecord}
 use Rattle.lab_machine.specs.declared.births.Founding.{Founding}
-use Rattle.lab_machine.specs.declared.births.BirthRefusal.{BirthRefusal}
 use Rattle.lab_machine.specs.declared.births.BirthRefusal.TheVariants.{CodeTaken, BadPassword}
 use Rattle.lab_machine.specs.Births.{founder_person, founders_of, newborn, is_code_shared, are_passwords, born}
 use Rattle.lab_laws.proofs.KeepLists.{placed, inserted_is, length_placed}

@@ -1,5 +1,5 @@
 -- What each command's own case keeps: persons, attempts, accounts and sessions.
-use Rattle.std.proofs.Common.{◌≡◌, ◌⊎◌, ℕ, ◌+◌, Bool, true, false, cond, not, List, [], ◌∷◌, ◌++◌, length, Option, Some, None, is_some, Result, Ok, Err, refl, sym, ◌∙◌, ap, subst, inl, inr}
+use Rattle.std.proofs.Common.{◌≡◌, ◌⊎◌, ℕ, ◌+◌, Bool, true, false, cond, not, List, [], ◌∷◌, ◌++◌, length, Option, Some, None, is_some, Result, Ok, Err, refl, subst, inl}
 use Rattle.lab_names.specs.declared.tick.Tick.{Tick}
 use Rattle.lab_access.specs.declared.roles.Roles.{Roles}
 use Rattle.lab_access.specs.declared.persons.Person.{Person}
@@ -10,10 +10,9 @@ use Rattle.lab_access.specs.declared.sessions.Closing.TheVariants.{Nothing, All}
 use Rattle.lab_access.specs.declared.openings.Opened.{Opened}
 use Rattle.lab_access.specs.declared.refusals.Failure.{Failure}
 use Rattle.lab_access.specs.declared.refusals.Failure.TheVariants.{Counted, Locking, AlreadyLocked, Stray}
-use Rattle.lab_access.specs.declared.refusals.PeopleFault.{PeopleFault}
-use Rattle.lab_access.specs.declared.refusals.PeopleFault.TheVariants.{Failed, Refused}
+use Rattle.lab_access.specs.declared.refusals.PeopleFault.TheVariants.{Refused}
 use Rattle.lab_access.specs.declared.refusals.PeopleRefusal.{PeopleRefusal}
-use Rattle.lab_access.specs.declared.refusals.PeopleRefusal.TheVariants.{BadPassword, SamePassword, CodeTaken, LabFull, OwnIssue, NoSuchPerson, IssueOpen, SamePerson as IsSamePerson, NoIssue, RandomRepeated}
+use Rattle.lab_access.specs.declared.refusals.PeopleRefusal.TheVariants.{BadPassword, SamePassword, CodeTaken, LabFull, OwnIssue, NoSuchPerson, IssueOpen, SamePerson as IsSamePerson, RandomRepeated}
 use Rattle.lab_access.specs.Persons.{person_of, is_locked, unlocked_person, standing_ask}
 use Rattle.lab_access.specs.Passwords.{is_set, accepts, is_password}
 use Rattle.lab_access.specs.Sessions.{session_of, sessions_after, closed_session}
@@ -21,7 +20,6 @@ use Rattle.lab_access.specs.Attempts.{failure_count, failures_to_lock, counted_p
 use Rattle.lab_access.specs.Openings.{numbered_opening, new_opening, opening_by, opening, token_digest}
 use Rattle.lab_names.specs.Ordinals.{ordinal_of}
 use Rattle.lab_people.specs.declared.accounts.Effect.{Effect}
-use Rattle.lab_people.specs.declared.accounts.PasswordChanged.{PasswordChanged}
 use Rattle.lab_people.specs.declared.issues.Issued.{Issued}
 use Rattle.lab_people.specs.Accounts.{newcomer, enrolling, person_meant, meant_then, setting_roles, retiring, unlocking, changing_by, changing, with_new_password}
 use Rattle.lab_people.specs.Issues.{asking, confirming, confirming_of, is_anothers, with_ask, with_one_time_word}
@@ -35,7 +33,7 @@ use Rattle.lab_rules.specs.declared.refusals.Refusal.{Refusal}
 use Rattle.lab_machine.specs.Cases.{Case, Refuses, Fails, Reads, Makes}
 use Rattle.lab_machine.specs.Own.{then_case, then_person, then_read, opened_case, opening_case, closing_case, changed_case, enrolled_case, with_person_closed, with_opened}
 use Rattle.lab_machine.specs.declared.replies.Reply.{Reply}
-use Rattle.lab_laws.proofs.KeepPersons.{IsSet, set_from, set_keeps, added_keeps, persons_itself, person_on, sessions_itself, sessions_on, with_session_keeps, closed_keep}
+use Rattle.lab_laws.proofs.KeepPersons.{IsSet, set_from, set_keeps, added_keeps, persons_itself, sessions_itself, sessions_on, with_session_keeps, closed_keep}
 use Rattle.lab_laws.proofs.KeepLists.{extends_more}
 use Rattle.lab_laws.proofs.KeepPersons.{session_itself}
 use Rattle.lab_laws.proofs.KeepForms.{forms_itself}
@@ -177,7 +175,7 @@ opening_found : (lab : Lab) (moment : ℕ) (code password : List ℕ) (tick : Ti
     (found : Option Person) (sessions : ℕ) (repeated : Option Session)
     → person_of lab.persons code ≡ found
     → CaseKeeps lab moment code
-        (opened_case lab (opening_by (attempt_of found password tick.moment) code tick sessions repeated))
+    (opened_case lab (opening_by (attempt_of found password tick.moment) code tick sessions repeated))
 opening_found lab moment code password tick None sessions repeated there = tt
 opening_found lab moment code password tick (Some person) sessions repeated there =
     opening_by_keeps lab moment code tick person (attempt_by person true password tick.moment) sessions
@@ -212,10 +210,10 @@ changed_by false false lab moment code one session new tick set there =
     let changed = with_new_password one session new tick in
     let sessions = with_session changed.session lab.sessions in
     let renewed : IsSet lab.persons changed.person = record {
-          old = set.old;
-          there = set.there;
-          same = record { code = set.same.code; name = set.same.name };
-        } in
+      old = set.old;
+      there = set.there;
+      same = record { code = set.same.code; name = set.same.name };
+    } in
     persons_made lab (with_person changed.person lab.persons)
     (sessions_after changed.closing changed.person.code sessions) _ moment code
     (set_keeps lab.persons changed.person renewed)
@@ -229,7 +227,7 @@ changing_by_keeps : (lab : Lab) (code : List ℕ) (caller : Person) (session : S
     → person_of lab.persons caller.code ≡ Some caller
     → session_of lab.sessions session.token ≡ Some session → IsAttemptOf caller attempt
     → CaseKeeps lab tick.moment code
-        (changed_case lab tick.moment (changing_by attempt session old new tick))
+    (changed_case lab tick.moment (changing_by attempt session old new tick))
 changing_by_keeps lab code caller session (Err failure) old new tick known there same =
     failure_keeps lab.persons caller.code caller failure known same
 changing_by_keeps lab code caller session (Ok one) old new tick known there same =
@@ -240,7 +238,7 @@ pub changing_keeps : (lab : Lab) (code : List ℕ) (caller : Person) (session : 
     (old new : List ℕ) (tick : Tick) → person_of lab.persons caller.code ≡ Some caller
     → session_of lab.sessions session.token ≡ Some session
     → CaseKeeps lab tick.moment code
-        (changed_case lab tick.moment (changing caller session old new tick))
+    (changed_case lab tick.moment (changing caller session old new tick))
 unfolding changing
 changing_keeps lab code caller session old new tick known there =
     changing_by_keeps lab code caller session (attempt_by caller true old tick.moment) old new tick known
@@ -266,7 +264,7 @@ enrolled_free : (lab : Lab) (code name : List ℕ) (roles : Roles) (persons : �
 unfolding enrolling
 enrolled_free lab code name roles persons person h =
     let is = enrolled_by (is_some (person_at lab code)) (nat_le 500 persons)
-        (newcomer code name roles) person h in
+    (newcomer code name roles) person h in
     subst (λ one. person_of lab.persons one.code ≡ None) is.1 (none_some (person_at lab code) is.0)
 
 pub enrolled_keeps : (lab : Lab) (code name : List ℕ) (roles : Roles) (persons moment : ℕ)
@@ -373,10 +371,10 @@ pub asked_about : (caller : List ℕ) (holder : Option Person) (tick : Tick) (is
 unfolding asking
 asked_about caller holder tick issued h =
     let m = meant caller holder (λ found.
-        cond (is_anothers caller (standing_ask found.ask tick.moment)) (Err IssueOpen)
-        (Ok (with_ask caller tick found))) issued h in
+    cond (is_anothers caller (standing_ask found.ask tick.moment)) (Err IssueOpen)
+    (Ok (with_ask caller tick found))) issued h in
     let is = asked_by (is_anothers caller (standing_ask m.found.ask tick.moment))
-        (with_ask caller tick m.found) issued m.comes in
+    (with_ask caller tick m.found) issued m.comes in
     record {
       found = m.found;
       there = m.there;
@@ -400,7 +398,7 @@ pub confirmed_about : (caller : List ℕ) (holder : Option Person) (tick : Tick)
 unfolding confirming
 confirmed_about caller holder tick issued h =
     let m = meant caller holder
-        (λ found. confirming_of caller tick found (standing_ask found.ask tick.moment)) issued h in
+    (λ found. confirming_of caller tick found (standing_ask found.ask tick.moment)) issued h in
     record {
       found = m.found;
       there = m.there;

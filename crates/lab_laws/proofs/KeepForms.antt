@@ -1,6 +1,6 @@
 -- Versions of forms stay when the next one is put among them.
-use Rattle.std.proofs.Common.{◌≡◌, ◌≢◌, ◌≤◌, ℕ, ◌+◌, Bool, true, false, cond, ◌&&◌, List, [], ◌∷◌, ◌++◌, reverse, Option, Some, None, refl, sym, ◌∙◌, ap, subst, append_assoc, append-nil, arith}
-use Rattle.std.specs.Prelude.{bytes_eq, find, ◌==◌}
+use Rattle.std.proofs.Common.{◌≡◌, ◌≢◌, ◌≤◌, ℕ, ◌+◌, Bool, true, false, cond, ◌&&◌, List, [], ◌∷◌, ◌++◌, Option, Some, None, refl, sym, ◌∙◌, ap, subst, append_assoc, append-nil, arith}
+use Rattle.std.specs.Prelude.{find, ◌==◌}
 use Rattle.std.proofs.lemmas.Bool.Decides.{Decides-eqb}
 use Rattle.std.proofs.lemmas.List.{reverse-append}
 use Rattle.lab_kept.specs.declared.records.FormVersion.{FormVersion}
@@ -76,9 +76,9 @@ ends_by : (own : Bool) (before : List FormVersion) (one : FormVersion) (code : L
 ends_by true before one code version is ends next few =
     let same : one.code ≡ code = are_same one.code code is in
     let after : one.version ≡ next_form_version (last_form before code) =
-        next ∙ ap (λ it. next_form_version (last_form before it)) same in
+    next ∙ ap (λ it. next_form_version (last_form before it)) same in
     let less : next_form_version (last_form before code) ≤ version =
-        subst (λ n. n ≤ version) after (omega arith) in
+    subst (λ n. n ≤ version) after (omega arith) in
     none_more (is_form_version code version) before one (ends version less)
     (exact_own (is_version_of code one) (one.version == version) (less_differs one.version version few))
 ends_by false before one code version is ends next few =
@@ -124,9 +124,9 @@ placed_by true forms form found code version is numbered next h =
     let same : form.code ≡ code = are_same form.code code own.0 in
     let number : form.version ≡ version = (Decides-eqb form.version version).0 own.1 in
     let after : next_form_version (last_form forms code) ≡ version =
-        ap (λ it. next_form_version (last_form forms it)) (sym same) ∙ sym next ∙ number in
+    ap (λ it. next_form_version (last_form forms it)) (sym same) ∙ sym next ∙ number in
     let none : exact_form forms code version ≡ None =
-        next_is_none forms code numbered version (omega (arith, after)) in
+    next_is_none forms code numbered version (omega (arith, after)) in
     absurd (cc (none, h))
 placed_by false forms form found code version is numbered next h =
     other_placed (is_form_version code version) (later form) form forms is ∙ h

@@ -1,6 +1,6 @@
 -- What the cases of forms, records and signatures keep, and what they do to the records.
-use Rattle.std.proofs.Common.{◌≡◌, ◌⊎◌, ℕ, ◌+◌, Bool, true, false, cond, not, List, [], ◌∷◌, ◌++◌, length, map, Option, Some, None, Result, Ok, Err, refl, sym, ◌∙◌, ap, subst, inl, inr}
-use Rattle.std.specs.Prelude.{bytes_eq, ◌||◌, ◌&&◌, nat_lt, nat_le, is_none, option_map, option_and_then}
+use Rattle.std.proofs.Common.{◌≡◌, ℕ, ◌+◌, Bool, true, false, cond, not, List, [], ◌∷◌, ◌++◌, length, Option, Some, None, Result, Ok, Err, refl, sym, ◌∙◌, ap, subst, inl, inr}
+use Rattle.std.specs.Prelude.{◌||◌, ◌&&◌, nat_lt, nat_le, is_none, option_map, option_and_then}
 use Rattle.std.specs.Option.{option_map_or}
 use Rattle.std.proofs.lemmas.List.Elements.{All-map}
 use Rattle.lab_forms.specs.Forms.{FormSheet, form_eq}
@@ -10,33 +10,31 @@ use Rattle.lab_access.specs.declared.refusals.Failure.{Failure}
 use Rattle.lab_access.specs.declared.refusals.PeopleRefusal.TheVariants.{LabFull}
 use Rattle.lab_access.specs.Persons.{person_of}
 use Rattle.lab_access.specs.Sessions.{session_of, signed_session}
-use Rattle.lab_access.specs.Attempts.{attempt_by, signing_attempt, is_own_code}
+use Rattle.lab_access.specs.Attempts.{signing_attempt, is_own_code}
 use Rattle.lab_versions.specs.declared.rows.EntryRow.{EntryRow}
-use Rattle.lab_seal.specs.declared.states.State.{State}
 use Rattle.lab_kept.specs.declared.labs.Lab.{Lab}
 use Rattle.lab_kept.specs.declared.records.FormVersion.{FormVersion}
 use Rattle.lab_kept.specs.declared.records.Record.{Record as KeptRecord}
 use Rattle.lab_kept.specs.declared.records.Version.{Version}
-use Rattle.lab_kept.specs.declared.records.Signature.{Signature}
 use Rattle.lab_kept.specs.declared.trails.Deed.{Deed}
-use Rattle.lab_kept.specs.declared.trails.Deed.TheVariants.{Form as FormDeed, Record as RecordDeed, Entry as EntryDeed, Amend as AmendDeed, Sign as SignDeed}
+use Rattle.lab_kept.specs.declared.trails.Deed.TheVariants.{Record as RecordDeed, Entry as EntryDeed, Amend as AmendDeed}
 use Rattle.lab_kept.specs.Limits.{AreFormsNumbered, form_version_limit, record_limit, row_limit, version_limit}
-use Rattle.lab_kept.specs.Lookups.{last_form, next_form_version, record_of, record_about, version_of, last_of}
+use Rattle.lab_kept.specs.Lookups.{last_form, next_form_version, record_of, version_of, last_of}
 use Rattle.lab_kept.specs.Values.{version_state}
-use Rattle.lab_kept.specs.Changes.{SameSession, with_person, with_session, added_form, in_record, entered_in, opened_in, signed_in}
-use Rattle.lab_kept.specs.Keeping.{Extends, KeepsRecord, IsDoneTo, IsAmended, last_number}
+use Rattle.lab_kept.specs.Changes.{in_record, entered_in, opened_in, signed_in}
+use Rattle.lab_kept.specs.Keeping.{Extends, KeepsRecord, IsDoneTo, IsAmended}
 use Rattle.lab_rules.specs.declared.items.Item.{Item}
 use Rattle.lab_rules.specs.declared.outcomes.Signing.{Signing}
 use Rattle.lab_rules.specs.declared.outcomes.EntryMade.{EntryMade}
 use Rattle.lab_rules.specs.declared.outcomes.AmendmentMade.{AmendmentMade}
 use Rattle.lab_rules.specs.declared.outcomes.SignatureMade.{SignatureMade}
 use Rattle.lab_rules.specs.declared.refusals.Refusal.{Refusal}
-use Rattle.lab_rules.specs.declared.refusals.Refusal.TheVariants.{People, Form, NoSuchForm, RecordExists, NothingAltered, NotOpen, ReasonWanted, AmendmentOpen, CodeWanted}
-use Rattle.lab_rules.specs.Making.{form_version, making, new_record, opening_new, opening_record}
+use Rattle.lab_rules.specs.declared.refusals.Refusal.TheVariants.{People, NothingAltered, NotOpen, ReasonWanted, AmendmentOpen, CodeWanted}
+use Rattle.lab_rules.specs.Making.{form_version, making, new_record, opening_record}
 use Rattle.lab_rules.specs.Entering.{is_open, has_settled, entered_row, item_refusal, has_value, entry_made, entering_of, entering, next_version, amendment_made, first_altered_refusal, amending_by, amending_of, amending}
 use Rattle.lab_rules.specs.Signing.{is_code_wanted, version_refusal, new_signature, signature_made, signing_version, signing_record}
 use Rattle.lab_machine.specs.Cases.{Case, Refuses}
-use Rattle.lab_machine.specs.Own.{form_case, record_case, entry_case, amendment_case, signature_case, with_signed, signing_by}
+use Rattle.lab_machine.specs.Own.{form_case, record_case, entry_case, amendment_case, signature_case, signing_by}
 use Rattle.lab_laws.proofs.KeepPersons.{IsSet, set_from, set_keeps, persons_itself, sessions_itself, with_session_keeps}
 use Rattle.lab_laws.proofs.KeepForms.{forms_itself, form_added_keeps}
 use Rattle.lab_laws.proofs.KeepRecords.{records_itself, records_more, in_record_keeps, entered_in_keeps, opened_in_keeps, signed_in_keeps, found_number, open_unsigned}
@@ -79,7 +77,7 @@ making_next code sheet None form h =
     subst (λ one. (one.code ≡ code) × (one.version ≡ 1)) is (refl, refl)
 making_next code sheet (Some last) form h =
     let is = made_by (form_eq last.form sheet) (nat_le form_version_limit last.version)
-        (form_version code (last.version + 1) sheet) form h in
+    (form_version code (last.version + 1) sheet) form h in
     subst (λ one. (one.code ≡ code) × (one.version ≡ last.version + 1)) is (refl, refl)
 
 pub form_keeps : (lab : Lab) (code : List ℕ) (sheet : FormSheet) (form : FormVersion) (moment : ℕ)
@@ -89,7 +87,7 @@ pub form_keeps : (lab : Lab) (code : List ℕ) (sheet : FormSheet) (form : FormV
 form_keeps lab code sheet form moment person numbered h =
     let is = making_next code sheet (last_form lab.forms code) form h in
     let next : form.version ≡ next_form_version (last_form lab.forms form.code) =
-        is.1 ∙ ap (λ it. next_form_version (last_form lab.forms it)) (sym is.0) in
+    is.1 ∙ ap (λ it. next_form_version (last_form lab.forms it)) (sym is.0) in
     record {
       rest = record {
         code = refl;
@@ -189,8 +187,8 @@ entered_last records lab kept None item reason person moment made there at h = a
 entered_last records lab kept (Some last) item reason person moment made there at h =
     let row = entered_row item reason person moment in
     let is = entered_by (is_open (version_state kept last)) (item_refusal kept item)
-        (has_value kept item.key && is_none reason) (nat_le row_limit (length last.rows))
-        (entry_made lab kept last row) made h in
+    (has_value kept item.key && is_none reason) (nat_le row_limit (length last.rows))
+    (entry_made lab kept last row) made h in
     record {
       kept = kept;
       last = last;
@@ -226,8 +224,8 @@ row_entered : (lab : Lab) (person : List ℕ) (moment : ℕ) (kept : KeptRecord)
     → CaseKeeps lab moment person (entry_case lab (entry_made lab.code kept last row))
 row_entered lab person moment kept last row there at unsigned by moment_is =
     let number_of : Option KeptRecord → Option ℕ = λ found.
-            option_map (λ version. version.origin.number)
-            (option_and_then (λ kept. last_of kept.versions) found) in
+    option_map (λ version. version.origin.number)
+    (option_and_then (λ kept. last_of kept.versions) found) in
     records_made lab (in_record kept.number (entered_in row) lab.records)
     (EntryDeed kept.number last.origin.number row.key) moment person
     (in_record_keeps kept.number (entered_in row) lab.records kept there
@@ -247,7 +245,7 @@ pub entry_keeps : (lab : Lab) (number : ℕ) (item : Item) (reason : Option (Lis
     → CaseKeeps lab moment person (entry_case lab made)
 entry_keeps lab number item reason person moment made h =
     let entered = entered_found lab.records number lab.code (record_of lab.records number) item reason
-        person moment made refl h in
+    person moment made refl h in
     subst (λ one. CaseKeeps lab moment person (entry_case lab one)) entered.is
     (row_entered lab person moment entered.kept entered.last entered.row entered.there entered.at
     entered.unsigned entered.by entered.moment_is)
@@ -321,7 +319,7 @@ version_made : (lab : Lab) (person : List ℕ) (moment : ℕ) (kept : KeptRecord
     (reason : List ℕ) (one : Item) (others : List Item)
     → record_of lab.records kept.number ≡ Some kept
     → CaseKeeps lab moment person (amendment_case lab (amendment_made lab.code kept
-        (next_version lab.code kept last reason (one ∷ others) person moment)))
+    (next_version lab.code kept last reason (one ∷ others) person moment)))
 version_made lab person moment kept last reason one others there =
     let opened = next_version lab.code kept last reason (one ∷ others) person moment in
     records_made lab (in_record kept.number (opened_in opened) lab.records)
@@ -347,7 +345,7 @@ pub amendment_keeps : (lab : Lab) (number : ℕ) (reason : Option (List ℕ)) (a
     → CaseKeeps lab moment person (amendment_case lab made)
 amendment_keeps lab number reason altered person moment made h =
     let amended = amended_found lab.records number lab.code (record_of lab.records number) reason altered
-        person moment made refl h in
+    person moment made refl h in
     subst (λ one. CaseKeeps lab moment person (amendment_case lab one)) amended.is
     (version_made lab person moment amended.kept amended.last amended.reason amended.one amended.others
     amended.there)
@@ -375,7 +373,7 @@ signed_version : (records : List KeptRecord) (lab : List ℕ) (kept : KeptRecord
 signed_version records lab kept None digest signing person moment made there h = absurd (cc)
 signed_version records lab kept (Some version) digest signing person moment made there h =
     let is = signed_by (version_refusal lab kept version digest signing person.code)
-        (signature_made kept version (new_signature lab person signing moment digest)) made h in
+    (signature_made kept version (new_signature lab person signing moment digest)) made h in
     subst (IsSignatureMade records person.code moment) is
     (record { kept = kept; there = there; by = refl; at = refl })
 
@@ -420,7 +418,7 @@ signing_by_keeps : (lab : Lab) (moment : ℕ) (session : Session) (caller : Pers
     → person_of lab.persons caller.code ≡ Some caller
     → session_of lab.sessions session.token ≡ Some session → IsAttemptOf caller attempt
     → CaseKeeps lab moment caller.code
-        (signing_by lab moment session number version digest signing attempt)
+    (signing_by lab moment session number version digest signing attempt)
 signing_by_keeps lab moment session caller number version digest signing (Err failure) known there same =
     failure_keeps lab.persons caller.code caller failure known same
 signing_by_keeps lab moment session caller number version digest signing (Ok one) known there same =
@@ -444,8 +442,8 @@ pub signing_keeps : (lab : Lab) (moment : ℕ) (session : Session) (caller : Per
     (code : Option (List ℕ)) → person_of lab.persons caller.code ≡ Some caller
     → session_of lab.sessions session.token ≡ Some session
     → CaseKeeps lab moment caller.code (cond (is_code_wanted session code) (Refuses CodeWanted)
-        (signing_by lab moment session number version digest signing
-        (signing_attempt caller code password moment)))
+    (signing_by lab moment session number version digest signing
+    (signing_attempt caller code password moment)))
 signing_keeps lab moment session caller number version digest signing password code known there =
     signing_wanted (is_code_wanted session code) lab moment caller.code
     (signing_by lab moment session number version digest signing

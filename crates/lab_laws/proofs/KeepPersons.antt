@@ -6,7 +6,7 @@ use Rattle.lab_access.specs.declared.persons.Person.{Person}
 use Rattle.lab_access.specs.declared.sessions.Session.{Session}
 use Rattle.lab_access.specs.declared.sessions.Closing.{Closing}
 use Rattle.lab_access.specs.Persons.{person_of}
-use Rattle.lab_access.specs.Sessions.{session_of, session_after, sessions_after, closed_session, is_closed_by}
+use Rattle.lab_access.specs.Sessions.{session_of, sessions_after, closed_session, is_closed_by}
 use Rattle.lab_kept.specs.Changes.{SamePerson, SameSession, with_person, with_session, added_person}
 use Rattle.lab_kept.specs.Keeping.{Extends, KeepsPersons}
 use Rattle.lab_laws.proofs.KeepLists.{extends_itself, extends_on, placed, inserted_is}

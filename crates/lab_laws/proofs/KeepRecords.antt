@@ -1,6 +1,6 @@
 -- Records stay as they are where they are entered in, opened anew and signed.
-use Rattle.std.proofs.Common.{◌≡◌, ◌≢◌, ℕ, suc, ◌+◌, ◌-◌, Bool, true, false, cond, List, [], ◌∷◌, ◌++◌, length, map, Option, Some, None, refl, sym, ◌∙◌, ap, subst, arith}
-use Rattle.std.specs.Prelude.{find, ◌==◌, slice_get}
+use Rattle.std.proofs.Common.{◌≡◌, ◌≢◌, ℕ, suc, ◌-◌, Bool, true, false, cond, List, [], ◌∷◌, ◌++◌, length, map, Option, Some, refl, sym, ◌∙◌, ap, subst, arith}
+use Rattle.std.specs.Prelude.{◌==◌, slice_get}
 use Rattle.std.proofs.lemmas.Bool.Decides.{Decides-eqb}
 use Rattle.lab_versions.specs.declared.rows.EntryRow.{EntryRow}
 use Rattle.lab_seal.specs.declared.seals.Meaning.{Meaning}
@@ -10,9 +10,9 @@ use Rattle.lab_kept.specs.declared.records.Record.{Record}
 use Rattle.lab_kept.specs.declared.records.Version.{Version}
 use Rattle.lab_kept.specs.declared.records.Signature.{Signature}
 use Rattle.lab_kept.specs.Values.{meaning_of, version_state}
-use Rattle.lab_kept.specs.Lookups.{has_number, is_numbered, record_of, version_of, last_of}
+use Rattle.lab_kept.specs.Lookups.{has_number, is_numbered, record_of, last_of}
 use Rattle.lab_kept.specs.Changes.{in_record, in_version, in_last, with_row, with_signature, entered_in, signed_in, opened_in}
-use Rattle.lab_kept.specs.Keeping.{Extends, IsPrefix, KeepsRows, KeepsVersion, KeepsRecord}
+use Rattle.lab_kept.specs.Keeping.{Extends, KeepsRows, KeepsVersion, KeepsRecord}
 use Rattle.lab_rules.specs.Entering.{is_open}
 use Rattle.lab_laws.proofs.KeepLists.{extends_itself, extends_more, prefix_itself, prefix_more}
 
@@ -61,7 +61,7 @@ versions_itself versions = extends_itself KeepsVersion version_itself versions
 in_version_by : (is : Bool) (signature : Signature) (one : Version) (others rest : List Version)
     → Extends KeepsVersion others rest
     → Extends KeepsVersion (one ∷ others)
-        (cond is (with_signature signature one ∷ others) (one ∷ rest))
+    (cond is (with_signature signature one ∷ others) (one ∷ rest))
 in_version_by true signature one others rest more =
     (signed_keeps signature one, versions_itself others)
 in_version_by false signature one others rest more = (version_itself one, more)
@@ -88,9 +88,10 @@ in_last_keeps row [] last h none = tt
 in_last_keeps row (one ∷ []) last h none =
     let same : last ≡ one = cc in
     (row_keeps row one (subst (λ it. it.signatures ≡ []) same none), tt)
-in_last_keeps row (one ∷ other ∷ others) last h none =
-    (version_itself one,
-    in_last_keeps row (other ∷ others) last (sym (last_later one other others) ∙ h) none)
+in_last_keeps row (one ∷ other ∷ others) last h none = (
+  version_itself one,
+  in_last_keeps row (other ∷ others) last (sym (last_later one other others) ∙ h) none,
+)
 
 -- ---- records
 

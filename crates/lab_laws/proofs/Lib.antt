@@ -5,3 +5,4 @@ pub mod KeepForms
 pub mod KeepRecords
 pub mod KeepCases
 pub mod KeepMade
+pub mod KeepSteps
