@@ -14,3 +14,11 @@ pub mod SigningStep
 pub mod SigningStates
 pub mod BoundLemmas
 pub mod DualLemmas
+pub mod KeepLists
+pub mod BirthLemmas
+pub mod KeepPersons
+pub mod KeepForms
+pub mod KeepRecords
+pub mod KeepCases
+pub mod KeepMade
+pub mod KeepSteps

@@ -1,1 +1,16 @@
-//! A law.
+//! The law of keeping.
+ghost use Rattle.std.specs.Prelude.{Some, []};
+ghost use Rattle.lab_names.specs.declared.tick.Tick.{Tick};
+ghost use Rattle.lab_kept.specs.declared.labs.Lab.{Lab};
+ghost use Rattle.lab_kept.specs.Limits.{AreFormsNumbered};
+ghost use Rattle.lab_kept.specs.Keeping.{Keeps};
+ghost use Rattle.lab_machine.specs.declared.commands.Instruction.{Instruction};
+ghost use Rattle.lab_machine.specs.Machine.{step};
+ghost use Rattle.lab_laws.specs.Stepping.{WhereThere};
+
+/// Law: every step keeps what was, and where records become others, the trail tells of it once: by what deed, by whom and
+/// when. The versions of its forms bear the numbers from 1 on, as they do from a laboratory's birth on.
+pub fn a_step_keeps_what_was()
+    ensures { (lab : Lab) (tick : Tick) (instruction : Instruction) → AreFormsNumbered [] lab.forms
+        → WhereThere (Keeps lab) (step (Some lab) tick instruction).after }
+{}
