@@ -26,10 +26,12 @@ before_by : (there back : Ordering) → there ≡ ordering_reverse back → is_e
     → match_ordering back true false false ≡ false → IsTrue (match_ordering there true false false)
 before_by there Less is differs h = absurd (cc)
 before_by there Equal is differs h = absurd (cc)
-before_by there Greater is differs h = subst (λ one. IsTrue (match_ordering one true false false)) (sym is) refl
+before_by there Greater is differs h =
+    subst (λ one. IsTrue (match_ordering one true false false)) (sym is) refl
 
 -- of two different codes, one comes before the other
-pub comes_otherwise : (one other : List ℕ) → bytes_eq one other ≡ false → comes_before one other ≡ false
+pub comes_otherwise : (one other : List ℕ) → bytes_eq one other ≡ false
+    → comes_before one other ≡ false
     → IsTrue (comes_before other one)
 comes_otherwise one other differs h =
     before_by (slice_cmp nat_cmp other one) (slice_cmp nat_cmp one other)
@@ -48,7 +50,8 @@ added_is person persons = inserted_is (later person) person persons
 next_in_order : (before after : Bool) (person one other : Person) (rest : List Person)
     → comes_before person.code one.code ≡ before → comes_before person.code other.code ≡ after
     → bytes_eq person.code one.code ≡ false
-    → IsTrue (comes_before one.code other.code) → (others : List Person) → AreInOrder (other ∷ others)
+    → IsTrue (comes_before one.code other.code) → (others : List Person)
+    → AreInOrder (other ∷ others)
     → AreInOrder (cond after (person ∷ other ∷ others) (other ∷ rest))
     → AreInOrder (cond before (person ∷ one ∷ other ∷ others)
     (one ∷ cond after (person ∷ other ∷ others) (other ∷ rest)))

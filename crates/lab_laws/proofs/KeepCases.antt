@@ -121,7 +121,8 @@ IsAttemptOf person (Err failure) = LeavesSame person failure
 tests_same : (stray locked accepted few : Bool) (person : Person) (count moment : ℕ)
     → IsAttemptOf person (cond stray (Err Stray) (cond locked (Err (AlreadyLocked person))
     (cond accepted (Ok (unlocked_person person))
-    (Err (cond few (Counted (counted_person count person)) (Locking (locked_person moment person)))))))
+    (Err (cond few (Counted (counted_person count person))
+    (Locking (locked_person moment person)))))))
 tests_same true locked accepted few person count moment = tt
 tests_same false true accepted few person count moment = tt
 tests_same false false true few person count moment = record { code = refl; name = refl }
@@ -134,12 +135,16 @@ unfolding attempt_by
 attempt_same person is_own text moment =
     let count = failure_count person.locked person.failures + 1 in
     tests_same (person.retired || not (is_set person.password)) (is_locked person.locked moment)
-    (is_own && accepts person.password text moment) (nat_lt count failures_to_lock) person count moment
+    (is_own && accepts person.password text moment) (nat_lt count failures_to_lock) person count
+    moment
 
 pub failure_keeps : (persons : List Person) (code : List ℕ) (person : Person) (failure : Failure)
-    → person_of persons code ≡ Some person → LeavesSame person failure → FailureKeeps persons failure
-failure_keeps persons code person (Counted one) there same = set_from persons code person one there same
-failure_keeps persons code person (Locking one) there same = set_from persons code person one there same
+    → person_of persons code ≡ Some person → LeavesSame person failure
+    → FailureKeeps persons failure
+failure_keeps persons code person (Counted one) there same =
+    set_from persons code person one there same
+failure_keeps persons code person (Locking one) there same =
+    set_from persons code person one there same
 failure_keeps persons code person (AlreadyLocked one) there same = tt
 failure_keeps persons code person Stray there same = tt
 
@@ -148,8 +153,8 @@ failure_keeps persons code person Stray there same = tt
 opened_keeps : (lab : Lab) (opened : Opened) (deed : Deed) (moment : ℕ) (person : List ℕ)
     → IsSet lab.persons opened.person → IsMade lab (with_opened lab opened) deed moment person
 opened_keeps lab opened deed moment person set =
-    persons_made lab (with_person opened.person lab.persons) (lab.sessions ++ opened.session ∷ []) deed
-    moment person (set_keeps lab.persons opened.person set)
+    persons_made lab (with_person opened.person lab.persons) (lab.sessions ++ opened.session ∷ [])
+    deed moment person (set_keeps lab.persons opened.person set)
     (extends_more SameSession session_itself lab.sessions (opened.session ∷ []))
 
 opened_by : (repeated : Bool) (number : Option ℕ) (lab : Lab) (moment : ℕ) (code : List ℕ)
@@ -175,11 +180,12 @@ opening_found : (lab : Lab) (moment : ℕ) (code password : List ℕ) (tick : Ti
     (found : Option Person) (sessions : ℕ) (repeated : Option Session)
     → person_of lab.persons code ≡ found
     → CaseKeeps lab moment code
-    (opened_case lab (opening_by (attempt_of found password tick.moment) code tick sessions repeated))
+    (opened_case lab
+    (opening_by (attempt_of found password tick.moment) code tick sessions repeated))
 opening_found lab moment code password tick None sessions repeated there = tt
 opening_found lab moment code password tick (Some person) sessions repeated there =
-    opening_by_keeps lab moment code tick person (attempt_by person true password tick.moment) sessions
-    repeated there (attempt_same person true password tick.moment)
+    opening_by_keeps lab moment code tick person (attempt_by person true password tick.moment)
+    sessions repeated there (attempt_same person true password tick.moment)
 
 pub opening_keeps : (lab : Lab) (tick : Tick) (code password : List ℕ)
     → CaseKeeps lab tick.moment code (opening_case lab tick code password)
@@ -194,8 +200,8 @@ pub closing_keeps : (lab : Lab) (session : Session) (moment : ℕ) (person : Lis
     → session_of lab.sessions session.token ≡ Some session
     → CaseKeeps lab moment person (closing_case lab session)
 closing_keeps lab session moment person there =
-    persons_made lab lab.persons (with_session (closed_session session) lab.sessions) _ moment person
-    (persons_itself lab.persons)
+    persons_made lab lab.persons (with_session (closed_session session) lab.sessions) _ moment
+    person (persons_itself lab.persons)
     (with_session_keeps lab.sessions (closed_session session) session there
     (record { number = refl; person = refl; token = refl; opened = refl }))
 
@@ -241,8 +247,8 @@ pub changing_keeps : (lab : Lab) (code : List ℕ) (caller : Person) (session : 
     (changed_case lab tick.moment (changing caller session old new tick))
 unfolding changing
 changing_keeps lab code caller session old new tick known there =
-    changing_by_keeps lab code caller session (attempt_by caller true old tick.moment) old new tick known
-    there (attempt_same caller true old tick.moment)
+    changing_by_keeps lab code caller session (attempt_by caller true old tick.moment) old new tick
+    known there (attempt_same caller true old tick.moment)
 
 -- ---- accounts
 
@@ -283,9 +289,11 @@ record IsMeant {A : Type 0} (holder : Option Person) (next : Person → Result A
   pub there : holder ≡ Some found
   pub comes : next found ≡ Ok value
 
-meant_by : {A : Type 0} (retired own : Bool) (person : Person) (next : Person → Result A PeopleRefusal)
+meant_by : {A : Type 0} (retired own : Bool) (person : Person)
+    (next : Person → Result A PeopleRefusal)
     (value : A)
-    → meant_then (cond retired (Err NoSuchPerson) (cond own (Err OwnIssue) (Ok person))) next ≡ Ok value
+    → meant_then (cond retired (Err NoSuchPerson) (cond own (Err OwnIssue) (Ok person))) next
+    ≡ Ok value
     → next person ≡ Ok value
 meant_by true own person next value h = absurd (cc)
 meant_by false true person next value h = absurd (cc)
@@ -307,13 +315,16 @@ pub record IsAbout (holder : Option Person) (person : Person) : Type 0 where
   pub there : holder ≡ Some found
   pub same : SamePerson found person
 
-pub with_closed_keeps : (lab : Lab) (code : List ℕ) (person : Person) (closing : Closing) (deed : Deed)
+pub with_closed_keeps : (lab : Lab) (code : List ℕ) (person : Person) (closing : Closing)
+    (deed : Deed)
     (moment : ℕ) (caller : List ℕ) → IsAbout (person_at lab code) person
     → IsMade lab (with_person_closed lab person closing) deed moment caller
 with_closed_keeps lab code person closing deed moment caller about =
-    persons_made lab (with_person person lab.persons) (sessions_after closing person.code lab.sessions)
+    persons_made lab (with_person person lab.persons)
+    (sessions_after closing person.code lab.sessions)
     deed moment caller
-    (set_keeps lab.persons person (set_from lab.persons code about.found person about.there about.same))
+    (set_keeps lab.persons person
+    (set_from lab.persons code about.found person about.there about.same))
     (closed_keep closing person.code lab.sessions)
 
 abbrev roles_set : Roles → Person → Effect
@@ -386,7 +397,8 @@ own_by : (own : Bool) (made issued : Issued) → cond own (Err IsSamePerson) (Ok
 own_by true made issued h = absurd (cc)
 own_by false made issued h = cc
 
-confirmed_same : (caller : List ℕ) (tick : Tick) (found : Person) (ask : Option Ask) (issued : Issued)
+confirmed_same : (caller : List ℕ) (tick : Tick) (found : Person) (ask : Option Ask)
+    (issued : Issued)
     → confirming_of caller tick found ask ≡ Ok issued → SamePerson found issued.person
 confirmed_same caller tick found None issued h = absurd (cc)
 confirmed_same caller tick found (Some ask) issued h =
@@ -402,5 +414,6 @@ confirmed_about caller holder tick issued h =
     record {
       found = m.found;
       there = m.there;
-      same = confirmed_same caller tick m.found (standing_ask m.found.ask tick.moment) issued m.comes;
+      same =
+          confirmed_same caller tick m.found (standing_ask m.found.ask tick.moment) issued m.comes;
     }

@@ -80,7 +80,8 @@ ends_by true before one code version is ends next few =
     let less : next_form_version (last_form before code) ≤ version =
     subst (λ n. n ≤ version) after (omega arith) in
     none_more (is_form_version code version) before one (ends version less)
-    (exact_own (is_version_of code one) (one.version == version) (less_differs one.version version few))
+    (exact_own (is_version_of code one) (one.version == version)
+    (less_differs one.version version few))
 ends_by false before one code version is ends next few =
     none_more (is_form_version code version) before one (ends version few)
     (ap (λ own. own && (one.version == version)) is)
@@ -97,7 +98,8 @@ ends_all before [] code ends numbered =
     subst (λ forms. EndsAt forms code) (sym (append-nil before)) ends
 ends_all before (one ∷ others) code ends numbered =
     subst (λ forms. EndsAt forms code) (append_assoc before (one ∷ []) others)
-    (ends_all (before ++ one ∷ []) others code (ends_after before one code ends numbered.0) numbered.1)
+    (ends_all (before ++ one ∷ []) others code (ends_after before one code ends numbered.0)
+    numbered.1)
 
 -- forms whose versions are numbered have no version of the next number
 next_is_none : (forms : List FormVersion) (code : List ℕ) → AreFormsNumbered [] forms
@@ -140,4 +142,5 @@ pub form_added_keeps : (forms : List FormVersion) (form : FormVersion) → AreFo
 form_added_keeps forms form numbered next = λ code version found h.
     subst (λ list. exact_form list code version ≡ Some found)
     (sym (inserted_is (later form) form forms))
-    (placed_by (is_form_version code version form) forms form found code version refl numbered next h)
+    (placed_by (is_form_version code version form) forms form found code version refl numbered next
+    h)

@@ -31,7 +31,8 @@ prefix_itself list = extends_itself (λ one other. other ≡ one) (λ one. refl)
 pub prefix_more : {A : Type 0} (list more : List A) → IsPrefix list (list ++ more)
 prefix_more list more = extends_more (λ one other. other ≡ one) (λ one. refl) list more
 
-pub prefix_on : {A : Type 0} (old between new : List A) → IsPrefix old between → IsPrefix between new
+pub prefix_on : {A : Type 0} (old between new : List A) → IsPrefix old between
+    → IsPrefix between new
     → IsPrefix old new
 prefix_on old between new h g =
     extends_on (λ one other. other ≡ one) (λ one two three a b. b ∙ a) old between new h g

@@ -40,7 +40,8 @@ use Rattle.lab_laws.proofs.KeepForms.{forms_itself, form_added_keeps}
 use Rattle.lab_laws.proofs.KeepRecords.{records_itself, records_more, in_record_keeps, entered_in_keeps, opened_in_keeps, signed_in_keeps, found_number, open_unsigned}
 use Rattle.lab_laws.proofs.KeepCases.{KeepsRest, IsMade, CaseKeeps, after_case, IsAttemptOf, attempt_same, failure_keeps}
 
-rest_itself : (lab : Lab) (records : List KeptRecord) → KeepsRest lab (record lab { records = records })
+rest_itself : (lab : Lab) (records : List KeptRecord)
+    → KeepsRest lab (record lab { records = records })
 rest_itself lab records = record {
   code = refl;
   name = refl;
@@ -121,7 +122,8 @@ opened_new None found sample person moment records kept h = absurd (cc)
 opened_new (Some form) (Some other) sample person moment records kept h = absurd (cc)
 opened_new (Some form) None sample person moment records kept h = record {
   form = form;
-  is = opened_by (nat_le record_limit records) (new_record form sample person moment records) kept h;
+  is =
+      opened_by (nat_le record_limit records) (new_record form sample person moment records) kept h;
 }
 
 new_keeps : (lab : Lab) (form : FormVersion) (sample person : List ℕ) (moment records : ℕ)
@@ -205,7 +207,8 @@ entered_last records lab kept (Some last) item reason person moment made there a
 found_own : (records : List KeptRecord) (number : ℕ) (kept : KeptRecord)
     → record_of records number ≡ Some kept → record_of records kept.number ≡ Some kept
 found_own records number kept there =
-    subst (λ one. record_of records one ≡ Some kept) (sym (found_number records number kept there)) there
+    subst (λ one. record_of records one ≡ Some kept) (sym (found_number records number kept there))
+    there
 
 entered_found : (records : List KeptRecord) (number : ℕ) (lab : List ℕ) (found : Option KeptRecord)
     (item : Item) (reason : Option (List ℕ)) (person : List ℕ) (moment : ℕ) (made : EntryMade)
@@ -244,8 +247,8 @@ pub entry_keeps : (lab : Lab) (number : ℕ) (item : Item) (reason : Option (Lis
     → entering lab.code (record_of lab.records number) item reason person moment ≡ Ok made
     → CaseKeeps lab moment person (entry_case lab made)
 entry_keeps lab number item reason person moment made h =
-    let entered = entered_found lab.records number lab.code (record_of lab.records number) item reason
-    person moment made refl h in
+    let entered = entered_found lab.records number lab.code (record_of lab.records number) item
+    reason person moment made refl h in
     subst (λ one. CaseKeeps lab moment person (entry_case lab one)) entered.is
     (row_entered lab person moment entered.kept entered.last entered.row entered.there entered.at
     entered.unsigned entered.by entered.moment_is)
@@ -268,7 +271,8 @@ record IsVersionMade (records : List KeptRecord) (lab person : List ℕ) (moment
   pub one : Item
   pub others : List Item
   pub there : record_of records kept.number ≡ Some kept
-  pub is : amendment_made lab kept (next_version lab kept last reason (one ∷ others) person moment) ≡ made
+  pub is : amendment_made lab kept (next_version lab kept last reason (one ∷ others) person moment)
+      ≡ made
 
 amended_reason : (records : List KeptRecord) (lab : List ℕ) (kept : KeptRecord) (last : Version)
     (reason : Option (List ℕ)) (altered : List Item) (person : List ℕ) (moment : ℕ)
@@ -277,17 +281,19 @@ amended_reason : (records : List KeptRecord) (lab : List ℕ) (kept : KeptRecord
     → IsVersionMade records lab person moment made
 amended_reason records lab kept last None altered person moment made there h = absurd (cc)
 amended_reason records lab kept last (Some reason) [] person moment made there h = absurd (cc)
-amended_reason records lab kept last (Some reason) (one ∷ others) person moment made there h = record {
-  kept = kept;
-  last = last;
-  reason = reason;
-  one = one;
-  others = others;
-  there = there;
-  is = amended_by (first_altered_refusal kept (one ∷ others))
-      (nat_le version_limit last.origin.number || nat_lt row_limit (length (one ∷ others)))
-      (amendment_made lab kept (next_version lab kept last reason (one ∷ others) person moment)) made h;
-}
+amended_reason records lab kept last (Some reason) (one ∷ others) person moment made there h =
+    record {
+      kept = kept;
+      last = last;
+      reason = reason;
+      one = one;
+      others = others;
+      there = there;
+      is = amended_by (first_altered_refusal kept (one ∷ others))
+          (nat_le version_limit last.origin.number || nat_lt row_limit (length (one ∷ others)))
+          (amendment_made lab kept (next_version lab kept last reason (one ∷ others) person moment))
+          made h;
+    }
 
 settled_by : (settled : Bool) (next : Result AmendmentMade Refusal) (made : AmendmentMade)
     → cond (not settled) (Err AmendmentOpen) next ≡ Ok made → next ≡ Ok made
@@ -344,11 +350,11 @@ pub amendment_keeps : (lab : Lab) (number : ℕ) (reason : Option (List ℕ)) (a
     → amending lab.code (record_of lab.records number) reason altered person moment ≡ Ok made
     → CaseKeeps lab moment person (amendment_case lab made)
 amendment_keeps lab number reason altered person moment made h =
-    let amended = amended_found lab.records number lab.code (record_of lab.records number) reason altered
-    person moment made refl h in
+    let amended = amended_found lab.records number lab.code (record_of lab.records number) reason
+    altered person moment made refl h in
     subst (λ one. CaseKeeps lab moment person (amendment_case lab one)) amended.is
-    (version_made lab person moment amended.kept amended.last amended.reason amended.one amended.others
-    amended.there)
+    (version_made lab person moment amended.kept amended.last amended.reason amended.one
+    amended.others amended.there)
 
 -- ---- signatures
 
@@ -384,8 +390,8 @@ signed_found : (records : List KeptRecord) (number version : ℕ) (lab : List �
     → IsSignatureMade records person.code moment made
 signed_found records number version lab None digest signing person moment made there h = absurd (cc)
 signed_found records number version lab (Some kept) digest signing person moment made there h =
-    signed_version records lab kept (version_of kept.versions version) digest signing person moment made
-    (found_own records number kept there) h
+    signed_version records lab kept (version_of kept.versions version) digest signing person moment
+    made (found_own records number kept there) h
 
 signature_keeps : (lab : Lab) (session : Session) (one : Person) (made : SignatureMade) (moment : ℕ)
     (person : List ℕ) → IsSet lab.persons one
@@ -401,7 +407,8 @@ signature_keeps lab session one made moment person set there signed = record {
         (record { number = refl; person = refl; token = refl; opened = refl });
     forms = forms_itself lab.forms;
   };
-  records = in_record_keeps made.number (signed_in made.version made.signature) lab.records signed.kept
+  records =
+      in_record_keeps made.number (signed_in made.version made.signature) lab.records signed.kept
       signed.there (signed_in_keeps made.version made.signature signed.kept);
   trail = refl;
   done = inr (record {
@@ -419,7 +426,8 @@ signing_by_keeps : (lab : Lab) (moment : ℕ) (session : Session) (caller : Pers
     → session_of lab.sessions session.token ≡ Some session → IsAttemptOf caller attempt
     → CaseKeeps lab moment caller.code
     (signing_by lab moment session number version digest signing attempt)
-signing_by_keeps lab moment session caller number version digest signing (Err failure) known there same =
+signing_by_keeps lab moment session caller number version digest signing (Err failure) known there
+    same =
     failure_keeps lab.persons caller.code caller failure known same
 signing_by_keeps lab moment session caller number version digest signing (Ok one) known there same =
     after_case lab moment caller.code
@@ -428,8 +436,8 @@ signing_by_keeps lab moment session caller number version digest signing (Ok one
     signature_keeps lab session one made moment caller.code
     (set_from lab.persons caller.code caller one known same) there
     (subst (λ code. IsSignatureMade lab.records code moment made) same.code
-    (signed_found lab.records number version lab.code (record_of lab.records number) digest signing one
-    moment made refl h)))
+    (signed_found lab.records number version lab.code (record_of lab.records number) digest signing
+    one moment made refl h)))
 
 signing_wanted : (wanted : Bool) (lab : Lab) (moment : ℕ) (code : List ℕ) (case : Case)
     → CaseKeeps lab moment code case

@@ -153,9 +153,11 @@ added_by : (before : Bool) (person one found : Person) (others rest : List Perso
     → (person_of others code ≡ Some found → Finds (person_of rest code) found)
     → Finds (person_of (cond before (person ∷ one ∷ others) (one ∷ rest)) code) found
 added_by true person one found others rest code none h next =
-    added_first (bytes_eq person.code code) person found (person_of (one ∷ others) code) code refl none h
+    added_first (bytes_eq person.code code) person found (person_of (one ∷ others) code) code refl
+    none h
 added_by false person one found others rest code none h next =
-    set_later (bytes_eq one.code code) one found (person_of others code) (person_of rest code) h next
+    set_later (bytes_eq one.code code) one found (person_of others code) (person_of rest code) h
+    next
 
 -- nobody else has a code that nobody has
 none_later : (is : Bool) (one : Person) (rest : Option Person) → cond is (Some one) rest ≡ None
@@ -230,7 +232,8 @@ pub with_session_keeps : (sessions : List Session) (session old : Session)
     → Extends SameSession sessions (with_session session sessions)
 with_session_keeps [] session old h same = tt
 with_session_keeps (one ∷ others) session old h same =
-    session_by (bytes_eq one.token session.token) one old session others (with_session session others)
+    session_by (bytes_eq one.token session.token) one old session others
+    (with_session session others)
     h same (λ there. with_session_keeps others session old there same)
 
 found_after : (is : Bool) (one old session : Session) (others rest : List Session)
@@ -239,7 +242,8 @@ found_after : (is : Bool) (one old session : Session) (others rest : List Sessio
     → (session_of others session.token ≡ Some old → session_of rest session.token ≡ Some session)
     → session_of (cond is (session ∷ others) (one ∷ rest)) session.token ≡ Some session
 found_after true one old session others rest is h next =
-    ap (λ test. cond test (Some session) (session_of others session.token)) (same_bytes session.token)
+    ap (λ test. cond test (Some session) (session_of others session.token))
+    (same_bytes session.token)
 found_after false one old session others rest is h next =
     ap (λ test. cond test (Some one) (session_of rest session.token)) is ∙ next h
 

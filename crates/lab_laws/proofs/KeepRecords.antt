@@ -50,7 +50,8 @@ row_keeps row version none = record {
   origin = refl;
   opener = refl;
   opened = refl;
-  rows = subst (λ signatures. KeepsRows signatures version.rows (version.rows ++ row ∷ [])) (sym none)
+  rows =
+      subst (λ signatures. KeepsRows signatures version.rows (version.rows ++ row ∷ [])) (sym none)
       (prefix_more version.rows (row ∷ []));
   signatures = prefix_itself version.signatures;
 }
@@ -118,7 +119,8 @@ signed_in_keeps number signature kept = record {
   versions = in_version_keeps number signature kept.versions;
 }
 
-pub opened_in_keeps : (version : Version) (kept : Record) → KeepsRecord kept (opened_in version kept)
+pub opened_in_keeps : (version : Version) (kept : Record)
+    → KeepsRecord kept (opened_in version kept)
 opened_in_keeps version kept = record {
   number = refl;
   form = refl;
@@ -205,6 +207,7 @@ none_by (one ∷ others) approval h =
     absurd (never_open one.meaning (map meaning_of others) approval h)
 
 -- an open version has no signature
-pub open_unsigned : (kept : Record) (version : Version) → is_open (version_state kept version) ≡ true
+pub open_unsigned : (kept : Record) (version : Version)
+    → is_open (version_state kept version) ≡ true
     → version.signatures ≡ []
 open_unsigned kept version h = none_by version.signatures kept.form.form.approval h

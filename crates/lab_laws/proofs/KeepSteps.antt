@@ -95,13 +95,14 @@ own_keeps lab tick session caller (MakeForm code form) there known numbered =
     after_case lab tick.moment caller.code (making code form (last_form lab.forms code))
     (form_case lab) (λ made h. form_keeps lab code form made tick.moment caller.code numbered h)
 own_keeps lab tick session caller (ReadForm code version) there known numbered =
-    after_read lab tick.moment caller.code (reading_form (exact_form lab.forms code version)) FormRead
+    after_read lab tick.moment caller.code (reading_form (exact_form lab.forms code version))
+    FormRead
 own_keeps lab tick session caller (OpenRecord form sample) there known numbered =
     after_case lab tick.moment caller.code
-    (opening_record (last_form lab.forms form) (record_about lab.records form sample) sample caller.code
-    tick.moment (length lab.records)) (record_case lab) (λ kept h.
-    record_keeps lab (last_form lab.forms form) (record_about lab.records form sample) sample caller.code
-    tick.moment (length lab.records) kept h)
+    (opening_record (last_form lab.forms form) (record_about lab.records form sample) sample
+    caller.code tick.moment (length lab.records)) (record_case lab) (λ kept h.
+    record_keeps lab (last_form lab.forms form) (record_about lab.records form sample) sample
+    caller.code tick.moment (length lab.records) kept h)
 own_keeps lab tick session caller (Enter number item reason) there known numbered =
     after_case lab tick.moment caller.code
     (entering lab.code (record_of lab.records number) item reason caller.code tick.moment)
@@ -114,7 +115,8 @@ own_keeps lab tick session caller (Amend number reason altered) there known numb
     (λ made h. amendment_keeps lab number reason altered caller.code tick.moment made h)
 own_keeps lab tick session caller (Sign number version digest signing password code) there known
     numbered =
-    signing_keeps lab tick.moment session caller number version digest signing password code known there
+    signing_keeps lab tick.moment session caller number version digest signing password code known
+    there
 own_keeps lab tick session caller (ReadRecord number) there known numbered =
     after_read lab tick.moment caller.code
     (reading_record lab.code (record_of lab.records number)) RecordRead
@@ -254,7 +256,8 @@ told_keeps lab after deed moment person made =
       told = done_told lab after deed moment person made.trail made.done;
     }
 
-made_by : (full : Bool) (lab after : Lab) (moment : ℕ) (person : List ℕ) (reply : Reply) (deed : Deed)
+made_by : (full : Bool) (lab after : Lab) (moment : ℕ) (person : List ℕ) (reply : Reply)
+    (deed : Deed)
     → IsMade lab after deed moment person
     → WhereThere (Keeps lab) (cond full (stays lab (Refused (People LabFull)))
     (stays (told moment (Some person) deed after) reply)).after
@@ -356,7 +359,8 @@ own_token : (sessions : List Session) (token : List ℕ) (session : Session)
     → session_of sessions token ≡ Some session
     → session_of sessions session.token ≡ Some session
 own_token sessions token session h =
-    subst (λ it. session_of sessions it ≡ Some session) (sym (found_token sessions token session h)) h
+    subst (λ it. session_of sessions it ≡ Some session) (sym (found_token sessions token session h))
+    h
 
 named_there : (lab : Lab) (token : Option (List ℕ)) (session : Session)
     → named_session lab token ≡ Some session → session_of lab.sessions session.token ≡ Some session
@@ -379,7 +383,8 @@ allowed_keeps : (lab : Lab) (tick : Tick) (command : Command) (session : Session
     (denied : Option PeopleRefusal) → AreFormsNumbered [] lab.forms
     → session_of lab.sessions session.token ≡ Some session
     → person_of lab.persons caller.code ≡ Some caller
-    → WhereThere (Keeps lab) (answered lab tick command (allowed_passage session caller denied)).after
+    → WhereThere (Keeps lab)
+    (answered lab tick command (allowed_passage session caller denied)).after
 allowed_keeps lab tick command session caller (Some refusal) numbered there known =
     kept_before lab tick.moment (with_session (touched_session tick.moment session) lab.sessions)
     (touched lab tick.moment session) (touching lab tick.moment session there)
@@ -391,8 +396,8 @@ allowed_keeps lab tick command session caller None numbered there known =
     where_before lab tick.moment (with_session now lab.sessions)
     (ended after tick.moment caller.code case).after (touching lab tick.moment session there)
     (ended_keeps after tick.moment caller.code case
-    (own_keeps after tick now caller command (with_session_found lab.sessions now session there) known
-    numbered))
+    (own_keeps after tick now caller command (with_session_found lab.sessions now session there)
+    known numbered))
 
 live_keeps : (live : Bool) (lab : Lab) (tick : Tick) (command : Command) (session : Session)
     (caller : Person) (denied : Option PeopleRefusal) → AreFormsNumbered [] lab.forms
@@ -422,7 +427,8 @@ rule_keeps : (lab : Lab) (tick : Tick) (command : Command) (session : Option Ses
     → ((one : Person) → caller ≡ Some one → person_of lab.persons one.code ≡ Some one)
     → WhereThere (Keeps lab)
     (answered lab tick command (rule_passage session caller tick.moment rule)).after
-rule_keeps lab tick command session caller None numbered there known = without_keeps lab tick command
+rule_keeps lab tick command session caller None numbered there known =
+    without_keeps lab tick command
 rule_keeps lab tick command session caller (Some rule) numbered there known =
     session_keeps lab tick command session caller rule numbered there known
 
@@ -439,7 +445,8 @@ caller_known lab (Some session) caller h = own_code lab.persons session.person c
 
 -- a step keeps what was
 pub step_keeps : (lab : Lab) (tick : Tick) (instruction : Instruction)
-    → AreFormsNumbered [] lab.forms → WhereThere (Keeps lab) (step (Some lab) tick instruction).after
+    → AreFormsNumbered [] lab.forms
+    → WhereThere (Keeps lab) (step (Some lab) tick instruction).after
 step_keeps lab tick instruction numbered =
     let session = named_session lab instruction.token in
     early_keeps (nat_lt tick.moment lab.last) lab tick instruction.command
