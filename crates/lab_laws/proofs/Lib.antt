@@ -22,3 +22,5 @@ pub mod KeepRecords
 pub mod KeepCases
 pub mod KeepMade
 pub mod KeepSteps
+pub mod RunLemmas
+pub mod StayLemmas

@@ -4,11 +4,11 @@ ghost use Rattle.lab_kept.specs.declared.labs.Lab.{Lab};
 ghost use Rattle.lab_kept.specs.Bound.{IsBound};
 ghost use Rattle.lab_machine.specs.declared.commands.Instruction.{Instruction};
 ghost use Rattle.lab_machine.specs.Machine.{step};
-ghost use Rattle.lab_laws.specs.Stepping.{WhereThere};
+ghost use Rattle.lab_laws.specs.Stepping.{HoldsOf};
 
 /// Law: where each signature of a laboratory names the digest of its version and bears its own seal, and each version names
 /// the digest of the one that it amends, they do so after a step as well, whatever the instruction.
 pub fn a_step_keeps_bound()
     ensures { (lab : Lab) → (tick : Tick) → (instruction : Instruction) → IsBound lab
-        → WhereThere IsBound (step (Some lab) tick instruction).after }
+        → HoldsOf IsBound (step (Some lab) tick instruction).after }
 {}

@@ -6,11 +6,11 @@ ghost use Rattle.lab_kept.specs.Limits.{AreFormsNumbered};
 ghost use Rattle.lab_kept.specs.Keeping.{Keeps};
 ghost use Rattle.lab_machine.specs.declared.commands.Instruction.{Instruction};
 ghost use Rattle.lab_machine.specs.Machine.{step};
-ghost use Rattle.lab_laws.specs.Stepping.{WhereThere};
+ghost use Rattle.lab_laws.specs.Stepping.{HoldsOf};
 
 /// Law: every step keeps what was, and where records become others, the trail tells of it once: by what deed, by whom and
 /// when. The versions of its forms bear the numbers from 1 on, as they do from a laboratory's birth on.
 pub fn a_step_keeps_what_was()
     ensures { (lab : Lab) (tick : Tick) (instruction : Instruction) → AreFormsNumbered [] lab.forms
-        → WhereThere (Keeps lab) (step (Some lab) tick instruction).after }
+        → HoldsOf (Keeps lab) (step (Some lab) tick instruction).after }
 {}

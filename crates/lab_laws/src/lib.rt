@@ -8,3 +8,11 @@ mod bound;
 mod dual;
 mod keeping;
 mod limits;
+mod runs;
+
+pub use births::a_birth_is_right;
+pub use bound::a_step_keeps_bound;
+pub use dual::a_step_keeps_dual;
+pub use keeping::a_step_keeps_what_was;
+pub use limits::a_step_keeps_limits;
+pub use runs::a_run_is_right;

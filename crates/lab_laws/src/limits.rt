@@ -1,19 +1,17 @@
-//! Laws of limits.
-ghost use Rattle.std.specs.Prelude.{Option as AnyOption};
-ghost use Rattle.lab_names.specs.declared.tick.Tick.{Tick as AnyTick};
-ghost use Rattle.lab_kept.specs.declared.labs.Lab.{Lab as AnyLab};
+//! Law: a step leaves a laboratory within its limits.
+ghost use Rattle.std.specs.Prelude.{Some};
+ghost use Rattle.lab_names.specs.declared.tick.Tick.{Tick};
+ghost use Rattle.lab_kept.specs.declared.labs.Lab.{Lab};
 ghost use Rattle.lab_kept.specs.Limits.{IsWithin};
-ghost use Rattle.lab_machine.specs.declared.commands.Instruction.{Instruction as AnyInstruction};
+ghost use Rattle.lab_machine.specs.declared.commands.Instruction.{Instruction};
 ghost use Rattle.lab_machine.specs.Machine.{step};
-ghost use Rattle.lab_laws.specs.Stepping.{WhereThere};
 ghost use Rattle.lab_laws.specs.Asking.{IsAskedRightly};
-ghost use Rattle.std.specs.Prelude.{Some as AnySome};
+ghost use Rattle.lab_laws.specs.Stepping.{HoldsOf};
 
 /// Law: a step leaves a laboratory within its limits, and what is numbered in it without gaps, where it was so before, and
 /// where the form of a command that makes one has no more fields than it may.
 pub fn a_step_keeps_limits()
-    ensures {
-        (lab : AnyLab) (tick : AnyTick) (instruction : AnyInstruction) → IsWithin lab → IsAskedRightly instruction
-        → WhereThere IsWithin (step (AnySome lab) tick instruction).after
-    }
+    ensures { (lab : Lab) (tick : Tick) (instruction : Instruction) → IsWithin lab
+        → IsAskedRightly instruction
+        → HoldsOf IsWithin (step (Some lab) tick instruction).after }
 {}

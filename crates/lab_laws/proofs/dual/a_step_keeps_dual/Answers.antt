@@ -1,7 +1,10 @@
 use Rattle.lab_laws.proofs.dual.a_step_keeps_dual.Goals as goal
+use Rattle.lab_kept.specs.Dual.{IsDual, IsDualRecord}
 use Rattle.lab_laws.proofs.DualLemmas.{dual_stays}
 use Rattle.lab_laws.proofs.SigningStep.{step_keeps}
-use Rattle.lab_kept.specs.Dual.{IsDualRecord}
+use Rattle.lab_laws.proofs.StayLemmas.{step_stays, holds_of}
 
 pub returns : goal.returns
-returns c = step_keeps (λ lab kept. IsDualRecord kept) dual_stays
+returns c = λ lab tick instruction dual.
+    holds_of IsDual _ (step_stays lab tick instruction)
+    (step_keeps (λ code kept. IsDualRecord kept) dual_stays lab tick instruction dual)
