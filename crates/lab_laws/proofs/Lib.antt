@@ -1,3 +1,4 @@
+pub mod FitLemmas
 pub mod LimitCases
 pub mod LimitForms
 pub mod LimitKept

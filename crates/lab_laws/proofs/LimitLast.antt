@@ -136,4 +136,5 @@ pub last_exact : (forms : List FormVersion) (code : List ℕ) (form : FormVersio
 last_exact forms code form numbered is =
     subst (λ c. exact_form forms c form.version ≡ Some form)
     (sym (last_code forms code form is))
-    (last_is forms code (last_form forms code) form is (all_exact [] forms none_exact numbered code))
+    (last_is forms code (last_form forms code) form is
+    (all_exact [] forms none_exact numbered code))

@@ -13,7 +13,8 @@ ghost use Rattle.std.specs.Prelude.{Some as AnySome};
 /// where the form of a command that makes one has no more fields than it may.
 pub fn a_step_keeps_limits()
     ensures {
-        (lab : AnyLab) (tick : AnyTick) (instruction : AnyInstruction) → IsWithin lab → IsAskedRightly instruction
+        (lab : AnyLab) (tick : AnyTick) (instruction : AnyInstruction) → IsWithin lab
+        → IsAskedRightly instruction
         → WhereThere IsWithin (step (AnySome lab) tick instruction).after
     }
 {}
