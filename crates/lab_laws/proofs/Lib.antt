@@ -1,4 +1,5 @@
 pub mod FitLemmas
+pub mod FitSignatures
 pub mod LimitCases
 pub mod LimitForms
 pub mod LimitKept

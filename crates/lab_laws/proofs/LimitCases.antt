@@ -89,14 +89,16 @@ opened_with false lab code tick person is within = record {}
 opened_with true lab code tick person is within =
     let opened = new_opening (length lab.sessions + 1) code tick person in
     let room : length lab.sessions + 1 ≤ last_ordinal = leb-true (length lab.sessions + 1)
-        last_ordinal (both_true (nat_le 1 (length lab.sessions + 1))
-        (nat_le (length lab.sessions + 1) last_ordinal) is) in
+    last_ordinal (both_true (nat_le 1 (length lab.sessions + 1))
+    (nat_le (length lab.sessions + 1) last_ordinal) is) in
     let long : length (lab.sessions ++ opened.session ∷ []) ≡ length lab.sessions + 1 =
-        longer lab.sessions opened.session in
-    (sessions_within (record lab { persons = with_person person lab.persons })
-    (lab.sessions ++ opened.session ∷ []) (omega arith)
-    (numbered_more session_number lab.sessions opened.session refl within.sessions_numbered)
-    (person_within lab person within), refl)
+    longer lab.sessions opened.session in (
+      sessions_within (record lab { persons = with_person person lab.persons })
+          (lab.sessions ++ opened.session ∷ []) (omega arith)
+          (numbered_more session_number lab.sessions opened.session refl within.sessions_numbered)
+          (person_within lab person within),
+      refl,
+    )
 
 opened_unless : (repeated : Bool) (lab : Lab) (code : List ℕ) (tick : Tick) (person : Person)
     → IsWithin lab → IsCaseWithin lab (opened_case lab
@@ -126,10 +128,12 @@ changed_unless false true lab person session new tick found within = record {}
 changed_unless false false lab person session new tick found within =
     let changed = with_new_password person session new tick in
     let renewed : Lab = record lab { persons = with_person changed.person lab.persons } in
-    let set : Lab = record renewed { sessions = with_session changed.session lab.sessions } in
-    (closed_within set changed.closing changed.person.code
-    (session_within renewed changed.session session found refl
-    (person_within lab changed.person within)), refl)
+    let set : Lab = record renewed { sessions = with_session changed.session lab.sessions } in (
+      closed_within set changed.closing changed.person.code
+          (session_within renewed changed.session session found refl
+          (person_within lab changed.person within)),
+      refl,
+    )
 
 pub changing_within : (lab : Lab) (attempt : Result Person Failure) (session : Session)
     (old new : List ℕ) (tick : Tick) → session_of lab.sessions session.token ≡ Some session
@@ -150,11 +154,13 @@ enrolling_within true lab code name roles None is is_full within = record {}
 enrolling_within false lab code name roles None is is_full within =
     let person = newcomer code name roles in
     let room : length lab.persons < person_limit =
-        leb-false person_limit (length lab.persons) is_full in
+    leb-false person_limit (length lab.persons) is_full in
     let long : length (added_person person lab.persons) ≡ length lab.persons + 1 =
-        added_length person lab.persons in
-    (persons_within lab (added_person person lab.persons) (omega arith)
-    (added_ordered person lab.persons is within.persons_ordered) within, refl)
+    added_length person lab.persons in (
+      persons_within lab (added_person person lab.persons) (omega arith)
+          (added_ordered person lab.persons is within.persons_ordered) within,
+      refl,
+    )
 
 pub person_closed_within : (lab : Lab) (person : Person) (closing : Closing) → IsWithin lab
     → IsWithin (with_person_closed lab person closing)
@@ -169,50 +175,54 @@ pub form_within : (lab : Lab) (code : List ℕ) (form : FormSheet) (made : FormV
     → IsWithin lab → IsCaseWithin lab (form_case lab made)
 form_within lab code form made is few within =
     let by : IsFormMade code form (last_form lab.forms code) made =
-        form_made_by code form (last_form lab.forms code) made is in
+    form_made_by code form (last_form lab.forms code) made is in
     let small : IsSmallForm made = record {
       version = by.few;
       fields = subst (λ f. length f.fields ≤ field_limit) (sym by.form_is) few;
-    } in
-    (record {
-      persons = within.persons;
-      sessions = within.sessions;
-      trail = within.trail;
-      records = within.records;
-      strays = within.strays;
-      forms = all_placed IsSmallForm _ made lab.forms small within.forms;
-      orderly = within.orderly;
-      by_form = by_form_added made lab.forms lab.records within.forms_ordered within.by_form;
-      persons_ordered = within.persons_ordered;
-      forms_ordered = forms_added_ordered made lab.forms within.forms_ordered;
-      forms_numbered = forms_added_numbered made lab.forms within.forms_ordered
-          within.forms_numbered (subst (λ c. made.version ≡ next_form_version
-          (last_form lab.forms c)) (sym by.code_is) by.next);
-      sessions_numbered = within.sessions_numbered;
-      records_numbered = within.records_numbered;
-      trail_numbered = within.trail_numbered;
-    }, refl)
+    } in (
+      record {
+        persons = within.persons;
+        sessions = within.sessions;
+        trail = within.trail;
+        records = within.records;
+        strays = within.strays;
+        forms = all_placed IsSmallForm _ made lab.forms small within.forms;
+        orderly = within.orderly;
+        by_form = by_form_added made lab.forms lab.records within.forms_ordered within.by_form;
+        persons_ordered = within.persons_ordered;
+        forms_ordered = forms_added_ordered made lab.forms within.forms_ordered;
+        forms_numbered = forms_added_numbered made lab.forms within.forms_ordered
+            within.forms_numbered (subst (λ c. made.version ≡ next_form_version
+            (last_form lab.forms c)) (sym by.code_is) by.next);
+        sessions_numbered = within.sessions_numbered;
+        records_numbered = within.records_numbered;
+        trail_numbered = within.trail_numbered;
+      },
+      refl,
+    )
 
 pub record_opened_within : (lab : Lab) (form sample caller : List ℕ) (moment : ℕ) (made : Record)
     → opening_record (last_form lab.forms form) (record_about lab.records form sample) sample caller
     moment (length lab.records) ≡ Ok made → IsWithin lab → IsCaseWithin lab (record_case lab made)
 record_opened_within lab form sample caller moment made is within =
     let by : IsRecordOpened (last_form lab.forms form) (record_about lab.records form sample) sample
-        caller moment (length lab.records) made = record_opened_by (last_form lab.forms form)
-        (record_about lab.records form sample) sample caller moment (length lab.records) made is in
+    caller moment (length lab.records) made = record_opened_by (last_form lab.forms form)
+    (record_about lab.records form sample) sample caller moment (length lab.records) made is in
     let opened = new_record by.form sample caller moment (length lab.records) in
     let orderly : IsOrderly opened = new_orderly (first_version by.form.form.approval caller moment)
-        opened refl refl refl in
+    opened refl refl refl in
     let exact : IsByForm lab.forms opened =
-        last_exact lab.forms form by.form within.forms_numbered by.is_found in
+    last_exact lab.forms form by.form within.forms_numbered by.is_found in
     let room : length lab.records < record_limit = by.few in
     let long : length (lab.records ++ opened ∷ []) ≡ length lab.records + 1 =
-        longer lab.records opened in
-    subst (λ kept. IsCaseWithin lab (record_case lab kept)) (sym by.is)
-    (records_within lab (lab.records ++ opened ∷ []) (omega arith)
-    (All-push IsOrderly lab.records opened within.orderly orderly)
-    (All-push (IsByForm lab.forms) lab.records opened within.by_form exact)
-    (numbered_more record_number lab.records opened refl within.records_numbered) within, refl)
+    longer lab.records opened in
+    subst (λ kept. IsCaseWithin lab (record_case lab kept)) (sym by.is) (
+      records_within lab (lab.records ++ opened ∷ []) (omega arith)
+          (All-push IsOrderly lab.records opened within.orderly orderly)
+          (All-push (IsByForm lab.forms) lab.records opened within.by_form exact)
+          (numbered_more record_number lab.records opened refl within.records_numbered) within,
+      refl,
+    )
 
 -- the record that was found is under its own number
 pub own_number : (lab : Lab) (number : ℕ) (kept : Record) → record_of lab.records number ≡ Some kept
@@ -228,15 +238,17 @@ pub entry_within : (lab : Lab) (number : ℕ) (item : Item) (reason : Option (Li
 entry_within lab number item reason caller moment made is within =
     let row = entered_row item reason caller moment in
     let by : IsEntryMade lab.code (record_of lab.records number) row made =
-        entry_made_by lab.code (record_of lab.records number) item reason caller moment made is in
+    entry_made_by lab.code (record_of lab.records number) item reason caller moment made is in
     let orderly : IsOrderly by.kept =
-        all_found IsOrderly number by.kept lab.records by.is_found within.orderly in
+    all_found IsOrderly number by.kept lab.records by.is_found within.orderly in
     let exact : IsByForm lab.forms by.kept =
-        all_found (IsByForm lab.forms) number by.kept lab.records by.is_found within.by_form in
-    subst (λ entry. IsCaseWithin lab (entry_case lab entry)) (sym by.is)
-    (record_within lab by.kept.number (entered_in row) by.kept
-    (own_number lab number by.kept by.is_found) (λ one. refl)
-    (entered_orderly row by.version by.kept by.last by.few orderly) exact within, refl)
+    all_found (IsByForm lab.forms) number by.kept lab.records by.is_found within.by_form in
+    subst (λ entry. IsCaseWithin lab (entry_case lab entry)) (sym by.is) (
+      record_within lab by.kept.number (entered_in row) by.kept
+          (own_number lab number by.kept by.is_found) (λ one. refl)
+          (entered_orderly row by.version by.kept by.last by.few orderly) exact within,
+      refl,
+    )
 
 pub amendment_within : (lab : Lab) (number : ℕ) (reason : Option (List ℕ)) (altered : List Item)
     (caller : List ℕ) (moment : ℕ) (made : AmendmentMade)
@@ -244,20 +256,22 @@ pub amendment_within : (lab : Lab) (number : ℕ) (reason : Option (List ℕ)) (
     → IsWithin lab → IsCaseWithin lab (amendment_case lab made)
 amendment_within lab number reason altered caller moment made is within =
     let by : IsAmendmentMade lab.code (record_of lab.records number) altered caller moment made =
-        amendment_made_by lab.code (record_of lab.records number) reason altered caller moment made
-        is in
+    amendment_made_by lab.code (record_of lab.records number) reason altered caller moment made
+    is in
     let version = next_version lab.code by.kept by.last by.reason altered caller moment in
     let orderly : IsOrderly by.kept =
-        all_found IsOrderly number by.kept lab.records by.is_found within.orderly in
+    all_found IsOrderly number by.kept lab.records by.is_found within.orderly in
     let exact : IsByForm lab.forms by.kept =
-        all_found (IsByForm lab.forms) number by.kept lab.records by.is_found within.by_form in
+    all_found (IsByForm lab.forms) number by.kept lab.records by.is_found within.by_form in
     let rows : length version.rows ≡ length altered =
-        length-map altered (λ item. entered_row item (Some by.reason) caller moment) in
-    subst (λ amendment. IsCaseWithin lab (amendment_case lab amendment)) (sym by.is)
-    (record_within lab by.kept.number (opened_in version) by.kept
-    (own_number lab number by.kept by.is_found) (λ one. refl)
-    (opened_orderly version by.last by.kept by.is_last refl by.few
-    (subst (λ n. n ≤ row_limit) (sym rows) by.few_rows) orderly) exact within, refl)
+    length-map altered (λ item. entered_row item (Some by.reason) caller moment) in
+    subst (λ amendment. IsCaseWithin lab (amendment_case lab amendment)) (sym by.is) (
+      record_within lab by.kept.number (opened_in version) by.kept
+          (own_number lab number by.kept by.is_found) (λ one. refl)
+          (opened_orderly version by.last by.kept by.is_last refl by.few
+          (subst (λ n. n ≤ row_limit) (sym rows) by.few_rows) orderly) exact within,
+      refl,
+    )
 
 pub signature_within : (lab : Lab) (session : Session) (person : Person) (number version : ℕ)
     (digest : List ℕ) (signing : Signing) (moment : ℕ) (made : SignatureMade)
@@ -266,23 +280,25 @@ pub signature_within : (lab : Lab) (session : Session) (person : Person) (number
     → IsCaseWithin lab (signature_case lab session person made)
 signature_within lab session person number version digest signing moment made is found within =
     let by : IsSignatureMade lab.code (record_of lab.records number) version digest signing person
-        moment made = signature_made_by lab.code (record_of lab.records number) version digest
-        signing person moment made is in
+    moment made = signature_made_by lab.code (record_of lab.records number) version digest
+    signing person moment made is in
     let signature = new_signature lab.code person signing moment digest in
     let orderly : IsOrderly by.kept =
-        all_found IsOrderly number by.kept lab.records by.is_found within.orderly in
+    all_found IsOrderly number by.kept lab.records by.is_found within.orderly in
     let exact : IsByForm lab.forms by.kept =
-        all_found (IsByForm lab.forms) number by.kept lab.records by.is_found within.by_form in
+    all_found (IsByForm lab.forms) number by.kept lab.records by.is_found within.by_form in
     let signed : Lab = record lab {
       persons = with_person person lab.persons;
       sessions = with_session (signed_session session) lab.sessions;
     } in
-    subst (λ one. IsCaseWithin lab (signature_case lab session person one)) (sym by.is)
-    (record_within signed by.kept.number (signed_in by.version.origin.number signature) by.kept
-    (own_number lab number by.kept by.is_found) (λ one. refl)
-    (signed_orderly by.version.origin.number signature by.kept orderly) exact
-    (session_within (record lab { persons = with_person person lab.persons })
-    (signed_session session) session found refl (person_within lab person within)), refl)
+    subst (λ one. IsCaseWithin lab (signature_case lab session person one)) (sym by.is) (
+      record_within signed by.kept.number (signed_in by.version.origin.number signature) by.kept
+          (own_number lab number by.kept by.is_found) (λ one. refl)
+          (signed_orderly by.version.origin.number signature by.kept orderly) exact
+          (session_within (record lab { persons = with_person person lab.persons })
+          (signed_session session) session found refl (person_within lab person within)),
+      refl,
+    )
 
 pub signing_within : (lab : Lab) (moment : ℕ) (session : Session) (number version : ℕ)
     (digest : List ℕ) (signing : Signing) (attempt : Result Person Failure)

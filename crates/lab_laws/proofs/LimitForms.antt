@@ -84,9 +84,11 @@ are_later : (code : List ℕ) (one : FormVersion) (others : List FormVersion)
     → comes_before code one.code ≡ true → AreFormsInOrder (one ∷ others)
     → AreLater code (one ∷ others)
 are_later code one [] before ordered = (before, record {})
-are_later code one (other ∷ others) before ordered =
-    (before, are_later code other others
-    (before_further code one.code other.code before ordered.0) ordered.1)
+are_later code one (other ∷ others) before ordered = (
+  before,
+  are_later code other others
+      (before_further code one.code other.code before ordered.0) ordered.1,
+)
 
 -- none of them is of the code
 exact_later : (code : List ℕ) (version : ℕ) (list : List FormVersion) → AreLater code list
@@ -130,10 +132,11 @@ numbered_later : (code : List ℕ) (first second list : List FormVersion)
     → SameLast code first second → AreLater code list → AreFormsNumbered first list
     → AreFormsNumbered second list
 numbered_later code first second [] same later numbered = record {}
-numbered_later code first second (one ∷ others) same later numbered =
-    (numbered.0 ∙ ap next_form_version (same one.code (other_text code one.code later.0)),
-    numbered_later code (first ++ one ∷ []) (second ++ one ∷ []) others
-    (same_more code first second one same) later.1 numbered.1)
+numbered_later code first second (one ∷ others) same later numbered = (
+  numbered.0 ∙ ap next_form_version (same one.code (other_text code one.code later.0)),
+  numbered_later code (first ++ one ∷ []) (second ++ one ∷ []) others
+      (same_more code first second one same) later.1 numbered.1,
+)
 
 same_but : (form : FormVersion) (before : List FormVersion)
     → SameLast form.code before (before ++ form ∷ [])
@@ -149,10 +152,11 @@ number_case : (test : Bool) (form one : FormVersion) (before others : List FormV
     → AreFormsNumbered before (cond test (form ∷ one ∷ others)
     (one ∷ placed (form_later form) form others))
 number_case true form one before others tested ordered numbered next placed_next =
-    let later : AreLater form.code (one ∷ others) = are_later form.code one others tested ordered in
-    (next ∙ ap next_form_version (last_later form.code before (one ∷ others) later),
-    numbered_later form.code before (before ++ form ∷ []) (one ∷ others) (same_but form before)
-    later numbered)
+    let later : AreLater form.code (one ∷ others) = are_later form.code one others tested ordered in (
+      next ∙ ap next_form_version (last_later form.code before (one ∷ others) later),
+      numbered_later form.code before (before ++ form ∷ []) (one ∷ others) (same_but form before)
+          later numbered,
+    )
 number_case false form one before others tested ordered numbered next placed_next =
     (numbered.0, placed_next)
 
@@ -188,9 +192,9 @@ none_later false form one others code version found tested later is = is
 none_later true form one others code version found tested later is =
     let equal : form.code ≡ code = (bytes_eq-Decides form.code code).0 tested in
     let none : exact_form (one ∷ others) form.code version ≡ None =
-        exact_later form.code version (one ∷ others) later in
+    exact_later form.code version (one ∷ others) later in
     let none_of : exact_form (one ∷ others) code version ≡ None =
-        subst (λ c. exact_form (one ∷ others) c version ≡ None) equal none in
+    subst (λ c. exact_form (one ∷ others) c version ≡ None) equal none in
     absurd (cc (none_of, is))
 
 found_or : (here : Bool) (one : FormVersion) (old new : Option FormVersion) (found : FormVersion)

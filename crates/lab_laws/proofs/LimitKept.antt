@@ -89,9 +89,9 @@ pub person_within : (lab : Lab) (person : Person) → IsWithin lab
     → IsWithin (record lab { persons = with_person person lab.persons })
 person_within lab person within =
     let codes : map person_code (with_person person lab.persons) ≡ map person_code lab.persons =
-        person_codes person lab.persons in
+    person_codes person lab.persons in
     let long : length (with_person person lab.persons) ≡ length lab.persons =
-        same_length person_code lab.persons (with_person person lab.persons) codes in
+    same_length person_code lab.persons (with_person person lab.persons) codes in
     persons_within lab (with_person person lab.persons)
     (subst (λ n. n ≤ person_limit) (sym long) within.persons)
     (order_same lab.persons (with_person person lab.persons) codes within.persons_ordered) within
@@ -124,7 +124,7 @@ pub same_sessions_within : (lab : Lab) (sessions : List Session)
     → IsWithin (record lab { sessions = sessions })
 same_sessions_within lab sessions same within =
     let long : length sessions ≡ length lab.sessions =
-        same_length session_number lab.sessions sessions same in
+    same_length session_number lab.sessions sessions same in
     sessions_within lab sessions (subst (λ n. n ≤ count_limit) (sym long) within.sessions)
     (numbered_same session_number 0 lab.sessions sessions same within.sessions_numbered) within
 
@@ -173,9 +173,9 @@ pub record_within : (lab : Lab) (number : ℕ) (next : Record → Record) (kept 
     → IsWithin (record lab { records = in_record number next lab.records })
 record_within lab number next kept found same orderly by_form within =
     let numbers : map record_number (in_record number next lab.records)
-        ≡ map record_number lab.records = record_numbers next number lab.records same in
+    ≡ map record_number lab.records = record_numbers next number lab.records same in
     let long : length (in_record number next lab.records) ≡ length lab.records =
-        same_length record_number lab.records (in_record number next lab.records) numbers in
+    same_length record_number lab.records (in_record number next lab.records) numbers in
     records_within lab (in_record number next lab.records)
     (subst (λ n. n ≤ record_limit) (sym long) within.records)
     (all_in_record IsOrderly next number kept lab.records found orderly within.orderly)

@@ -74,21 +74,22 @@ more_case : (same : Bool) (forms : List FormVersion) (one : FormVersion) (code :
 more_case true forms one code is exact next =
     let equal : one.code ≡ code = (bytes_eq-Decides one.code code).0 is in
     let next_of : one.version ≡ next_form_version (last_form forms code) =
-        subst (λ c. one.version ≡ next_form_version (last_form forms c)) equal next in
+    subst (λ c. one.version ≡ next_form_version (last_form forms c)) equal next in
     let none : (version : ℕ) → one.version ≤ version → exact_form forms code version ≡ None =
-        λ version beyond. none_beyond forms code (last_form forms code) (exact code) version
-        (subst (λ n. n ≤ version) next_of beyond) in
-    (exact_more forms one code one.version
-    ∙ ap (λ o. option_or o (cond (bytes_eq one.code code && (one.version == one.version)) (Some one)
-    None)) (none one.version (omega arith))
-    ∙ ap (λ b. cond (b && (one.version == one.version)) (Some one) None) is
-    ∙ ap (λ b. cond b (Some one) None) ((unsigned_Decides one.version one.version).1 refl),
-    λ version beyond. exact_more forms one code version
-    ∙ ap (λ o. option_or o (cond (bytes_eq one.code code && (one.version == version)) (Some one)
-    None)) (none version (omega arith))
-    ∙ ap (λ b. cond (b && (one.version == version)) (Some one) None) is
-    ∙ ap (λ b. cond b (Some one) None)
-    (greater_differs (one.version == version) one.version version refl beyond))
+    λ version beyond. none_beyond forms code (last_form forms code) (exact code) version
+    (subst (λ n. n ≤ version) next_of beyond) in (
+      exact_more forms one code one.version
+          ∙ ap (λ o. option_or o (cond (bytes_eq one.code code && (one.version == one.version)) (Some one)
+          None)) (none one.version (omega arith))
+          ∙ ap (λ b. cond (b && (one.version == one.version)) (Some one) None) is
+          ∙ ap (λ b. cond b (Some one) None) ((unsigned_Decides one.version one.version).1 refl),
+      λ version beyond. exact_more forms one code version
+          ∙ ap (λ o. option_or o (cond (bytes_eq one.code code && (one.version == version)) (Some one)
+          None)) (none version (omega arith))
+          ∙ ap (λ b. cond (b && (one.version == version)) (Some one) None) is
+          ∙ ap (λ b. cond b (Some one) None)
+          (greater_differs (one.version == version) one.version version refl beyond),
+    )
 more_case false forms one code is exact next =
     same_exact forms (forms ++ one ∷ []) code (last_form forms code)
     (λ version. exact_more forms one code version

@@ -51,7 +51,7 @@ beyond : (one other third : List ℕ) (ordering : Ordering) → order third othe
 beyond one other third Less is not_before before = absurd (cc)
 beyond one other third Equal is not_before before =
     let back : order third one ≡ Greater =
-        nat_list_cmp_total.congr third other one is ∙ after one other before in
+    nat_list_cmp_total.congr third other one is ∙ after one other before in
     before_less one third (nat_list_cmp_total.antisymm one third ∙ ap ordering_reverse back)
 beyond one other third Greater is not_before before =
     before_less one third (nat_list_cmp_total.trans one other third

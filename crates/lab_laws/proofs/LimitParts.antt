@@ -89,9 +89,9 @@ pub closed_numbers : (closing : Closing) (person : List ℕ) (sessions : List Se
 closed_numbers closing person [] = refl
 closed_numbers closing person (one ∷ others) =
     let head : (cond (is_closed_by closing person one) (closed_session one) one).number ≡ one.number
-        = closed_number (is_closed_by closing person one) one in
+    = closed_number (is_closed_by closing person one) one in
     let tail : map session_number (sessions_after closing person others)
-        ≡ map session_number others = closed_numbers closing person others in
+    ≡ map session_number others = closed_numbers closing person others in
     cc (head, tail)
 
 -- ---- persons
@@ -128,6 +128,7 @@ order_same (one ∷ next ∷ others) (other ∷ second ∷ more) same ordered =
     let then : second.code ≡ next.code = cc in
     let tail : map person_code (second ∷ more) ≡ map person_code (next ∷ others) = cc in
     let before : comes_before other.code second.code ≡ comes_before one.code next.code =
-        cc (head, then) in
-    (subst (λ b. IsTrue b) (sym before) ordered.0,
-    order_same (next ∷ others) (second ∷ more) tail ordered.1)
+    cc (head, then) in (
+      subst (λ b. IsTrue b) (sym before) ordered.0,
+      order_same (next ∷ others) (second ∷ more) tail ordered.1,
+    )

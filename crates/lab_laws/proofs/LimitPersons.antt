@@ -70,7 +70,7 @@ order_case : (test : Bool) (person one : Person) (others : List Person)
 order_case true person one others tested differ ordered next = (tested, ordered)
 order_case false person one others tested differ ordered next =
     let before : comes_before one.code person.code ≡ true =
-        else_before person.code one.code tested (swapped one.code person.code differ) in
+    else_before person.code one.code tested (swapped one.code person.code differ) in
     ordered_more one (placed (comes_later person) person others)
     (placed_later one.code person others before (first_later one others ordered)) next
 

@@ -89,7 +89,7 @@ last_further : (one other : Version) (others : List Version)
     → last_of (one ∷ other ∷ others) ≡ last_of (other ∷ others)
 last_further one other others =
     let less : length (one ∷ other ∷ others) - 1 ≡ suc (length (other ∷ others) - 1) =
-        omega arith in
+    omega arith in
     ap (λ n. slice_get (one ∷ other ∷ others) n) less
 
 last_numbers : (row : EntryRow) (versions : List Version)
@@ -103,7 +103,7 @@ row_more : (row : EntryRow) (version : Version) → length version.rows < row_li
     → HasFewRows (with_row row version)
 row_more row version few =
     let more : length (version.rows ++ row ∷ []) ≡ length version.rows + 1 =
-        longer version.rows row in omega arith
+    longer version.rows row in omega arith
 
 last_few : (row : EntryRow) (version : Version) (versions : List Version)
     → last_of versions ≡ Some version → length version.rows < row_limit
@@ -124,9 +124,9 @@ pub entered_orderly : (row : EntryRow) (version : Version) (kept : Record)
     → IsOrderly (entered_in row kept)
 entered_orderly row version kept last few orderly =
     let numbers : map version_number (in_last (with_row row) kept.versions)
-        ≡ map version_number kept.versions = last_numbers row kept.versions in
+    ≡ map version_number kept.versions = last_numbers row kept.versions in
     let long : length (in_last (with_row row) kept.versions) ≡ length kept.versions =
-        same_length version_number kept.versions (in_last (with_row row) kept.versions) numbers in
+    same_length version_number kept.versions (in_last (with_row row) kept.versions) numbers in
     record {
       some = subst (λ n. 1 ≤ n) (sym long) orderly.some;
       few = subst (λ n. n ≤ version_limit) (sym long) orderly.few;
@@ -174,10 +174,10 @@ pub signed_orderly : (number : ℕ) (signature : Signature) (kept : Record) → 
     → IsOrderly (signed_in number signature kept)
 signed_orderly number signature kept orderly =
     let numbers : map version_number (in_version number (with_signature signature) kept.versions)
-        ≡ map version_number kept.versions = sign_numbers number signature kept.versions in
+    ≡ map version_number kept.versions = sign_numbers number signature kept.versions in
     let long : length (in_version number (with_signature signature) kept.versions)
-        ≡ length kept.versions = same_length version_number kept.versions
-        (in_version number (with_signature signature) kept.versions) numbers in
+    ≡ length kept.versions = same_length version_number kept.versions
+    (in_version number (with_signature signature) kept.versions) numbers in
     record {
       some = subst (λ n. 1 ≤ n) (sym long) orderly.some;
       few = subst (λ n. n ≤ version_limit) (sym long) orderly.few;
@@ -198,15 +198,15 @@ last_counted before last (one ∷ []) is numbered =
     let first : one.origin.number ≡ before + 1 = numbered.0 in omega arith
 last_counted before last (one ∷ other ∷ others) is numbered =
     let next : last.origin.number ≡ before + 1 + length (other ∷ others) =
-        last_counted (before + 1) last (other ∷ others)
-        (sym (last_further one other others) ∙ is) numbered.1 in omega arith
+    last_counted (before + 1) last (other ∷ others)
+    (sym (last_further one other others) ∙ is) numbered.1 in omega arith
 
 -- the last of a record's versions has the number of how many there are
 pub last_number_is : (last : Version) (kept : Record) → last_of kept.versions ≡ Some last
     → IsOrderly kept → last.origin.number ≡ length kept.versions
 last_number_is last kept is orderly =
     let counted : last.origin.number ≡ 0 + length kept.versions =
-        last_counted 0 last kept.versions is orderly.numbered in omega arith
+    last_counted 0 last kept.versions is orderly.numbered in omega arith
 
 pub opened_orderly : (version last : Version) (kept : Record)
     → last_of kept.versions ≡ Some last → version.origin.number ≡ last.origin.number + 1
@@ -215,7 +215,7 @@ pub opened_orderly : (version last : Version) (kept : Record)
 opened_orderly version last kept is next few few_rows orderly =
     let number : last.origin.number ≡ length kept.versions = last_number_is last kept is orderly in
     let long : length (kept.versions ++ version ∷ []) ≡ length kept.versions + 1 =
-        longer kept.versions version in
+    longer kept.versions version in
     record {
       some = omega arith;
       few = omega arith;

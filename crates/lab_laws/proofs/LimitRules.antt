@@ -72,14 +72,14 @@ form_made_by code form None made is =
     }
 form_made_by code form (Some last) made is =
     let later = not_refused (form_eq last.form form) NothingAltered
-        (cond (nat_le form_version_limit last.version) (Err (People LabFull))
-        (Ok (form_version code (last.version + 1) form))) made is in
+    (cond (nat_le form_version_limit last.version) (Err (People LabFull))
+    (Ok (form_version code (last.version + 1) form))) made is in
     let final = not_refused (nat_le form_version_limit last.version) (People LabFull)
-        (Ok (form_version code (last.version + 1) form)) made later.1 in
+    (Ok (form_version code (last.version + 1) form)) made later.1 in
     let same : made ≡ form_version code (last.version + 1) form = given _ _ final.1 in
     let version : made.version ≡ last.version + 1 = ap (λ f. f.version) same in
     let room : last.version < form_version_limit =
-        leb-false form_version_limit last.version final.0 in
+    leb-false form_version_limit last.version final.0 in
     record {
       code_is = ap (λ f. f.code) same;
       form_is = ap (λ f. f.form) same;
@@ -106,7 +106,7 @@ record_opened_by None about sample caller moment records made is = absurd (cc)
 record_opened_by (Some form) (Some kept) sample caller moment records made is = absurd (cc)
 record_opened_by (Some form) None sample caller moment records made is =
     let final = not_refused (nat_le record_limit records) (People LabFull)
-        (Ok (new_record form sample caller moment records)) made is in
+    (Ok (new_record form sample caller moment records)) made is in
     record {
       form = form;
       is_found = refl;
@@ -178,9 +178,9 @@ amendment_made_of : (lab : List ℕ) (kept : Record) (last : Version) (reason : 
     → IsAmendmentMade lab (Some kept) altered caller moment made
 amendment_made_of lab kept last reason altered caller moment made is_last settled is =
     let final = not_refused (nat_le version_limit last.origin.number
-        || nat_lt row_limit (length altered)) _ _ made is in
+    || nat_lt row_limit (length altered)) _ _ made is in
     let both = neither (nat_le version_limit last.origin.number)
-        (nat_lt row_limit (length altered)) final.0 in
+    (nat_lt row_limit (length altered)) final.0 in
     let rows : length altered < row_limit + 1 = leb-false (row_limit + 1) (length altered) both.1 in
     record {
       kept = kept;
@@ -246,7 +246,7 @@ signature_made_in : (lab : List ℕ) (kept : Record) (number : ℕ) (found : Opt
 signature_made_in lab kept number None digest signing person moment made found is = absurd (cc)
 signature_made_in lab kept number (Some version) digest signing person moment made found is =
     let final = none_refused (version_refusal lab kept version digest signing person.code) _ made
-        is in
+    is in
     record {
       kept = kept;
       version = version;

@@ -265,7 +265,7 @@ answered_within lab tick command (Barred session refusal) right is within =
     touched_within lab tick.moment session is within
 answered_within lab tick command (Passes session caller) right is within =
     let now : IsWithin (touched lab tick.moment session) =
-        touched_within lab tick.moment session is within in
+    touched_within lab tick.moment session is within in
     ended_within (touched lab tick.moment session) tick.moment caller.code
     (own (touched lab tick.moment session) tick (touched_session tick.moment session) caller
     command)

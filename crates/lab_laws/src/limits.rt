@@ -12,9 +12,7 @@ ghost use Rattle.std.specs.Prelude.{Some as AnySome};
 /// Law: a step leaves a laboratory within its limits, and what is numbered in it without gaps, where it was so before, and
 /// where the form of a command that makes one has no more fields than it may.
 pub fn a_step_keeps_limits()
-    ensures {
-        (lab : AnyLab) (tick : AnyTick) (instruction : AnyInstruction) → IsWithin lab
+    ensures { (lab : AnyLab) (tick : AnyTick) (instruction : AnyInstruction) → IsWithin lab
         → IsAskedRightly instruction
-        → WhereThere IsWithin (step (AnySome lab) tick instruction).after
-    }
+        → WhereThere IsWithin (step (AnySome lab) tick instruction).after }
 {}
