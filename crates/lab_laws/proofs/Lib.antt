@@ -1,4 +1,5 @@
 pub mod FitLemmas
+pub mod FitPersons
 pub mod FitSignatures
 pub mod LimitCases
 pub mod LimitForms

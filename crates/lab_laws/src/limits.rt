@@ -1,5 +1,4 @@
 //! Laws of limits.
-ghost use Rattle.std.specs.Prelude.{Option as AnyOption};
 ghost use Rattle.lab_names.specs.declared.tick.Tick.{Tick as AnyTick};
 ghost use Rattle.lab_kept.specs.declared.labs.Lab.{Lab as AnyLab};
 ghost use Rattle.lab_kept.specs.Limits.{IsWithin};
