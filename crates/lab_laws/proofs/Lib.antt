@@ -1,3 +1,4 @@
+pub mod FitAccounts
 pub mod FitLemmas
 pub mod FitPersons
 pub mod FitSignatures

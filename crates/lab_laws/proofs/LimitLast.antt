@@ -82,12 +82,12 @@ more_case true forms one code is exact next =
     λ version beyond. none_beyond forms code (last_form forms code) (exact code) version
     (subst (λ n. n ≤ version) next_of beyond) in (
       exact_more forms one code one.version
-          ∙ ap (λ o. option_or o (one_if (bytes_eq one.code code && (one.version == one.version)) one))
+          ∙ ap (λ o. option_or o (one_if (is_form_version code one.version one) one))
           (none one.version (omega arith))
           ∙ ap (λ b. cond (b && (one.version == one.version)) (Some one) None) is
           ∙ ap (λ b. cond b (Some one) None) ((unsigned_Decides one.version one.version).1 refl),
       λ version beyond. exact_more forms one code version
-          ∙ ap (λ o. option_or o (one_if (bytes_eq one.code code && (one.version == version)) one))
+          ∙ ap (λ o. option_or o (one_if (is_form_version code version one) one))
           (none version (omega arith))
           ∙ ap (λ b. cond (b && (one.version == version)) (Some one) None) is
           ∙ ap (λ b. cond b (Some one) None)
