@@ -1,4 +1,5 @@
 pub mod FitAccounts
+pub mod FitAttempts
 pub mod FitLemmas
 pub mod FitPersons
 pub mod FitSignatures
