@@ -1,3 +1,8 @@
+pub mod FitAccounts
+pub mod FitAttempts
+pub mod FitLemmas
+pub mod FitPersons
+pub mod FitSignatures
 pub mod LimitCases
 pub mod LimitForms
 pub mod LimitKept

@@ -101,7 +101,8 @@ opened_with true lab code tick person is within =
     )
 
 opened_unless : (repeated : Bool) (lab : Lab) (code : List ℕ) (tick : Tick) (person : Person)
-    → IsWithin lab → IsCaseWithin lab (opened_case lab (cond repeated (Err (IsRefused RandomRepeated))
+    → IsWithin lab → IsCaseWithin lab (opened_case lab
+    (cond repeated (Err (IsRefused RandomRepeated))
     (numbered_opening (ordinal_of (length lab.sessions + 1)) code tick person)))
 opened_unless true lab code tick person within = record {}
 opened_unless false lab code tick person within =
@@ -109,7 +110,8 @@ opened_unless false lab code tick person within =
 
 pub opening_within : (lab : Lab) (attempt : Result Person Failure) (code : List ℕ) (tick : Tick)
     (repeated : Option Session) → IsWithin lab
-    → IsCaseWithin lab (opened_case lab (opening_by attempt code tick (length lab.sessions) repeated))
+    → IsCaseWithin lab
+    (opened_case lab (opening_by attempt code tick (length lab.sessions) repeated))
 opening_within lab (Err failure) code tick repeated within = record {}
 opening_within lab (Ok person) code tick repeated within =
     opened_unless (is_some repeated) lab code tick person within
@@ -223,7 +225,7 @@ record_opened_within lab form sample caller moment made is within =
     )
 
 -- the record that was found is under its own number
-own_number : (lab : Lab) (number : ℕ) (kept : Record) → record_of lab.records number ≡ Some kept
+pub own_number : (lab : Lab) (number : ℕ) (kept : Record) → record_of lab.records number ≡ Some kept
     → record_of lab.records kept.number ≡ Some kept
 own_number lab number kept found =
     subst (λ n. record_of lab.records n ≡ Some kept) (sym (record_found number kept lab.records

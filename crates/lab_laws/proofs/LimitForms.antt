@@ -152,7 +152,8 @@ number_case : (test : Bool) (form one : FormVersion) (before others : List FormV
     → AreFormsNumbered before (cond test (form ∷ one ∷ others)
     (one ∷ placed (form_later form) form others))
 number_case true form one before others tested ordered numbered next placed_next =
-    let later : AreLater form.code (one ∷ others) = are_later form.code one others tested ordered in (
+    let later : AreLater form.code (one ∷ others) =
+    are_later form.code one others tested ordered in (
       next ∙ ap next_form_version (last_later form.code before (one ∷ others) later),
       numbered_later form.code before (before ++ form ∷ []) (one ∷ others) (same_but form before)
           later numbered,

@@ -25,7 +25,8 @@ use Rattle.lab_laws.proofs.LimitRecords.{record_number, record_numbers, all_in_r
 
 -- ---- the last moment and the stray count
 
-pub moment_within : (lab : Lab) (moment : ℕ) → IsWithin lab → IsWithin (record lab { last = moment })
+pub moment_within : (lab : Lab) (moment : ℕ) → IsWithin lab
+    → IsWithin (record lab { last = moment })
 moment_within lab moment within = record {
   persons = within.persons;
   sessions = within.sessions;

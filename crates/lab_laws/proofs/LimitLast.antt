@@ -36,6 +36,9 @@ IsLastExact forms code (Some last) =
 abbrev AreLastExact : List FormVersion → Type 0
 AreLastExact forms = (code : List ℕ) → IsLastExact forms code (last_form forms code)
 
+abbrev one_if : Bool → FormVersion → Option FormVersion
+one_if test one = cond test (Some one) None
+
 exact_more : (forms : List FormVersion) (one : FormVersion) (code : List ℕ) (version : ℕ)
     → exact_form (forms ++ one ∷ []) code version
     ≡ option_or (exact_form forms code version)
@@ -79,13 +82,13 @@ more_case true forms one code is exact next =
     λ version beyond. none_beyond forms code (last_form forms code) (exact code) version
     (subst (λ n. n ≤ version) next_of beyond) in (
       exact_more forms one code one.version
-          ∙ ap (λ o. option_or o (cond (bytes_eq one.code code && (one.version == one.version)) (Some one)
-          None)) (none one.version (omega arith))
+          ∙ ap (λ o. option_or o (one_if (is_form_version code one.version one) one))
+          (none one.version (omega arith))
           ∙ ap (λ b. cond (b && (one.version == one.version)) (Some one) None) is
           ∙ ap (λ b. cond b (Some one) None) ((unsigned_Decides one.version one.version).1 refl),
       λ version beyond. exact_more forms one code version
-          ∙ ap (λ o. option_or o (cond (bytes_eq one.code code && (one.version == version)) (Some one)
-          None)) (none version (omega arith))
+          ∙ ap (λ o. option_or o (one_if (is_form_version code version one) one))
+          (none version (omega arith))
           ∙ ap (λ b. cond (b && (one.version == version)) (Some one) None) is
           ∙ ap (λ b. cond b (Some one) None)
           (greater_differs (one.version == version) one.version version refl beyond),
@@ -137,4 +140,5 @@ pub last_exact : (forms : List FormVersion) (code : List ℕ) (form : FormVersio
 last_exact forms code form numbered is =
     subst (λ c. exact_form forms c form.version ≡ Some form)
     (sym (last_code forms code form is))
-    (last_is forms code (last_form forms code) form is (all_exact [] forms none_exact numbered code))
+    (last_is forms code (last_form forms code) form is
+    (all_exact [] forms none_exact numbered code))

@@ -90,8 +90,8 @@ form_made_by code form (Some last) made is =
 -- ---- records
 
 -- a record is opened by a form that was found, where none was there for it and its sample
-pub record IsRecordOpened (last : Option FormVersion) (about : Option Record) (sample caller : List ℕ)
-    (moment records : ℕ) (made : Record) : Type 0 where
+pub record IsRecordOpened (last : Option FormVersion) (about : Option Record)
+    (sample caller : List ℕ) (moment records : ℕ) (made : Record) : Type 0 where
   pub form : FormVersion
   pub is_found : last ≡ Some form
   pub alone : about ≡ None

@@ -267,7 +267,8 @@ answered_within lab tick command (Passes session caller) right is within =
     let now : IsWithin (touched lab tick.moment session) =
     touched_within lab tick.moment session is within in
     ended_within (touched lab tick.moment session) tick.moment caller.code
-    (own (touched lab tick.moment session) tick (touched_session tick.moment session) caller command)
+    (own (touched lab tick.moment session) tick (touched_session tick.moment session) caller
+    command)
     now (own_within (touched lab tick.moment session) tick (touched_session tick.moment session)
     caller command right
     (session_set (touched_session tick.moment session) session lab.sessions is) now)
