@@ -1,2 +1,3 @@
-pub mod ValueLemmas
+pub mod AlteringLemmas
 pub mod KnownValues
+pub mod ValueLemmas

@@ -1,9 +1,9 @@
 //! Records that are amended.
-ghost use Rattle.std.specs.Prelude.{◌≡◌, ℕ, List, Some, map, IfOk, option_copied};
+ghost use Rattle.std.specs.Prelude.{◌≡◌, ◌+◌, ◌<◌, ℕ, List, Some, Ok, map, IfOk, IfSome, IsSome, option_copied};
 ghost use Rattle.lab_kept.specs.Latest.{noted};
 ghost use Rattle.lab_kept.specs.Values.{all_rows, value_of};
 ghost use Rattle.lab_rules.specs.Following.{Follows, IsRead};
-ghost use Rattle.lab_rules.specs.Entering.{has_settled, is_same_value, altered_refusal, first_altered_refusal, entered_row, next_version, amendment_made, amending};
+ghost use Rattle.lab_rules.specs.Entering.{has_settled, is_same_value, altered_refusal, first_altered_refusal, entered_row, next_origin, opened_version, amendment_made, amending};
 
 use crate::entering::{ROWS_LIMIT, read_item};
 use crate::faults::CommandFault;
@@ -13,7 +13,7 @@ use crate::refusals::Refusal;
 use lab_access::PeopleRefusal;
 use lab_kept::{Record, Version, latest, noted};
 use lab_names::{LabCode, Moment, Note, Ordinal, OutOfMemory, PersonCode, Series};
-use lab_seal::{Amendment, Digest, EntryRow, EntryRows, Format, Origin, State};
+use lab_seal::{Amendment, EntryRow, EntryRows, Format, Origin, State};
 use std::alloc::Global;
 use std::collections::BTreeMap;
 
@@ -53,19 +53,75 @@ pub fn amend(
     if last.origin.number().get() >= VERSIONS_LIMIT || altered.as_slice().len() > ROWS_LIMIT {
         return Err(CommandFault::Refused(Refusal::People(PeopleRefusal::LabFull)));
     }
+    let origin = next_origin(alloc, lab, kept, last, reason)?;
+    let version = opened_version(alloc, kept, origin, rows, caller, moment);
+    Ok(amendment_made(alloc, lab, kept, version)?)
+}
+
+// What the new version amends, and why.
+fn next_origin(
+    alloc: Global,
+    lab: &LabCode,
+    kept: &Record,
+    last: &Version,
+    reason: Note,
+) -> Result<Origin, CommandFault>
+    requires { last.now.origin.number < 99 }
+    ensures { Follows (Ok (next_origin lab.now kept.now last.now reason)) result }
+{
     let previous = kept.digest_of(alloc, lab, last)?;
-    let origin = next_origin(last.origin.number(), Amendment { previous, reason })?;
-    let version = Version {
-        format: Format::Two {
-            approval: kept.form.form.approval(),
-        },
+    match origin_after(last.origin.number(), Amendment { previous, reason }) {
+        Some(origin) => Ok(origin),
+        None => Err(CommandFault::Refused(Refusal::People(PeopleRefusal::LabFull))),
+    }
+}
+
+// The origin of the version behind the one of the number; there is none behind the last ordinal.
+fn origin_after(number: Ordinal, amendment: Amendment) -> Option<Origin>
+    ensures next { IfSome result (λ origin. origin
+        ≡ record { number = number + 1; amendment = Some amendment }) }
+    ensures there { number < 99 → IsSome result }
+{
+    Origin::amending(number.next()?, amendment)
+}
+
+// A version of these rows, by the record's form. It takes no memory.
+fn opened_version(
+    alloc: Global,
+    kept: &Record,
+    origin: Origin,
+    rows: EntryRows,
+    caller: PersonCode,
+    moment: Moment,
+) -> Version
+    ensures { result ≡ opened_version kept.now origin rows caller moment }
+{
+    let approval = kept.form.form.approval();
+    Version {
+        format: Format::Two { approval },
         origin,
         opener: caller,
         opened: moment,
-        rows: EntryRows::new(rows),
+        rows,
         signatures: Series::new(alloc),
-    };
-    Ok(amendment_made(alloc, lab, kept, version)?)
+    }
+}
+
+// A version that is opened, and its digest.
+fn amendment_made(
+    alloc: Global,
+    lab: &LabCode,
+    kept: &Record,
+    version: Version,
+) -> Result<AmendmentMade, OutOfMemory>
+    ensures { IfOk result (λ made. made ≡ amendment_made lab.now kept.now version) }
+{
+    let digest = kept.digest_of(alloc, lab, &version)?;
+    Ok(AmendmentMade {
+        number: kept.number,
+        version,
+        digest,
+    })
 }
 
 fn has_settled(state: Option<State>) -> bool
@@ -85,18 +141,20 @@ fn altered_rows(
     reason: &Note,
     caller: &PersonCode,
     moment: Moment,
-) -> Result<Vec<EntryRow>, CommandFault>
+) -> Result<EntryRows, CommandFault>
     ensures { IsRead (first_altered_refusal kept.now items.now)
-        (map (λ item. entered_row item (Some reason.now) caller.now moment) items.now)
-        (result_map (λ rows. rows.items) result) }
+        (map (λ item. entered_row item (Some reason.now) caller.now moment) items.now) result }
 {
     let table = latest(alloc, kept.versions.as_slice())?;
     let mut rows = Vec::new(alloc);
     for item in items {
-        let value = altered_value(alloc, kept, &table, item)?;
+        let value = match altered_value(alloc, kept, &table, item) {
+            Ok(value) => value,
+            Err(fault) => return Err(fault),
+        };
         rows.push(altered_row(item, value, reason, caller, moment)?)?;
     }
-    Ok(rows)
+    Ok(EntryRows::new(rows))
 }
 
 // The value of an item that differs from the one that stands.

@@ -1,9 +1,11 @@
 //! Signatures that are given (21 CFR 11.50, 11.70 and 11.200(a)).
-ghost use Rattle.std.specs.Prelude.{◌≡◌, ◌++◌, ◌∷◌, [], map, IfOk, option_copied};
+ghost use Rattle.std.specs.Prelude.{◌≡◌, ◌↔◌, ◌++◌, ◌∷◌, [], None, is_none, ◌&&◌, map, IfOk, IfSome, IsSome, option_copied};
 ghost use Rattle.std.specs.List.{list_any};
+ghost use Rattle.lab_kept.specs.Digests.{signature_of};
+ghost use Rattle.lab_kept.specs.Latest.{noted};
 ghost use Rattle.lab_kept.specs.Values.{meaning_of, rows_to};
 ghost use Rattle.lab_rules.specs.Following.{Follows};
-ghost use Rattle.lab_rules.specs.Signing.{is_missing, content_refusal, version_refusal, signed_meaning, new_signature, signature_made, signing_record};
+ghost use Rattle.lab_rules.specs.Signing.{is_missing, content_refusal, reason_refusal, version_refusal, signed_meaning, signed_parts, signature_made, signing_record};
 
 use crate::faults::CommandFault;
 use crate::outcomes::{SignatureMade, Signing};
@@ -12,10 +14,12 @@ use crate::signatures::{
     approval_refusal, digest_refusal, reason_refusal, signer_refusal, state_refusal,
 };
 use lab_access::Person;
+use lab_forms::Field;
 use lab_kept::{Record, Signature, Version, first_versions, latest, noted};
 use lab_names::{LabCode, Moment, Ordinal, OutOfMemory, PersonCode};
-use lab_seal::{Digest, Meaning, SealParts, state_of};
+use lab_seal::{Digest, EntryRow, Meaning, SealParts, state_of};
 use std::alloc::Global;
+use std::collections::BTreeMap;
 
 /// The signature of a person whose password was accepted, under the version of the number of the record that was looked up;
 /// `digest` is the one that the person saw. The only fault beside the refusals is out of memory.
@@ -39,12 +43,22 @@ pub fn sign(
     let Some(version) = kept.version(number) else {
         return Err(CommandFault::Refused(Refusal::NoSuchVersion));
     };
-    if let Some(refusal) =
-        version_refusal(alloc, lab, kept, version, digest, &signing, &person.code)?
-    {
+    if let Some(refusal) = version_refusal(
+        alloc,
+        lab,
+        kept,
+        version,
+        digest,
+        &signing,
+        &person.code,
+    )? {
         return Err(CommandFault::Refused(refusal));
     }
-    let signature = new_signature(alloc, lab, person, signing, moment, digest)?;
+    // A rejection without a reason was refused.
+    let Some(meaning) = signed_meaning(signing) else {
+        return Err(CommandFault::Refused(Refusal::ReasonWanted));
+    };
+    let signature = new_signature(lab, person, meaning, moment, digest)?;
     Ok(signature_made(alloc, kept, version, signature)?)
 }
 
@@ -114,23 +128,43 @@ fn is_any_missing(alloc: Global, kept: &Record, number: Ordinal) -> Result<bool,
     let versions = first_versions(kept.versions.as_slice(), number.get() as usize);
     let table = latest(alloc, versions)?;
     for field in kept.form.form.fields() {
-        if field.required && noted(&table, &field.key).is_none() {
+        if is_missing(&table, field) {
             return Ok(true);
         }
     }
     Ok(false)
 }
 
-// The person's signature, with its seal.
+// Whether the field is required, and no row is noted under its key.
+fn is_missing<'a>(table: &BTreeMap<&'a str, &'a EntryRow>, field: &Field) -> bool
+    ensures { result ≡ (field.now.required && is_none (noted table.now field.now.key)) }
+{
+    field.required && noted(table, &field.key).is_none()
+}
+
+// What the signature means; none for a rejection without a reason.
+fn signed_meaning(signing: Signing) -> Option<Meaning>
+    ensures meaning { IfSome result (λ meaning. meaning ≡ signed_meaning signing) }
+    ensures reason { IsSome result ↔ (reason_refusal signing ≡ None) }
+{
+    match signing {
+        Signing::Authorship => Some(Meaning::Authorship),
+        Signing::Review => Some(Meaning::Review),
+        Signing::Rejection(reason) => Some(Meaning::Rejection(reason?)),
+        Signing::Approval => Some(Meaning::Approval),
+    }
+}
+
+// The person's signature of that meaning, with its seal.
 fn new_signature(
     lab: &LabCode,
     person: &Person,
-    signing: Signing,
+    meaning: Meaning,
     moment: Moment,
     digest: Digest,
 ) -> Result<Signature, OutOfMemory>
-    ensures { IfOk result
-        (λ signature. signature ≡ new_signature lab.now person.now signing moment digest) }
+    ensures { IfOk result (λ signature. signature
+        ≡ signature_of (signed_parts lab.now person.now meaning moment digest)) }
 {
     let lab = lab.copy()?;
     let code = person.code.copy()?;
@@ -140,7 +174,7 @@ fn new_signature(
         lab,
         person: code,
         name,
-        meaning: signed_meaning(signing),
+        meaning,
         moment,
     }))
 }
