@@ -1,6 +1,8 @@
 -- The first refusal of altered values, as far as they were walked.
-use Rattle.std.proofs.Common.{◌≡◌, ℕ, ◌+◌, ◌<◌, List, [], ◌∷◌, ◌++◌, length, get_or, take, drop, refl, sym, ap, ◌∙◌, Option, Some, None}
-use Rattle.std.specs.Prelude.{Ok, Err}
+use Rattle.std.proofs.Common.{◌≡◌, ℕ, ◌+◌, ◌<◌, ◌≤◌, false, arith, List, [], ◌∷◌, ◌++◌, length, get_or, take, drop, refl, sym, ap, ◌∙◌, Option, Some, None}
+use Rattle.std.specs.Prelude.{Ok, Err, nat_le, nat_lt}
+use Rattle.std.proofs.lemmas.Bool.Decides.{nat_tests}
+use Rattle.lab_kept.specs.declared.records.Version.{Version}
 use Rattle.lab_versions.specs.declared.rows.EntryRow.{EntryRow}
 use Rattle.std.specs.Option.{option_map_or}
 use Rattle.std.proofs.lemmas.List.{take_more, take-append-drop}
@@ -10,7 +12,7 @@ use Rattle.lab_rules.specs.declared.refusals.Refusal.{Refusal}
 use Rattle.lab_rules.specs.declared.faults.CommandFault.{CommandFault}
 use Rattle.lab_rules.specs.declared.faults.CommandFault.TheVariants.{Refused, Memory}
 use Rattle.lab_rules.specs.Following.{IsRead}
-use Rattle.lab_rules.specs.Entering.{altered_refusal, first_altered_refusal}
+use Rattle.lab_rules.specs.Entering.{altered_refusal, first_altered_refusal, amending_by, amendment_made, next_version}
 
 or_next : (one other next : Option Refusal)
     → option_map_or Some (option_map_or Some one other) next
@@ -75,3 +77,14 @@ pub fault_at : (kept : Record) (items : List Item) (i : ℕ) (item : Item) (rows
 fault_at kept items i item rows (Refused refusal) within here nothing is =
     refusal_at kept items i item refusal within here nothing is
 fault_at kept items i item rows Memory within here nothing is = tt
+
+-- what is made where nothing is refused
+pub amended : (lab : List ℕ) (kept : Record) (last : Version) (reason : List ℕ) (altered : List Item) (caller : List ℕ) (moment : ℕ)
+    → 1 ≤ length altered → first_altered_refusal kept altered ≡ None → last.origin.number < 99 → length altered ≤ 200
+    → amending_by lab kept last (Some reason) altered caller moment
+    ≡ Ok (amendment_made lab kept (next_version lab kept last reason altered caller moment))
+amended lab kept last reason [] caller moment some nothing few short = absurd (omega arith)
+amended lab kept last reason (one ∷ others) caller moment some nothing few short =
+    let many : nat_le 99 last.origin.number ≡ false = grind (arith, nat_tests) in
+    let long : nat_lt 200 (length (one ∷ others)) ≡ false = grind (arith, nat_tests) in
+    rw (nothing, many, long) refl

@@ -3,7 +3,7 @@ ghost use Rattle.std.specs.Prelude.{◌≡◌, ◌+◌, ◌<◌, ℕ, List, Some
 ghost use Rattle.lab_kept.specs.Latest.{noted};
 ghost use Rattle.lab_kept.specs.Values.{all_rows, value_of};
 ghost use Rattle.lab_rules.specs.Following.{Follows, IsRead};
-ghost use Rattle.lab_rules.specs.Entering.{has_settled, is_same_value, altered_refusal, first_altered_refusal, entered_row, next_origin, opened_version, amendment_made, amending};
+ghost use Rattle.lab_rules.specs.Entering.{has_settled, is_same_value, altered_refusal, first_altered_refusal, entered_row, next_origin, opened_version, amendment_made, amending_by, amending};
 
 use crate::entering::{ROWS_LIMIT, read_item};
 use crate::faults::CommandFault;
@@ -46,6 +46,24 @@ pub fn amend(
     let Some(reason) = reason else {
         return Err(CommandFault::Refused(Refusal::ReasonWanted));
     };
+    amend_by(alloc, lab, kept, last, reason, altered, caller, moment)
+}
+
+// The next version behind the last one, for the reason.
+#[tactic(auto, using(crate::proofs::AlteringLemmas::amended))]
+fn amend_by(
+    alloc: Global,
+    lab: &LabCode,
+    kept: &Record,
+    last: &Version,
+    reason: Note,
+    altered: &Altered,
+    caller: PersonCode,
+    moment: Moment,
+) -> Result<AmendmentMade, CommandFault>
+    ensures { Follows (amending_by lab.now kept.now last.now (Some reason) altered.now caller moment)
+        result }
+{
     if altered.as_slice().is_empty() {
         return Err(CommandFault::Refused(Refusal::NothingAltered));
     }
