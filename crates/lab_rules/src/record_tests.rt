@@ -2,8 +2,9 @@
 //! seal are those that Python's `hashlib` gives of the bytes that the definitions write.
 use crate::tests::{form_version, moment, refusal_of, same, text};
 use crate::{
-    AmendmentMade, CommandFault, EntryMade, Item, SignatureMade, Signing, Typed, amend, enter,
-    person_line, read_form, read_record, read_version, record_line, sign,
+    AmendmentMade, CommandFault, EntryMade, Item, RecordRead, SignatureMade, Signing, Typed,
+    VersionRead, amend, enter, person_line, read_form, read_record, read_version, record_line,
+    sign,
 };
 use lab_access::{Password, Person, Role, Roles};
 use lab_kept::{Record, Signature, Version};
@@ -293,12 +294,9 @@ fn signed(
 }
 
 fn is_signature(rt: &impl Abort, signature: &Signature) {
-    let texts = [
-        signature.person.as_str(),
-        signature.name.as_str(),
-        signature.meaning.word(),
-    ];
-    same(rt, &texts, &["dan", "Dan Day", "authorship"]);
+    let signer = [signature.person.as_str(), signature.name.as_str()];
+    same(rt, &signer, &["dan", "Dan Day"]);
+    same(rt, &signature.meaning.word(), &"authorship");
     same(rt, &signature.moment.seconds(), &1300);
     same(rt, &signature.digest.digits(), FIRST);
     same(rt, &signature.seal.digits(), SEAL);
@@ -385,47 +383,47 @@ fn a_later_signature_is_refused(rt: HostRuntime) {
 
 // ---- readings
 
-#[test]
-fn a_record_is_read(rt: HostRuntime) {
-    let lab = text(&rt, "aqua");
-    let read = read_record(rt.alloc(), &lab, Some(record(&rt, 1, 0))).expect(&rt, "a record");
+fn is_record(rt: &impl Abort, read: &RecordRead) {
+    same(rt, &(read.number.get(), read.form.version.get()), &(5, 2));
+    same(rt, &read.sample.as_str(), &"S1");
+    let line = read.versions.last().expect(rt, "a version");
     same(
-        &rt,
-        &(
-            read.number.get(),
-            read.form.version.get(),
-            read.sample.as_str(),
-        ),
-        &(5, 2, "S1"),
-    );
-    let line = read.versions.last().expect(&rt, "a version");
-    same(
-        &rt,
+        rt,
         &(line.version.get(), line.state),
         &(1, Some(State::Open)),
     );
-    same(&rt, &line.digest.digits(), FIRST);
+    same(rt, &line.digest.digits(), FIRST);
+}
+
+#[test]
+fn a_record_is_read(rt: HostRuntime) {
+    let lab = text(&rt, "aqua");
+    let read = read_record(rt.alloc(), &lab, Some(record(&rt, 1, 0)));
+    is_record(&rt, &read.expect(&rt, "a record"));
     let none = read_record(rt.alloc(), &lab, None);
     same(&rt, &refusal_of(&rt, none).word(), &"no_such_record");
+}
+
+fn is_version(rt: &impl Abort, read: &VersionRead) {
+    same(
+        rt,
+        &(read.number.get(), read.state),
+        &(5, Some(State::Open)),
+    );
+    same(rt, &read.digest.digits(), FIRST);
+    same(
+        rt,
+        &read.altered.last().expect(rt, "a key").as_str(),
+        &"clear",
+    );
+    is_row(rt, read.values.last().expect(rt, "a value"));
 }
 
 #[test]
 fn a_version_is_read(rt: HostRuntime) {
     let lab = text(&rt, "aqua");
-    let answer = read_version(rt.alloc(), &lab, Some(record(&rt, 1, 0)), Ordinal::FIRST);
-    let read = answer.expect(&rt, "a version");
-    same(
-        &rt,
-        &(read.number.get(), read.state),
-        &(5, Some(State::Open)),
-    );
-    same(&rt, &read.digest.digits(), FIRST);
-    same(
-        &rt,
-        &read.altered.last().expect(&rt, "a key").as_str(),
-        &"clear",
-    );
-    is_row(&rt, read.values.last().expect(&rt, "a value"));
+    let read = read_version(rt.alloc(), &lab, Some(record(&rt, 1, 0)), Ordinal::FIRST);
+    is_version(&rt, &read.expect(&rt, "a version"));
     let second = Ordinal::new(2).expect(&rt, "a number");
     let none = read_version(rt.alloc(), &lab, Some(record(&rt, 1, 0)), second);
     same(&rt, &refusal_of(&rt, none).word(), &"no_such_version");

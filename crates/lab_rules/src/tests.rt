@@ -43,11 +43,14 @@ pub(crate) fn form_version(rt: &(impl Abort + AllocGlobal), version: u32) -> For
 
 // The refusal that is answered.
 pub(crate) fn refusal_of<T: Drop>(rt: &impl Abort, answer: Result<T, CommandFault>) -> Refusal {
-    match answer {
-        Err(CommandFault::Refused(refusal)) => Some(refusal),
+    refusal(answer.err()).expect(rt, "a refusal")
+}
+
+fn refusal(fault: Option<CommandFault>) -> Option<Refusal> {
+    match fault {
+        Some(CommandFault::Refused(refusal)) => Some(refusal),
         _ => None,
     }
-    .expect(rt, "a refusal")
 }
 
 fn made(
