@@ -10,8 +10,6 @@ mod making;
 mod outcomes;
 mod reading;
 mod readings;
-#[cfg(test)]
-mod record_tests;
 mod refusals;
 mod signatures;
 mod signing;
