@@ -61,8 +61,8 @@ fn amend_by(
     caller: PersonCode,
     moment: Moment,
 ) -> Result<AmendmentMade, CommandFault>
-    ensures { Follows (amending_by lab.now kept.now last.now (Some reason) altered.now caller moment)
-        result }
+    ensures { Follows
+        (amending_by lab.now kept.now last.now (Some reason) altered.now caller moment) result }
 {
     if altered.as_slice().is_empty() {
         return Err(CommandFault::Refused(Refusal::NothingAltered));

@@ -29,7 +29,8 @@ pub fn enter(
     caller: PersonCode,
     moment: Moment,
 ) -> Result<EntryMade, CommandFault>
-    ensures { Follows (entering lab.now (option_copied kept.entry) item reason caller moment) result }
+    ensures { Follows
+        (entering lab.now (option_copied kept.entry) item reason caller moment) result }
 {
     let Some(kept) = kept else {
         return Err(CommandFault::Refused(Refusal::NoSuchRecord));
