@@ -28,3 +28,4 @@ pub use laws::what_is_released;
 pub use needs::{Counts, FormWanted, ListWanted, Need, RecordWanted, Slice};
 pub use records::{FormVersion, Record, Signature, Version};
 pub use trails::{Action, Deed, Occasion, Subject, TrailRow};
+pub use values::{first_versions, latest, noted};

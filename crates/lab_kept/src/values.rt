@@ -20,7 +20,7 @@ impl Record {
     pub fn values_at(&self, alloc: Global, number: Ordinal) -> Result<Series<EntryRow>, OutOfMemory>
         ensures { IfOk result (λ rows. rows ≡ values_at self.now number) }
     {
-        let versions = first(self.versions.as_slice(), number.get() as usize);
+        let versions = first_versions(self.versions.as_slice(), number.get() as usize);
         let table = latest(alloc, versions)?;
         values_by(alloc, self.form.form.fields(), &table)
     }
@@ -32,14 +32,14 @@ impl Record {
     {
         let versions = self.versions.as_slice();
         let count = number.get() as usize;
-        let before = latest(alloc, first(versions, count - 1))?;
-        let after = latest(alloc, first(versions, count))?;
+        let before = latest(alloc, first_versions(versions, count - 1))?;
+        let after = latest(alloc, first_versions(versions, count))?;
         altered_by(alloc, self.form.form.fields(), &before, &after)
     }
 }
 
 /// The first versions, so many of them.
-fn first(versions: &[Version], count: usize) -> &[Version]
+pub fn first_versions(versions: &[Version], count: usize) -> &[Version]
     ensures { result.now ≡ take count versions.now }
 {
     if count < versions.len() {
@@ -49,8 +49,8 @@ fn first(versions: &[Version], count: usize) -> &[Version]
     }
 }
 
-/// The last row of each key in the versions.
-fn latest<'a>(
+/// The last row of each key in the versions, by one walk over their rows. The only error is out of memory.
+pub fn latest<'a>(
     alloc: Global,
     versions: &'a [Version],
 ) -> Result<BTreeMap<&'a str, &'a EntryRow>, OutOfMemory>
@@ -90,7 +90,7 @@ fn note<'a>(
 }
 
 /// The row that is noted under a key.
-fn noted<'a>(table: &BTreeMap<&'a str, &'a EntryRow>, key: &Key) -> Option<&'a EntryRow>
+pub fn noted<'a>(table: &BTreeMap<&'a str, &'a EntryRow>, key: &Key) -> Option<&'a EntryRow>
     ensures { option_copied result ≡ noted table.now key.now }
 {
     table.get(key.as_str()).copied()

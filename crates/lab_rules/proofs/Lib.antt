@@ -1,1 +1,3 @@
+pub mod AlteringLemmas
 pub mod KnownValues
+pub mod ValueLemmas

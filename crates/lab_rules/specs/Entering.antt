@@ -123,16 +123,22 @@ next_origin lab kept last reason = record {
   amendment = Some (record { previous = digest_of lab kept last; reason = reason });
 }
 
--- the new version: each of its rows bears the reason
-abbrev pub next_version : List ℕ → Record → Version → List ℕ → List Item → List ℕ → ℕ → Version
-next_version lab kept last reason altered caller moment = record {
+-- a version of these rows, by the record's form
+abbrev pub opened_version : Record → OriginParts → List EntryRow → List ℕ → ℕ → Version
+opened_version kept origin rows caller moment = record {
   format = Two kept.form.form.approval;
-  origin = next_origin lab kept last reason;
+  origin = origin;
   opener = caller;
   opened = moment;
-  rows = map (λ item. entered_row item (Some reason) caller moment) altered;
+  rows = rows;
   signatures = [];
 }
+
+-- the new version: each of its rows bears the reason
+abbrev pub next_version : List ℕ → Record → Version → List ℕ → List Item → List ℕ → ℕ → Version
+next_version lab kept last reason altered caller moment =
+    opened_version kept (next_origin lab kept last reason)
+    (map (λ item. entered_row item (Some reason) caller moment) altered) caller moment
 
 abbrev pub amendment_made : List ℕ → Record → Version → AmendmentMade
 amendment_made lab kept version =

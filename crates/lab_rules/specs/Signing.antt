@@ -10,6 +10,7 @@ use Rattle.lab_access.specs.declared.policy.Rule.TheVariants.{SignAuthorship, Si
 use Rattle.lab_access.specs.declared.sessions.Session.{Session}
 use Rattle.lab_versions.specs.declared.rows.EntryRow.{EntryRow}
 use Rattle.lab_seal.specs.declared.seals.Meaning.{Meaning}
+use Rattle.lab_seal.specs.declared.seals.SealParts.{SealParts}
 use Rattle.lab_seal.specs.declared.seals.Meaning.TheVariants.{Authorship as AsAuthor, Review as AsReviewer, Rejection as AsRejection, Approval as AsApproval}
 use Rattle.lab_seal.specs.declared.states.State.{State}
 use Rattle.lab_seal.specs.declared.states.State.TheVariants.{Open, Signed, Reviewed}
@@ -120,16 +121,21 @@ signed_meaning (Rejection None) = AsRejection []
 signed_meaning (Rejection (Some reason)) = AsRejection reason
 signed_meaning Approval = AsApproval
 
--- the person's signature, with its seal
-abbrev pub new_signature : List ℕ → Person → Signing → ℕ → List ℕ → Signature
-new_signature lab person signing moment digest = signature_of (record {
+-- what its seal covers
+abbrev pub signed_parts : List ℕ → Person → Meaning → ℕ → List ℕ → SealParts
+signed_parts lab person meaning moment digest = record {
   version = digest;
   lab = lab;
   person = person.code;
   name = person.name;
-  meaning = signed_meaning signing;
+  meaning = meaning;
   moment = moment;
-})
+}
+
+-- the person's signature, with its seal
+abbrev pub new_signature : List ℕ → Person → Signing → ℕ → List ℕ → Signature
+new_signature lab person signing moment digest =
+    signature_of (signed_parts lab person (signed_meaning signing) moment digest)
 
 -- ---- a signing
 

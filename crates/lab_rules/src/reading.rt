@@ -1,0 +1,155 @@
+//! What is read: a version of a form, a record, a version of a record, and a line of each record and each person.
+ghost use Rattle.std.specs.Prelude.{◌≡◌, IfOk, map};
+ghost use Rattle.lab_rules.specs.Following.{Follows};
+ghost use Rattle.lab_rules.specs.Reading.{reading_form, version_line, reading_record, version_read, reading_version, record_line, person_line};
+
+use crate::faults::CommandFault;
+use crate::readings::{PersonLine, RecordRead, RecordState, VersionRead, VersionState};
+use crate::refusals::Refusal;
+use lab_access::Person;
+use lab_kept::{FormVersion, Record, Version};
+use lab_names::{LabCode, Moment, Ordinal, OutOfMemory, Series};
+use std::alloc::Global;
+
+/// The version of a form that was looked up.
+pub fn read_form(form: Option<FormVersion>) -> Result<FormVersion, Refusal>
+    ensures { result ≡ reading_form form }
+{
+    match form {
+        Some(form) => Ok(form),
+        None => Err(Refusal::NoSuchForm),
+    }
+}
+
+/// The record that was looked up, with the states and the digests of its versions. The only fault beside the refusal is
+/// out of memory.
+pub fn read_record(
+    alloc: Global,
+    lab: &LabCode,
+    kept: Option<Record>,
+) -> Result<RecordRead, CommandFault>
+    ensures { Follows (reading_record lab.now kept) result }
+{
+    let Some(kept) = kept else {
+        return Err(CommandFault::Refused(Refusal::NoSuchRecord));
+    };
+    let versions = version_lines(alloc, lab, &kept)?;
+    Ok(RecordRead {
+        number: kept.number,
+        form: kept.form,
+        sample: kept.sample,
+        versions,
+    })
+}
+
+// The states and the digests of a record's versions, in order.
+fn version_lines(
+    alloc: Global,
+    lab: &LabCode,
+    kept: &Record,
+) -> Result<Series<VersionState>, OutOfMemory>
+    ensures { IfOk result (λ lines. lines ≡ map (version_line lab.now kept.now) kept.now.versions) }
+{
+    let mut lines = Series::new(alloc);
+    for version in kept.versions.as_slice() {
+        lines.push(version_line(alloc, lab, kept, version)?)?;
+    }
+    Ok(lines)
+}
+
+fn version_line(
+    alloc: Global,
+    lab: &LabCode,
+    kept: &Record,
+    version: &Version,
+) -> Result<VersionState, OutOfMemory>
+    ensures { IfOk result (λ line. line ≡ version_line lab.now kept.now version.now) }
+{
+    let digest = kept.digest_of(alloc, lab, version)?;
+    Ok(VersionState {
+        version: version.origin.number(),
+        state: kept.state_of(version),
+        digest,
+    })
+}
+
+/// The version of the number of the record that was looked up, with the record's values at it. The only fault beside the
+/// refusals is out of memory.
+pub fn read_version(
+    alloc: Global,
+    lab: &LabCode,
+    kept: Option<Record>,
+    number: Ordinal,
+) -> Result<VersionRead, CommandFault>
+    ensures { Follows (reading_version lab.now kept number) result }
+{
+    let Some(kept) = kept else {
+        return Err(CommandFault::Refused(Refusal::NoSuchRecord));
+    };
+    let Some(version) = kept.version(number) else {
+        return Err(CommandFault::Refused(Refusal::NoSuchVersion));
+    };
+    Ok(version_read(alloc, lab, &kept, version)?)
+}
+
+// A version of a record with what it comes to, as copies.
+fn version_read(
+    alloc: Global,
+    lab: &LabCode,
+    kept: &Record,
+    version: &Version,
+) -> Result<VersionRead, OutOfMemory>
+    ensures { IfOk result (λ read. read ≡ version_read lab.now kept.now version.now) }
+{
+    let number = version.origin.number();
+    let digest = kept.digest_of(alloc, lab, version)?;
+    let form = kept.form.copy()?;
+    let sample = kept.sample.copy()?;
+    let own = version.copy()?;
+    let altered = kept.altered_at(alloc, number)?;
+    let values = kept.values_at(alloc, number)?;
+    Ok(VersionRead {
+        number: kept.number,
+        form,
+        sample,
+        version: own,
+        state: kept.state_of(version),
+        digest,
+        altered,
+        values,
+    })
+}
+
+/// A record in a line, by its last version. The only error is out of memory.
+pub fn record_line(kept: &Record) -> Result<RecordState, OutOfMemory>
+    ensures { IfOk result (λ line. line ≡ record_line kept.now) }
+{
+    let form = kept.form.code.copy()?;
+    let sample = kept.sample.copy()?;
+    let (current, state) = match kept.current() {
+        Some(version) => (Some(version.origin.number()), kept.state_of(version)),
+        None => (None, None),
+    };
+    Ok(RecordState {
+        number: kept.number,
+        form,
+        sample,
+        current,
+        state,
+    })
+}
+
+/// A person in a line, at the moment. The only error is out of memory.
+pub fn person_line(person: &Person, moment: Moment) -> Result<PersonLine, OutOfMemory>
+    ensures { IfOk result (λ line. line ≡ person_line moment person.now) }
+{
+    let code = person.code.copy()?;
+    let name = person.name.copy()?;
+    Ok(PersonLine {
+        code,
+        name,
+        roles: person.roles,
+        retired: person.retired,
+        locked: person.is_locked(moment),
+    })
+}
