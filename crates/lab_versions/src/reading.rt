@@ -3,19 +3,15 @@
 //! that is told.
 ghost use Rattle.std.specs.Prelude.{◌≡◌, [], ◌∷◌, ◌++◌, IsTrue, IfOk, IfErr, OnOk, Some, option_map};
 ghost use Rattle.lab_names.specs.Moment.{is_moment};
-ghost use Rattle.lab_names.specs.Names.{is_key, is_lab_code, is_name, is_person_code};
 ghost use Rattle.lab_names.specs.Ordinals.{is_ordinal};
 ghost use Rattle.lab_versions.specs.Faults.{TextFaultFits};
-ghost use Rattle.lab_versions.specs.Versions.{version_text, IsReason, IsRow, IsOrigin, IsFront, IsVersion, IsNoVersion, IsSomeVersion, OneSpelling};
+ghost use Rattle.lab_versions.specs.Versions.{version_text, IsRow, IsOrigin, IsFront, IsVersion, IsNoVersion, IsSomeVersion, OneSpelling};
 ghost use Rattle.lab_versions.specs.Reading.{first_heading, first_format, first_subject, first_no_amendment, first_amendment, first_origin, first_opening, first_front, first_row, first_rows, heading_of, subject_of, amendment_of, amends_of, opening_of, front_of, row_of, version_of, AreAllRows};
 
-use crate::versions::FrontTexts;
 use crate::{
     Amendment, EntryRow, EntryRows, Format, Origin, OriginParts, TextFault, VersionParts, fields,
 };
-use lab_names::{
-    Keys, LabCodes, Moment, Names, Note, Notes, Ordinal, OutOfMemory, PersonCodes, Units,
-};
+use lab_names::{Keys, LabCodes, Moment, Names, Notes, Ordinal, OutOfMemory, PersonCodes, Units};
 use lab_secrets::Digest;
 use std::alloc::Global;
 
@@ -283,24 +279,18 @@ fn owned_row(alloc: Global, row: &Row<'_>) -> Result<EntryRow, OutOfMemory>
     requires { IsRow (row_of row.now) }
     ensures { IfOk result (λ owned. owned ≡ row_of row.now) }
 {
+    let reason = match &row.reason {
+        Some(reason) => Some(fields::own(alloc, reason)?),
+        None => None,
+    };
     Ok(EntryRow {
         key: fields::own(alloc, row.key)?,
         value: fields::own(alloc, row.value)?,
         unit: fields::own(alloc, row.unit)?,
         person: fields::own(alloc, row.person)?,
         moment: owned_moment(row.moment),
-        reason: owned_reason(alloc, row.reason)?,
+        reason,
     })
-}
-
-fn owned_reason(alloc: Global, reason: Option<&str>) -> Result<Option<Note>, OutOfMemory>
-    requires { IsReason (option_map (λ note. note.now) reason) }
-    ensures { IfOk result (λ owned. owned ≡ option_map (λ note. note.now) reason.entry) }
-{
-    match reason {
-        Some(reason) => Ok(Some(fields::own(alloc, reason)?)),
-        None => Ok(None),
-    }
 }
 
 // The version that has what stands before its rows, copied, and these rows.
@@ -309,36 +299,17 @@ fn owned(alloc: Global, front: &Front<'_>, rows: EntryRows) -> Result<VersionPar
     ensures { IfOk result (λ parts. parts ≡ version_of (front_of front.now) rows) }
 {
     let origin = owned_origin(alloc, front.heading.number, &front.amendment)?;
-    let texts = owned_texts(alloc, front)?;
     Ok(VersionParts {
         format: front.subject.format,
-        lab: texts.lab,
+        lab: fields::own(alloc, front.heading.lab)?,
         record_number: owned_ordinal(front.heading.record_number),
         origin,
-        form: texts.form,
-        form_version: owned_ordinal(front.subject.form_version),
-        sample: texts.sample,
-        opener: texts.opener,
-        opened: owned_moment(front.opening.opened),
-        rows,
-    })
-}
-
-fn owned_texts(alloc: Global, front: &Front<'_>) -> Result<FrontTexts, OutOfMemory>
-    requires lab { IsTrue (is_lab_code front.now.heading.lab.now) }
-    requires form { IsTrue (is_key front.now.subject.form.now) }
-    requires sample { IsTrue (is_name front.now.subject.sample.now) }
-    requires opener { IsTrue (is_person_code front.now.opening.opener.now) }
-    ensures lab { IfOk result (λ texts. texts.lab ≡ front.now.heading.lab.now) }
-    ensures form { IfOk result (λ texts. texts.form ≡ front.now.subject.form.now) }
-    ensures sample { IfOk result (λ texts. texts.sample ≡ front.now.subject.sample.now) }
-    ensures opener { IfOk result (λ texts. texts.opener ≡ front.now.opening.opener.now) }
-{
-    Ok(FrontTexts {
-        lab: fields::own(alloc, front.heading.lab)?,
         form: fields::own(alloc, front.subject.form)?,
+        form_version: owned_ordinal(front.subject.form_version),
         sample: fields::own(alloc, front.subject.sample)?,
         opener: fields::own(alloc, front.opening.opener)?,
+        opened: owned_moment(front.opening.opened),
+        rows,
     })
 }
 

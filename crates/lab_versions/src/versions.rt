@@ -7,7 +7,7 @@ ghost use Rattle.lab_versions.specs.Versions.{approval_text, reason_text, row_te
 use crate::items::{push_digest, push_item, push_moment, push_number};
 use crate::{EntryRow, EntryRows, Origin};
 use lab_names::{Key, LabCode, Moment, Name, Ordinal, OutOfMemory, PersonCode};
-use std::alloc::{AllocError, Global};
+use std::alloc::Global;
 
 /// The format of a version's text.
 #[derive(Clone, Copy, Debug, PartialEq, Eq)]
@@ -19,7 +19,7 @@ pub enum Format {
 }
 
 /// The version of a record, as its digest covers it.
-#[derive(Drop)]
+#[derive(Clone, Debug, Drop)]
 pub struct VersionParts {
     /// The format of the text.
     pub format: Format,
@@ -50,53 +50,6 @@ impl VersionParts {
     {
         Ok(self.clone()?)
     }
-}
-
-impl Clone for VersionParts {
-    ghost use Rattle.std.specs.Prelude.{◌≡◌};
-
-    ghost is_clone = { λ parts copy. copy ≡ parts };
-
-    fn clone(&self) -> Result<VersionParts, AllocError> {
-        let texts = copied_texts(self)?;
-        let origin = self.origin.clone()?;
-        let rows = self.rows.clone()?;
-        Ok(VersionParts {
-            format: self.format,
-            lab: texts.lab,
-            record_number: self.record_number,
-            origin,
-            form: texts.form,
-            form_version: self.form_version,
-            sample: texts.sample,
-            opener: texts.opener,
-            opened: self.opened,
-            rows,
-        })
-    }
-}
-
-// The texts of what stands before the rows.
-#[derive(Drop)]
-pub(crate) struct FrontTexts {
-    pub(crate) lab: LabCode,
-    pub(crate) form: Key,
-    pub(crate) sample: Name,
-    pub(crate) opener: PersonCode,
-}
-
-fn copied_texts(parts: &VersionParts) -> Result<FrontTexts, AllocError>
-    ensures lab { IfOk result (λ texts. texts.lab ≡ parts.now.lab) }
-    ensures form { IfOk result (λ texts. texts.form ≡ parts.now.form) }
-    ensures sample { IfOk result (λ texts. texts.sample ≡ parts.now.sample) }
-    ensures opener { IfOk result (λ texts. texts.opener ≡ parts.now.opener) }
-{
-    Ok(FrontTexts {
-        lab: parts.lab.clone()?,
-        form: parts.form.clone()?,
-        sample: parts.sample.clone()?,
-        opener: parts.opener.clone()?,
-    })
 }
 
 /// The text of a version, which `read_version` reads back.
