@@ -11,7 +11,9 @@ use std::process::Abort;
 fn letter_name<H: Abort + AllocGlobal>(rt: &H, letter: char) -> Name {
     let mut name = String::new(rt.alloc());
     name.push(letter).expect(rt, "memory");
-    Name::parse(rt.alloc(), name.as_str()).expect(rt, "a name")
+    let letter = Name::parse(rt.alloc(), name.as_str());
+    drop(name);
+    letter.expect(rt, "a name")
 }
 
 fn bound<H: Abort + AllocGlobal>(rt: &H, text: &str) -> Option<Bound> {
@@ -59,7 +61,9 @@ fn field<H: Abort + AllocGlobal>(rt: &H, key: &str, kind: Kind) -> Field {
 // A field of yes or no, of the key that has this number.
 fn numbered<H: Abort + AllocGlobal>(rt: &H, place: u32) -> Field {
     let key = format!(in rt.alloc(); "k{place}").expect(rt, "memory");
-    field(rt, key.as_str(), Kind::YesNo)
+    let field = field(rt, key.as_str(), Kind::YesNo);
+    drop(key);
+    field
 }
 
 fn many<H: Abort + AllocGlobal>(rt: &H, count: u32) -> Vec<Field> {
@@ -92,12 +96,16 @@ fn answer<H: Abort + AllocGlobal>(
 ) -> Result<Value, FormFault> {
     let key = Key::parse(rt.alloc(), key).expect(rt, "a key");
     let unit = Unit::parse(rt.alloc(), unit).expect(rt, "a unit");
-    form.read_value(rt.alloc(), &key, text, &unit)
+    let found = form.read_value(rt.alloc(), &key, text, &unit);
+    drop(key);
+    drop(unit);
+    found
 }
 
 fn assert_read<H: Abort + AllocGlobal>(rt: &H, form: &Form, text: &str, unit: &str) {
     let value = answer(rt, form, "one", text, unit).expect(rt, text);
     assert_eq!(rt; value.print(), text);
+    drop(value);
 }
 
 fn assert_refused<H: Abort + AllocGlobal>(
@@ -120,6 +128,7 @@ fn reads<H: Abort + AllocGlobal>(rt: &H, kind: Kind, rows: &[(&str, &str, Option
             Some(refusal) => assert_refused(rt, &form, text, unit, *refusal),
         }
     }
+    drop(form);
 }
 
 fn assert_made<H: Abort + AllocGlobal>(rt: &H, fields: Vec<Field>, approval: bool) {
@@ -127,6 +136,8 @@ fn assert_made<H: Abort + AllocGlobal>(rt: &H, fields: Vec<Field>, approval: boo
     let form = Form::make(copies, approval).expect(rt, "a form");
     assert_eq!(rt; form.approval(), approval);
     assert_eq!(rt; form.fields(), fields.as_slice());
+    drop(form);
+    drop(fields);
 }
 
 /// Asserts that a form has the fields and the wish that it was made of, or why there is none.
@@ -202,6 +213,7 @@ fn the_first_thing_that_is_wrong_is_told(rt: HostRuntime) {
 fn a_form_has_no_field_of_another_key(rt: HostRuntime) {
     let form = Form::make(many(&rt, 1), false).expect(&rt, "a form");
     let fault = answer(&rt, &form, "iron", "x", "mg/l").expect_err(&rt, "no field");
+    drop(form);
     assert_eq!(rt; fault, FormFault::Refused(NoSuchField));
 }
 
@@ -313,17 +325,22 @@ fn texts_have_so_many_bytes_at_most(rt: HostRuntime) {
 }
 
 fn is_equal<T: PartialEq + Drop>(one: &T, other: T) -> bool {
-    *one == other
+    let found = *one == other;
+    drop(other);
+    found
 }
 
 fn assert_equal<T: PartialEq + Debug + Drop>(rt: &impl Abort, one: T, other: T) {
     assert_eq!(rt; one, other);
+    drop(one);
+    drop(other);
 }
 
 #[test]
 fn a_value_gives_its_note_back(rt: HostRuntime) {
     let form = Form::make(many(&rt, 1), false).expect(&rt, "a form");
     let value = answer(&rt, &form, "k0", "yes", "").expect(&rt, "a value");
+    drop(form);
     let copy = value.copy().expect(&rt, "memory");
     assert!(rt; is_equal(&value, copy));
     let note = Note::parse(rt.alloc(), "yes").expect(&rt, "a note");
@@ -412,7 +429,7 @@ fn choices_give_their_names_back(rt: HostRuntime) {
     let names = clear_names(&rt);
     let choices = Choices::new(clear_names(&rt));
     assert_eq!(rt; choices.names(), names.as_slice());
-    assert_eq!(rt; choices.into_names(), names);
+    assert_equal(&rt, choices.into_names(), names);
 }
 
 #[test]
@@ -469,6 +486,7 @@ fn forms_differ_where_one_text_does(rt: HostRuntime) {
         let found = is_equal(&form, amounts(&rt, key, min, approval));
         assert_eq!(rt; found, is_same, "{key} {min} {approval}");
     }
+    drop(form);
 }
 
 #[test]
@@ -478,6 +496,7 @@ fn forms_differ_where_the_order_of_choices_does(rt: HostRuntime) {
         let found = is_equal(&kind, choice(&rt, letters));
         assert_eq!(rt; found, is_same, "{letters}");
     }
+    drop(kind);
 }
 
 // The refusal has this number and this word, and so has the fault that it is, which is printed as the
@@ -491,6 +510,7 @@ fn assert_told<H: Abort + AllocGlobal>(rt: &H, refusal: FormRefusal, number: u32
         (refusal.word(), fault.word(), printed.as_str()),
         (word, word, word)
     );
+    drop(printed);
 }
 
 #[test]

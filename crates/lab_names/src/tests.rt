@@ -10,6 +10,8 @@ fn assert_read<R: Rule, H: Abort + AllocGlobal>(rt: &H, text: &str) {
     let read = Text::<R>::parse(rt.alloc(), text).expect(rt, "an admitted text");
     let copy = read.copy().expect(rt, "memory");
     assert_eq!(rt; (read.as_str(), &copy), (text, &read));
+    drop(copy);
+    drop(read);
 }
 
 // The rule doesn't admit the text.
@@ -229,7 +231,9 @@ fn repeated<H: Abort + AllocGlobal>(rt: &H, character: &str, count: usize, rest:
 // How many bytes the text has once it is read.
 fn read_length<R: Rule, H: Abort + AllocGlobal>(rt: &H, text: &str) -> usize {
     let read = Text::<R>::parse(rt.alloc(), text).expect(rt, "an admitted text");
-    read.as_str().len()
+    let length = read.as_str().len();
+    drop(read);
+    length
 }
 
 // The rule admits the text, which has so many bytes, and doesn't admit it with one more.
@@ -237,6 +241,7 @@ fn assert_longest<R: Rule, H: Abort + AllocGlobal>(rt: &H, mut text: String, byt
     assert_eq!(rt; read_length::<R, H>(rt, text.as_str()), bytes);
     text.push('b').expect(rt, "memory");
     assert_refused::<R, H>(rt, text.as_str());
+    drop(text);
 }
 
 // Names of 120 bytes and of 121, of characters of 1 to 4 bytes.
@@ -272,6 +277,7 @@ fn assert_told<F: Display, H: Abort + AllocGlobal>(
     let (number, word) = wanted;
     let printed = fault.to_string(rt.alloc()).expect(rt, "memory");
     assert_eq!(rt; (told, printed.as_str()), ((Some(number), word), word));
+    drop(printed);
 }
 
 #[test]
@@ -316,6 +322,7 @@ fn assert_shown<H: Abort + AllocGlobal>(rt: &H, codes: &[PersonCode], wanted: &[
         texts.push(code.as_str()).expect(rt, "memory");
     }
     assert_eq!(rt; texts.as_slice(), wanted);
+    drop(texts);
 }
 
 // Python's `sorted` of the same texts as bytes.
@@ -327,13 +334,17 @@ fn codes_stand_in_the_order_of_their_bytes(rt: HostRuntime) {
         &codes,
         &["an", "an-2", "an2", "ann", "ann", "b2", "bob"],
     );
+    drop(codes);
 }
 
 // Whether two laboratories' codes are equal.
 fn are_equal<H: Abort + AllocGlobal>(rt: &H, left: &str, right: &str) -> bool {
     let left = LabCode::parse(rt.alloc(), left).expect(rt, "a code");
     let right = LabCode::parse(rt.alloc(), right).expect(rt, "a code");
-    left == right
+    let found = left == right;
+    drop(left);
+    drop(right);
+    found
 }
 
 #[test]
@@ -390,10 +401,14 @@ fn series<H: Abort + AllocGlobal>(rt: &H, values: &[u32]) -> Series<u32> {
 fn a_series_has_its_values_in_order(rt: HostRuntime) {
     let values = series(&rt, &[3, 1, 2]).into_vec();
     assert_eq!(rt; values.as_slice(), [3, 1, 2].as_slice());
+    drop(values);
 }
 
 fn last_of<H: Abort + AllocGlobal>(rt: &H, values: &[u32]) -> Option<u32> {
-    series(rt, values).last().copied()
+    let series = series(rt, values);
+    let last = series.last().copied();
+    drop(series);
+    last
 }
 
 #[test]
@@ -411,11 +426,14 @@ struct Measured {
 // A copy of what was measured at the place 7.
 fn copied<H: Abort + AllocGlobal>(rt: &H, amounts: Series<u32>) -> Measured {
     let measured = Measured { place: 7, amounts };
-    measured.clone().expect(rt, "memory")
+    let copy: Result<_, _> = measured.clone();
+    drop(measured);
+    copy.expect(rt, "memory")
 }
 
 #[test]
 fn a_copy_has_the_values_of_its_series(rt: HostRuntime) {
     let copy = copied(&rt, series(&rt, &[3]));
     assert_eq!(rt; (copy.place, copy.amounts.as_slice()), (7, [3].as_slice()));
+    drop(copy);
 }

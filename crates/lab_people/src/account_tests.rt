@@ -1,12 +1,12 @@
 //! Accounts, as they are changed by their persons and by administrators. Refusals in their order, and answers whole.
 
 use crate::tests::{
-    Left, RIGHT, WORD, WRONG, asked, assert_failed, assert_is, assert_refused, assert_session,
+    Left, RIGHT, WORD, WRONG, asked, assert_failed, assert_person, assert_refused, assert_session,
     bytes_of, chosen, code, counted, first_half, moment, name, one_time, person, session, tick,
 };
 use crate::{
-    Ask, Closing, Effect, Issued, Password, PasswordChanged, PeopleRefusal, Person, PersonCode,
-    Role, Roles, Tick, Verifier, ask_issue, change_password, confirm_issue, enrol, retire,
+    Closing, Effect, Issued, Password, PasswordChanged, PeopleFault, PeopleRefusal, Person,
+    PersonCode, Role, Roles, Verifier, ask_issue, change_password, confirm_issue, enrol, retire,
     set_roles, unlock,
 };
 use std::alloc::Global;
@@ -22,66 +22,65 @@ fn renewed(rt: &impl Abort, seconds: i64) -> Password {
     }
 }
 
-// What changing dan's password in dan's session at the words 1 to 8 gives: `WRONG` is the new one.
-fn assert_changed(rt: &impl Abort, alloc: Global, found: PasswordChanged, seconds: i64) {
+// dan's change of the password from the old to the new one, at the second and the words 1 to 8.
+fn change(
+    rt: &impl Abort,
+    alloc: Global,
+    dan: Person,
+    old: &str,
+    new: &str,
+    seconds: i64,
+) -> Result<PasswordChanged, PeopleFault> {
+    let now = tick(rt, seconds, 1);
+    let four = session(rt, alloc, 600, 650);
+    change_password(dan, four, old, new, &now)
+}
+
+// dan changes the old password to `WRONG` at 2500: all that this gives.
+fn assert_changed(rt: &impl Abort, alloc: Global, dan: Person, old: &str) {
+    let found = change(rt, alloc, dan, old, WRONG, 2500).expect(rt, "a change");
     assert!(rt;
         found.closing == Closing::Others(found.session.number),
         "what is closed"
     );
     let mut four = session(rt, alloc, 600, 650);
     four.signed = false;
-    assert_session(rt, &found.session, &four);
-    assert_is(rt, found.person, person(rt, alloc, renewed(rt, seconds)));
+    assert_session(rt, &found.session, four);
+    assert_person(rt, &found.person, person(rt, alloc, renewed(rt, 2500)));
+    drop(found);
 }
 
-// A change forgets failed passwords, a lapsed lock and the session's mark.
+// A change forgets failed passwords, a lapsed lock and the session's mark. A one-time word is changed so too.
 #[test]
 fn a_password_is_changed_by_the_old_one(rt: HostRuntime) {
-    let now = tick(&rt, 2500, 1);
     for (failures, locked) in [(3, None), (5, Some(700))] {
-        let four = session(&rt, rt.alloc(), 600, 650);
         let dan = counted(&rt, rt.alloc(), failures, locked);
-        let changed = change_password(dan, four, RIGHT, WRONG, &now).expect(&rt, "a change");
-        assert_changed(&rt, rt.alloc(), changed, 2500);
+        assert_changed(&rt, rt.alloc(), dan, RIGHT);
     }
+    let dan = person(&rt, rt.alloc(), one_time(&rt, 1000));
+    assert_changed(&rt, rt.alloc(), dan, WORD);
 }
 
-// Who was issued a one-time word gets in by it, and chooses a password.
-#[test]
-fn a_one_time_word_is_changed(rt: HostRuntime) {
-    let now = tick(&rt, 2500, 1);
-    let four = session(&rt, rt.alloc(), 600, 650);
-    let dan = person(&rt, rt.alloc(), one_time(&rt, 1000));
-    let changed = change_password(dan, four, WORD, WRONG, &now).expect(&rt, "a change");
-    assert_changed(&rt, rt.alloc(), changed, 2500);
-}
+type Refused = Option<PeopleRefusal>;
 
 // `RIGHT` with a NUL at its end.
 const LONGER: &str = "dan password 1\0";
 
 // dan's change of the password from the old to the new one is refused so; or it is made, and the new one is accepted.
-fn assert_change(
-    rt: &impl Abort,
-    alloc: Global,
-    old: &str,
-    new: &str,
-    refusal: Option<PeopleRefusal>,
-) {
-    let now = tick(rt, 700, 1);
-    let four = session(rt, alloc, 600, 650);
-    let dan = counted(rt, alloc, 0, None);
-    let found = change_password(dan, four, old, new, &now);
+fn assert_change(rt: &impl Abort, alloc: Global, old: &str, new: &str, refusal: Refused) {
+    let found = change(rt, alloc, counted(rt, alloc, 0, None), old, new, 700);
     match refusal {
         Some(refusal) => assert_refused(rt, found.err(), refusal),
         None => {
-            let dan = found.expect(rt, "a change").person;
-            assert!(rt; dan.password.accepts(new, now.moment));
+            let changed = found.expect(rt, "a change");
+            assert!(rt; changed.person.password.accepts(new, moment(rt, 700)));
+            drop(changed);
         }
     }
 }
 
 // The old password, the new one, and why that is refused.
-static CHANGES: [(&str, &str, Option<PeopleRefusal>); 7] = [
+static CHANGES: [(&str, &str, Refused); 7] = [
     (RIGHT, "eleven byte", Some(PeopleRefusal::BadPassword)),
     (RIGHT, "twelve bytes", None),
     (RIGHT, RIGHT, Some(PeopleRefusal::SamePassword)),
@@ -102,27 +101,25 @@ fn a_new_password_is_another(rt: HostRuntime) {
 
 // The failed passwords before, the lock before, and what a wrong one at 2500 comes to.
 static OLD_ONES: [(u32, Option<i64>, Left); 4] = [
-    (3, None, Left::Counted(4)),
-    (4, None, Left::Locking(2500)),
-    (5, Some(701), Left::AlreadyLocked(5, 701)),
-    (5, Some(700), Left::Counted(1)),
+    (3, None, ("counted", 4, None)),
+    (4, None, ("locking", 5, Some(2500))),
+    (5, Some(701), ("locked", 5, Some(701))),
+    (5, Some(700), ("counted", 1, None)),
 ];
 
 // A wrong old password comes before a bad new one, and is counted: the fifth locks, and a lock stays.
 #[test]
 fn a_wrong_old_password_is_counted(rt: HostRuntime) {
-    let now = tick(&rt, 2500, 1);
     for &(failures, locked, left) in &OLD_ONES {
-        let four = session(&rt, rt.alloc(), 600, 650);
         let dan = counted(&rt, rt.alloc(), failures, locked);
-        let found = change_password(dan, four, WRONG, "eleven byte", &now);
+        let found = change(&rt, rt.alloc(), dan, WRONG, "eleven byte", 2500);
         assert_failed(&rt, rt.alloc(), found.err(), left);
     }
 }
 
 // The refusal is the one that is wanted; there is none where none is.
-fn assert_answer(rt: &impl Abort, found: Option<PeopleRefusal>, wanted: Option<PeopleRefusal>) {
-    assert!(rt; found == wanted);
+fn assert_answer<T: Drop>(rt: &impl Abort, found: Result<T, PeopleRefusal>, wanted: Refused) {
+    assert!(rt; found.err() == wanted);
 }
 
 // What the code's holder and the number of persons make of an enrolment.
@@ -137,18 +134,18 @@ fn a_code_is_given_once(rt: HostRuntime) {
         let ours = code(&rt, rt.alloc(), "dan");
         let name = name(&rt, rt.alloc());
         let found = enrol(ours, name, Roles::none(), holder, persons);
-        assert_answer(&rt, found.err(), Some(refusal));
+        assert_answer(&rt, found, Some(refusal));
     }
 }
 
 // Who is enrolled has no password, and no roles but those given.
 #[test]
 fn a_newcomer_has_no_password(rt: HostRuntime) {
-    let ours = code(&rt, rt.alloc(), "dan");
-    let name = name(&rt, rt.alloc());
+    let (ours, name) = (code(&rt, rt.alloc(), "dan"), name(&rt, rt.alloc()));
     let roles = Roles::none().with(Role::Analyst);
     let dan = enrol(ours, name, roles, None, 499).expect(&rt, "a person");
-    assert_is(&rt, dan, person(&rt, rt.alloc(), Password::Unset));
+    assert_person(&rt, &dan, person(&rt, rt.alloc(), Password::Unset));
+    drop(dan);
 }
 
 // What is kept of the half that the words 31 and 32 make.
@@ -158,15 +155,26 @@ fn second_half(rt: &impl Abort) -> Verifier {
     Verifier::from_parts(salt, 10_000, bytes_of(rt, digits))
 }
 
-// dan, for whom the caller asked at the tick of the words 31 to 38.
-fn newly_asked(rt: &impl Abort, alloc: Global, asker: &str, tick: &Tick) -> Person {
-    let mut dan = counted(rt, alloc, 0, None);
-    dan.ask = Some(Ask {
-        asker: code(rt, alloc, asker),
-        asked: tick.moment,
-        first: second_half(rt),
-    });
-    dan
+type Halved = Result<Issued, PeopleRefusal>;
+
+// What the caller gets who asks for a one-time word for dan, for whom bob asked at 1000.
+fn asking(rt: &impl Abort, alloc: Global, caller: &str, seconds: i64) -> Halved {
+    let now = tick(rt, seconds, 31);
+    let ours = code(rt, alloc, caller);
+    let dan = asked(rt, alloc, "bob", 1000, first_half(rt));
+    ask_issue(ours, Some(dan), &now)
+}
+
+// The same of who confirms what bob asked for, where dan has failed passwords and a lock.
+fn confirming(rt: &impl Abort, alloc: Global, caller: &str, seconds: i64) -> Halved {
+    let now = tick(rt, seconds, 31);
+    let ours = code(rt, alloc, caller);
+    let mut dan = asked(rt, alloc, "bob", 1000, first_half(rt));
+    dan.failures = 4;
+    dan.locked = Some(now.moment);
+    let found = confirm_issue(&ours, Some(dan), &now);
+    drop(ours);
+    found
 }
 
 fn assert_issued(rt: &impl Abort, found: Issued, wanted: Person, closing: Closing) {
@@ -175,39 +183,37 @@ fn assert_issued(rt: &impl Abort, found: Issued, wanted: Person, closing: Closin
         "the half"
     );
     assert!(rt; found.closing == closing, "what is closed");
-    assert_is(rt, found.person, wanted);
+    assert_person(rt, &found.person, wanted);
+    drop(found);
+}
+
+fn assert_asked(rt: &impl Abort, alloc: Global, caller: &str, seconds: i64) {
+    let issued = asking(rt, alloc, caller, seconds).expect(rt, "a half");
+    let wanted = asked(rt, alloc, caller, seconds, second_half(rt));
+    assert_issued(rt, issued, wanted, Closing::Nothing);
 }
 
 // What bob asked for at 1000 stands for seven days: he asks anew in it, ann after it, and whole.
 #[test]
 fn an_ask_is_replaced_whole(rt: HostRuntime) {
-    for (caller, seconds) in [("bob", 1000), ("bob", 605_800), ("ann", 605_801)] {
-        let now = tick(&rt, seconds, 31);
-        let ours = code(&rt, rt.alloc(), caller);
-        let dan = asked(&rt, rt.alloc(), "bob", 1000);
-        let issued = ask_issue(ours, Some(dan), &now).expect(&rt, "a half");
-        let wanted = newly_asked(&rt, rt.alloc(), caller, &now);
-        assert_issued(&rt, issued, wanted, Closing::Nothing);
-    }
+    assert_asked(&rt, rt.alloc(), "bob", 1000);
+    assert_asked(&rt, rt.alloc(), "bob", 605_800);
+    assert_asked(&rt, rt.alloc(), "ann", 605_801);
 }
 
 // Two administrators give a person a one-time word, each a half of it. Failed passwords and a lock stay.
 #[test]
 fn a_one_time_word_takes_two_administrators(rt: HostRuntime) {
-    let now = tick(&rt, 605_800, 31);
+    let at = moment(&rt, 605_800);
     let word = Password::OneTime {
         first: first_half(&rt),
         second: second_half(&rt),
-        confirmed: now.moment,
+        confirmed: at,
     };
-    let ann = code(&rt, rt.alloc(), "ann");
-    let mut dan = asked(&rt, rt.alloc(), "bob", 1000);
-    dan.failures = 4;
-    dan.locked = Some(now.moment);
-    let issued = confirm_issue(&ann, Some(dan), &now).expect(&rt, "a half");
     let mut wanted = person(&rt, rt.alloc(), word);
     wanted.failures = 4;
-    wanted.locked = Some(now.moment);
+    wanted.locked = Some(at);
+    let issued = confirming(&rt, rt.alloc(), "ann", 605_800).expect(&rt, "a half");
     assert_issued(&rt, issued, wanted, Closing::All);
 }
 
@@ -217,7 +223,7 @@ fn asks_and_confirmations_are_refused_in_order(rt: HostRuntime) {
     let open = Some(PeopleRefusal::IssueOpen);
     let same = Some(PeopleRefusal::SamePerson);
     let (own, none) = (Some(PeopleRefusal::OwnIssue), Some(PeopleRefusal::NoIssue));
-    for (caller, seconds, asking, confirming) in [
+    for (caller, seconds, ask, confirmation) in [
         ("ann", 605_800, open, None),
         ("bob", 605_800, None, same),
         ("ann", 605_801, None, none),
@@ -225,88 +231,102 @@ fn asks_and_confirmations_are_refused_in_order(rt: HostRuntime) {
         ("dan", 605_800, own, own),
         ("dan", 605_801, own, own),
     ] {
-        let now = tick(&rt, seconds, 31);
-        let ours = code(&rt, rt.alloc(), caller);
-        let dan = asked(&rt, rt.alloc(), "bob", 1000);
-        assert_answer(&rt, confirm_issue(&ours, Some(dan), &now).err(), confirming);
-        let dan = asked(&rt, rt.alloc(), "bob", 1000);
-        assert_answer(&rt, ask_issue(ours, Some(dan), &now).err(), asking);
+        assert_answer(&rt, asking(&rt, rt.alloc(), caller, seconds), ask);
+        let found = confirming(&rt, rt.alloc(), caller, seconds);
+        assert_answer(&rt, found, confirmation);
     }
 }
 
-// What dan asks about dan's own account, or about one who is retired, is refused so.
+// Nobody, or dan, retired or not.
+fn one(rt: &impl Abort, alloc: Global, is_retired: Option<bool>) -> Option<Person> {
+    let is_retired = is_retired?;
+    let mut dan = counted(rt, alloc, 0, None);
+    dan.retired = is_retired;
+    let copy = dan.copy();
+    drop(dan);
+    Some(copy.expect(rt, "memory"))
+}
+
+// What dan asks about nobody, about dan's own account, or about one who is retired, is refused so.
 fn assert_refused_about(
     rt: &impl Abort,
     alloc: Global,
     dan: &PersonCode,
-    is_retired: bool,
-    refusal: PeopleRefusal,
+    is_retired: Option<bool>,
+    refusal: Refused,
 ) {
-    let mut one = counted(rt, alloc, 0, None);
-    one.retired = is_retired;
-    let two = one.copy().expect(rt, "memory");
-    let three = one.copy().expect(rt, "memory");
-    let set = set_roles(dan, Some(one), Roles::none());
-    assert_answer(rt, set.err(), Some(refusal));
-    assert_answer(rt, retire(dan, Some(two)).err(), Some(refusal));
-    assert_answer(rt, unlock(dan, Some(three)).err(), Some(refusal));
+    let set = set_roles(dan, one(rt, alloc, is_retired), Roles::none());
+    assert_answer(rt, set, refusal);
+    assert_answer(rt, retire(dan, one(rt, alloc, is_retired)), refusal);
+    assert_answer(rt, unlock(dan, one(rt, alloc, is_retired)), refusal);
 }
 
 // What is asked about nobody, about a retired person and about oneself.
 #[test]
 fn commands_are_about_others_who_are_there(rt: HostRuntime) {
-    let now = tick(&rt, 700, 31);
     let dan = code(&rt, rt.alloc(), "dan");
     let missing = Some(PeopleRefusal::NoSuchPerson);
-    assert_answer(&rt, confirm_issue(&dan, None, &now).err(), missing);
-    assert_answer(&rt, set_roles(&dan, None, Roles::none()).err(), missing);
-    assert_answer(&rt, retire(&dan, None).err(), missing);
-    assert_answer(&rt, unlock(&dan, None).err(), missing);
-    for (is_retired, refusal) in [
-        (true, PeopleRefusal::NoSuchPerson),
-        (false, PeopleRefusal::OwnIssue),
-    ] {
-        assert_refused_about(&rt, rt.alloc(), &dan, is_retired, refusal);
-    }
-    assert_answer(&rt, ask_issue(dan, None, &now).err(), missing);
+    assert_refused_about(&rt, rt.alloc(), &dan, None, missing);
+    assert_refused_about(&rt, rt.alloc(), &dan, Some(true), missing);
+    assert_refused_about(
+        &rt,
+        rt.alloc(),
+        &dan,
+        Some(false),
+        Some(PeopleRefusal::OwnIssue),
+    );
+    let now = tick(&rt, 700, 31);
+    assert_answer(&rt, confirm_issue(&dan, None, &now), missing);
+    assert_answer(&rt, ask_issue(dan, None, &now), missing);
 }
 
 fn assert_effect(rt: &impl Abort, found: Effect, wanted: Person, closing: Closing) {
     assert!(rt; found.closing == closing, "what is closed");
-    assert_is(rt, found.person, wanted);
+    assert_person(rt, &found.person, wanted);
+    drop(found);
+}
+
+// dan, locked, with these roles.
+fn roled(rt: &impl Abort, alloc: Global, roles: Roles) -> Person {
+    let mut dan = counted(rt, alloc, 5, Some(600));
+    dan.roles = roles;
+    dan
+}
+
+// What ann's setting of roles gives, where dan was an administrator.
+fn assert_set(rt: &impl Abort, alloc: Global, ann: &PersonCode, roles: Roles) {
+    let dan = roled(rt, alloc, Roles::none().with(Role::Administrator));
+    let effect = set_roles(ann, Some(dan), roles).expect(rt, "a change");
+    assert_effect(rt, effect, roled(rt, alloc, roles), Closing::Nothing);
 }
 
 // Roles are set, an administrator's too, and nothing else is changed.
 #[test]
 fn roles_are_set(rt: HostRuntime) {
     let ann = code(&rt, rt.alloc(), "ann");
-    for roles in [
-        Roles::none(),
-        Roles::none().with(Role::Administrator),
-        Roles::none().with(Role::Reviewer).with(Role::Manager),
-    ] {
-        let mut dan = counted(&rt, rt.alloc(), 5, Some(600));
-        dan.roles = Roles::none().with(Role::Administrator);
-        let effect = set_roles(&ann, Some(dan), roles).expect(&rt, "a change");
-        let mut wanted = counted(&rt, rt.alloc(), 5, Some(600));
-        wanted.roles = roles;
-        assert_effect(&rt, effect, wanted, Closing::Nothing);
-    }
+    let administrator = Roles::none().with(Role::Administrator);
+    let both = Roles::none().with(Role::Reviewer).with(Role::Manager);
+    assert_set(&rt, rt.alloc(), &ann, Roles::none());
+    assert_set(&rt, rt.alloc(), &ann, administrator);
+    assert_set(&rt, rt.alloc(), &ann, both);
+    drop(ann);
+}
+
+fn assert_retired(rt: &impl Abort, alloc: Global, ann: &PersonCode, role: Role) {
+    let roles = Roles::none().with(role);
+    let effect = retire(ann, Some(roled(rt, alloc, roles))).expect(rt, "a change");
+    let mut wanted = roled(rt, alloc, roles);
+    wanted.retired = true;
+    assert_effect(rt, effect, wanted, Closing::All);
 }
 
 // A person is retired, an administrator too, with all sessions closed.
 #[test]
 fn a_person_is_retired(rt: HostRuntime) {
     let ann = code(&rt, rt.alloc(), "ann");
-    for role in [Role::Analyst, Role::Administrator] {
-        let mut dan = counted(&rt, rt.alloc(), 5, Some(600));
-        dan.roles = Roles::none().with(role);
-        let effect = retire(&ann, Some(dan)).expect(&rt, "a change");
-        let mut wanted = counted(&rt, rt.alloc(), 5, Some(600));
-        wanted.roles = Roles::none().with(role);
-        wanted.retired = true;
-        assert_effect(&rt, effect, wanted, Closing::All);
-    }
+    assert_retired(&rt, rt.alloc(), &ann, Role::Analyst);
+    assert_retired(&rt, rt.alloc(), &ann, Role::Administrator);
+    drop(ann);
 }
 
 // dan, unlocked, keeps the password and nothing of the failed ones.
@@ -317,13 +337,11 @@ fn assert_unlocked(
     failures: u32,
     locked: Option<i64>,
 ) {
+    let mut dan = counted(rt, alloc, failures, locked);
+    dan.password = *password;
     let ann = code(rt, alloc, "ann");
-    let mut dan = person(rt, alloc, *password);
-    dan.failures = failures;
-    if let Some(since) = locked {
-        dan.locked = Some(moment(rt, since));
-    }
     let effect = unlock(&ann, Some(dan)).expect(rt, "a change");
+    drop(ann);
     assert_effect(rt, effect, person(rt, alloc, *password), Closing::Nothing);
 }
 

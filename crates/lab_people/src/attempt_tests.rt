@@ -1,25 +1,24 @@
 //! Passwords that are given, to the second on both sides of each limit.
 
 use crate::tests::{
-    FIRST, Left, RIGHT, SECOND, WORD, WRONG, assert_attempt, assert_person, bytes_of, chosen, code,
-    counted, is_same_password, moment, one_time, person,
+    ACCEPTED, FIRST, Left, RIGHT, SECOND, STRAY, WORD, WRONG, assert_attempt, bytes_of, chosen,
+    code, counted, is_same_password, moment, one_time, person,
 };
-use crate::{Closing, Failure, Password, Person, Verifier, attempt, attempt_signing};
-use std::process::Abort;
+use crate::{Password, Verifier, attempt, attempt_signing};
 
 // The failed passwords before, the lock before, the second, the text, and what it comes to: five failures lock for 1,800
 // seconds, in which nothing changes, and the count starts anew after it.
 static ATTEMPTS: [(u32, Option<i64>, i64, &str, Left); 10] = [
-    (0, None, 1200, RIGHT, Left::Accepted),
-    (0, None, 1200, WRONG, Left::Counted(1)),
-    (3, None, 1200, WRONG, Left::Counted(4)),
-    (4, None, 1200, RIGHT, Left::Accepted),
-    (4, None, 1300, WRONG, Left::Locking(1300)),
-    (5, Some(1300), 1301, WRONG, Left::AlreadyLocked(5, 1300)),
-    (5, Some(1300), 3099, RIGHT, Left::AlreadyLocked(5, 1300)),
-    (5, Some(1300), 3100, RIGHT, Left::Accepted),
-    (5, Some(1300), 3100, WRONG, Left::Counted(1)),
-    (1, Some(1300), 3099, WRONG, Left::AlreadyLocked(1, 1300)),
+    (0, None, 1200, RIGHT, ACCEPTED),
+    (0, None, 1200, WRONG, ("counted", 1, None)),
+    (3, None, 1200, WRONG, ("counted", 4, None)),
+    (4, None, 1200, RIGHT, ACCEPTED),
+    (4, None, 1300, WRONG, ("locking", 5, Some(1300))),
+    (5, Some(1300), 1301, WRONG, ("locked", 5, Some(1300))),
+    (5, Some(1300), 3099, RIGHT, ("locked", 5, Some(1300))),
+    (5, Some(1300), 3100, RIGHT, ACCEPTED),
+    (5, Some(1300), 3100, WRONG, ("counted", 1, None)),
+    (1, Some(1300), 3099, WRONG, ("locked", 1, Some(1300))),
 ];
 
 #[test]
@@ -45,10 +44,10 @@ fn a_signing_counts_and_locks(rt: HostRuntime) {
 
 // The code that is given, the failed passwords before, the text, and what it comes to.
 static GIVEN: [(&str, u32, &str, Left); 4] = [
-    ("dan", 2, RIGHT, Left::Accepted),
-    ("dan", 2, WRONG, Left::Counted(3)),
-    ("eve", 2, RIGHT, Left::Counted(3)),
-    ("eve", 4, RIGHT, Left::Locking(1300)),
+    ("dan", 2, RIGHT, ACCEPTED),
+    ("dan", 2, WRONG, ("counted", 3, None)),
+    ("eve", 2, RIGHT, ("counted", 3, None)),
+    ("eve", 4, RIGHT, ("locking", 5, Some(1300))),
 ];
 
 // Another's code counts for the one who signs, with the right password too, and locks.
@@ -59,6 +58,7 @@ fn a_code_that_is_given_is_the_signers(rt: HostRuntime) {
         let given = code(&rt, rt.alloc(), given);
         let dan = counted(&rt, rt.alloc(), failures, None);
         let found = attempt_signing(dan, Some(&given), text, at);
+        drop(given);
         assert_attempt(&rt, rt.alloc(), found, left);
     }
 }
@@ -67,32 +67,12 @@ fn a_code_that_is_given_is_the_signers(rt: HostRuntime) {
 #[test]
 fn stray_passwords_count_for_nobody(rt: HostRuntime) {
     let at = moment(&rt, 600);
-    assert_attempt(&rt, rt.alloc(), attempt(None, RIGHT, at), Left::Stray);
+    assert_attempt(&rt, rt.alloc(), attempt(None, RIGHT, at), STRAY);
     let fresh = person(&rt, rt.alloc(), Password::Unset);
-    assert_attempt(&rt, rt.alloc(), attempt(Some(fresh), "", at), Left::Stray);
+    assert_attempt(&rt, rt.alloc(), attempt(Some(fresh), "", at), STRAY);
     let mut dan = counted(&rt, rt.alloc(), 5, Some(600));
     dan.retired = true;
-    assert_attempt(&rt, rt.alloc(), attempt(Some(dan), RIGHT, at), Left::Stray);
-}
-
-// The failure leaves that person, and closes those sessions.
-fn assert_leaves(rt: &impl Abort, failure: Failure, person: &Person, closing: Closing) {
-    assert!(rt; failure.closing() == closing);
-    assert_person(rt, failure.person().expect(rt, "a person"), person);
-}
-
-// What each failure leaves: a person or none, and the sessions that it closes.
-#[test]
-fn only_a_lock_closes_sessions(rt: HostRuntime) {
-    let dan = counted(&rt, rt.alloc(), 5, Some(1300));
-    let left = counted(&rt, rt.alloc(), 5, Some(1300));
-    assert_leaves(&rt, Failure::Counted(left), &dan, Closing::Nothing);
-    let left = counted(&rt, rt.alloc(), 5, Some(1300));
-    assert_leaves(&rt, Failure::Locking(left), &dan, Closing::All);
-    let left = counted(&rt, rt.alloc(), 5, Some(1300));
-    assert_leaves(&rt, Failure::AlreadyLocked(left), &dan, Closing::Nothing);
-    assert!(rt; Failure::Stray.closing() == Closing::Nothing);
-    assert!(rt; Failure::Stray.person().is_none());
+    assert_attempt(&rt, rt.alloc(), attempt(Some(dan), RIGHT, at), STRAY);
 }
 
 // Secrets aren't printed.
@@ -100,7 +80,9 @@ fn only_a_lock_closes_sessions(rt: HostRuntime) {
 fn a_person_prints_as_the_code(rt: HostRuntime) {
     let dan = counted(&rt, rt.alloc(), 0, None);
     let text = format!(in rt.alloc(); "{dan:?}").expect(&rt, "memory");
+    drop(dan);
     assert!(rt; text.as_str() == "Person(dan)");
+    drop(text);
 }
 
 // The two parts of a text, the second, and whether the one-time word accepts it.
@@ -117,18 +99,14 @@ static HALVES: [(&str, &str, i64, bool); 6] = [
 #[test]
 fn a_one_time_word_is_two_halves(rt: HostRuntime) {
     let password = one_time(&rt, 1000);
+    assert!(rt; password.is_set() && password.accepts(WORD, moment(&rt, 1000)));
     for &(front, back, seconds, is_accepted) in &HALVES {
         let at = moment(&rt, seconds);
         let text = format!(in rt.alloc(); "{front}{back}").expect(&rt, "memory");
         let found = password.accepts(text.as_str(), at);
+        drop(text);
         assert!(rt; found == is_accepted, "at {seconds}");
     }
-}
-
-#[test]
-fn a_one_time_word_is_a_password(rt: HostRuntime) {
-    let password = one_time(&rt, 1000);
-    assert!(rt; password.is_set() && password.accepts(WORD, moment(&rt, 1000)));
 }
 
 // A password is kept by 10,000 rounds.
@@ -155,7 +133,9 @@ fn zeros_behind_a_password_change_nothing(rt: HostRuntime) {
     for &(zeros, is_accepted) in &ZEROS {
         let end = "\0".repeat(rt.alloc(), zeros).expect(&rt, "memory");
         let text = format!(in rt.alloc(); "{RIGHT}{end}").expect(&rt, "memory");
+        drop(end);
         let found = password.accepts(text.as_str(), at);
+        drop(text);
         assert!(rt; found == is_accepted, "{zeros}");
     }
 }
@@ -175,7 +155,9 @@ static LENGTHS: [(&str, usize, bool); 6] = [
 fn a_password_has_12_to_128_bytes(rt: HostRuntime) {
     for &(character, count, is_admitted) in &LENGTHS {
         let text = character.repeat(rt.alloc(), count).expect(&rt, "memory");
-        assert!(rt; Password::admits(text.as_str()) == is_admitted, "{count}");
+        let found = Password::admits(text.as_str());
+        drop(text);
+        assert!(rt; found == is_admitted, "{count}");
     }
 }
 

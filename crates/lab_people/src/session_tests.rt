@@ -1,12 +1,12 @@
 //! Sessions as they are opened, live and are closed, to the second on both sides of each limit.
 
 use crate::tests::{
-    Left, RIGHT, WORD, WRONG, assert_failed, assert_is, assert_refused, assert_session, bytes_of,
-    chosen, code, counted, moment, one_time, person, session, tick,
+    RIGHT, STRAY, WORD, WRONG, assert_failed, assert_person, assert_refused, assert_session,
+    bytes_of, chosen, code, counted, moment, one_time, person, session, tick,
 };
 use crate::{
-    Closing, Digest, Opened, Ordinal, Password, PeopleFault, PeopleRefusal, Person, Session, Tick,
-    live, open_session,
+    Closing, Digest, Opened, Ordinal, PeopleFault, PeopleRefusal, Person, Session, Tick, live,
+    open_session,
 };
 use std::alloc::Global;
 use std::process::Abort;
@@ -23,64 +23,52 @@ fn new_session(rt: &impl Abort, alloc: Global, number: u32, seconds: i64) -> Ses
     new
 }
 
-// All of an opening but its token: the person, the session, and whether the password is due.
-fn assert_opened(rt: &impl Abort, found: Opened, dan: Person, new: &Session, due: bool) {
-    assert!(rt; found.due == due, "whether it is due");
-    assert_session(rt, &found.session, new);
-    assert_is(rt, found.person, dan);
-}
+// What the words 1 to 4 make a token of.
+const TOKEN: &str = "0000000000000001000000000000000200000000000000030000000000000004";
 
-// All of an opening: the person with no failures, the new session, the token of the words, and whether the password is due.
-#[test]
-fn a_session_is_opened_with_the_token_of_the_words(rt: HostRuntime) {
-    let digits = "0000000000000001000000000000000200000000000000030000000000000004";
-    let (token, now) = (bytes_of(&rt, digits), tick(&rt, 100, 1));
-    let ours = code(&rt, rt.alloc(), "dan");
-    let dan = counted(&rt, rt.alloc(), 3, None);
-    let opened = open_session(ours, Some(dan), RIGHT, &now, 0, None).expect(&rt, "a session");
-    assert!(rt; opened.token.bytes() == token, "the token");
-    let wanted = counted(&rt, rt.alloc(), 0, None);
-    let new = new_session(&rt, rt.alloc(), 1, 100);
-    assert_opened(&rt, opened, wanted, &new, false);
+// What dan gets by the text of the password at the second, where the last session has the number: the person with no failures,
+// the new session, the token of the words, and whether the password is due.
+fn assert_opened(
+    rt: &impl Abort,
+    alloc: Global,
+    dan: Person,
+    text: &str,
+    seconds: i64,
+    last: u32,
+    due: bool,
+) {
+    let wanted = person(rt, alloc, dan.password);
+    let (ours, now) = (code(rt, alloc, "dan"), tick(rt, seconds, 1));
+    let found = open_session(ours, Some(dan), text, &now, last, None).expect(rt, "a session");
+    assert!(rt; found.token.bytes() == bytes_of(rt, TOKEN), "the token");
+    assert!(rt; found.due == due, "whether it is due");
+    assert_session(
+        rt,
+        &found.session,
+        new_session(rt, alloc, last.saturating_add(1), seconds),
+    );
+    assert_person(rt, &found.person, wanted);
+    drop(found);
 }
 
 // Who has a lock that has expired gets in, and loses it.
 #[test]
-fn an_expired_lock_lets_in(rt: HostRuntime) {
-    let now = tick(&rt, 3100, 1);
-    let ours = code(&rt, rt.alloc(), "dan");
+fn a_session_is_opened_with_the_token_of_the_words(rt: HostRuntime) {
+    let dan = counted(&rt, rt.alloc(), 3, None);
+    assert_opened(&rt, rt.alloc(), dan, RIGHT, 100, 0, false);
     let dan = counted(&rt, rt.alloc(), 5, Some(1300));
-    let found = open_session(ours, Some(dan), RIGHT, &now, 999_999_999, None);
-    let opened = found.expect(&rt, "a session");
-    let wanted = counted(&rt, rt.alloc(), 0, None);
-    let new = new_session(&rt, rt.alloc(), 1_000_000_000, 3100);
-    assert_opened(&rt, opened, wanted, &new, false);
+    assert_opened(&rt, rt.alloc(), dan, RIGHT, 3100, 999_999_999, false);
 }
 
-// A session that dan opens at the second by the text of the password is due so.
-fn assert_due(
-    rt: &impl Abort,
-    alloc: Global,
-    password: &Password,
-    text: &str,
-    seconds: i64,
-    due: bool,
-) {
-    let now = tick(rt, seconds, 1);
-    let ours = code(rt, alloc, "dan");
-    let dan = person(rt, alloc, *password);
-    let opened = open_session(ours, Some(dan), text, &now, 4, None).expect(rt, "a session");
-    let new = new_session(rt, alloc, 5, seconds);
-    assert_opened(rt, opened, person(rt, alloc, *password), &new, due);
-}
-
-// A session by a one-time word is due, and so is one by a password of 91 days before.
+// A session by a password of 91 days before is due, and so is one by a one-time word.
 #[test]
 fn a_due_password_opens_a_session(rt: HostRuntime) {
-    let password = chosen(&rt, 86_399);
-    assert_due(&rt, rt.alloc(), &password, RIGHT, 7_862_399, false);
-    assert_due(&rt, rt.alloc(), &password, RIGHT, 7_862_400, true);
-    assert_due(&rt, rt.alloc(), &one_time(&rt, 1000), WORD, 605_800, true);
+    for (seconds, due) in [(7_862_399, false), (7_862_400, true)] {
+        let dan = person(&rt, rt.alloc(), chosen(&rt, 86_399));
+        assert_opened(&rt, rt.alloc(), dan, RIGHT, seconds, 4, due);
+    }
+    let dan = person(&rt, rt.alloc(), one_time(&rt, 1000));
+    assert_opened(&rt, rt.alloc(), dan, WORD, 605_800, 4, true);
 }
 
 // dan's opening at 100 in a full laboratory.
@@ -104,26 +92,22 @@ fn openings_are_refused_in_order(rt: HostRuntime) {
     assert_refused(&rt, found.err(), PeopleRefusal::LabFull);
     let four = session(&rt, rt.alloc(), 10, 20);
     let found = full_opening(&rt, rt.alloc(), 3, RIGHT, Some(&four));
+    drop(four);
     assert_refused(&rt, found.err(), PeopleRefusal::RandomRepeated);
 }
 
-// A failed password comes before both, and is counted.
+// A failed password comes before both, and is counted; one by an unknown code for nobody.
 #[test]
 fn a_failed_opening_is_counted(rt: HostRuntime) {
     let four = session(&rt, rt.alloc(), 10, 20);
     let found = full_opening(&rt, rt.alloc(), 3, WRONG, Some(&four));
-    assert_failed(&rt, rt.alloc(), found.err(), Left::Counted(4));
+    assert_failed(&rt, rt.alloc(), found.err(), ("counted", 4, None));
     let found = full_opening(&rt, rt.alloc(), 4, WRONG, Some(&four));
-    assert_failed(&rt, rt.alloc(), found.err(), Left::Locking(100));
-}
-
-// An unknown code counts for nobody.
-#[test]
-fn an_opening_by_an_unknown_code_is_stray(rt: HostRuntime) {
+    drop(four);
+    assert_failed(&rt, rt.alloc(), found.err(), ("locking", 5, Some(100)));
     let now = tick(&rt, 100, 1);
-    let ours = code(&rt, rt.alloc(), "zed");
-    let found = open_session(ours, None, RIGHT, &now, 4, None);
-    assert_failed(&rt, rt.alloc(), found.err(), Left::Stray);
+    let found = open_session(code(&rt, rt.alloc(), "zed"), None, RIGHT, &now, 4, None);
+    assert_failed(&rt, rt.alloc(), found.err(), STRAY);
 }
 
 const DEAD: Result<(), PeopleRefusal> = Err(PeopleRefusal::NoSession);
@@ -145,22 +129,25 @@ fn a_session_lives_to_the_second(rt: HostRuntime) {
         assert!(rt; live(&session, &now) == answer, "at {at}");
         session.close();
         assert!(rt; live(&session, &now) == DEAD, "at {at}");
+        drop(session);
     }
 }
 
 // A request, a signing and a closing change what they say, and nothing else.
 #[test]
 fn a_session_keeps_its_changes(rt: HostRuntime) {
-    let later = moment(&rt, 800);
-    let mut wanted = session(&rt, rt.alloc(), 600, 800);
     let mut four = session(&rt, rt.alloc(), 600, 700);
     four.signed = false;
-    four.touch(later);
+    four.touch(moment(&rt, 800));
     four.mark_signed();
-    assert_session(&rt, &four, &wanted);
+    assert_session(&rt, &four, session(&rt, rt.alloc(), 600, 800));
     four.close();
+    let copy = four.copy().expect(&rt, "memory");
+    drop(four);
+    let mut wanted = session(&rt, rt.alloc(), 600, 800);
     wanted.closed = true;
-    assert_session(&rt, &four.copy().expect(&rt, "memory"), &wanted);
+    assert_session(&rt, &copy, wanted);
+    drop(copy);
 }
 
 // dan's session of the number 4 is closed so by a change of dan's account, and by none of eve's.
@@ -169,6 +156,8 @@ fn assert_closes(rt: &impl Abort, alloc: Global, closing: Closing, closes: bool)
     let four = session(rt, alloc, 600, 600);
     assert!(rt; closing.closes(&four.person, &four) == closes, "dan's");
     assert!(rt; !closing.closes(&eve, &four), "eve's");
+    drop(eve);
+    drop(four);
 }
 
 // Which sessions a change closes.
@@ -189,6 +178,7 @@ fn kept_token(rt: &impl Abort, alloc: Global, tick: &Tick) -> Digest {
     let opened = open_session(ours, Some(dan), RIGHT, tick, 0, None).expect(rt, "a session");
     let digest = opened.token.digest();
     assert!(rt; opened.session.token == digest, "what is kept");
+    drop(opened);
     digest
 }
 

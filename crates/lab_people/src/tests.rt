@@ -2,8 +2,8 @@
 //! `hashlib.pbkdf2_hmac` gives.
 
 use crate::{
-    Ask, Digest, Failure, Moment, Name, Ordinal, Password, PeopleFault, PeopleRefusal, Person,
-    PersonCode, Role, Roles, Session, Tick, Verifier,
+    Ask, Closing, Digest, Failure, Moment, Name, Ordinal, Password, PeopleFault, PeopleRefusal,
+    Person, PersonCode, Role, Roles, Session, Tick, Verifier,
 };
 use std::alloc::Global;
 use std::process::Abort;
@@ -102,24 +102,35 @@ pub(crate) fn counted(rt: &impl Abort, alloc: Global, failures: u32, lock: Optio
     dan
 }
 
-// What a text comes to, with the failed passwords and the lock that it leaves. A stray one leaves
-// nothing.
-#[derive(Clone, Copy)]
-pub(crate) enum Left {
-    Accepted,
-    Counted(u32),
-    Locking(i64),
-    AlreadyLocked(u32, i64),
-    Stray,
+// What a text comes to: its kind, with the failed passwords and the lock that it leaves. A stray one leaves nothing.
+pub(crate) type Left = (&'static str, u32, Option<i64>);
+
+pub(crate) const ACCEPTED: Left = ("accepted", 0, None);
+
+pub(crate) const STRAY: Left = ("stray", 0, None);
+
+fn word_of(failure: &Failure) -> &'static str {
+    match failure {
+        Failure::Counted(_) => "counted",
+        Failure::Locking(_) => "locking",
+        Failure::AlreadyLocked(_) => "locked",
+        Failure::Stray => "stray",
+    }
 }
 
 // dan, for whom somebody asked for a one-time word at a second.
-pub(crate) fn asked(rt: &impl Abort, alloc: Global, asker: &str, seconds: i64) -> Person {
+pub(crate) fn asked(
+    rt: &impl Abort,
+    alloc: Global,
+    asker: &str,
+    seconds: i64,
+    first: Verifier,
+) -> Person {
     let mut dan = counted(rt, alloc, 0, None);
     dan.ask = Some(Ask {
         asker: code(rt, alloc, asker),
         asked: moment(rt, seconds),
-        first: first_half(rt),
+        first,
     });
     dan
 }
@@ -183,76 +194,75 @@ fn is_same_ask(found: &Option<Ask>, wanted: &Option<Ask>) -> bool {
     }
 }
 
-// The two persons are one, part by part.
-pub(crate) fn assert_person(rt: &impl Abort, found: &Person, wanted: &Person) {
+// The person is the one that was wanted, part by part. What is wanted ends here, by a call, so that no test carries it.
+pub(crate) fn assert_person(rt: &impl Abort, found: &Person, wanted: Person) {
     assert!(rt; found.code == wanted.code && found.name == wanted.name);
     assert!(rt; found.roles == wanted.roles && found.retired == wanted.retired);
     assert!(rt; found.failures == wanted.failures && found.locked == wanted.locked);
     assert!(rt; is_same_password(&found.password, &wanted.password));
     assert!(rt; is_same_ask(&found.ask, &wanted.ask));
+    drop(wanted);
 }
 
-// The person is the one that was wanted. Both end here, so that no test carries them.
-pub(crate) fn assert_is(rt: &impl Abort, found: Person, wanted: Person) {
-    assert_person(rt, &found, &wanted);
-}
-
-// The two sessions are one, part by part.
-pub(crate) fn assert_session(rt: &impl Abort, found: &Session, wanted: &Session) {
+// The session is the one that was wanted, part by part.
+pub(crate) fn assert_session(rt: &impl Abort, found: &Session, wanted: Session) {
     assert!(rt; found.number == wanted.number && found.person == wanted.person);
     assert!(rt; found.token == wanted.token);
     assert!(rt; found.opened == wanted.opened && found.last == wanted.last);
     assert!(rt; found.closed == wanted.closed && found.signed == wanted.signed);
+    drop(wanted);
 }
 
-// The failure is what a text comes to, with all of dan that it leaves.
+// The failure is what a text comes to, with all of dan that it leaves. The fifth one alone closes sessions.
 fn assert_failure(rt: &impl Abort, alloc: Global, found: &Failure, wanted: Left) {
-    let (dan, failures, locked) = match (found, wanted) {
-        (Failure::Counted(dan), Left::Counted(count)) => (dan, count, None),
-        (Failure::Locking(dan), Left::Locking(since)) => (dan, 5, Some(since)),
-        (Failure::AlreadyLocked(dan), Left::AlreadyLocked(count, since)) => {
-            (dan, count, Some(since))
-        }
-        (Failure::Stray, Left::Stray) => return,
-        _ => panic!(rt; "a failure of another kind"),
-    };
-    assert_person(rt, dan, &counted(rt, alloc, failures, locked));
+    let (word, failures, lock) = wanted;
+    let is_locking = word == "locking";
+    assert!(rt; word_of(found) == word);
+    assert!(rt;
+        found.closing()
+            == if is_locking {
+                Closing::All
+            } else {
+                Closing::Nothing
+            }
+    );
+    match found.person() {
+        Some(dan) => assert_person(rt, dan, counted(rt, alloc, failures, lock)),
+        None => assert!(rt; word == "stray"),
+    }
 }
+
+type Tried = Result<Person, Failure>;
 
 // The whole answer of dan's attempt is what the text comes to.
-pub(crate) fn assert_attempt(
-    rt: &impl Abort,
-    alloc: Global,
-    found: Result<Person, Failure>,
-    wanted: Left,
-) {
-    match wanted {
-        Left::Accepted => {
-            let dan = found.expect(rt, "accepted");
-            assert_is(rt, dan, counted(rt, alloc, 0, None));
-        }
-        _ => {
-            let failure = found.err().expect(rt, "a failed password");
-            assert_failure(rt, alloc, &failure, wanted);
-        }
+pub(crate) fn assert_attempt(rt: &impl Abort, alloc: Global, found: Tried, wanted: Left) {
+    if wanted.0 == "accepted" {
+        let dan = found.expect(rt, "accepted");
+        assert_person(rt, &dan, counted(rt, alloc, 0, None));
+        drop(dan);
+    } else {
+        let failure = found.err().expect(rt, "a failed password");
+        assert_failure(rt, alloc, &failure, wanted);
+        drop(failure);
     }
 }
 
+type Failed = Option<PeopleFault>;
+
 // The call failed by its password, which left of dan what an attempt would.
-pub(crate) fn assert_failed(
-    rt: &impl Abort,
-    alloc: Global,
-    found: Option<PeopleFault>,
-    wanted: Left,
-) {
-    match &found {
-        Some(PeopleFault::Failed(failure)) => assert_failure(rt, alloc, failure, wanted),
-        _ => panic!(rt; "no failed password"),
+pub(crate) fn assert_failed(rt: &impl Abort, alloc: Global, found: Failed, wanted: Left) {
+    let fault = found.expect(rt, "a failed password");
+    match &fault {
+        PeopleFault::Failed(failure) => assert_failure(rt, alloc, failure, wanted),
+        PeopleFault::Refused(_) => panic!(rt; "no failed password"),
     }
+    drop(fault);
 }
 
 // The call was refused so.
-pub(crate) fn assert_refused(rt: &impl Abort, found: Option<PeopleFault>, wanted: PeopleRefusal) {
+pub(crate) fn assert_refused(rt: &impl Abort, found: Failed, wanted: PeopleRefusal) {
     let fault = found.expect(rt, "a refusal");
-    assert!(rt; fault.refusal() == wanted);
+    let refusal = fault.refusal();
+    drop(fault);
+    assert!(rt; refusal == wanted);
 }

@@ -2,7 +2,8 @@
 
 use crate::{
     BirthRefusal, Change, Command, Founding, Instruction, KeeperFault, Lab, LabCode, Moment, Name,
-    Need, OutOfMemory, Outcome, PlacingFault, Refusal, Reply, Series, Tick, Token, decide, needs,
+    Need, OutOfMemory, Outcome, PlacingFault, Refusal, Reply, Series, Slice, Tick, Token, decide,
+    needs,
 };
 use std::process::Abort;
 
@@ -49,10 +50,18 @@ fn last_becomes(rt: &(impl Abort + AllocGlobal), seconds: i64) -> Series<Change>
     changes
 }
 
+/// The part of Aqua Lab that a card needs.
+fn heading(rt: &(impl Abort + AllocGlobal)) -> Slice {
+    let lab = aqua(rt);
+    let slice = lab.part(&Need::Heading);
+    drop(lab);
+    slice.expect(rt, "memory")
+}
+
 /// What is decided of an instruction to Aqua Lab.
 fn decided(rt: &(impl Abort + AllocGlobal), seconds: i64, instruction: Instruction) -> Outcome {
     let tick = tick(rt, seconds);
-    let slice = aqua(rt).part(&Need::Heading).expect(rt, "memory");
+    let slice = heading(rt);
     decide(rt.alloc(), slice, &tick, instruction).expect(rt, "memory")
 }
 
@@ -62,12 +71,13 @@ fn assert_aqua(rt: &impl Abort, code: &LabCode, name: &Name) {
 }
 
 /// Asserts that an outcome is the card of Aqua Lab, and no change.
-fn assert_card(rt: &impl Abort, outcome: &Outcome) {
+fn assert_card(rt: &impl Abort, outcome: Outcome) {
     match &outcome.reply {
         Reply::Card { lab, name } => assert_aqua(rt, lab, name),
         Reply::Refused(refusal) => panic!(rt; "refused: {refusal}"),
     }
     assert!(rt; outcome.changes.as_slice().is_empty());
+    drop(outcome);
 }
 
 /// Asserts that a reply is this refusal.
@@ -95,18 +105,21 @@ fn refusal_has(rt: &(impl Abort + AllocGlobal), refusal: &Refusal, entry: (u32, 
     let told = (refusal.number(), refusal.word());
     let printed = format!(in rt.alloc(); "{refusal}").expect(rt, "memory");
     assert_told(rt, told, &printed, entry);
+    drop(printed);
 }
 
 fn keeper_fault_has(rt: &(impl Abort + AllocGlobal), fault: KeeperFault, entry: (u32, &str)) {
     let told = (fault.number(), fault.word());
     let printed = format!(in rt.alloc(); "{fault}").expect(rt, "memory");
     assert_told(rt, told, &printed, entry);
+    drop(printed);
 }
 
 fn placing_fault_has(rt: &(impl Abort + AllocGlobal), fault: PlacingFault, entry: (u32, &str)) {
     let told = (fault.number(), fault.word());
     let printed = format!(in rt.alloc(); "{fault}").expect(rt, "memory");
     assert_told(rt, told, &printed, entry);
+    drop(printed);
 }
 
 #[test]
@@ -139,22 +152,24 @@ fn a_card_needs_the_heading(rt: HostRuntime) {
 
 #[test]
 fn a_card_is_refused_before_the_last_moment(rt: HostRuntime) {
-    let Outcome { reply, changes } = decided(&rt, 1099, card(None));
-    assert_refused(&rt, &reply, &Refusal::ClockBehind);
-    assert!(rt; changes.as_slice().is_empty());
+    let outcome = decided(&rt, 1099, card(None));
+    assert_refused(&rt, &outcome.reply, &Refusal::ClockBehind);
+    assert!(rt; outcome.changes.as_slice().is_empty());
+    drop(outcome);
 }
 
 #[test]
 fn a_card_is_shown_from_the_last_moment_on(rt: HostRuntime) {
-    assert_card(&rt, &decided(&rt, 1100, card(None)));
-    assert_card(&rt, &decided(&rt, 1101, card(None)));
+    assert_card(&rt, decided(&rt, 1100, card(None)));
+    assert_card(&rt, decided(&rt, 1101, card(None)));
 }
 
 #[test]
 fn a_card_asks_for_no_session(rt: HostRuntime) {
     let instruction = card(Some(Token::from_bytes([7; 32])));
     let copy = instruction.copy().expect(&rt, "memory");
-    assert_card(&rt, &decided(&rt, 1100, copy));
+    drop(instruction);
+    assert_card(&rt, decided(&rt, 1100, copy));
 }
 
 #[test]
@@ -164,6 +179,7 @@ fn a_change_sets_the_last_moment(rt: HostRuntime) {
     lab.change(&change);
     assert_eq!(rt; lab.last.seconds(), 2000);
     assert_aqua(&rt, &lab.code, &lab.name);
+    drop(lab);
 }
 
 #[test]
@@ -174,38 +190,58 @@ fn an_outcome_is_copied_whole(rt: HostRuntime) {
         changes: last_becomes(&rt, 2000),
     };
     let copy = outcome.copy().expect(&rt, "memory");
+    drop(outcome);
     assert_refused(&rt, &copy.reply, &Refusal::NoSuchLab);
     assert!(rt; copy.changes.as_slice() == wanted.as_slice());
+    drop(copy);
 }
 
 fn assert_lab_copied(rt: &(impl Abort + AllocGlobal)) {
-    let copy = aqua(rt).copy().expect(rt, "memory");
+    let lab = aqua(rt);
+    let copy = lab.copy().expect(rt, "memory");
+    drop(lab);
     assert_eq!(rt; copy.last.seconds(), 1100);
     assert_aqua(rt, &copy.code, &copy.name);
+    drop(copy);
 }
 
 fn assert_slice_copied(rt: &(impl Abort + AllocGlobal)) {
-    let slice = aqua(rt).part(&Need::Heading).expect(rt, "memory");
+    let slice = heading(rt);
     let copy = slice.copy().expect(rt, "memory");
+    drop(slice);
     assert_eq!(rt; copy.last.seconds(), 1100);
     assert_aqua(rt, &copy.code, &copy.name);
+    drop(copy);
 }
 
 fn assert_founding_copied(rt: &(impl Abort + AllocGlobal)) {
-    let copy = Founding { name: name(rt) }.copy().expect(rt, "memory");
+    let founding = Founding { name: name(rt) };
+    let copy = founding.copy().expect(rt, "memory");
+    drop(founding);
     assert!(rt; copy.name.as_str() == "Aqua Lab");
+    drop(copy);
 }
 
 #[test]
-fn what_is_kept_and_passed_is_copied(rt: HostRuntime) {
+fn what_is_kept_is_copied(rt: HostRuntime) {
     assert_lab_copied(&rt);
     assert_slice_copied(&rt);
     assert_founding_copied(&rt);
+}
+
+fn assert_reply_copied(rt: &impl Abort, reply: Reply) {
+    let copy = reply.copy().expect(rt, "memory");
+    drop(reply);
+    assert_refused(rt, &copy, &Refusal::ClockBehind);
+    drop(copy);
+}
+
+#[test]
+fn what_is_passed_is_copied(rt: HostRuntime) {
     assert_eq!(rt; Command::Card.copy().expect(&rt, "memory"), Command::Card);
     let refusal = Refusal::ClockBehind.copy().expect(&rt, "memory");
     assert_eq!(rt; refusal, Refusal::ClockBehind);
-    let reply = Reply::Refused(refusal).copy().expect(&rt, "memory");
-    assert_refused(&rt, &reply, &Refusal::ClockBehind);
+    assert_reply_copied(&rt, Reply::Refused(refusal));
     let change = Change::Last(moment(&rt, 1100));
     assert_eq!(rt; change.copy().expect(&rt, "memory"), change);
 }

@@ -40,7 +40,10 @@ fn meaning_of(rt: &(impl Abort + AllocGlobal), place: usize) -> Meaning {
 }
 
 fn copied_meaning(rt: &(impl Abort + AllocGlobal), place: usize) -> Meaning {
-    meaning_of(rt, place).copy().expect(rt, "a copy")
+    let meaning = meaning_of(rt, place);
+    let copy = meaning.copy();
+    drop(meaning);
+    copy.expect(rt, "a copy")
 }
 
 fn has_word_and_reason(rt: &impl Abort, meaning: &Meaning, told: &(&str, &str)) {
@@ -65,12 +68,8 @@ const STATES: [(&[usize], [Option<State>; 2]); 6] = [
 ];
 
 fn expected(places: &[usize]) -> [Option<State>; 2] {
-    for (known, states) in &STATES {
-        if *known == places {
-            return *states;
-        }
-    }
-    [None, None]
+    let row = STATES.iter().find(|row| row.0 == places);
+    row.map_or([None, None], |row| row.1)
 }
 
 fn meanings_of(rt: &(impl Abort + AllocGlobal), places: &[usize]) -> Vec<Meaning> {
@@ -82,12 +81,10 @@ fn meanings_of(rt: &(impl Abort + AllocGlobal), places: &[usize]) -> Vec<Meaning
 }
 
 fn states_of(rt: &(impl Abort + AllocGlobal), places: &[usize]) {
-    let found = found_states(&meanings_of(rt, places));
+    let meanings = meanings_of(rt, places);
+    let found = [state_of(&meanings, false), state_of(&meanings, true)];
+    drop(meanings);
     same(rt, &found, &expected(places));
-}
-
-fn found_states(meanings: &[Meaning]) -> [Option<State>; 2] {
-    [state_of(meanings, false), state_of(meanings, true)]
 }
 
 // Every list of up to three signatures.
@@ -105,20 +102,18 @@ fn states_are_those_of_the_table(rt: HostRuntime) {
     }
 }
 
-// The states' words, and whether a version is settled then.
-const STATE_WORDS: [(State, (&str, bool)); 5] = [
-    (State::Open, ("open", false)),
-    (State::Signed, ("signed", false)),
-    (State::Reviewed, ("reviewed", false)),
-    (State::Released, ("released", true)),
-    (State::Rejected, ("rejected", true)),
-];
+// The state's word, and whether a version is settled then.
+fn assert_told(rt: &impl Abort, state: State, word: &str, is_settled: bool) {
+    assert!(rt; state.word() == word && state.is_settled() == is_settled);
+}
 
 #[test]
 fn states_have_words(rt: HostRuntime) {
-    for (state, told) in &STATE_WORDS {
-        same(&rt, &(state.word(), state.is_settled()), told);
-    }
+    assert_told(&rt, State::Open, "open", false);
+    assert_told(&rt, State::Signed, "signed", false);
+    assert_told(&rt, State::Reviewed, "reviewed", false);
+    assert_told(&rt, State::Released, "released", true);
+    assert_told(&rt, State::Rejected, "rejected", true);
 }
 
 // What a seal covers: who signs, as what, and when.
@@ -139,7 +134,9 @@ fn seal_parts(
 }
 
 fn seal_of(parts: SealParts) -> Seal {
-    seal(&parts)
+    let seal = seal(&parts);
+    drop(parts);
+    seal
 }
 
 fn has_digits(rt: &impl Abort, seal: Seal, digits: &[u8; 64]) {
@@ -161,14 +158,16 @@ fn seal_of_a_review(rt: HostRuntime) {
     has_digits(&rt, seal, digits);
 }
 
-fn copied_parts(rt: &impl Abort, parts: &SealParts) -> SealParts {
-    parts.copy().expect(rt, "a copy")
+fn copied_parts(rt: &impl Abort, parts: SealParts) -> SealParts {
+    let copy = parts.copy();
+    drop(parts);
+    copy.expect(rt, "a copy")
 }
 
 #[test]
 fn seal_of_a_copied_rejection(rt: HostRuntime) {
     let parts = seal_parts(&rt, ("eve", "Eve Eden"), 2, 1400);
-    let seal = seal_of(copied_parts(&rt, &parts));
+    let seal = seal_of(copied_parts(&rt, parts));
     let digits = b"e712259c7184fb7dc48eb62e198c3731e152be56999339519e1fb7e49c2b9156";
     has_digits(&rt, seal, digits);
 }

@@ -56,7 +56,9 @@ fn version_of(
 }
 
 fn written(rt: &(impl Abort + AllocGlobal), version: VersionParts) -> Vec<u8> {
-    write_version(rt.alloc(), &version).expect(rt, "a text")
+    let text = write_version(rt.alloc(), &version);
+    drop(version);
+    text.expect(rt, "a text")
 }
 
 fn read(rt: &(impl Abort + AllocGlobal), text: &[u8]) -> VersionParts {
@@ -69,7 +71,9 @@ fn are_bytes(rt: &impl Abort, bytes: &[u8], expected: &[u8]) {
 
 // The version is written so.
 fn is_written(rt: &(impl Abort + AllocGlobal), version: VersionParts, text: &[u8]) {
-    are_bytes(rt, &written(rt, version), text);
+    let found = written(rt, version);
+    are_bytes(rt, &found, text);
+    drop(found);
 }
 
 // The bytes of a version with one row in format 1, 142 of them.
@@ -142,7 +146,9 @@ fn each_format_is_read_back(rt: HostRuntime) {
 }
 
 fn copied(rt: &impl Abort, version: VersionParts) -> VersionParts {
-    version.copy().expect(rt, "a copy")
+    let copy = version.copy();
+    drop(version);
+    copy.expect(rt, "a copy")
 }
 
 #[test]
@@ -215,6 +221,7 @@ fn the_parts_of_a_first_version_are_read(rt: HostRuntime) {
     let version = read(&rt, FIRST_VERSION);
     is_first_version(&rt, &version);
     is_row(&rt, row_in(&rt, &version), &FIRST_ROW);
+    drop(version);
 }
 
 fn misread(rt: &(impl Abort + AllocGlobal)) -> Option<Note> {
@@ -267,25 +274,27 @@ fn long_version(rt: &(impl Abort + AllocGlobal)) -> VersionParts {
     version_of(rt, origin, "S\u{e9}", many_rows(rt), format)
 }
 
-fn long_text(rt: &(impl Abort + AllocGlobal)) -> Vec<u8> {
-    written(rt, long_version(rt))
-}
-
 // Python's `hashlib` gave the digest of the text of these items.
 #[test]
 fn many_rows_are_written(rt: HostRuntime) {
     let digits = "66288687e3f364aabe76c0ad96d800b2d371a84ee23472c19f162bf94042a680";
-    has_digest(&rt, &long_text(&rt), 12313, digits);
+    let text = written(&rt, long_version(&rt));
+    has_digest(&rt, &text, 12313, digits);
+    drop(text);
 }
 
 #[test]
 fn many_rows_are_read_back(rt: HostRuntime) {
-    is_read_back(&rt, Format::Two { approval: true }, &long_text(&rt));
+    let text = written(&rt, long_version(&rt));
+    is_read_back(&rt, Format::Two { approval: true }, &text);
+    drop(text);
 }
 
 #[test]
 fn rows_are_given_back(rt: HostRuntime) {
-    same(&rt, &many_rows(&rt).into_rows().len(), &200);
+    let rows = many_rows(&rt).into_rows();
+    same(&rt, &rows.len(), &200);
+    drop(rows);
 }
 
 fn refuses(rt: &(impl Abort + AllocGlobal), text: &[u8]) {
@@ -321,16 +330,20 @@ static LATER_ROW: Told<'static> = (
 fn a_row_that_has_a_reason_is_read(rt: HostRuntime) {
     let version = read(&rt, LATER_VERSION);
     is_row(&rt, row_in(&rt, &version), &LATER_ROW);
+    drop(version);
 }
 
 fn copied_row(rt: &impl Abort, version: VersionParts) -> EntryRow {
-    row_in(rt, &version).copy().expect(rt, "a copy")
+    let copy = row_in(rt, &version).copy();
+    drop(version);
+    copy.expect(rt, "a copy")
 }
 
 #[test]
 fn a_row_is_copied(rt: HostRuntime) {
     let copy = copied_row(&rt, read(&rt, LATER_VERSION));
     is_row(&rt, &copy, &LATER_ROW);
+    drop(copy);
 }
 
 // What `LATER_NEWER_VERSION` amends.
@@ -348,35 +361,42 @@ fn amendment_in<'a>(rt: &impl Abort, version: &'a VersionParts) -> &'a Amendment
 fn what_a_later_version_amends_is_read(rt: HostRuntime) {
     let version = read(&rt, LATER_NEWER_VERSION);
     amends_abc(&rt, amendment_in(&rt, &version));
+    drop(version);
 }
 
 fn copied_amendment(rt: &impl Abort, version: VersionParts) -> Amendment {
-    amendment_in(rt, &version).copy().expect(rt, "a copy")
+    let copy = amendment_in(rt, &version).copy();
+    drop(version);
+    copy.expect(rt, "a copy")
 }
 
 #[test]
 fn an_amendment_is_copied(rt: HostRuntime) {
     let copy = copied_amendment(&rt, read(&rt, LATER_NEWER_VERSION));
     amends_abc(&rt, &copy);
+    drop(copy);
 }
 
 #[test]
 fn number_1_amends_none(rt: HostRuntime) {
-    assert!(rt; Origin::amending(Ordinal::FIRST, abc_amended(&rt, "why")).is_none());
+    let origin = Origin::amending(Ordinal::FIRST, abc_amended(&rt, "why"));
+    let is_none = origin.is_none();
+    drop(origin);
+    assert!(rt; is_none);
 }
 
-fn copied_origin(rt: &impl Abort, origin: &Origin) -> Origin {
-    origin.copy().expect(rt, "a copy")
-}
-
-fn is_first_origin(rt: &impl Abort, origin: &Origin) {
-    let told = (origin.number(), origin.amendment().is_none());
-    same(rt, &told, &(Ordinal::FIRST, true));
+fn copied_origin(rt: &impl Abort, origin: Origin) -> Origin {
+    let copy = origin.copy();
+    drop(origin);
+    copy.expect(rt, "a copy")
 }
 
 #[test]
 fn a_first_origin_is_copied(rt: HostRuntime) {
-    is_first_origin(&rt, &copied_origin(&rt, &Origin::first()));
+    let origin = copied_origin(&rt, Origin::first());
+    let told = (origin.number(), origin.amendment().is_none());
+    drop(origin);
+    same(&rt, &told, &(Ordinal::FIRST, true));
 }
 
 fn refuses_cuts(rt: &(impl Abort + AllocGlobal), whole: &[u8]) {
@@ -387,7 +407,7 @@ fn refuses_cuts(rt: &(impl Abort + AllocGlobal), whole: &[u8]) {
 
 fn refuses_longer(rt: &(impl Abort + AllocGlobal), whole: &[u8]) {
     for more in [b"\n".as_slice(), b"0:\n".as_slice(), whole] {
-        refuses(rt, &joined(rt, &[whole, more]));
+        refuses_joined(rt, &[whole, more]);
     }
 }
 
@@ -423,7 +443,9 @@ fn joined(rt: &(impl Abort + AllocGlobal), parts: &[&[u8]]) -> Vec<u8> {
 }
 
 fn refuses_joined(rt: &(impl Abort + AllocGlobal), parts: &[&[u8]]) {
-    refuses(rt, &joined(rt, parts));
+    let text = joined(rt, parts);
+    refuses(rt, &text);
+    drop(text);
 }
 
 const HEADINGS: &[&[u8]] = &[
@@ -443,6 +465,7 @@ const HEADINGS: &[&[u8]] = &[
 fn other_headings_are_refused(rt: HostRuntime) {
     let whole = joined(&rt, &[HEADING, SUBJECT, ORIGIN, OPENING]);
     are_bytes(&rt, &whole, FIRST_VERSION);
+    drop(whole);
     for heading in HEADINGS {
         refuses_joined(&rt, &[heading, SUBJECT, ORIGIN, OPENING]);
     }
@@ -500,14 +523,19 @@ fn other_origins_of_later_versions_are_refused(rt: HostRuntime) {
 }
 
 fn record_number(rt: &(impl Abort + AllocGlobal), text: &[u8]) -> u32 {
-    read(rt, text).record_number.get()
+    let version = read(rt, text);
+    let number = version.record_number.get();
+    drop(version);
+    number
 }
 
 #[test]
 fn the_last_record_number_is_read(rt: HostRuntime) {
     let heading = b"11:labrecord 1\n4:aqua\n10:1000000000\n1:1\n".as_slice();
     let text = joined(&rt, &[heading, SUBJECT, ORIGIN, OPENING]);
-    same(&rt, &record_number(&rt, &text), &1_000_000_000);
+    let number = record_number(&rt, &text);
+    drop(text);
+    same(&rt, &number, &1_000_000_000);
 }
 
 // The faults, and their numbers and words.
@@ -531,6 +559,8 @@ fn printed(rt: &(impl Abort + AllocGlobal), fault: &TextFault) -> String {
 #[test]
 fn faults_of_texts_print_their_words(rt: HostRuntime) {
     for (fault, (_, word)) in &FAULTS {
-        same(&rt, &printed(&rt, fault).as_str(), word);
+        let text = printed(&rt, fault);
+        same(&rt, &text.as_str(), word);
+        drop(text);
     }
 }

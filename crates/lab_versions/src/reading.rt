@@ -3,6 +3,7 @@
 //! that is told.
 ghost use Rattle.std.specs.Prelude.{◌≡◌, [], ◌∷◌, ◌++◌, IsTrue, IfOk, IfErr, OnOk, Some, option_map};
 ghost use Rattle.lab_names.specs.Moment.{is_moment};
+ghost use Rattle.lab_names.specs.Names.{is_lab_code, is_key, is_name, is_person_code};
 ghost use Rattle.lab_names.specs.Ordinals.{is_ordinal};
 ghost use Rattle.lab_versions.specs.Faults.{TextFaultFits};
 ghost use Rattle.lab_versions.specs.Versions.{version_text, IsRow, IsOrigin, IsFront, IsVersion, IsNoVersion, IsSomeVersion, OneSpelling};
@@ -11,7 +12,10 @@ ghost use Rattle.lab_versions.specs.Reading.{first_heading, first_format, first_
 use crate::{
     Amendment, EntryRow, EntryRows, Format, Origin, OriginParts, TextFault, VersionParts, fields,
 };
-use lab_names::{Keys, LabCodes, Moment, Names, Notes, Ordinal, OutOfMemory, PersonCodes, Units};
+use lab_names::{
+    Key, Keys, LabCode, LabCodes, Moment, Name, Names, Notes, Ordinal, OutOfMemory, PersonCode,
+    PersonCodes, Units,
+};
 use lab_secrets::Digest;
 use std::alloc::Global;
 
@@ -299,18 +303,40 @@ fn owned(alloc: Global, front: &Front<'_>, rows: EntryRows) -> Result<VersionPar
     ensures { IfOk result (λ parts. parts ≡ version_of (front_of front.now) rows) }
 {
     let origin = owned_origin(alloc, front.heading.number, &front.amendment)?;
+    let (lab, form, sample, opener) = owned_texts(alloc, front)?;
     Ok(VersionParts {
         format: front.subject.format,
-        lab: fields::own(alloc, front.heading.lab)?,
+        lab,
         record_number: owned_ordinal(front.heading.record_number),
         origin,
-        form: fields::own(alloc, front.subject.form)?,
+        form,
         form_version: owned_ordinal(front.subject.form_version),
-        sample: fields::own(alloc, front.subject.sample)?,
-        opener: fields::own(alloc, front.opening.opener)?,
+        sample,
+        opener,
         opened: owned_moment(front.opening.opened),
         rows,
     })
+}
+
+// The texts before the rows, copied.
+fn owned_texts(
+    alloc: Global,
+    front: &Front<'_>,
+) -> Result<(LabCode, Key, Name, PersonCode), OutOfMemory>
+    requires lab { IsTrue (is_lab_code front.now.heading.lab.now) }
+    requires form { IsTrue (is_key front.now.subject.form.now) }
+    requires sample { IsTrue (is_name front.now.subject.sample.now) }
+    requires opener { IsTrue (is_person_code front.now.opening.opener.now) }
+    ensures lab { IfOk result (λ texts. texts.0 ≡ front.now.heading.lab.now) }
+    ensures form { IfOk result (λ texts. texts.1 ≡ front.now.subject.form.now) }
+    ensures sample { IfOk result (λ texts. texts.2 ≡ front.now.subject.sample.now) }
+    ensures opener { IfOk result (λ texts. texts.3 ≡ front.now.opening.opener.now) }
+{
+    let lab = fields::own(alloc, front.heading.lab)?;
+    let form = fields::own(alloc, front.subject.form)?;
+    let sample = fields::own(alloc, front.subject.sample)?;
+    let opener = fields::own(alloc, front.opening.opener)?;
+    Ok((lab, form, sample, opener))
 }
 
 fn owned_origin(

@@ -19,7 +19,7 @@ pub enum Format {
 }
 
 /// The version of a record, as its digest covers it.
-#[derive(Clone, Debug, Drop)]
+#[derive(Drop)]
 pub struct VersionParts {
     /// The format of the text.
     pub format: Format,
@@ -48,7 +48,35 @@ impl VersionParts {
     pub fn copy(&self) -> Result<VersionParts, OutOfMemory>
         ensures { IfOk result (λ copy. copy ≡ self.now) }
     {
-        Ok(self.clone()?)
+        let origin = self.origin.copy()?;
+        let rows = self.rows.copy()?;
+        let (lab, form, sample, opener) = self.texts()?;
+        Ok(VersionParts {
+            format: self.format,
+            lab,
+            record_number: self.record_number,
+            origin,
+            form,
+            form_version: self.form_version,
+            sample,
+            opener,
+            opened: self.opened,
+            rows,
+        })
+    }
+
+    // Copies of the texts.
+    fn texts(&self) -> Result<(LabCode, Key, Name, PersonCode), OutOfMemory>
+        ensures lab { IfOk result (λ texts. texts.0 ≡ self.now.lab) }
+        ensures form { IfOk result (λ texts. texts.1 ≡ self.now.form) }
+        ensures sample { IfOk result (λ texts. texts.2 ≡ self.now.sample) }
+        ensures opener { IfOk result (λ texts. texts.3 ≡ self.now.opener) }
+    {
+        let lab = self.lab.copy()?;
+        let form = self.form.copy()?;
+        let sample = self.sample.copy()?;
+        let opener = self.opener.copy()?;
+        Ok((lab, form, sample, opener))
     }
 }
 
