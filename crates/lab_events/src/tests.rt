@@ -47,6 +47,37 @@ fn assert_bytes(rt: &impl Abort, bytes: &[u8], wanted: &str, of: &impl fmt::Debu
     assert!(rt; bytes == wanted.as_bytes(), "{bytes:?} to {of:?}");
 }
 
+/// What a replay answered and told, and how it ended.
+#[derive(Drop)]
+struct Ended {
+    answers: Vec<u8>,
+    told: Vec<u8>,
+    status: Result<u8, WriteFault>,
+}
+
+/// Replays what a reader gives.
+fn replayed<I: Read + Drop>(alloc: Global, input: I) -> Ended {
+    let (mut answers, mut told) = (Vec::new(alloc), Vec::new(alloc));
+    let status = replay(alloc, input, &mut answers, &mut told);
+    Ended {
+        answers,
+        told,
+        status,
+    }
+}
+
+/// Asserts what a replay answered and told, and its status.
+fn assert_replayed(
+    rt: &impl Abort,
+    replayed: &Ended,
+    (answers, told, status): (&str, &str, u8),
+    of: &impl fmt::Debug,
+) {
+    assert_bytes(rt, &replayed.answers, answers, of);
+    assert_bytes(rt, &replayed.told, told, of);
+    assert_eq!(rt; replayed.status, Ok(status), "to {of:?}");
+}
+
 /// Replays what a reader gives, and asserts what is answered, what is told and the status.
 fn assert_replay<R: Abort + AllocGlobal, I: Read + Drop>(
     rt: &R,
@@ -55,11 +86,8 @@ fn assert_replay<R: Abort + AllocGlobal, I: Read + Drop>(
     told: &str,
     status: u8,
 ) {
-    let (mut output, mut errors) = (Vec::new(rt.alloc()), Vec::new(rt.alloc()));
-    let answered = replay(rt.alloc(), input, &mut output, &mut errors);
-    assert_bytes(rt, &output, answers, of);
-    assert_bytes(rt, &errors, told, of);
-    assert_eq!(rt; answered, Ok(status), "to {of:?}");
+    let replayed = replayed(rt.alloc(), input);
+    assert_replayed(rt, &replayed, (answers, told, status), of);
 }
 
 /// Replays the parts, and asserts what is answered, what is told and the status.
@@ -75,9 +103,17 @@ fn one_card_and_one_missing_laboratory(rt: HostRuntime) {
     let founded = "founded aqua\nfounded brick\n";
     let answers = [founded, AQUA_REPLY, ZINC_REPLY];
     check(&rt, &[AQUA, BRICK, AQUA_CARD, ZINC_CARD], &answers, "", 0);
+}
+
+#[test]
+fn a_second_founding_is_refused(rt: HostRuntime) {
     let further = "refused 64 lab_exists\n";
     let answers = ["founded aqua\n", further, AQUA_REPLY];
     check(&rt, &[AQUA, AQUA, AQUA_CARD], &answers, "", 0);
+}
+
+#[test]
+fn no_event_has_no_answer(rt: HostRuntime) {
     check(&rt, &[], &[], "", 0);
 }
 
@@ -94,14 +130,17 @@ fn events_of<R: Abort + AllocGlobal>(rt: &R, input: &str) -> Vec<Event> {
     events
 }
 
+/// Which of the events a desk with no laboratory takes.
+fn taken<R: Abort + AllocGlobal>(rt: &R, events: &[Event]) -> Vec<bool> {
+    let mut output = Vec::new(rt.alloc());
+    let mut desk = Desk::new(rt.alloc(), Lists::new(rt.alloc())).expect(rt, "a desk");
+    desk.run(events, &mut output).expect(rt, "a run")
+}
+
 #[test]
 fn each_event_of_the_first_run_is_taken(rt: HostRuntime) {
     let input = joined(&rt, &[AQUA, BRICK, AQUA_CARD, ZINC_CARD]);
-    let events = events_of(&rt, input.as_str());
-    assert_eq!(rt; events.len(), 4);
-    let mut output = Vec::new(rt.alloc());
-    let mut desk = Desk::new(rt.alloc(), Lists::new(rt.alloc())).expect(&rt, "a desk");
-    let taken = desk.run(&events, &mut output).expect(&rt, "a run");
+    let taken = taken(&rt, &events_of(&rt, input.as_str()));
     assert_eq!(rt; taken.as_slice(), [true; 4].as_slice());
 }
 
@@ -160,9 +199,14 @@ fn numbers_at_their_limits(rt: HostRuntime) {
     let last = "found brick 253402300799 18446744073709551608 00000000000020\n\
         {\"name\":\"Brick Lab\"}";
     check(&rt, &[zeros, last], &founded, "", 0);
+}
+
+#[test]
+fn an_event_of_the_greatest_length(rt: HostRuntime) {
     let long = "found aqua 0 1 1000000\n{\"name\":\"Aqua Lab\"}";
     let long = padded(&rt, long, ' ', 1_000_000 - 19);
-    check(&rt, &[long.as_str(), BRICK], &founded, "", 0);
+    let answers = ["founded aqua\n", "founded brick\n"];
+    check(&rt, &[long.as_str(), BRICK], &answers, "", 0);
 }
 
 /// A reader that gives a few bytes at a time, is interrupted at each other call, and fails after so
@@ -290,22 +334,38 @@ impl Write for Narrow {
     }
 }
 
-/// Replays two foundings at a writer for the answers and one for what is told, each with its room,
-/// and asserts what both have then, and how the replay ended.
-fn assert_cut<R: Abort + AllocGlobal>(
-    rt: &R,
-    (room, told_room, fails): (usize, usize, bool),
-    told: &str,
+/// What two writers took of a replay, and how it ended.
+#[derive(Drop)]
+struct CutShort {
+    answers: Narrow,
+    told: Narrow,
+    status: Result<u8, WriteFault>,
+}
+
+/// Replays two foundings at a writer for the answers and one for what is told, each with its room.
+fn cut<R: Abort + AllocGlobal>(rt: &R, (room, told_room, fails): (usize, usize, bool)) -> CutShort {
+    let input = joined(rt, &[AQUA, BRICK]);
+    let mut answers = Narrow::new(rt.alloc(), room, fails);
+    let mut told = Narrow::new(rt.alloc(), told_room, fails);
+    let status = replay(rt.alloc(), input.as_bytes(), &mut answers, &mut told);
+    CutShort {
+        answers,
+        told,
+        status,
+    }
+}
+
+/// Asserts what both writers of a cut replay have, and how it ended.
+fn assert_cut(
+    rt: &impl Abort,
+    cut: &CutShort,
+    (room, told): (usize, &str),
     status: Result<u8, WriteFault>,
 ) {
-    let input = joined(rt, &[AQUA, BRICK]);
-    let mut output = Narrow::new(rt.alloc(), room, fails);
-    let mut errors = Narrow::new(rt.alloc(), told_room, fails);
-    let answered = replay(rt.alloc(), input.as_bytes(), &mut output, &mut errors);
     let written = "founded aqua\nfounded brick\n".get(..room);
-    assert_bytes(rt, &output.bytes, written.expect(rt, "room"), &room);
-    assert_bytes(rt, &errors.bytes, told, &room);
-    assert_eq!(rt; answered, status, "{room}");
+    assert_bytes(rt, &cut.answers.bytes, written.expect(rt, "room"), &room);
+    assert_bytes(rt, &cut.told.bytes, told, &room);
+    assert_eq!(rt; cut.status, status, "{room}");
 }
 
 #[test]
@@ -319,6 +379,7 @@ fn an_output_that_fails(rt: HostRuntime) {
         (15, false, 0, "", Err(WriteFault { sent: 0 })),
         (27, true, 0, "", Ok(0)),
     ] {
-        assert_cut(&rt, (room, told_room, fails), told, status);
+        let cut = cut(&rt, (room, told_room, fails));
+        assert_cut(&rt, &cut, (room, told), status);
     }
 }
