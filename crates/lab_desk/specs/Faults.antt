@@ -1,8 +1,10 @@
 -- Why a founding founded nothing, and why a run ended before its last event.
-use Rattle.std.specs.Prelude.{◌≡◌, ℕ, List, Bool, Option, Some, None, Result, Ok, Err, IsOk, codes}
+use Rattle.std.specs.Prelude.{◌≡◌, ℕ, List, Bool, true, false, Option, Some, None, Result, Ok, Err, IsOk, codes}
 use Rattle.lab_names.specs.Faults.{Entry, memory_entry}
 use Rattle.lab_records.specs.Refusals.{placing_fault_entry}
 use Rattle.lab_records.specs.declared.fault.PlacingFault.TheVariants.{LabExists, Storage, Memory as NoMemory}
+use Rattle.lab_wire.specs.declared.refusals.BodyFault.{BodyFault}
+use Rattle.lab_wire.specs.declared.refusals.BodyFault.TheVariants.{Refused, Memory as NotRead}
 use Rattle.lab_wire.specs.Refusals.{body_entry}
 use Rattle.lab_desk.specs.declared.faults.FoundFault.{FoundFault}
 use Rattle.lab_desk.specs.declared.faults.FoundFault.TheVariants.{Body as OfBody, Placing}
@@ -16,6 +18,18 @@ use Rattle.lab_desk.specs.Foundings.{Body}
 abbrev pub found_fault_entry : FoundFault → Entry
 found_fault_entry (OfBody refusal) = body_entry refusal
 found_fault_entry (Placing fault) = placing_fault_entry fault
+
+-- the fault of a founding whose body was not read
+abbrev pub fault_of_body : BodyFault → FoundFault
+fault_of_body (Refused refusal) = OfBody refusal
+fault_of_body NotRead = Placing NoMemory
+
+-- whether a founding with this fault was taken all the same
+abbrev pub is_taken : FoundFault → Bool
+is_taken (OfBody refusal) = true
+is_taken (Placing LabExists) = true
+is_taken (Placing Storage) = false
+is_taken (Placing NoMemory) = false
 
 -- the body's refusal where it is that; and where the body reads, that the laboratory exists where
 -- it does, and the store's where it may refuse

@@ -1,7 +1,11 @@
 -- What the desk does of a request: its reply, and what every laboratory is afterwards.
-use Rattle.std.specs.Prelude.{◌≡◌, ◌⊎◌, Bool, true, ℕ, List, Result, Ok, Err, IsOk}
+use Rattle.std.specs.Prelude.{◌≡◌, ◌⊎◌, ◌↔◌, Bool, true, ℕ, List, [], Option, Result, Ok, Err, IsOk, IsTrue}
 use Rattle.lab_names.specs.declared.Tick.{Tick}
 use Rattle.lab_records.specs.declared.command.Change.{Change}
+use Rattle.lab_records.specs.declared.command.Instruction.{Instruction}
+use Rattle.lab_records.specs.declared.lab.Lab.{Lab}
+use Rattle.lab_records.specs.declared.fault.KeeperFault.{KeeperFault}
+use Rattle.lab_records.specs.declared.fault.KeeperFault.TheVariants.{Storage as StoreRefused, Memory}
 use Rattle.lab_records.specs.Machine.{step, is_idle}
 use Rattle.lab_records.specs.Changes.{ChangesFit, changed_in}
 use Rattle.lab_records.specs.Worlds.{World, Meaning, SameMeaning, SetsOne, Lives, Leaves}
@@ -31,6 +35,15 @@ Steps tick (Err refusal) old new = SameMeaning old new
 Steps tick (Ok asked) old new =
     SetsOne asked.lab (step (old asked.lab) tick asked.instruction).after old new
 
+-- a reply that is built, and changes, make the step of a laboratory: the changes fit it, and there
+-- are none where the step writes nothing, and there alone
+pub record Builds (lab : Option Lab) (tick : Tick) (instruction : Instruction) (reply : List ℕ)
+    (changes : List Change) : Type 0 where
+  pub replied : reply ≡ reply_text tick (Replied (step lab tick instruction).reply)
+  pub fit : ChangesFit lab changes
+  pub after : changed_in lab changes ≡ (step lab tick instruction).after
+  pub idle : IsTrue (is_idle lab tick instruction) ↔ (changes ≡ [])
+
 -- the rows moved by changes that fit the laboratory and make its step
 pub record MovesBy (meaning : Meaning) (tick : Tick) (asked : Asked)
     (moves : List ℕ → List Change → Type 0) : Type 0 where
@@ -57,6 +70,11 @@ pub record TakesRequest (old new : World) (tick : Tick) (asks : Asks)
 abbrev pub IsRefusedReply : Type 0 → Tick → List ℕ → Type 0
 IsRefusedReply may_refuse tick reply =
     (reply ≡ memory_text) ⊎ (may_refuse × (reply ≡ reply_text tick Storage))
+
+-- a reply tells a keeper's fault; for lack of memory it may tell that in place of the store's
+abbrev pub TellsFault : Tick → List ℕ → KeeperFault → Type 0
+TellsFault tick reply Memory = reply ≡ memory_text
+TellsFault tick reply StoreRefused = (reply ≡ memory_text) ⊎ (reply ≡ reply_text tick Storage)
 
 -- a request that was refused: for memory, or by a store that may refuse, which was asked something;
 -- every laboratory means what it meant

@@ -7,17 +7,17 @@ ghost use Rattle.lab_wire.specs.declared.replies.Answer.TheVariants.{Refused as 
 ghost use Rattle.lab_wire.specs.Asked.{asked};
 ghost use Rattle.lab_wire.specs.Bodies.{founding_named};
 ghost use Rattle.lab_wire.specs.Replies.{reply_text, memory_text};
-ghost use Rattle.lab_desk.specs.Requests.{TakesRequest, RefusesRequest, MovesFor, Steps, is_idle_request};
+ghost use Rattle.lab_desk.specs.Requests.{TakesRequest, RefusesRequest, TellsFault, MovesFor, Steps, is_idle_request};
 ghost use Rattle.lab_desk.specs.Foundings.{Founds, Births, TakesFounding, RefusesFounding, shown};
 ghost use Rattle.lab_desk.specs.Faults.{FoundFaultFits, OnBody, OnKept, OnUncommitted};
 ghost use Rattle.std.specs.Prelude.{IsSome};
 
 use crate::events::Event;
 use crate::faults::FoundFault;
-use crate::foundings::{Line, founded, refused};
+use crate::foundings::{Line, founded, unfounded};
 use crate::requests::answer_asked;
-use lab_records::{Keeper, KeeperFault, LabCode, OutOfMemory, PlacingFault, Tick};
-use lab_wire::{Answer, BodyFault, RequestFault, ask, founding_of, memory_reply, reply_bytes};
+use lab_records::{Keeper, KeeperFault, LabCode, OutOfMemory, Tick};
+use lab_wire::{Answer, RequestFault, ask, founding_of, memory_reply, reply_bytes};
 use std::alloc::Global;
 use std::marker::Model;
 
@@ -107,18 +107,32 @@ impl<S: Keeper + Drop> Desk<S> {
             (S.world self.new.keeper).is_reached }
         ensures passes { Passes (S.world self.old.keeper) (S.world self.new.keeper) }
     {
-        let asked = match ask(self.alloc, bytes) {
-            Ok(asked) => asked,
+        match ask(self.alloc, bytes) {
+            Ok(asked) => {
+                let answered = answer_asked(self.alloc, &mut self.keeper, tick, asked);
+                self.keep(tick, answered)
+            }
             Err(RequestFault::Refused(refusal)) => {
                 self.last = reply_bytes(self.alloc, tick, &Answer::Refused(refusal)).ok();
-                return self.last.is_some();
+                self.last.is_some()
             }
             Err(RequestFault::Memory) => {
                 self.last = None;
-                return false;
+                false
             }
-        };
-        match answer_asked(self.alloc, &mut self.keeper, tick, asked) {
+        }
+    }
+
+    /// Keeps the reply of a laboratory that was asked, or one that tells of the keeper's fault.
+    /// Answers whether the laboratory replied.
+    fn keep(&mut self, tick: &Tick, answered: Result<Vec<u8>, KeeperFault>) -> bool
+        ensures replied { IfOk answered (λ reply.
+            (result ≡ true) × (self.new.reply ≡ reply.items)) }
+        ensures fault { IfErr answered (λ fault.
+            (result ≡ false) × TellsFault tick.now self.new.reply fault) }
+        ensures keeper { self.new.keeper ≡ self.old.keeper }
+    {
+        match answered {
             Ok(reply) => {
                 self.last = Some(reply);
                 true
@@ -181,15 +195,9 @@ impl<S: Keeper + Drop> Desk<S> {
             (S.world self.new.keeper).is_reached }
         ensures passes { Passes (S.world self.old.keeper) (S.world self.new.keeper) }
     {
-        let founding = match founding_of(self.alloc, body) {
-            Ok(founding) => founding,
-            Err(BodyFault::Refused(refusal)) => return Err(FoundFault::Body(refusal)),
-            Err(BodyFault::Memory) => return Err(FoundFault::Placing(PlacingFault::Memory)),
-        };
-        match self.keeper.found(lab, &founding, tick) {
-            Ok(()) => Ok(()),
-            Err(fault) => Err(FoundFault::Placing(fault)),
-        }
+        let founding = founding_of(self.alloc, body)?;
+        self.keeper.found(lab, &founding, tick)?;
+        Ok(())
     }
 
     /// Founds a laboratory, and says so in a line, which is built before anything is changed.
@@ -207,30 +215,14 @@ impl<S: Keeper + Drop> Desk<S> {
         ensures passes { Passes (S.world self.old.keeper) (S.world self.new.keeper) }
     {
         let Ok(line) = founded(self.alloc, lab) else {
-            return Line {
-                taken: false,
-                text: None,
-            };
+            return Line::of_memory();
         };
         match self.found(lab, tick, body) {
             Ok(()) => Line {
                 taken: true,
                 text: Some(line),
             },
-            Err(FoundFault::Placing(PlacingFault::Memory)) => Line {
-                taken: false,
-                text: None,
-            },
-            Err(fault) => match refused(self.alloc, &fault) {
-                Ok(text) => Line {
-                    taken: fault != FoundFault::Placing(PlacingFault::Storage),
-                    text: Some(text),
-                },
-                Err(_) => Line {
-                    taken: false,
-                    text: None,
-                },
-            },
+            Err(fault) => unfounded(self.alloc, &fault),
         }
     }
 

@@ -1,10 +1,10 @@
 //! Why a founding founded nothing, and why a run ended before its last event.
 
 ghost use Rattle.std.specs.Prelude.{◌≡◌, Some};
-ghost use Rattle.lab_desk.specs.Faults.{found_fault_entry, run_fault_number, run_fault_word};
+ghost use Rattle.lab_desk.specs.Faults.{found_fault_entry, is_taken, run_fault_number, run_fault_word};
 
 use lab_records::{OutOfMemory, PlacingFault};
-use lab_wire::BodyRefusal;
+use lab_wire::{BodyFault, BodyRefusal};
 use std::fmt;
 use thiserror::Error;
 
@@ -18,6 +18,17 @@ pub enum FoundFault {
 }
 
 impl FoundFault {
+    /// Whether the founding was taken all the same: it was, unless memory ran out or the store
+    /// refused.
+    pub(crate) fn is_taken(&self) -> bool
+        ensures { result ≡ is_taken self.now }
+    {
+        match self {
+            FoundFault::Body(_) | FoundFault::Placing(PlacingFault::LabExists) => true,
+            FoundFault::Placing(PlacingFault::Storage | PlacingFault::Memory) => false,
+        }
+    }
+
     fn entry(&self) -> (Option<u32>, &'static str)
         ensures number { result.0 ≡ Some (found_fault_entry self.now).number }
         ensures word { result.1.now ≡ (found_fault_entry self.now).word }
@@ -40,6 +51,31 @@ impl FoundFault {
         ensures { result.now ≡ (found_fault_entry self.now).word }
     {
         self.entry().1
+    }
+}
+
+/// A body was not read.
+impl From<BodyFault> for FoundFault {
+    ghost use Rattle.lab_desk.specs.Faults.{fault_of_body};
+
+    ghost from_gives = { λ fault gives. gives ≡ fault_of_body fault };
+
+    fn from(fault: BodyFault) -> FoundFault {
+        match fault {
+            BodyFault::Refused(refusal) => FoundFault::Body(refusal),
+            BodyFault::Memory => FoundFault::Placing(PlacingFault::Memory),
+        }
+    }
+}
+
+/// A keeper founded nothing.
+impl From<PlacingFault> for FoundFault {
+    ghost use Rattle.lab_desk.specs.declared.faults.FoundFault.TheVariants.{Placing};
+
+    ghost from_gives = { λ fault gives. gives ≡ Placing fault };
+
+    fn from(fault: PlacingFault) -> FoundFault {
+        FoundFault::Placing(fault)
     }
 }
 

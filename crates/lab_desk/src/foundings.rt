@@ -1,8 +1,8 @@
 //! The line that answers a founding.
 
-ghost use Rattle.std.specs.Prelude.{◌≡◌, IfOk, IfSome, Some, option_map};
-ghost use Rattle.lab_desk.specs.Faults.{found_fault_entry};
-ghost use Rattle.lab_desk.specs.Foundings.{founded_line, refused_line, shown};
+ghost use Rattle.std.specs.Prelude.{◌≡◌, ◌⊎◌, IfOk, None, true, false, option_map};
+ghost use Rattle.lab_desk.specs.Faults.{found_fault_entry, is_taken};
+ghost use Rattle.lab_desk.specs.Foundings.{founded_line, refused_line, memory_line, shown};
 
 use crate::faults::FoundFault;
 use lab_records::{LabCode, OutOfMemory, PlacingFault};
@@ -25,6 +25,26 @@ pub(crate) fn refused(alloc: Global, fault: &FoundFault) -> Result<Vec<u8>, OutO
     Ok(format!(in alloc; "refused {number} {word}\n")?.into_bytes())
 }
 
+/// The line that tells of a founding that failed, and whether it was taken all the same.
+pub(crate) fn unfounded(alloc: Global, fault: &FoundFault) -> Line
+    ensures taken { result.taken ≡ true → (is_taken fault.now ≡ true)
+        × (shown (option_map (λ line. line.items) result.text)
+        ≡ refused_line (found_fault_entry fault.now)) }
+    ensures refused { result.taken ≡ false →
+        (shown (option_map (λ line. line.items) result.text) ≡ memory_line)
+        ⊎ ((is_taken fault.now ≡ false)
+        × (shown (option_map (λ line. line.items) result.text)
+        ≡ refused_line (found_fault_entry fault.now))) }
+{
+    match refused(alloc, fault) {
+        Ok(text) => Line {
+            taken: fault.is_taken(),
+            text: Some(text),
+        },
+        Err(_) => Line::of_memory(),
+    }
+}
+
 /// The line that answers a founding for lack of memory; no memory is taken for it.
 pub(crate) const MEMORY_LINE: &[u8] = b"refused 90 memory\n";
 
@@ -38,6 +58,16 @@ pub(crate) struct Line {
 }
 
 impl Line {
+    /// The line for lack of memory.
+    pub(crate) fn of_memory() -> Line
+        ensures { result ≡ record { taken = false; text = None } }
+    {
+        Line {
+            taken: false,
+            text: None,
+        }
+    }
+
     /// The bytes of the line.
     pub(crate) fn bytes(&self) -> &[u8]
         ensures { result.now ≡ shown (option_map (λ line. line.items) self.now.text) }

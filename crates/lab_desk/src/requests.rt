@@ -1,13 +1,18 @@
 //! How a laboratory is asked over any keeper: its part is loaded, the machine decides, the reply is
 //! built whole, and only then does the keeper make the changes, as the last thing.
 
-ghost use Rattle.std.specs.Prelude.{◌≡◌, Ok, IsTrue, IsFalse, IfOk, IfErr, OnOk, OnErr};
+ghost use Rattle.std.specs.Prelude.{◌≡◌, Option, Some, Ok, IsTrue, IsFalse, IfOk, IfErr, OnOk, OnErr};
+ghost use Rattle.lab_records.specs.declared.lab.Lab.{Lab as WholeLab};
 ghost use Rattle.lab_records.specs.Machine.{step, is_idle};
+ghost use Rattle.lab_records.specs.Parts.{need_of, part_of};
 ghost use Rattle.lab_records.specs.Worlds.{Passes, Given, Lives, Leaves, Quiet, CommitsAs, IsSettled, KeeperFaultFits};
 ghost use Rattle.lab_wire.specs.Replies.{reply_text};
-ghost use Rattle.lab_desk.specs.Requests.{answer_to, MovesBy, Steps};
+ghost use Rattle.lab_desk.specs.Requests.{answer_to, Builds, MovesBy, Steps};
 
-use lab_records::{Keeper, KeeperFault, Outcome, Refusal, Reply, Tick, decide, needs};
+use lab_records::{
+    Change, Instruction, Keeper, KeeperFault, OutOfMemory, Refusal, Reply, Series, Slice, Tick,
+    decide, needs,
+};
 use lab_wire::{Answer, Asked, reply_bytes};
 use std::alloc::Global;
 
@@ -54,8 +59,34 @@ pub(crate) fn answer_asked<S: Keeper>(
         let refused = Answer::Replied(Reply::Refused(Refusal::NoSuchLab));
         return Ok(reply_bytes(alloc, tick, &refused)?);
     };
-    let Outcome { reply, changes } = decide(alloc, slice, tick, instruction)?;
-    let reply = reply_bytes(alloc, tick, &Answer::Replied(reply))?;
-    keeper.apply(&lab, changes.as_slice())?;
-    Ok(reply)
+    let built = build(alloc, slice, tick, instruction)?;
+    keeper.apply(&lab, built.changes.as_slice())?;
+    Ok(built.reply)
+}
+
+/// What is decided of an instruction, its reply whole in bytes.
+#[derive(Drop)]
+struct Built {
+    reply: Vec<u8>,
+    changes: Series<Change>,
+}
+
+/// Decides an instruction from the part of a laboratory that it needs, and builds the reply.
+fn build(
+    alloc: Global,
+    slice: Slice,
+    tick: &Tick,
+    instruction: Instruction,
+) -> Result<Built, OutOfMemory>
+    // For any laboratory of which the slice is the part that the instruction needs:
+    ensures { (lab : Option WholeLab) →
+        part_of (need_of tick.now instruction) lab ≡ Some slice →
+        IfOk result (λ built. Builds lab tick.now instruction built.reply.items built.changes) }
+{
+    let outcome = decide(alloc, slice, tick, instruction)?;
+    let reply = reply_bytes(alloc, tick, &Answer::Replied(outcome.reply))?;
+    Ok(Built {
+        reply,
+        changes: outcome.changes,
+    })
 }

@@ -84,8 +84,32 @@ fn call<R: Abort + AllocGlobal>(rt: &R, bytes: &[u8]) -> Event {
     }
 }
 
-fn copied(rt: &impl Abort, event: &Event) -> Event {
-    event.copy().expect(rt, "a copy")
+/// What an event is made of: the code and the body of a founding, or the bytes of a call, which
+/// has no code.
+type Told = (Option<&'static str>, &'static [u8]);
+
+fn event<R: Abort + AllocGlobal>(rt: &R, (lab, bytes): Told) -> Event {
+    match lab {
+        Some(lab) => founding(rt, lab, bytes),
+        None => call(rt, bytes),
+    }
+}
+
+fn events<R: Abort + AllocGlobal>(rt: &R, told: &[Told]) -> Vec<Event> {
+    let mut events = Vec::new(rt.alloc());
+    for of in told {
+        events.push(event(rt, *of)).expect(rt, "the event");
+    }
+    events
+}
+
+fn copies<R: Abort + AllocGlobal>(rt: &R, events: &[Event]) -> Vec<Event> {
+    let mut copies = Vec::new(rt.alloc());
+    for event in events {
+        let copy = event.copy().expect(rt, "a copy");
+        copies.push(copy).expect(rt, "the event");
+    }
+    copies
 }
 
 /// A desk with no laboratory.
@@ -163,6 +187,29 @@ fn joined<R: Abort + AllocGlobal>(rt: &R, parts: &[&[u8]]) -> Vec<u8> {
     bytes
 }
 
+/// How a run ended: what was taken and what was written.
+#[derive(Drop)]
+struct Answers {
+    taken: Vec<bool>,
+    written: Vec<u8>,
+}
+
+fn run<R: Abort + AllocGlobal, S: Keeper + Drop>(
+    rt: &R,
+    desk: &mut Desk<S>,
+    events: &[Event],
+) -> Answers {
+    let mut written = Vec::new(rt.alloc());
+    let taken = desk.run(events, &mut written).expect(rt, "a run");
+    Answers { taken, written }
+}
+
+/// Asserts which events of a run were taken, and all that was written.
+fn assert_answers(rt: &impl Abort, answers: &Answers, taken: &[bool], written: &[u8]) {
+    assert_eq!(rt; answers.taken.as_slice(), taken);
+    assert_eq!(rt; answers.written.as_slice(), written);
+}
+
 /// Asserts which events of a run are taken, and all that is written: its parts, joined.
 fn assert_run<R: Abort + AllocGlobal, S: Keeper + Drop>(
     rt: &R,
@@ -171,11 +218,8 @@ fn assert_run<R: Abort + AllocGlobal, S: Keeper + Drop>(
     taken: &[bool],
     written: &[&[u8]],
 ) {
-    let wanted = joined(rt, written);
-    let mut out = Vec::new(rt.alloc());
-    let told = desk.run(events, &mut out).expect(rt, "a run");
-    assert_eq!(rt; told.as_slice(), taken);
-    assert_eq!(rt; out.as_slice(), wanted.as_slice());
+    let answers = run(rt, desk, events);
+    assert_answers(rt, &answers, taken, joined(rt, written).as_slice());
 }
 
 /// Asserts the text that a value prints.
@@ -365,10 +409,14 @@ fn faults_of_foundings_have_their_numbers_and_words(rt: HostRuntime) {
 }
 
 #[test]
-fn faults_of_runs_have_their_numbers_and_words(rt: HostRuntime) {
+fn a_run_without_memory_has_its_number_and_word(rt: HostRuntime) {
     let memory = RunFault::Memory;
     assert_eq!(rt; memory.number(), Some(90));
     assert_text(&rt, &memory, "memory");
+}
+
+#[test]
+fn a_write_fault_has_its_word(rt: HostRuntime) {
     let cut = RunFault::Write {
         taken: Vec::new(rt.alloc()),
         sent: 7,
@@ -379,28 +427,26 @@ fn faults_of_runs_have_their_numbers_and_words(rt: HostRuntime) {
 
 #[test]
 fn a_run_answers_in_order_and_tells_what_was_taken(rt: HostRuntime) {
-    let mut desk = empty_desk(&rt);
-    let events = [
-        founding(&rt, "aqua", BODY),
-        founding(&rt, "aqua", BODY),
-        founding(&rt, "brick", b"{\"name\":\"\"}"),
-        founding(&rt, "brick", b"{"),
-        call(&rt, CARD),
+    const EVENTS: [Told; 5] = [
+        (Some("aqua"), BODY),
+        (Some("aqua"), BODY),
+        (Some("brick"), b"{\"name\":\"\"}"),
+        (Some("brick"), b"{"),
+        (None, CARD),
     ];
     let lines: &[u8] =
         b"founded aqua\nrefused 64 lab_exists\nrefused 1 bad_name\nrefused 88 bad_body\n";
-    assert_run(&rt, &mut desk, &events, &[true; 5], &[lines, CARD_REPLY]);
+    let events = events(&rt, &EVENTS);
+    let written = [lines, CARD_REPLY];
+    assert_run(&rt, &mut empty_desk(&rt), &events, &[true; 5], &written);
 }
 
 #[test]
 fn a_copied_event_is_answered_like_the_first(rt: HostRuntime) {
-    let mut desk = empty_desk(&rt);
-    let events = [
-        copied(&rt, &founding(&rt, "aqua", BODY)),
-        copied(&rt, &call(&rt, CARD)),
-    ];
+    const EVENTS: [Told; 2] = [(Some("aqua"), BODY), (None, CARD)];
+    let events = copies(&rt, &events(&rt, &EVENTS));
     let written = [b"founded aqua\n".as_slice(), CARD_REPLY];
-    assert_run(&rt, &mut desk, &events, &[true; 2], &written);
+    assert_run(&rt, &mut empty_desk(&rt), &events, &[true; 2], &written);
 }
 
 #[test]
@@ -425,48 +471,41 @@ fn requests_that_are_refused_change_nothing(rt: HostRuntime) {
 
 #[test]
 fn foundings_that_are_refused_found_nothing(rt: HostRuntime) {
-    let mut desk = moody_desk(&rt);
-    let events = [
-        founding(&rt, "aqua", BODY),
-        founding(&rt, "brick", BODY),
-        founding(&rt, "aqua", BODY),
-        founding(&rt, "brick", BODY),
-        founding(&rt, "brick", BODY),
+    const EVENTS: [Told; 5] = [
+        (Some("aqua"), BODY),
+        (Some("brick"), BODY),
+        (Some("aqua"), BODY),
+        (Some("brick"), BODY),
+        (Some("brick"), BODY),
     ];
     let taken = [true, false, true, false, true];
     let written: &[u8] = b"founded aqua\nrefused 90 memory\nrefused 64 lab_exists\n\
         refused 63 storage\nfounded brick\n";
-    assert_run(&rt, &mut desk, &events, &taken, &[written]);
+    let events = events(&rt, &EVENTS);
+    assert_run(&rt, &mut moody_desk(&rt), &events, &taken, &[written]);
 }
 
-/// Asserts how a run of the events ends at a writer: how many were handled, and how many bytes of
+/// How a run of the events ends at a writer that fails: how many were handled, and how many bytes of
 /// the last one's answer went out.
-fn assert_cut<R: Abort + AllocGlobal>(
+fn cut<R: Abort + AllocGlobal>(
     rt: &R,
     events: &[Event],
     mut writer: Narrow,
-    handled: usize,
-    gone: usize,
-) {
-    let room = writer.room;
-    let fault = empty_desk(rt).run(events, &mut writer);
-    let Err(RunFault::Write { taken, sent }) = fault else {
-        panic!(rt; "no write fault at {room}")
-    };
-    assert_eq!(rt; taken.len(), handled, "at {room}");
-    assert_eq!(rt; sent, gone, "at {room}");
+) -> Option<(usize, usize)> {
+    match empty_desk(rt).run(events, &mut writer) {
+        Err(RunFault::Write { taken, sent }) => Some((taken.len(), sent)),
+        _ => None,
+    }
 }
 
 #[test]
 fn a_failing_writer_ends_a_run_after_its_event(rt: HostRuntime) {
-    let events = [
-        founding(&rt, "aqua", BODY),
-        call(&rt, CARD),
-        call(&rt, CARD),
-    ];
+    const EVENTS: [Told; 3] = [(Some("aqua"), BODY), (None, CARD), (None, CARD)];
+    let events = events(&rt, &EVENTS);
     for (room, handled, gone) in [(0, 1, 0), (12, 1, 12), (13, 2, 0), (40, 2, 27)] {
         for fails in [true, false] {
-            assert_cut(&rt, &events, Narrow { room, fails }, handled, gone);
+            let cut = cut(&rt, &events, Narrow { room, fails });
+            assert_eq!(rt; cut, Some((handled, gone)), "at {room}");
         }
     }
 }

@@ -1,7 +1,2 @@
-pub mod EventLemmas
-pub mod NumberLemmas
-pub mod ReadLemmas
-pub mod NextLemmas
 pub mod ExplainLemmas
 pub mod KnownValues
-pub mod ReplayLemmas

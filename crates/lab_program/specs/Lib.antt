@@ -1,6 +1,1 @@
-pub mod Event
-pub mod Fault
-pub mod Limited
-pub mod Reading
-pub mod Replay
 pub mod CommandLine

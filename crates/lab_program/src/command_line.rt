@@ -2,13 +2,11 @@
 ghost use Rattle.std.specs.Prelude.{◌≡◌, map};
 ghost use Rattle.clap.specs.Words.{fault_of, FailsBy, kind_of};
 ghost use Rattle.lab_program.specs.CommandLine.{labdesk_app, AsksReplay, Explains, IsExplained};
-ghost use Rattle.lab_program.specs.Replay.{IsReplay};
+ghost use Rattle.lab_events.specs.Replay.{IsReplay};
 
-use crate::fault::ReplayFault;
-use crate::replay::{replay, tell};
 use clap::error::ErrorKind;
 use clap::{Command, Error};
-use lab_wire::WriteFault;
+use lab_events::{ReplayFault, WriteFault, replay, tell};
 use std::alloc::Global;
 use std::convert::AsStr;
 use std::io::{Read, Write};

@@ -2,10 +2,6 @@
 #![tactic(auto)]
 
 mod command_line;
-mod event;
-mod fault;
-mod limited;
-mod replay;
 
 use std::io;
 use std::process::ExitCode;

@@ -3,7 +3,7 @@ use Rattle.clap.specs.Words.{fault_of}
 use Rattle.clap.proofs.OnLiterals.{clap_on_literals}
 use Rattle.lab_program.specs.CommandLine.{labdesk_app}
 use Rattle.lab_program.proofs.ExplainLemmas.{explained_by, unexplained}
-use Rattle.lab_program.proofs.ReplayLemmas.{no_replay}
+use Rattle.lab_events.proofs.ReplayLemmas.{no_replay}
 use Rattle.lab_program.proofs.command_line.labdesk.Goals as goal
 
 -- a replay is asked for without a fault, whatever the program is called

@@ -1,0 +1,5 @@
+pub mod Event
+pub mod Fault
+pub mod Limited
+pub mod Reading
+pub mod Replay

@@ -1,0 +1,106 @@
+//! Why a replay stops.
+ghost use Rattle.std.specs.Prelude.{◌≡◌};
+
+use lab_desk::RunFault;
+use lab_names::{NameFault, OutOfMemory};
+use std::alloc::AllocError;
+use std::io;
+use thiserror::Error;
+
+/// Why a replay stopped before the end of its input.
+#[derive(Clone, Copy, Debug, PartialEq, Eq, Error)]
+pub enum ReplayFault {
+    /// What comes next in the input is no event.
+    #[error("bad_event")]
+    BadEvent,
+    /// The input could not be read.
+    #[error("read_fault")]
+    ReadFault,
+    /// An answer could not be written.
+    #[error("write_fault")]
+    WriteFault,
+    /// There was no memory to go on.
+    #[error("memory")]
+    Memory,
+}
+
+impl ReplayFault {
+    ghost use Rattle.lab_events.specs.Fault.{fault_line};
+
+    /// The line that tells the fault on standard error, with its line feed. No memory is taken for
+    /// it.
+    pub fn line(&self) -> &'static str
+        ensures { result.now ≡ fault_line self.now }
+    {
+        match self {
+            ReplayFault::BadEvent => "labdesk: bad_event\n",
+            ReplayFault::ReadFault => "labdesk: read_fault\n",
+            ReplayFault::WriteFault => "labdesk: write_fault\n",
+            ReplayFault::Memory => "labdesk: memory\n",
+        }
+    }
+}
+
+/// A text was refused as a laboratory's code.
+impl From<NameFault> for ReplayFault {
+    ghost use Rattle.lab_events.specs.Fault.{fault_of_name};
+
+    ghost from_gives = { λ fault gives. gives ≡ fault_of_name fault };
+
+    fn from(fault: NameFault) -> ReplayFault {
+        match fault {
+            NameFault::BadName => ReplayFault::BadEvent,
+            NameFault::Memory(_) => ReplayFault::Memory,
+        }
+    }
+}
+
+/// There was no memory for a desk.
+impl From<OutOfMemory> for ReplayFault {
+    ghost use Rattle.lab_events.specs.declared.fault.ReplayFault.TheVariants.{Memory};
+
+    ghost from_gives = { λ _ fault. fault ≡ Memory };
+
+    fn from(_want: OutOfMemory) -> ReplayFault {
+        ReplayFault::Memory
+    }
+}
+
+/// A run of events stopped.
+impl From<RunFault> for ReplayFault {
+    ghost use Rattle.lab_events.specs.Fault.{fault_of_run};
+
+    ghost from_gives = { λ fault gives. gives ≡ fault_of_run fault };
+
+    fn from(fault: RunFault) -> ReplayFault {
+        match fault {
+            RunFault::Memory => ReplayFault::Memory,
+            RunFault::Write { .. } => ReplayFault::WriteFault,
+        }
+    }
+}
+
+impl From<AllocError> for ReplayFault {
+    ghost use Rattle.lab_events.specs.declared.fault.ReplayFault.TheVariants.{Memory};
+
+    ghost from_gives = { λ _ fault. fault ≡ Memory };
+
+    fn from(_error: AllocError) -> ReplayFault {
+        ReplayFault::Memory
+    }
+}
+
+/// A reader failed.
+impl From<io::Error> for ReplayFault {
+    ghost use Rattle.lab_events.specs.Fault.{IsReaderFault};
+
+    ghost from_gives = { λ _ fault. IsReaderFault fault };
+
+    fn from(error: io::Error) -> ReplayFault {
+        if error.kind() == io::ErrorKind::OutOfMemory {
+            ReplayFault::Memory
+        } else {
+            ReplayFault::ReadFault
+        }
+    }
+}

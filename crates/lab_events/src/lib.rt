@@ -1,0 +1,16 @@
+//! The events of a replay: read from the lines of an input, and run one after the other.
+#![tactic(auto)]
+
+mod event;
+mod fault;
+mod limited;
+mod replays;
+#[cfg(test)]
+mod tests;
+
+pub use crate::event::next_event;
+pub use crate::fault::ReplayFault;
+pub use crate::limited::LimitedReader;
+pub use crate::replays::{replay, tell};
+pub use lab_desk::Event;
+pub use lab_wire::WriteFault;
