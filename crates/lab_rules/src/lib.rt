@@ -10,6 +10,8 @@ mod making;
 mod outcomes;
 mod reading;
 mod readings;
+#[cfg(test)]
+mod record_tests;
 mod refusals;
 mod signatures;
 mod signing;
