@@ -10,13 +10,9 @@ mod making;
 mod outcomes;
 mod reading;
 mod readings;
-#[cfg(test)]
-mod record_tests;
 mod refusals;
 mod signatures;
 mod signing;
-#[cfg(test)]
-mod tests;
 
 pub use amending::amend;
 pub use entering::enter;

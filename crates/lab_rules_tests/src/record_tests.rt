@@ -1,14 +1,14 @@
 //! Entries, amendments, signatures and readings of a record, compared whole with values from outside: the digests and the
 //! seal are those that Python's `hashlib` gives of the bytes that the definitions write.
 use crate::tests::{form_version, moment, refusal_of, same, text};
-use crate::{
+use lab_access::{Password, Person, Role, Roles};
+use lab_kept::{Record, Signature, Version};
+use lab_names::{Note, Ordinal, Series};
+use lab_rules::{
     AmendmentMade, CommandFault, EntryMade, Item, RecordRead, SignatureMade, Signing, Typed,
     VersionRead, amend, enter, person_line, read_form, read_record, read_version, record_line,
     sign,
 };
-use lab_access::{Password, Person, Role, Roles};
-use lab_kept::{Record, Signature, Version};
-use lab_names::{Note, Ordinal, Series};
 use lab_seal::{Digest, EntryRow, EntryRows, Format, Meaning, Origin, SealParts, State};
 use std::process::Abort;
 

@@ -1,9 +1,9 @@
 //! What is made, compared with values from outside.
-use crate::{CommandFault, Refusal, Signing, make_form, open_record};
 use lab_access::Rule;
 use lab_forms::{Field, Form, Kind};
 use lab_kept::{FormVersion, Record, Version};
 use lab_names::{Moment, Ordinal, Rule as TextRule, Text};
+use lab_rules::{CommandFault, Refusal, Signing, make_form, open_record};
 use lab_seal::Format;
 use std::fmt::Debug;
 use std::process::Abort;
