@@ -1,6 +1,6 @@
 -- A laboratory as it is born: three persons in order, one row of the trail, and nothing else.
-use Rattle.std.proofs.Common.{◌≡◌, ℕ, ◌+◌, Bool, true, false, cond, not, ◌||◌, List, [], ◌∷◌, length, None, Ok, Err, refl, sym, ◌∙◌, ap, subst, arith}
-use Rattle.std.specs.Prelude.{bytes_eq, IsTrue}
+use Rattle.std.proofs.Common.{◌≡◌, ℕ, ◌+◌, Bool, true, false, cond, not, ◌||◌, List, [], ◌∷◌, length, None, Some, Ok, Err, ◌≢◌, refl, sym, ◌∙◌, ap, subst, arith}
+use Rattle.std.specs.Prelude.{bytes_eq, IsTrue, All}
 use Rattle.std.specs.Ordering.{nat_cmp, match_ordering, ordering_reverse, is_eq}
 use Rattle.std.proofs.Common.{Ordering, Less, Equal, Greater}
 use Rattle.std.specs.Cmp.Lexicographic.{slice_cmp, nat_list_cmp_total, nat_list_eq_equiv}
@@ -16,8 +16,10 @@ use Rattle.lab_kept.specs.Limits.{AreInOrder, IsWithin, IsOrderly, IsByForm, IsS
 use Rattle.lab_kept.specs.Bound.{IsBound, IsBoundRecord}
 use Rattle.lab_kept.specs.Dual.{IsDual, IsDualRecord}
 use Rattle.lab_machine.specs.declared.births.Founding.{Founding}
-use Rattle.lab_machine.specs.declared.births.BirthRefusal.TheVariants.{CodeTaken, BadPassword}
+use Rattle.lab_machine.specs.declared.births.BirthRefusal.TheVariants.{CodeTaken, BadPassword, LabExists}
 use Rattle.lab_machine.specs.Births.{founder_person, founders_of, newborn, is_code_shared, are_passwords, born}
+use Rattle.lab_laws.specs.Births.{IsAdministrator, IsFounded}
+use Rattle.lab_laws.proofs.LimitOrder.{all_placed}
 use Rattle.lab_laws.proofs.KeepLists.{placed, inserted_is, length_placed}
 
 -- ---- the order of codes
@@ -195,3 +197,54 @@ born_right code tick founding lab h =
     let is = born_by (is_code_shared founding) (not (are_passwords founding))
     (newborn code tick founding) lab h in
     subst IsRight is.1 (newborn_right code tick founding (founders_three tick founding is.0))
+
+-- three administrators
+founders_rule : (tick : Tick) (founding : Founding)
+    → All IsAdministrator (founders_of tick founding)
+founders_rule tick founding =
+    all_placed IsAdministrator _ (founder_person founding.third (salt_at tick.words 2) tick.moment)
+    _ refl
+    (all_placed IsAdministrator _ (founder_person founding.second (salt_at tick.words 1) tick.moment)
+    _ refl
+    (all_placed IsAdministrator _ (founder_person founding.first (salt_at tick.words 0) tick.moment)
+    [] refl (All-nil IsAdministrator)))
+
+-- what a laboratory is born with
+pub born_founded : (code : List ℕ) (tick : Tick) (founding : Founding) (lab : Lab)
+    → born None code tick founding ≡ Ok lab → IsFounded lab
+born_founded code tick founding lab h =
+    let is = born_by (is_code_shared founding) (not (are_passwords founding))
+    (newborn code tick founding) lab h in
+    subst IsFounded is.1 (record {
+      three = (founders_three tick founding is.0).long;
+      administrators = founders_rule tick founding;
+      told = refl;
+      no_sessions = refl;
+      no_forms = refl;
+      no_records = refl;
+    })
+
+-- where nothing is wrong with a founding, a laboratory is born
+taken_by : (shared fine : Bool) (newborn : Lab) → shared ≡ false → fine ≡ true
+    → cond shared (Err CodeTaken) (cond (not fine) (Err BadPassword) (Ok newborn)) ≡ Ok newborn
+taken_by true fine newborn apart may = absurd (cc)
+taken_by false false newborn apart may = absurd (cc)
+taken_by false true newborn apart may = refl
+
+pub born_taken : (code : List ℕ) (tick : Tick) (founding : Founding)
+    → is_code_shared founding ≡ false → are_passwords founding ≡ true
+    → born None code tick founding ≡ Ok (newborn code tick founding)
+born_taken code tick founding apart may =
+    taken_by (is_code_shared founding) (are_passwords founding) (newborn code tick founding) apart may
+
+-- none is born where there is one
+again_by : (shared bad : Bool) (other : Lab)
+    → cond shared (Err CodeTaken) (cond bad (Err BadPassword) (Err LabExists)) ≢ Ok other
+again_by true bad other = λ h. absurd (cc)
+again_by false true other = λ h. absurd (cc)
+again_by false false other = λ h. absurd (cc)
+
+pub not_again : (lab other : Lab) (code : List ℕ) (tick : Tick) (founding : Founding)
+    → born (Some lab) code tick founding ≢ Ok other
+not_again lab other code tick founding =
+    again_by (is_code_shared founding) (not (are_passwords founding)) other

@@ -13,7 +13,7 @@ use Rattle.lab_machine.specs.Births.{born}
 use Rattle.lab_machine.specs.Machine.{step}
 use Rattle.lab_laws.specs.Stepping.{HoldsOf}
 use Rattle.lab_laws.specs.Asking.{IsAskedRightly}
-use Rattle.lab_laws.specs.Runs.{Asked, after_all, AreAskedRightly, IsRight}
+use Rattle.lab_laws.specs.Runs.{Asked, after_all, AreAskedRightly, IsReleasing}
 use Rattle.lab_laws.proofs.BirthLemmas.{born_right}
 use Rattle.lab_laws.proofs.BoundLemmas.{bound_stays}
 use Rattle.lab_laws.proofs.DualLemmas.{dual_stays}
@@ -21,48 +21,59 @@ use Rattle.lab_laws.proofs.LimitSteps.{step_within}
 use Rattle.lab_laws.proofs.SigningStep.{step_keeps}
 use Rattle.lab_laws.proofs.StayLemmas.{step_stays, holds_of}
 
--- what holds in three ways of a laboratory is right
-right_of : (lab : Option Lab) → HoldsOf IsWithin lab → HoldsOf IsBound lab → HoldsOf IsDual lab
-    → HoldsOf IsRight lab
-right_of None within bound dual = within
-right_of (Some lab) within bound dual = record {
-  within = within;
+-- what is bound and dual releases rightly
+releasing_of : (lab : Option Lab) → HoldsOf IsBound lab → HoldsOf IsDual lab
+    → HoldsOf IsReleasing lab
+releasing_of None bound dual = bound
+releasing_of (Some lab) bound dual = record {
   bound = bound;
   dual = dual;
   released = all_released lab bound dual;
 }
 
--- a step leaves a right laboratory right
-step_right : (lab : Lab) (tick : Tick) (instruction : Instruction) → IsRight lab
-    → IsAskedRightly instruction → HoldsOf IsRight (step (Some lab) tick instruction).after
-step_right lab tick instruction right asked =
+step_releasing : (lab : Lab) (tick : Tick) (instruction : Instruction) → IsReleasing lab
+    → HoldsOf IsReleasing (step (Some lab) tick instruction).after
+step_releasing lab tick instruction is =
     let there = step_stays lab tick instruction in
-    right_of (step (Some lab) tick instruction).after
-    (holds_of IsWithin _ there (step_within lab tick instruction right.within asked))
-    (holds_of IsBound _ there
-    (step_keeps IsBoundRecord bound_stays lab tick instruction right.bound))
+    releasing_of (step (Some lab) tick instruction).after
+    (holds_of IsBound _ there (step_keeps IsBoundRecord bound_stays lab tick instruction is.bound))
     (holds_of IsDual _ there
-    (step_keeps (λ code kept. IsDualRecord kept) dual_stays lab tick instruction right.dual))
+    (step_keeps (λ code kept. IsDualRecord kept) dual_stays lab tick instruction is.dual))
+
+all_releasing : (asked : List Asked) (lab : Option Lab) → HoldsOf IsReleasing lab
+    → HoldsOf IsReleasing (after_all lab asked)
+all_releasing [] lab is = is
+all_releasing (one ∷ others) None is = absurd is
+all_releasing (one ∷ others) (Some lab) is =
+    all_releasing others (step (Some lab) one.tick one.instruction).after
+    (step_releasing lab one.tick one.instruction is)
+
+-- from the birth on
+pub run_releasing : (code : List ℕ) (tick : Tick) (founding : Founding) (lab : Lab)
+    → born None code tick founding ≡ Ok lab
+    → (asked : List Asked) → HoldsOf IsReleasing (after_all (Some lab) asked)
+run_releasing code tick founding lab birth asked =
+    let first = born_right code tick founding lab birth in
+    all_releasing asked (Some lab) (releasing_of (Some lab) first.1 first.2)
 
 -- one that is asked rightly
 abbrev Rightly : Asked → Type 0
 Rightly one = IsAskedRightly one.instruction
 
--- so do all that are asked for
-all_right : (asked : List Asked) (lab : Option Lab) → HoldsOf IsRight lab
-    → AreAskedRightly asked → HoldsOf IsRight (after_all lab asked)
-all_right [] lab right fine = right
-all_right (one ∷ others) None right fine = absurd right
-all_right (one ∷ others) (Some lab) right fine =
-    all_right others (step (Some lab) one.tick one.instruction).after
-    (step_right lab one.tick one.instruction right (All-head Rightly one others fine))
+all_within : (asked : List Asked) (lab : Option Lab) → HoldsOf IsWithin lab
+    → AreAskedRightly asked → HoldsOf IsWithin (after_all lab asked)
+all_within [] lab is fine = is
+all_within (one ∷ others) None is fine = absurd is
+all_within (one ∷ others) (Some lab) is fine =
+    all_within others (step (Some lab) one.tick one.instruction).after
+    (holds_of IsWithin _ (step_stays lab one.tick one.instruction)
+    (step_within lab one.tick one.instruction is (All-head Rightly one others fine)))
     (All-tail Rightly one others fine)
 
--- from the birth on
-pub run_right : (code : List ℕ) (tick : Tick) (founding : Founding) (lab : Lab)
+pub run_within : (code : List ℕ) (tick : Tick) (founding : Founding) (lab : Lab)
     → born None code tick founding ≡ Ok lab
     → (asked : List Asked) → AreAskedRightly asked
-    → HoldsOf IsRight (after_all (Some lab) asked)
-run_right code tick founding lab birth asked fine =
+    → HoldsOf IsWithin (after_all (Some lab) asked)
+run_within code tick founding lab birth asked fine =
     let first = born_right code tick founding lab birth in
-    all_right asked (Some lab) (right_of (Some lab) first.0 first.1 first.2) fine
+    all_within asked (Some lab) first.0 fine

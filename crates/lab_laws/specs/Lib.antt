@@ -1,3 +1,4 @@
 pub mod Asking
+pub mod Births
 pub mod Runs
 pub mod Stepping

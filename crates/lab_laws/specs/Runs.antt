@@ -2,7 +2,6 @@
 use Rattle.std.specs.Prelude.{List, [], ◌∷◌, All, Option}
 use Rattle.lab_names.specs.declared.tick.Tick.{Tick}
 use Rattle.lab_kept.specs.declared.labs.Lab.{Lab}
-use Rattle.lab_kept.specs.Limits.{IsWithin}
 use Rattle.lab_kept.specs.Bound.{IsBound}
 use Rattle.lab_kept.specs.Dual.{IsDual, AreReleasedRightly}
 use Rattle.lab_machine.specs.declared.commands.Instruction.{Instruction}
@@ -23,10 +22,9 @@ after_all lab (one ∷ others) = after_all (step lab one.tick one.instruction).a
 abbrev pub AreAskedRightly : List Asked → Type 0
 AreAskedRightly asked = All (λ one. IsAskedRightly one.instruction) asked
 
--- a laboratory as it always is: within its limits, its signatures bound and under dual control, and
--- each released version signed by two persons, or three, over the digest of its present text
-pub record IsRight (lab : Lab) : Type 0 where
-  pub within : IsWithin lab
+-- Signatures are bound to what they sign and under dual control, and so each released version is
+-- signed by two persons, or three, over the digest of its present text.
+pub record IsReleasing (lab : Lab) : Type 0 where
   pub bound : IsBound lab
   pub dual : IsDual lab
   pub released : AreReleasedRightly lab

@@ -1,6 +1,6 @@
-//! The laws of the small machine, over its definitions alone: every step and every birth leaves a laboratory that is within
-//! its limits, whose signatures are bound and under dual control, and that keeps what was (21 CFR 11.10(e), 11.70;
-//! ISO/IEC 17025:2017, 7.5). Each function does nothing: its contract says the law, for all laboratories.
+//! The laws of the small machine, over its definitions alone: every birth leaves a laboratory, and every step one that was
+//! so before, within its limits, with signatures that are bound and under dual control; and a step keeps what was (21 CFR
+//! 11.10(e), 11.70; ISO/IEC 17025:2017, 7.5). Each function does nothing: its contract says the law, for all laboratories.
 #![tactic(auto)]
 
 mod births;
@@ -10,7 +10,7 @@ mod keeping;
 mod limits;
 mod runs;
 
-pub use births::a_birth_is_right;
+pub use births::{a_birth_is_right, a_laboratory_is_born_once};
 pub use bound::a_step_keeps_bound;
 pub use dual::a_step_keeps_dual;
 pub use keeping::a_step_keeps_what_was;

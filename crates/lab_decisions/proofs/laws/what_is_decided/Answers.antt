@@ -1,0 +1,7 @@
+use Rattle.lab_decisions.proofs.laws.what_is_decided.Goals as goal
+use Rattle.lab_decisions.proofs.Passing.{decided_is}
+
+pub returns : goal.returns
+returns c = λ lab tick instruction within.
+    let is = decided_is lab tick instruction.token instruction.command within in
+    record { reply = is.reply; fits = is.fits; after = is.after }

@@ -1,0 +1,148 @@
+//! What each command comes to in a session.
+ghost use Rattle.std.specs.Prelude.{◌≡◌, false, IfOk};
+ghost use Rattle.lab_decisions.specs.Deciding.{done_of};
+ghost use Rattle.lab_decisions.specs.Groups.{is_on_accounts, is_on_records};
+
+use crate::accounts::{
+    asking_done, changing_done, confirming_done, enrolling_done, retiring_done, setting_roles_done,
+    unlocking_done,
+};
+use crate::done::Done;
+use crate::readings::{
+    form_read_done, person_lines, record_lines, record_read_done, version_read_done,
+};
+use crate::records::{
+    amending_done, asked_signing_done, entering_done, making_done, opening_record_done,
+};
+use crate::sessions::closed_done;
+use lab_access::{PeopleRefusal, Person, Session};
+use lab_kept::Slice;
+use lab_machine::{Command, Reply};
+use lab_names::{OutOfMemory, Series, Tick};
+use lab_rules::Refusal;
+use std::alloc::Global;
+use std::mem;
+
+/// What a command comes to in the session of the caller, on the part of the laboratory that it needs. The only error is out
+/// of memory. What is left of the part isn't said.
+#[tactic(auto, unfolding(crate::specs::Deciding::done_of))]
+pub fn done_of(
+    alloc: Global,
+    slice: &mut Slice,
+    tick: &Tick,
+    session: &Session,
+    caller: &Person,
+    command: Command,
+) -> Result<Done, OutOfMemory>
+    ensures { IfOk result
+        (λ done. done ≡ done_of slice.old tick.now session.now caller.now command) }
+{
+    match command {
+        Command::Close => closed_done(alloc, session),
+        Command::ChangePassword { old, new } => {
+            changing_done(alloc, caller, session, &old, &new, tick)
+        }
+        Command::Enrol { code, name, roles } => {
+            let persons = slice.counts.persons;
+            enrolling_done(alloc, code, name, roles, &slice.person, persons)
+        }
+        Command::AskIssue { code: _code } => {
+            asking_done(alloc, &caller.code, slice.person.take(), tick)
+        }
+        Command::ConfirmIssue { code: _code } => {
+            confirming_done(alloc, &caller.code, slice.person.take(), tick)
+        }
+        Command::SetRoles { code: _code, roles } => {
+            setting_roles_done(alloc, &caller.code, slice.person.take(), roles)
+        }
+        Command::Retire { code: _code } => {
+            retiring_done(alloc, &caller.code, slice.person.take())
+        }
+        Command::Unlock { code: _code } => {
+            unlocking_done(alloc, &caller.code, slice.person.take())
+        }
+        command => done_on_records(alloc, slice, tick, session, caller, command),
+    }
+}
+
+// The same of a command that makes something of forms and records, or reads.
+#[tactic(auto, unfolding(crate::specs::Deciding::done_of))]
+fn done_on_records(
+    alloc: Global,
+    slice: &mut Slice,
+    tick: &Tick,
+    session: &Session,
+    caller: &Person,
+    command: Command,
+) -> Result<Done, OutOfMemory>
+    requires { is_on_accounts command ≡ false }
+    ensures { IfOk result
+        (λ done. done ≡ done_of slice.old tick.now session.now caller.now command) }
+{
+    let moment = tick.moment;
+    let person = &caller.code;
+    match command {
+        Command::MakeForm { code, form } => making_done(alloc, code, form, slice.form.take()),
+        Command::OpenRecord { form: _form, sample } => {
+            opening_record_done(alloc, slice, sample, person, moment)
+        }
+        Command::Enter { item, reason, .. } => {
+            entering_done(alloc, &slice.code, &slice.filed, item, reason, person, moment)
+        }
+        Command::Amend { reason, altered, .. } => {
+            amending_done(alloc, &slice.code, &slice.filed, reason, &altered, person, moment)
+        }
+        Command::Sign {
+            version,
+            digest,
+            signing,
+            password,
+            code,
+            ..
+        } => asked_signing_done(
+            alloc, slice, moment, session, caller, version, digest, signing, &password, &code,
+        ),
+        command => done_reading(alloc, slice, tick, session, caller, &command),
+    }
+}
+
+// The same of a command that reads. One that asks for no session is none in a session.
+#[tactic(auto, unfolding(crate::specs::Deciding::done_of))]
+fn done_reading(
+    alloc: Global,
+    slice: &mut Slice,
+    tick: &Tick,
+    session: &Session,
+    caller: &Person,
+    command: &Command,
+) -> Result<Done, OutOfMemory>
+    requires accounts { is_on_accounts command.now ≡ false }
+    requires records { is_on_records command.now ≡ false }
+    ensures { IfOk result
+        (λ done. done ≡ done_of slice.old tick.now session.now caller.now command.now) }
+{
+    match command {
+        Command::ReadPersons => {
+            let lines = person_lines(alloc, slice.persons.as_slice(), tick.moment)?;
+            Ok(Done::Read(Reply::Persons(lines)))
+        }
+        Command::ReadForm { .. } => Ok(form_read_done(slice.form.take())),
+        Command::ReadRecord { .. } => {
+            let filed = slice.filed.take();
+            record_read_done(alloc, &slice.code, filed)
+        }
+        Command::ReadVersion { version, .. } => {
+            let filed = slice.filed.take();
+            version_read_done(alloc, &slice.code, filed, *version)
+        }
+        Command::ReadRecords { .. } => {
+            let lines = record_lines(alloc, slice.records.as_slice())?;
+            Ok(Done::Read(Reply::Records(lines)))
+        }
+        Command::ReadTrail { .. } => {
+            let rows = mem::replace(&mut slice.trail, Series::new(alloc));
+            Ok(Done::Read(Reply::Trail(rows)))
+        }
+        _ => Ok(Done::Refused(Refusal::People(PeopleRefusal::NoSession))),
+    }
+}

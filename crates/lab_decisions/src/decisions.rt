@@ -1,0 +1,287 @@
+//! What is decided on a part of a laboratory.
+ghost use Rattle.std.specs.Prelude.{◌≡◌, ◌++◌, ◌∷◌, [], Some, IfOk};
+ghost use Rattle.lab_kept.specs.Trails.{row_of};
+ghost use Rattle.lab_machine.specs.Machine.{passage};
+ghost use Rattle.lab_decisions.specs.Deciding.{failing, outcome, ended_made, touching, opening_ended, decided_without, decided_by, decided};
+
+use crate::commands::done_of;
+use crate::done::{Done, Outcome};
+use crate::drafts::{fail, next_number, row_of};
+use crate::lists::{joined, pair, single};
+use crate::sessions::opening_done;
+use lab_access::{Failure, PeopleRefusal, Person, Session};
+use lab_kept::{Change, Deed, Occasion, Slice};
+use lab_machine::{Command, Passage, Reply, pass};
+use lab_names::{Moment, Ordinal, OutOfMemory, PersonCode, Series, Tick};
+use lab_rules::{Refusal, Typed};
+use std::alloc::Global;
+
+/// What is decided of a command at a tick, on the part of a laboratory that it needs: the reply, and the changes, in order.
+/// The only error is out of memory.
+pub fn decide(
+    alloc: Global,
+    slice: Slice,
+    tick: &Tick,
+    command: Command,
+) -> Result<Outcome, OutOfMemory>
+    ensures { IfOk result (λ outcome. outcome ≡ decided slice tick.now command) }
+{
+    let mut slice = slice;
+    let reached = passage(&slice, tick, &command)?;
+    decide_by(alloc, &mut slice, tick, command, reached)
+}
+
+// How far the command gets.
+fn passage(slice: &Slice, tick: &Tick, command: &Command) -> Result<Passage, OutOfMemory>
+    ensures { IfOk result (λ reached. reached ≡ passage slice.now.last slice.now.session
+        slice.now.caller tick.now.moment command.now) }
+{
+    let session = session_copy(&slice.session)?;
+    let caller = person_copy(&slice.caller)?;
+    Ok(pass(slice.last, session, caller, tick, command))
+}
+
+fn session_copy(session: &Option<Session>) -> Result<Option<Session>, OutOfMemory>
+    ensures { IfOk result (λ copy. copy ≡ session.now) }
+{
+    match session {
+        Some(session) => Ok(Some(session.copy()?)),
+        None => Ok(None),
+    }
+}
+
+fn person_copy(person: &Option<Person>) -> Result<Option<Person>, OutOfMemory>
+    ensures { IfOk result (λ copy. copy ≡ person.now) }
+{
+    match person {
+        Some(person) => Ok(Some(person.copy()?)),
+        None => Ok(None),
+    }
+}
+
+// What is decided by how far the command gets.
+fn decide_by(
+    alloc: Global,
+    slice: &mut Slice,
+    tick: &Tick,
+    command: Command,
+    reached: Passage,
+) -> Result<Outcome, OutOfMemory>
+    ensures { IfOk result
+        (λ outcome. outcome ≡ decided_by slice.old tick.now command reached) }
+{
+    match reached {
+        Passage::Early => Ok(refused(Series::new(alloc), Refusal::ClockBehind)),
+        Passage::NeedsNone(repeated) => {
+            decide_without(alloc, slice, tick, &repeated, &command)
+        }
+        Passage::Stranger => {
+            let refusal = Refusal::People(PeopleRefusal::NoSession);
+            Ok(refused(Series::new(alloc), refusal))
+        }
+        Passage::Barred(session, refusal) => {
+            let changes = touching(alloc, tick.moment, &session)?;
+            Ok(refused(changes, refusal))
+        }
+        Passage::Passes(session, caller) => {
+            decide_in(alloc, slice, tick, session, &caller, command)
+        }
+    }
+}
+
+// A command that is refused, with what is changed nevertheless.
+fn refused(changes: Series<Change>, refusal: Refusal) -> Outcome
+    ensures { result ≡ outcome (Reply.Refused refusal) changes }
+{
+    Outcome {
+        reply: Reply::Refused(refusal),
+        changes,
+    }
+}
+
+// That a request came by the session at the moment.
+fn touching(
+    alloc: Global,
+    moment: Moment,
+    session: &Session,
+) -> Result<Series<Change>, OutOfMemory>
+    ensures { IfOk result (λ changes. changes ≡ touching moment session.now) }
+{
+    let mut touched = session.copy()?;
+    touched.touch(moment);
+    pair(alloc, Change::Last(moment), Change::SessionSet(touched))
+}
+
+// A command that asks for no session.
+fn decide_without(
+    alloc: Global,
+    slice: &mut Slice,
+    tick: &Tick,
+    repeated: &Option<Session>,
+    command: &Command,
+) -> Result<Outcome, OutOfMemory>
+    ensures { IfOk result (λ outcome. outcome
+        ≡ decided_without slice.old tick.now repeated.now command.now) }
+{
+    match command {
+        Command::Open { code, password } => {
+            decide_opening(alloc, slice, tick, repeated, code, password)
+        }
+        _ => show_card(alloc, slice),
+    }
+}
+
+fn show_card(alloc: Global, slice: &Slice) -> Result<Outcome, OutOfMemory>
+    ensures { IfOk result
+        (λ shown. shown ≡ outcome (Reply.Card slice.now.code slice.now.name) []) }
+{
+    let lab = slice.code.copy()?;
+    let name = slice.name.copy()?;
+    Ok(Outcome {
+        reply: Reply::Card { lab, name },
+        changes: Series::new(alloc),
+    })
+}
+
+fn decide_opening(
+    alloc: Global,
+    slice: &mut Slice,
+    tick: &Tick,
+    repeated: &Option<Session>,
+    code: &PersonCode,
+    password: &Typed,
+) -> Result<Outcome, OutOfMemory>
+    ensures { IfOk result (λ outcome. outcome ≡ decided_without slice.old tick.now repeated.now
+        (Command.Open code.now password.now)) }
+{
+    let named = code.copy()?;
+    let person = slice.person.take();
+    let sessions = slice.counts.sessions;
+    let done = opening_done(alloc, named, person, password, tick, sessions, repeated)?;
+    opening_ended(alloc, slice, tick.moment, code, done)
+}
+
+// The end of an opening: its moment is noted where it is accepted, and where the password fails.
+fn opening_ended(
+    alloc: Global,
+    slice: &Slice,
+    moment: Moment,
+    code: &PersonCode,
+    done: Done,
+) -> Result<Outcome, OutOfMemory>
+    ensures { IfOk result
+        (λ outcome. outcome ≡ opening_ended slice.now moment code.now done) }
+{
+    let rows = slice.counts.trail;
+    match done {
+        Done::Refused(refusal) => Ok(refused(Series::new(alloc), refusal)),
+        Done::Failed(occasion, failure) => {
+            let before = single(alloc, Change::Last(moment))?;
+            failed(alloc, before, rows, slice.strays, moment, occasion, failure)
+        }
+        Done::Read(reply) => Ok(Outcome {
+            reply,
+            changes: Series::new(alloc),
+        }),
+        Done::Made(reply, deed, own) => {
+            let mut own = own;
+            own.push(Change::Last(moment))?;
+            ended_made(alloc, Series::new(alloc), rows, moment, code, reply, deed, own)
+        }
+    }
+}
+
+// A command in a session: its request is taken note of before all.
+fn decide_in(
+    alloc: Global,
+    slice: &mut Slice,
+    tick: &Tick,
+    session: Session,
+    caller: &Person,
+    command: Command,
+) -> Result<Outcome, OutOfMemory>
+    ensures { IfOk result (λ outcome. outcome
+        ≡ decided_by slice.old tick.now command (Passage.Passes session caller.now)) }
+{
+    let moment = tick.moment;
+    let rows = slice.counts.trail;
+    let strays = slice.strays;
+    let before = touching(alloc, moment, &session)?;
+    let mut session = session;
+    session.touch(moment);
+    let done = done_of(alloc, slice, tick, &session, caller, command)?;
+    match done {
+        Done::Refused(refusal) => Ok(refused(before, refusal)),
+        Done::Failed(occasion, failure) => {
+            failed(alloc, before, rows, strays, moment, occasion, failure)
+        }
+        Done::Read(reply) => Ok(Outcome {
+            reply,
+            changes: before,
+        }),
+        Done::Made(reply, deed, own) => {
+            ended_made(alloc, before, rows, moment, &caller.code, reply, deed, own)
+        }
+    }
+}
+
+// A password that was given for a command failed.
+fn failed(
+    alloc: Global,
+    before: Series<Change>,
+    rows: u64,
+    strays: u64,
+    moment: Moment,
+    occasion: Occasion,
+    failure: Failure,
+) -> Result<Outcome, OutOfMemory>
+    ensures { IfOk result (λ told. told
+        ≡ outcome (Reply.Refused (Refusal.People PeopleRefusal.Credentials))
+        (before ++ failing rows strays moment occasion failure)) }
+{
+    let mut changes = before;
+    fail(alloc, &mut changes, rows, strays, moment, occasion, failure)?;
+    Ok(refused(changes, Refusal::People(PeopleRefusal::Credentials)))
+}
+
+// Something is made: a full trail refuses last; else the deed is told.
+fn ended_made(
+    alloc: Global,
+    before: Series<Change>,
+    rows: u64,
+    moment: Moment,
+    person: &PersonCode,
+    reply: Reply,
+    deed: Deed,
+    own: Series<Change>,
+) -> Result<Outcome, OutOfMemory>
+    ensures { IfOk result (λ outcome. outcome
+        ≡ ended_made before rows moment person.now reply deed own) }
+{
+    let Some(number) = next_number(rows) else {
+        return Ok(refused(before, Refusal::People(PeopleRefusal::LabFull)));
+    };
+    let (reply, changes) = told(alloc, reply, before, own, number, moment, person, &deed)?;
+    Ok(Outcome { reply, changes })
+}
+
+// A reply, with the changes and the row that tells of the deed. What the reply is like is left open.
+fn told<R: Drop>(
+    alloc: Global,
+    reply: R,
+    before: Series<Change>,
+    own: Series<Change>,
+    number: Ordinal,
+    moment: Moment,
+    person: &PersonCode,
+    deed: &Deed,
+) -> Result<(R, Series<Change>), OutOfMemory>
+    ensures same { IfOk result (λ both. both.0 ≡ reply) }
+    ensures changes { IfOk result (λ both. both.1 ≡ before ++ own
+        ++ Change.TrailAdded (row_of number moment (Some person.now) deed.now) ∷ []) }
+{
+    let row = row_of(alloc, number, moment, person, deed)?;
+    let mut changes = joined(before, own)?;
+    changes.push(Change::TrailAdded(row))?;
+    Ok((reply, changes))
+}

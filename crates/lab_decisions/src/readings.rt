@@ -1,0 +1,88 @@
+//! What commands come to that read.
+ghost use Rattle.std.specs.Prelude.{◌≡◌, IfOk, map};
+ghost use Rattle.lab_rules.specs.Reading.{reading_form, reading_record, reading_version, record_line, person_line};
+ghost use Rattle.lab_decisions.specs.Deciding.{then_read_done};
+
+use crate::done::Done;
+use lab_access::Person;
+use lab_kept::{FormVersion, Record};
+use lab_machine::Reply;
+use lab_names::{LabCode, Moment, Ordinal, OutOfMemory, Series};
+use lab_rules::{
+    CommandFault, PersonLine, RecordState, person_line, read_form, read_record, read_version,
+    record_line,
+};
+use std::alloc::Global;
+
+/// What the reading of a version of a form comes to.
+pub fn form_read_done(form: Option<FormVersion>) -> Done
+    ensures { result ≡ then_read_done (reading_form form) Reply.FormRead }
+{
+    match read_form(form) {
+        Ok(form) => Done::Read(Reply::FormRead(form)),
+        Err(refusal) => Done::Refused(refusal),
+    }
+}
+
+/// What the reading of a record comes to. The only error is out of memory.
+pub fn record_read_done(
+    alloc: Global,
+    lab: &LabCode,
+    filed: Option<Record>,
+) -> Result<Done, OutOfMemory>
+    ensures { IfOk result (λ done. done
+        ≡ then_read_done (reading_record lab.now filed) Reply.RecordRead) }
+{
+    match read_record(alloc, lab, filed) {
+        Ok(read) => Ok(Done::Read(Reply::RecordRead(read))),
+        Err(fault) => match fault {
+            CommandFault::Refused(refusal) => Ok(Done::Refused(refusal)),
+            CommandFault::Memory => Err(OutOfMemory),
+        },
+    }
+}
+
+/// What the reading of a version of a record comes to. The only error is out of memory.
+pub fn version_read_done(
+    alloc: Global,
+    lab: &LabCode,
+    filed: Option<Record>,
+    version: Ordinal,
+) -> Result<Done, OutOfMemory>
+    ensures { IfOk result (λ done. done
+        ≡ then_read_done (reading_version lab.now filed version) Reply.VersionRead) }
+{
+    match read_version(alloc, lab, filed, version) {
+        Ok(read) => Ok(Done::Read(Reply::VersionRead(read))),
+        Err(fault) => match fault {
+            CommandFault::Refused(refusal) => Ok(Done::Refused(refusal)),
+            CommandFault::Memory => Err(OutOfMemory),
+        },
+    }
+}
+
+/// Persons in a line each, at the moment. The only error is out of memory.
+pub fn person_lines(
+    alloc: Global,
+    persons: &[Person],
+    moment: Moment,
+) -> Result<Series<PersonLine>, OutOfMemory>
+    ensures { IfOk result (λ lines. lines ≡ map (person_line moment) persons.now) }
+{
+    let mut lines = Series::new(alloc);
+    for person in persons {
+        lines.push(person_line(person, moment)?)?;
+    }
+    Ok(lines)
+}
+
+/// Records in a line each. The only error is out of memory.
+pub fn record_lines(alloc: Global, records: &[Record]) -> Result<Series<RecordState>, OutOfMemory>
+    ensures { IfOk result (λ lines. lines ≡ map record_line records.now) }
+{
+    let mut lines = Series::new(alloc);
+    for kept in records {
+        lines.push(record_line(kept)?)?;
+    }
+    Ok(lines)
+}

@@ -1,0 +1,299 @@
+//! What commands come to that make something of forms and records.
+ghost use Rattle.std.specs.Prelude.{◌≡◌, Ok, IfOk, if◌then◌else◌};
+ghost use Rattle.lab_access.specs.Attempts.{signing_attempt};
+ghost use Rattle.lab_rules.specs.Making.{making, opening_record};
+ghost use Rattle.lab_rules.specs.Entering.{entering, amending};
+ghost use Rattle.lab_rules.specs.Signing.{is_code_wanted};
+ghost use Rattle.lab_decisions.specs.Deciding.{then_done, form_done, record_done, entry_done, amendment_done, signature_done, signing_done};
+
+use crate::done::Done;
+use crate::lists::{single, triple};
+use lab_access::{Person, Session, attempt_signing};
+use lab_forms::Form;
+use lab_kept::{Change, Deed, FormVersion, Occasion, Record, Slice};
+use lab_machine::Reply;
+use lab_names::{Key, LabCode, Moment, Name, Note, Ordinal, OutOfMemory, PersonCode};
+use lab_rules::{
+    Altered, AmendmentMade, CommandFault, EntryMade, Item, Refusal, SignatureMade, Signing, Typed,
+    amend, enter, is_code_wanted, make_form, open_record, sign,
+};
+use lab_seal::Digest;
+use std::alloc::Global;
+
+/// What it comes to that a form is made. The only error is out of memory.
+pub fn making_done(
+    alloc: Global,
+    code: Key,
+    form: Form,
+    last: Option<FormVersion>,
+) -> Result<Done, OutOfMemory>
+    ensures { IfOk result (λ done. done ≡ then_done (making code form last) form_done) }
+{
+    match make_form(code, form, last) {
+        Ok(form) => form_done(alloc, form),
+        Err(refusal) => Ok(Done::Refused(refusal)),
+    }
+}
+
+fn form_done(alloc: Global, form: FormVersion) -> Result<Done, OutOfMemory>
+    ensures { IfOk result (λ done. done ≡ form_done form) }
+{
+    let told = form.code.copy()?;
+    let made = form.code.copy()?;
+    let version = form.version;
+    let changes = single(alloc, Change::FormAdded(form))?;
+    Ok(Done::Made(
+        Reply::FormMade {
+            code: told,
+            version,
+        },
+        Deed::Form {
+            form: made,
+            version,
+        },
+        changes,
+    ))
+}
+
+/// What it comes to that a record is opened. The only error is out of memory.
+pub fn opening_record_done(
+    alloc: Global,
+    slice: &mut Slice,
+    sample: Name,
+    caller: &PersonCode,
+    moment: Moment,
+) -> Result<Done, OutOfMemory>
+    ensures { IfOk result (λ done. done ≡ then_done (opening_record slice.old.form slice.old.filed
+        sample caller.now moment slice.old.counts.records) record_done) }
+{
+    let caller = caller.copy()?;
+    let form = slice.form.take();
+    let filed = slice.filed.take();
+    let records = slice.counts.records;
+    match open_record(alloc, form, filed, sample, caller, moment, records) {
+        Ok(kept) => record_done(alloc, kept),
+        Err(fault) => match fault {
+            CommandFault::Refused(refusal) => Ok(Done::Refused(refusal)),
+            CommandFault::Memory => Err(OutOfMemory),
+        },
+    }
+}
+
+fn record_done(alloc: Global, kept: Record) -> Result<Done, OutOfMemory>
+    ensures { IfOk result (λ done. done ≡ record_done kept) }
+{
+    let number = kept.number;
+    let changes = single(alloc, Change::RecordAdded(kept))?;
+    Ok(Done::Made(
+        Reply::RecordOpened {
+            number,
+            version: Ordinal::FIRST,
+        },
+        Deed::Record { record: number },
+        changes,
+    ))
+}
+
+/// What it comes to that a value is entered. The only error is out of memory.
+pub fn entering_done(
+    alloc: Global,
+    lab: &LabCode,
+    filed: &Option<Record>,
+    item: Item,
+    reason: Option<Note>,
+    caller: &PersonCode,
+    moment: Moment,
+) -> Result<Done, OutOfMemory>
+    ensures { IfOk result (λ done. done
+        ≡ then_done (entering lab.now filed.now item reason caller.now moment) entry_done) }
+{
+    let caller = caller.copy()?;
+    match enter(alloc, lab, filed.as_ref(), item, reason, caller, moment) {
+        Ok(made) => entry_done(alloc, made),
+        Err(fault) => match fault {
+            CommandFault::Refused(refusal) => Ok(Done::Refused(refusal)),
+            CommandFault::Memory => Err(OutOfMemory),
+        },
+    }
+}
+
+fn entry_done(alloc: Global, made: EntryMade) -> Result<Done, OutOfMemory>
+    ensures { IfOk result (λ done. done ≡ entry_done made) }
+{
+    let number = made.number;
+    let version = made.version;
+    let rows = made.rows;
+    let digest = made.digest;
+    let key = made.row.key.copy()?;
+    let changes = single(
+        alloc,
+        Change::RowAdded {
+            record: number,
+            row: made.row,
+        },
+    )?;
+    Ok(Done::Made(
+        Reply::Entered {
+            number,
+            version,
+            rows,
+            digest,
+        },
+        Deed::Entry {
+            record: number,
+            version,
+            key,
+        },
+        changes,
+    ))
+}
+
+/// What it comes to that a record is amended. The only error is out of memory.
+pub fn amending_done(
+    alloc: Global,
+    lab: &LabCode,
+    filed: &Option<Record>,
+    reason: Option<Note>,
+    altered: &Altered,
+    caller: &PersonCode,
+    moment: Moment,
+) -> Result<Done, OutOfMemory>
+    ensures { IfOk result (λ done. done
+        ≡ then_done (amending lab.now filed.now reason altered.now caller.now moment)
+        amendment_done) }
+{
+    let caller = caller.copy()?;
+    match amend(alloc, lab, filed.as_ref(), reason, altered, caller, moment) {
+        Ok(made) => amendment_done(alloc, made),
+        Err(fault) => match fault {
+            CommandFault::Refused(refusal) => Ok(Done::Refused(refusal)),
+            CommandFault::Memory => Err(OutOfMemory),
+        },
+    }
+}
+
+fn amendment_done(alloc: Global, made: AmendmentMade) -> Result<Done, OutOfMemory>
+    ensures { IfOk result (λ done. done ≡ amendment_done made) }
+{
+    let number = made.number;
+    let version = made.version.origin.number();
+    let digest = made.digest;
+    let changes = single(
+        alloc,
+        Change::VersionOpened {
+            record: number,
+            version: made.version,
+        },
+    )?;
+    Ok(Done::Made(
+        Reply::Amended {
+            number,
+            version,
+            digest,
+        },
+        Deed::Amend {
+            record: number,
+            version,
+        },
+        changes,
+    ))
+}
+
+/// What it comes to that a version is signed: the first signing of a session wants the code, then the password is looked at.
+/// The only error is out of memory.
+pub fn asked_signing_done(
+    alloc: Global,
+    slice: &Slice,
+    moment: Moment,
+    session: &Session,
+    caller: &Person,
+    version: Ordinal,
+    digest: Digest,
+    signing: Signing,
+    password: &Typed,
+    code: &Option<PersonCode>,
+) -> Result<Done, OutOfMemory>
+    ensures { IfOk result (λ done. done
+        ≡ (if is_code_wanted session.now code.now then Done.Refused Refusal.CodeWanted
+        else signing_done slice.now moment session.now version digest signing
+        (signing_attempt caller.now code.now password.now moment))) }
+{
+    if is_code_wanted(session, code.as_ref()) {
+        return Ok(Done::Refused(Refusal::CodeWanted));
+    }
+    let caller = caller.copy()?;
+    match attempt_signing(caller, code.as_ref(), password.as_str(), moment) {
+        Ok(person) => signing_done(
+            alloc, slice, moment, session, version, digest, signing, person,
+        ),
+        Err(failure) => Ok(Done::Failed(Occasion::Signing, failure)),
+    }
+}
+
+// What the signing of a person comes to whose password was accepted.
+fn signing_done(
+    alloc: Global,
+    slice: &Slice,
+    moment: Moment,
+    session: &Session,
+    version: Ordinal,
+    digest: Digest,
+    signing: Signing,
+    person: Person,
+) -> Result<Done, OutOfMemory>
+    ensures { IfOk result (λ done. done
+        ≡ signing_done slice.now moment session.now version digest signing (Ok person)) }
+{
+    match sign(
+        alloc,
+        &slice.code,
+        slice.filed.as_ref(),
+        version,
+        digest,
+        signing,
+        &person,
+        moment,
+    ) {
+        Ok(made) => signature_done(alloc, session, person, made),
+        Err(fault) => match fault {
+            CommandFault::Refused(refusal) => Ok(Done::Refused(refusal)),
+            CommandFault::Memory => Err(OutOfMemory),
+        },
+    }
+}
+
+fn signature_done(
+    alloc: Global,
+    session: &Session,
+    person: Person,
+    made: SignatureMade,
+) -> Result<Done, OutOfMemory>
+    ensures { IfOk result (λ done. done ≡ signature_done session.now person made) }
+{
+    let number = made.number;
+    let version = made.version;
+    let state = made.state;
+    let signature = made.signature.copy()?;
+    let meaning = made.signature.meaning.copy()?;
+    let mut signed = session.copy()?;
+    signed.mark_signed();
+    let changes = triple(
+        alloc,
+        Change::PersonSet(person),
+        Change::SessionSet(signed),
+        Change::SignatureAdded {
+            record: number,
+            version,
+            signature: made.signature,
+        },
+    )?;
+    Ok(Done::Made(
+        Reply::Signed { signature, state },
+        Deed::Sign {
+            record: number,
+            version,
+            meaning,
+        },
+        changes,
+    ))
+}
