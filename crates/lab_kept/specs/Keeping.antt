@@ -15,7 +15,7 @@ use Rattle.lab_kept.specs.declared.trails.Deed.TheVariants.{Record, Entry, Amend
 use Rattle.lab_kept.specs.declared.labs.Lab.{Lab}
 use Rattle.lab_kept.specs.Trails.{row_of}
 use Rattle.lab_kept.specs.Lookups.{exact_form, record_of, last_of}
-use Rattle.lab_kept.specs.Changes.{SamePerson, SameSession, in_record, entered_in, opened_in, signed_in}
+use Rattle.lab_kept.specs.Changes.{SamePerson, SameSession, IsKnown, in_record, entered_in, opened_in, signed_in}
 
 -- each item of the old list stands in its place in the new one, related to it so; the new one may
 -- have more
@@ -114,32 +114,42 @@ pub record IsVersionAdded (old new : List KeptRecord) (number version moment : �
   pub rows : All (IsAmended opened moment person) opened.rows
   pub no_signatures : opened.signatures ≡ []
 
-pub record IsSignatureAdded (old new : List KeptRecord) (number version : ℕ) (meaning : Meaning)
-    (moment : ℕ) (person : List ℕ) : Type 0 where
+-- somebody has the code, under this printed name
+abbrev pub IsNamed : List Person → List ℕ → List ℕ → Type 0
+IsNamed persons code name = MatchOption (person_of persons code) ⊥ (λ one. name ≡ one.name)
+
+-- a signature bears the printed name of its signer, its moment and its meaning (21 CFR 11.50(a))
+pub record IsSignatureAdded (persons : List Person) (old new : List KeptRecord)
+    (number version : ℕ) (meaning : Meaning) (moment : ℕ) (person : List ℕ) : Type 0 where
   pub signature : Signature
   pub added : new ≡ in_record number (signed_in version signature) old
   pub meant : signature.meaning ≡ meaning
   pub by : signature.person ≡ person
+  pub named : IsNamed persons person signature.name
   pub at : signature.moment ≡ moment
 
 -- by which deed, or by none
-abbrev pub IsDoneTo : Deed → List KeptRecord → List KeptRecord → ℕ → List ℕ → Type 0
-IsDoneTo (Record number) old new moment person = IsRecordAdded old new number moment person
-IsDoneTo (Entry number version key) old new moment person =
+abbrev pub IsDoneTo : Deed → List Person → List KeptRecord → List KeptRecord → ℕ → List ℕ → Type 0
+IsDoneTo (Record number) persons old new moment person =
+    IsRecordAdded old new number moment person
+IsDoneTo (Entry number version key) persons old new moment person =
     IsRowAdded old new number version key moment person
-IsDoneTo (Amend number version) old new moment person =
+IsDoneTo (Amend number version) persons old new moment person =
     IsVersionAdded old new number version moment person
-IsDoneTo (Sign number version meaning) old new moment person =
-    IsSignatureAdded old new number version meaning moment person
-IsDoneTo _ old new moment person = new ≡ old
+IsDoneTo (Sign number version meaning) persons old new moment person =
+    IsSignatureAdded persons old new number version meaning moment person
+IsDoneTo _ persons old new moment person = new ≡ old
 
--- the trail has one row more, which tells by what deed, by whom and when the records became others
+-- the trail has one row more, which tells by what deed, by whom of the laboratory and when the
+-- records became others
 pub record IsToldOnce (old new : Lab) : Type 0 where
   pub deed : Deed
   pub moment : ℕ
   pub person : List ℕ
   pub told : new.trail ≡ old.trail ++ row_of (length old.trail + 1) moment (Some person) deed ∷ []
-  pub done : IsDoneTo deed old.records new.records moment person
+  pub at : moment ≡ new.last
+  pub by : IsKnown old person
+  pub done : IsDoneTo deed old.persons old.records new.records moment person
 
 -- ---- a laboratory keeps the one before
 

@@ -27,7 +27,8 @@ use Rattle.std.specs.Prelude.{bytes_eq, ◌||◌, ◌&&◌, nat_lt, nat_le}
 use Rattle.lab_kept.specs.declared.labs.Lab.{Lab}
 use Rattle.lab_kept.specs.declared.trails.Deed.{Deed}
 use Rattle.lab_kept.specs.Lookups.{person_at, session_at}
-use Rattle.lab_kept.specs.Changes.{SamePerson, SameSession, with_person, with_session, added_person}
+use Rattle.lab_kept.specs.declared.records.Record.{Record as KeptRecord}
+use Rattle.lab_kept.specs.Changes.{SamePerson, SameSession, IsKnown, with_person, with_session, added_person}
 use Rattle.lab_kept.specs.Keeping.{Extends, KeepsPersons, KeepsForms, KeepsRecord, IsDoneTo}
 use Rattle.lab_rules.specs.declared.refusals.Refusal.{Refusal}
 use Rattle.lab_machine.specs.Cases.{Case, Refuses, Fails, Reads, Makes}
@@ -49,12 +50,19 @@ pub record KeepsRest (old new : Lab) : Type 0 where
   pub sessions : Extends SameSession old.sessions new.sessions
   pub forms : KeepsForms old.forms new.forms
 
--- another laboratory is made by a deed, which the trail doesn't tell yet
-pub record IsMade (lab after : Lab) (deed : Deed) (moment : ℕ) (person : List ℕ) : Type 0 where
+-- records became others by a deed of somebody of the laboratory
+abbrev pub IsDoneBy : Lab → List KeptRecord → Deed → ℕ → List ℕ → Type 0
+IsDoneBy lab records deed moment person =
+    IsKnown lab person × IsDoneTo deed lab.persons lab.records records moment person
+
+-- another laboratory is made by a deed, which the trail doesn't tell yet; it was last active then
+pub record IsMade (last : ℕ) (lab after : Lab) (deed : Deed) (moment : ℕ) (person : List ℕ)
+    : Type 0 where
   pub rest : KeepsRest lab after
   pub records : Extends KeepsRecord lab.records after.records
   pub trail : after.trail ≡ lab.trail
-  pub done : (after.records ≡ lab.records) ⊎ IsDoneTo deed lab.records after.records moment person
+  pub active : after.last ≡ last
+  pub done : (after.records ≡ lab.records) ⊎ IsDoneBy lab after.records deed moment person
 
 -- whom a failed password counts for is somebody there
 abbrev pub FailureKeeps : List Person → Failure → Type 0
@@ -67,7 +75,8 @@ abbrev pub CaseKeeps : Lab → ℕ → List ℕ → Case → Type 0
 CaseKeeps lab moment person (Refuses refusal) = Unit {0}
 CaseKeeps lab moment person (Fails occasion failure) = FailureKeeps lab.persons failure
 CaseKeeps lab moment person (Reads reply) = Unit {0}
-CaseKeeps lab moment person (Makes reply deed after) = IsMade lab after deed moment person
+CaseKeeps lab moment person (Makes reply deed after) =
+    IsMade lab.last lab after deed moment person
 
 pub after_case : {A : Type 0} (lab : Lab) (moment : ℕ) (person : List ℕ) (result : Result A Refusal)
     (next : A → Case) → ((value : A) → result ≡ Ok value → CaseKeeps lab moment person (next value))
@@ -91,7 +100,7 @@ after_read lab moment person (Ok value) next = tt
 persons_made : (lab : Lab) (persons : List Person) (sessions : List Session) (deed : Deed)
     (moment : ℕ) (person : List ℕ) → KeepsPersons lab.persons persons
     → Extends SameSession lab.sessions sessions
-    → IsMade lab (record lab { persons = persons; sessions = sessions }) deed moment person
+    → IsMade lab.last lab (record lab { persons = persons; sessions = sessions }) deed moment person
 persons_made lab persons sessions deed moment person kept stay = record {
   rest = record {
     code = refl;
@@ -102,6 +111,7 @@ persons_made lab persons sessions deed moment person kept stay = record {
   };
   records = records_itself lab.records;
   trail = refl;
+  active = refl;
   done = inl refl;
 }
 
@@ -151,7 +161,7 @@ failure_keeps persons code person Stray there same = tt
 -- ---- openings
 
 opened_keeps : (lab : Lab) (opened : Opened) (deed : Deed) (moment : ℕ) (person : List ℕ)
-    → IsSet lab.persons opened.person → IsMade lab (with_opened lab opened) deed moment person
+    → IsSet lab.persons opened.person → IsMade lab.last lab (with_opened lab opened) deed moment person
 opened_keeps lab opened deed moment person set =
     persons_made lab (with_person opened.person lab.persons) (lab.sessions ++ opened.session ∷ [])
     deed moment person (set_keeps lab.persons opened.person set)
@@ -318,7 +328,7 @@ pub record IsAbout (holder : Option Person) (person : Person) : Type 0 where
 pub with_closed_keeps : (lab : Lab) (code : List ℕ) (person : Person) (closing : Closing)
     (deed : Deed)
     (moment : ℕ) (caller : List ℕ) → IsAbout (person_at lab code) person
-    → IsMade lab (with_person_closed lab person closing) deed moment caller
+    → IsMade lab.last lab (with_person_closed lab person closing) deed moment caller
 with_closed_keeps lab code person closing deed moment caller about =
     persons_made lab (with_person person lab.persons)
     (sessions_after closing person.code lab.sessions)

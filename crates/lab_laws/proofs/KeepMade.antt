@@ -1,6 +1,6 @@
 -- What the cases of forms, records and signatures keep, and what they do to the records.
 use Rattle.std.proofs.Common.{◌≡◌, ℕ, ◌+◌, Bool, true, false, cond, not, List, [], ◌∷◌, ◌++◌, length, Option, Some, None, Result, Ok, Err, refl, sym, ◌∙◌, ap, subst, inl, inr}
-use Rattle.std.specs.Prelude.{◌||◌, ◌&&◌, nat_lt, nat_le, is_none, option_map, option_and_then}
+use Rattle.std.specs.Prelude.{◌||◌, ◌&&◌, nat_lt, nat_le, is_none, option_map, option_and_then, IsSome, MatchOption}
 use Rattle.std.specs.Option.{option_map_or}
 use Rattle.std.proofs.lemmas.List.Elements.{All-map}
 use Rattle.lab_forms.specs.Forms.{FormSheet, form_eq}
@@ -21,7 +21,7 @@ use Rattle.lab_kept.specs.declared.trails.Deed.TheVariants.{Record as RecordDeed
 use Rattle.lab_kept.specs.Limits.{AreFormsNumbered, form_version_limit, record_limit, row_limit, version_limit}
 use Rattle.lab_kept.specs.Lookups.{last_form, next_form_version, record_of, version_of, last_of}
 use Rattle.lab_kept.specs.Values.{version_state}
-use Rattle.lab_kept.specs.Changes.{in_record, entered_in, opened_in, signed_in}
+use Rattle.lab_kept.specs.Changes.{IsKnown, in_record, entered_in, opened_in, signed_in}
 use Rattle.lab_kept.specs.Keeping.{Extends, KeepsRecord, IsDoneTo, IsAmended}
 use Rattle.lab_rules.specs.declared.items.Item.{Item}
 use Rattle.lab_rules.specs.declared.outcomes.Signing.{Signing}
@@ -52,13 +52,15 @@ rest_itself lab records = record {
 
 -- records alone are others
 records_made : (lab : Lab) (records : List KeptRecord) (deed : Deed) (moment : ℕ) (person : List ℕ)
-    → Extends KeepsRecord lab.records records → IsDoneTo deed lab.records records moment person
-    → IsMade lab (record lab { records = records }) deed moment person
-records_made lab records deed moment person keeps done = record {
+    → IsKnown lab person → Extends KeepsRecord lab.records records
+    → IsDoneTo deed lab.persons lab.records records moment person
+    → IsMade lab.last lab (record lab { records = records }) deed moment person
+records_made lab records deed moment person known keeps done = record {
   rest = rest_itself lab records;
   records = keeps;
   trail = refl;
-  done = inr done;
+  active = refl;
+  done = inr (known, done);
 }
 
 -- ---- forms
@@ -99,6 +101,7 @@ form_keeps lab code sheet form moment person numbered h =
       };
       records = records_itself lab.records;
       trail = refl;
+      active = refl;
       done = inl refl;
     }
 
@@ -127,10 +130,11 @@ opened_new (Some form) None sample person moment records kept h = record {
 }
 
 new_keeps : (lab : Lab) (form : FormVersion) (sample person : List ℕ) (moment records : ℕ)
+    → IsKnown lab person
     → CaseKeeps lab moment person (record_case lab (new_record form sample person moment records))
-new_keeps lab form sample person moment records =
+new_keeps lab form sample person moment records known =
     let kept = new_record form sample person moment records in
-    records_made lab (lab.records ++ kept ∷ []) (RecordDeed kept.number) moment person
+    records_made lab (lab.records ++ kept ∷ []) (RecordDeed kept.number) moment person known
     (records_more lab.records (kept ∷ []))
     (record {
       kept = kept;
@@ -147,13 +151,13 @@ new_keeps lab form sample person moment records =
     })
 
 pub record_keeps : (lab : Lab) (form : Option FormVersion) (found : Option KeptRecord)
-    (sample person : List ℕ) (moment records : ℕ) (kept : KeptRecord)
+    (sample person : List ℕ) (moment records : ℕ) (kept : KeptRecord) → IsKnown lab person
     → opening_record form found sample person moment records ≡ Ok kept
     → CaseKeeps lab moment person (record_case lab kept)
-record_keeps lab form found sample person moment records kept h =
+record_keeps lab form found sample person moment records kept known h =
     let new = opened_new form found sample person moment records kept h in
     subst (λ one. CaseKeeps lab moment person (record_case lab one)) new.is
-    (new_keeps lab new.form sample person moment records)
+    (new_keeps lab new.form sample person moment records known)
 
 -- ---- entries
 
@@ -223,14 +227,14 @@ entered_found records number lab (Some kept) item reason person moment made ther
 row_entered : (lab : Lab) (person : List ℕ) (moment : ℕ) (kept : KeptRecord) (last : Version)
     (row : EntryRow) → record_of lab.records kept.number ≡ Some kept
     → last_of kept.versions ≡ Some last → last.signatures ≡ [] → row.person ≡ person
-    → row.moment ≡ moment
+    → row.moment ≡ moment → IsKnown lab person
     → CaseKeeps lab moment person (entry_case lab (entry_made lab.code kept last row))
-row_entered lab person moment kept last row there at unsigned by moment_is =
+row_entered lab person moment kept last row there at unsigned by moment_is known =
     let number_of : Option KeptRecord → Option ℕ = λ found.
     option_map (λ version. version.origin.number)
     (option_and_then (λ kept. last_of kept.versions) found) in
     records_made lab (in_record kept.number (entered_in row) lab.records)
-    (EntryDeed kept.number last.origin.number row.key) moment person
+    (EntryDeed kept.number last.origin.number row.key) moment person known
     (in_record_keeps kept.number (entered_in row) lab.records kept there
     (entered_in_keeps row kept last at unsigned))
     (record {
@@ -243,15 +247,15 @@ row_entered lab person moment kept last row there at unsigned by moment_is =
     })
 
 pub entry_keeps : (lab : Lab) (number : ℕ) (item : Item) (reason : Option (List ℕ))
-    (person : List ℕ) (moment : ℕ) (made : EntryMade)
+    (person : List ℕ) (moment : ℕ) (made : EntryMade) → IsKnown lab person
     → entering lab.code (record_of lab.records number) item reason person moment ≡ Ok made
     → CaseKeeps lab moment person (entry_case lab made)
-entry_keeps lab number item reason person moment made h =
+entry_keeps lab number item reason person moment made known h =
     let entered = entered_found lab.records number lab.code (record_of lab.records number) item
     reason person moment made refl h in
     subst (λ one. CaseKeeps lab moment person (entry_case lab one)) entered.is
     (row_entered lab person moment entered.kept entered.last entered.row entered.there entered.at
-    entered.unsigned entered.by entered.moment_is)
+    entered.unsigned entered.by entered.moment_is known)
 
 -- ---- amendments
 
@@ -323,13 +327,13 @@ amended_found records number lab (Some kept) reason altered person moment made t
 
 version_made : (lab : Lab) (person : List ℕ) (moment : ℕ) (kept : KeptRecord) (last : Version)
     (reason : List ℕ) (one : Item) (others : List Item)
-    → record_of lab.records kept.number ≡ Some kept
+    → record_of lab.records kept.number ≡ Some kept → IsKnown lab person
     → CaseKeeps lab moment person (amendment_case lab (amendment_made lab.code kept
     (next_version lab.code kept last reason (one ∷ others) person moment)))
-version_made lab person moment kept last reason one others there =
+version_made lab person moment kept last reason one others there known =
     let opened = next_version lab.code kept last reason (one ∷ others) person moment in
     records_made lab (in_record kept.number (opened_in opened) lab.records)
-    (AmendDeed kept.number opened.origin.number) moment person
+    (AmendDeed kept.number opened.origin.number) moment person known
     (in_record_keeps kept.number (opened_in opened) lab.records kept there
     (opened_in_keeps opened kept))
     (record {
@@ -346,15 +350,15 @@ version_made lab person moment kept last reason one others there =
     })
 
 pub amendment_keeps : (lab : Lab) (number : ℕ) (reason : Option (List ℕ)) (altered : List Item)
-    (person : List ℕ) (moment : ℕ) (made : AmendmentMade)
+    (person : List ℕ) (moment : ℕ) (made : AmendmentMade) → IsKnown lab person
     → amending lab.code (record_of lab.records number) reason altered person moment ≡ Ok made
     → CaseKeeps lab moment person (amendment_case lab made)
-amendment_keeps lab number reason altered person moment made h =
+amendment_keeps lab number reason altered person moment made known h =
     let amended = amended_found lab.records number lab.code (record_of lab.records number) reason
     altered person moment made refl h in
     subst (λ one. CaseKeeps lab moment person (amendment_case lab one)) amended.is
     (version_made lab person moment amended.kept amended.last amended.reason amended.one
-    amended.others amended.there)
+    amended.others amended.there known)
 
 -- ---- signatures
 
@@ -363,42 +367,43 @@ signed_by : (refusal : Option Refusal) (next made : SignatureMade)
 signed_by (Some refusal) next made h = absurd (cc)
 signed_by None next made h = cc
 
--- a record that is there is signed by the person
-record IsSignatureMade (records : List KeptRecord) (person : List ℕ) (moment : ℕ)
+-- a record that is there is signed by the person of the code and the name
+record IsSignatureMade (records : List KeptRecord) (person name : List ℕ) (moment : ℕ)
     (made : SignatureMade) : Type 0 where
   pub kept : KeptRecord
   pub there : record_of records made.number ≡ Some kept
   pub by : made.signature.person ≡ person
+  pub named : made.signature.name ≡ name
   pub at : made.signature.moment ≡ moment
 
 signed_version : (records : List KeptRecord) (lab : List ℕ) (kept : KeptRecord)
     (version : Option Version) (digest : List ℕ) (signing : Signing) (person : Person) (moment : ℕ)
     (made : SignatureMade) → record_of records kept.number ≡ Some kept
     → signing_version lab kept version digest signing person moment ≡ Ok made
-    → IsSignatureMade records person.code moment made
+    → IsSignatureMade records person.code person.name moment made
 signed_version records lab kept None digest signing person moment made there h = absurd (cc)
 signed_version records lab kept (Some version) digest signing person moment made there h =
     let is = signed_by (version_refusal lab kept version digest signing person.code)
     (signature_made kept version (new_signature lab person signing moment digest)) made h in
-    subst (IsSignatureMade records person.code moment) is
-    (record { kept = kept; there = there; by = refl; at = refl })
+    subst (IsSignatureMade records person.code person.name moment) is
+    (record { kept = kept; there = there; by = refl; named = refl; at = refl })
 
 signed_found : (records : List KeptRecord) (number version : ℕ) (lab : List ℕ)
     (found : Option KeptRecord) (digest : List ℕ) (signing : Signing) (person : Person) (moment : ℕ)
     (made : SignatureMade) → record_of records number ≡ found
     → signing_record lab found version digest signing person moment ≡ Ok made
-    → IsSignatureMade records person.code moment made
+    → IsSignatureMade records person.code person.name moment made
 signed_found records number version lab None digest signing person moment made there h = absurd (cc)
 signed_found records number version lab (Some kept) digest signing person moment made there h =
     signed_version records lab kept (version_of kept.versions version) digest signing person moment
     made (found_own records number kept there) h
 
 signature_keeps : (lab : Lab) (session : Session) (one : Person) (made : SignatureMade) (moment : ℕ)
-    (person : List ℕ) → IsSet lab.persons one
+    (caller : Person) → person_of lab.persons caller.code ≡ Some caller → IsSet lab.persons one
     → session_of lab.sessions session.token ≡ Some session
-    → IsSignatureMade lab.records person moment made
-    → CaseKeeps lab moment person (signature_case lab session one made)
-signature_keeps lab session one made moment person set there signed = record {
+    → IsSignatureMade lab.records caller.code caller.name moment made
+    → CaseKeeps lab moment caller.code (signature_case lab session one made)
+signature_keeps lab session one made moment caller known set there signed = record {
   rest = record {
     code = refl;
     name = refl;
@@ -411,11 +416,14 @@ signature_keeps lab session one made moment person set there signed = record {
       in_record_keeps made.number (signed_in made.version made.signature) lab.records signed.kept
       signed.there (signed_in_keeps made.version made.signature signed.kept);
   trail = refl;
-  done = inr (record {
+  active = refl;
+  done = inr (subst IsSome (sym known) tt, record {
     signature = made.signature;
     added = refl;
     meant = refl;
     by = signed.by;
+    named = subst (λ found. MatchOption found ⊥ (λ person. made.signature.name ≡ person.name))
+        (sym known) signed.named;
     at = signed.at;
   });
 }
@@ -433,11 +441,12 @@ signing_by_keeps lab moment session caller number version digest signing (Ok one
     after_case lab moment caller.code
     (signing_record lab.code (record_of lab.records number) version digest signing one moment)
     (signature_case lab session one) (λ made h.
-    signature_keeps lab session one made moment caller.code
+    signature_keeps lab session one made moment caller known
     (set_from lab.persons caller.code caller one known same) there
-    (subst (λ code. IsSignatureMade lab.records code moment made) same.code
+    (subst (λ name. IsSignatureMade lab.records caller.code name moment made) same.name
+    (subst (λ code. IsSignatureMade lab.records code one.name moment made) same.code
     (signed_found lab.records number version lab.code (record_of lab.records number) digest signing
-    one moment made refl h)))
+    one moment made refl h))))
 
 signing_wanted : (wanted : Bool) (lab : Lab) (moment : ℕ) (code : List ℕ) (case : Case)
     → CaseKeeps lab moment code case

@@ -1,6 +1,6 @@
 -- A step keeps what was, by how far its instruction gets.
 use Rattle.std.proofs.Common.{◌≡◌, ◌⊎◌, ℕ, ◌+◌, Bool, true, false, cond, List, [], ◌∷◌, ◌++◌, length, Option, Some, None, refl, sym, ap, subst, inl, inr}
-use Rattle.std.specs.Prelude.{nat_le, nat_lt}
+use Rattle.std.specs.Prelude.{nat_le, nat_lt, IsSome}
 use Rattle.lab_names.specs.declared.tick.Tick.{Tick}
 use Rattle.lab_access.specs.declared.persons.Person.{Person}
 use Rattle.lab_access.specs.declared.policy.Rule.{Rule}
@@ -23,8 +23,8 @@ use Rattle.lab_kept.specs.declared.trails.TrailRow.{TrailRow}
 use Rattle.lab_kept.specs.Limits.{AreFormsNumbered, count_limit}
 use Rattle.lab_kept.specs.Lookups.{person_at, caller_of, last_form, exact_form, record_of, record_about}
 use Rattle.lab_kept.specs.Trails.{row_of}
-use Rattle.lab_kept.specs.Changes.{SameSession, with_person, with_session}
-use Rattle.lab_kept.specs.Keeping.{Extends, IsPrefix, KeepsPersons, KeepsRecord, IsDoneTo, IsToldOnce, Keeps}
+use Rattle.lab_kept.specs.Changes.{SameSession, IsKnown, with_person, with_session}
+use Rattle.lab_kept.specs.Keeping.{Extends, IsPrefix, KeepsPersons, KeepsRecord, IsToldOnce, Keeps}
 use Rattle.lab_rules.specs.Making.{making, opening_record}
 use Rattle.lab_rules.specs.Entering.{entering, amending}
 use Rattle.lab_rules.specs.Reading.{reading_form, reading_record, reading_version}
@@ -45,10 +45,14 @@ use Rattle.lab_laws.proofs.KeepLists.{prefix_itself, prefix_more, prefix_on}
 use Rattle.lab_laws.proofs.KeepPersons.{set_keeps, persons_itself, found_code, sessions_itself, sessions_on, with_session_keeps, with_session_found, closed_keep, found_token}
 use Rattle.lab_laws.proofs.KeepForms.{forms_itself}
 use Rattle.lab_laws.proofs.KeepRecords.{records_itself}
-use Rattle.lab_laws.proofs.KeepCases.{KeepsRest, IsMade, FailureKeeps, CaseKeeps, after_case, after_person, after_read, opening_keeps, closing_keeps, changing_keeps, enrolled_keeps, with_closed_keeps, asked_about, confirmed_about, roles_about, retired_about, unlocked_about}
+use Rattle.lab_laws.proofs.KeepCases.{KeepsRest, IsDoneBy, IsMade, FailureKeeps, CaseKeeps, after_case, after_person, after_read, opening_keeps, closing_keeps, changing_keeps, enrolled_keeps, with_closed_keeps, asked_about, confirmed_about, roles_about, retired_about, unlocked_about}
 use Rattle.lab_laws.proofs.KeepMade.{form_keeps, record_keeps, entry_keeps, amendment_keeps, signing_keeps}
 
 -- ---- each command
+
+is_known : (lab : Lab) (caller : Person) → person_of lab.persons caller.code ≡ Some caller
+    → IsKnown lab caller.code
+is_known lab caller known = subst IsSome (sym known) tt
 
 own_keeps : (lab : Lab) (tick : Tick) (session : Session) (caller : Person) (command : Command)
     → session_of lab.sessions session.token ≡ Some session
@@ -102,17 +106,19 @@ own_keeps lab tick session caller (OpenRecord form sample) there known numbered 
     (opening_record (last_form lab.forms form) (record_about lab.records form sample) sample
     caller.code tick.moment (length lab.records)) (record_case lab) (λ kept h.
     record_keeps lab (last_form lab.forms form) (record_about lab.records form sample) sample
-    caller.code tick.moment (length lab.records) kept h)
+    caller.code tick.moment (length lab.records) kept (is_known lab caller known) h)
 own_keeps lab tick session caller (Enter number item reason) there known numbered =
     after_case lab tick.moment caller.code
     (entering lab.code (record_of lab.records number) item reason caller.code tick.moment)
     (entry_case lab)
-    (λ made h. entry_keeps lab number item reason caller.code tick.moment made h)
+    (λ made h. entry_keeps lab number item reason caller.code tick.moment made
+    (is_known lab caller known) h)
 own_keeps lab tick session caller (Amend number reason altered) there known numbered =
     after_case lab tick.moment caller.code
     (amending lab.code (record_of lab.records number) reason altered caller.code tick.moment)
     (amendment_case lab)
-    (λ made h. amendment_keeps lab number reason altered caller.code tick.moment made h)
+    (λ made h. amendment_keeps lab number reason altered caller.code tick.moment made
+    (is_known lab caller known) h)
 own_keeps lab tick session caller (Sign number version digest signing password code) there known
     numbered =
     signing_keeps lab tick.moment session caller number version digest signing password code known
@@ -226,22 +232,24 @@ failed_frame lab moment occasion Stray set =
     (persons_itself lab.persons) (sessions_itself lab.sessions)
 
 done_told : (lab after : Lab) (deed : Deed) (moment : ℕ) (person : List ℕ)
-    → after.trail ≡ lab.trail
-    → (after.records ≡ lab.records) ⊎ IsDoneTo deed lab.records after.records moment person
+    → after.trail ≡ lab.trail → after.last ≡ moment
+    → (after.records ≡ lab.records) ⊎ IsDoneBy lab after.records deed moment person
     → (after.records ≡ lab.records) ⊎ IsToldOnce lab (told moment (Some person) deed after)
-done_told lab after deed moment person trail (inl same) = inl same
-done_told lab after deed moment person trail (inr done) = inr (record {
+done_told lab after deed moment person trail active (inl same) = inl same
+done_told lab after deed moment person trail active (inr done) = inr (record {
   deed = deed;
   moment = moment;
   person = person;
   told = ap (λ (rows : List TrailRow).
       rows ++ row_of (length rows + 1) moment (Some person) deed ∷ []) trail;
-  done = done;
+  at = sym active;
+  by = done.0;
+  done = done.1;
 })
 
 -- a laboratory that was made, once the trail tells of it
 told_keeps : (lab after : Lab) (deed : Deed) (moment : ℕ) (person : List ℕ)
-    → IsMade lab after deed moment person → Keeps lab (told moment (Some person) deed after)
+    → IsMade moment lab after deed moment person → Keeps lab (told moment (Some person) deed after)
 told_keeps lab after deed moment person made =
     let row = row_of (length after.trail + 1) moment (Some person) deed in
     record {
@@ -253,12 +261,12 @@ told_keeps lab after deed moment person made =
       records = made.records;
       trail = subst (λ rows. IsPrefix rows (after.trail ++ row ∷ [])) made.trail
           (prefix_more after.trail (row ∷ []));
-      told = done_told lab after deed moment person made.trail made.done;
+      told = done_told lab after deed moment person made.trail made.active made.done;
     }
 
 made_by : (full : Bool) (lab after : Lab) (moment : ℕ) (person : List ℕ) (reply : Reply)
     (deed : Deed)
-    → IsMade lab after deed moment person
+    → IsMade moment lab after deed moment person
     → WhereThere (Keeps lab) (cond full (stays lab (Refused (People LabFull)))
     (stays (told moment (Some person) deed after) reply)).after
 made_by true lab after moment person reply deed made = keeps_itself lab
@@ -266,20 +274,21 @@ made_by false lab after moment person reply deed made =
     told_keeps lab after deed moment person made
 
 made_keeps : (lab after : Lab) (moment : ℕ) (person : List ℕ) (reply : Reply) (deed : Deed)
-    → IsMade lab after deed moment person
+    → IsMade moment lab after deed moment person
     → WhereThere (Keeps lab) (made lab after moment person reply deed).after
 made_keeps lab after moment person reply deed is =
     made_by (nat_le count_limit (length lab.trail)) lab after moment person reply deed is
 
-ended_keeps : (lab : Lab) (moment : ℕ) (person : List ℕ) (case : Case)
+ended_keeps : (lab : Lab) (moment : ℕ) (person : List ℕ) (case : Case) → lab.last ≡ moment
     → CaseKeeps lab moment person case → WhereThere (Keeps lab) (ended lab moment person case).after
-ended_keeps lab moment person (Refuses refusal) keeps = keeps_itself lab
-ended_keeps lab moment person (Fails occasion failure) keeps =
+ended_keeps lab moment person (Refuses refusal) active keeps = keeps_itself lab
+ended_keeps lab moment person (Fails occasion failure) active keeps =
     frame_keeps lab (failed lab moment occasion failure)
     (failed_frame lab moment occasion failure keeps)
-ended_keeps lab moment person (Reads reply) keeps = keeps_itself lab
-ended_keeps lab moment person (Makes reply deed after) keeps =
-    made_keeps lab after moment person reply deed keeps
+ended_keeps lab moment person (Reads reply) active keeps = keeps_itself lab
+ended_keeps lab moment person (Makes reply deed after) active keeps =
+    made_keeps lab after moment person reply deed
+    (subst (λ last. IsMade last lab after deed moment person) active keeps)
 
 -- ---- a moment and a request before
 
@@ -292,6 +301,8 @@ told_before lab new last sessions (inr once) = inr (record {
   moment = once.moment;
   person = once.person;
   told = once.told;
+  at = once.at;
+  by = once.by;
   done = once.done;
 })
 
@@ -318,7 +329,8 @@ where_before lab last sessions None stay keeps = tt
 where_before lab last sessions (Some new) stay keeps = kept_before lab last sessions new stay keeps
 
 moment_made : (lab after : Lab) (deed : Deed) (moment : ℕ) (person : List ℕ)
-    → IsMade lab after deed moment person → IsMade lab (at_moment moment after) deed moment person
+    → IsMade lab.last lab after deed moment person
+    → IsMade moment lab (at_moment moment after) deed moment person
 moment_made lab after deed moment person made = record {
   rest = record {
     code = made.rest.code;
@@ -329,6 +341,7 @@ moment_made lab after deed moment person made = record {
   };
   records = made.records;
   trail = made.trail;
+  active = refl;
   done = made.done;
 }
 
@@ -395,7 +408,7 @@ allowed_keeps lab tick command session caller None numbered there known =
     let case = own after tick now caller command in
     where_before lab tick.moment (with_session now lab.sessions)
     (ended after tick.moment caller.code case).after (touching lab tick.moment session there)
-    (ended_keeps after tick.moment caller.code case
+    (ended_keeps after tick.moment caller.code case refl
     (own_keeps after tick now caller command (with_session_found lab.sessions now session there)
     known numbered))
 
