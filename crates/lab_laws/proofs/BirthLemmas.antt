@@ -1,6 +1,7 @@
 -- A laboratory as it is born: three persons in order, one row of the trail, and nothing else.
 use Rattle.std.proofs.Common.{◌≡◌, ℕ, ◌+◌, Bool, true, false, cond, not, ◌||◌, List, [], ◌∷◌, length, None, Some, Ok, Err, ◌≢◌, refl, sym, ◌∙◌, ap, subst, arith}
 use Rattle.std.specs.Prelude.{bytes_eq, IsTrue, All}
+use Rattle.std.specs.List.{position_or_len}
 use Rattle.std.specs.Ordering.{nat_cmp, match_ordering, ordering_reverse, is_eq}
 use Rattle.std.proofs.Common.{Ordering, Less, Equal, Greater}
 use Rattle.std.specs.Cmp.Lexicographic.{slice_cmp, nat_list_cmp_total, nat_list_eq_equiv}
@@ -199,15 +200,21 @@ born_right code tick founding lab h =
     subst IsRight is.1 (newborn_right code tick founding (founders_three tick founding is.0))
 
 -- three administrators
+rule_added : (person : Person) (persons : List Person) → IsAdministrator person
+    → All IsAdministrator persons → All IsAdministrator (added_person person persons)
+rule_added person persons one all =
+    all_placed IsAdministrator
+    (position_or_len (λ other. comes_before person.code other.code) persons) person persons one all
+
 founders_rule : (tick : Tick) (founding : Founding)
     → All IsAdministrator (founders_of tick founding)
 founders_rule tick founding =
-    all_placed IsAdministrator _ (founder_person founding.third (salt_at tick.words 2) tick.moment)
-    _ refl
-    (all_placed IsAdministrator _ (founder_person founding.second (salt_at tick.words 1) tick.moment)
-    _ refl
-    (all_placed IsAdministrator _ (founder_person founding.first (salt_at tick.words 0) tick.moment)
-    [] refl (All-nil IsAdministrator)))
+    let first = founder_person founding.first (salt_at tick.words 0) tick.moment in
+    let second = founder_person founding.second (salt_at tick.words 1) tick.moment in
+    let third = founder_person founding.third (salt_at tick.words 2) tick.moment in
+    let one = rule_added first [] refl (All-nil IsAdministrator) in
+    let two = rule_added second (added_person first []) refl one in
+    rule_added third (added_person second (added_person first [])) refl two
 
 -- what a laboratory is born with
 pub born_founded : (code : List ℕ) (tick : Tick) (founding : Founding) (lab : Lab)

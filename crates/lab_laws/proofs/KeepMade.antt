@@ -417,15 +417,18 @@ signature_keeps lab session one made moment caller known set there signed = reco
       signed.there (signed_in_keeps made.version made.signature signed.kept);
   trail = refl;
   active = refl;
-  done = inr (subst IsSome (sym known) tt, record {
-    signature = made.signature;
-    added = refl;
-    meant = refl;
-    by = signed.by;
-    named = subst (λ found. MatchOption found ⊥ (λ person. made.signature.name ≡ person.name))
-        (sym known) signed.named;
-    at = signed.at;
-  });
+  done = inr (
+    subst IsSome (sym known) refl,
+    record {
+      signature = made.signature;
+      added = refl;
+      meant = refl;
+      by = signed.by;
+      named = subst (λ found. MatchOption found ⊥ (λ person. made.signature.name ≡ person.name))
+          (sym known) signed.named;
+      at = signed.at;
+    },
+  );
 }
 
 signing_by_keeps : (lab : Lab) (moment : ℕ) (session : Session) (caller : Person)

@@ -52,7 +52,7 @@ use Rattle.lab_laws.proofs.KeepMade.{form_keeps, record_keeps, entry_keeps, amen
 
 is_known : (lab : Lab) (caller : Person) → person_of lab.persons caller.code ≡ Some caller
     → IsKnown lab caller.code
-is_known lab caller known = subst IsSome (sym known) tt
+is_known lab caller known = subst IsSome (sym known) refl
 
 own_keeps : (lab : Lab) (tick : Tick) (session : Session) (caller : Person) (command : Command)
     → session_of lab.sessions session.token ≡ Some session
