@@ -1,6 +1,6 @@
 -- A count that is cut at the greatest number of 32 bits is refused, and numbered, as the count
 -- itself: each limit is below.
-use Rattle.std.proofs.Common.{◌≡◌, ℕ, ◌+◌, ◌≤◌, ◌<◌, Bool, true, false, arith, List, refl, ap, Option, Some, None}
+use Rattle.std.proofs.Common.{◌≡◌, ℕ, ◌+◌, Bool, true, false, arith, List, refl, ap, Option, Some, None}
 use Rattle.std.specs.Prelude.{min, nat_le, Result, Ok, Err, if◌then◌else◌}
 use Rattle.std.proofs.lemmas.Bool.Decides.{nat_tests}
 use Rattle.lab_names.specs.declared.tick.Tick.{Tick}

@@ -245,15 +245,20 @@ ended_made before rows moment person reply deed own =
     if nat_le count_limit rows then outcome (ToldRefused (People LabFull)) before
     else outcome reply (before ++ own ++ told_row rows moment person deed ∷ [])
 
--- in a session, whose request is taken note of before all
-abbrev pub ended_done : Slice → ℕ → List ℕ → List Change → Done → Outcome
-ended_done slice moment person before (Refused refusal) = outcome (ToldRefused refusal) before
-ended_done slice moment person before (Failed occasion failure) =
+-- in a session, whose request is taken note of before all, where the trail has so many rows and so
+-- many strays were counted
+abbrev pub ended_by : ℕ → ℕ → ℕ → List ℕ → List Change → Done → Outcome
+ended_by rows strays moment person before (Refused refusal) = outcome (ToldRefused refusal) before
+ended_by rows strays moment person before (Failed occasion failure) =
     outcome (ToldRefused (People Credentials))
-    (before ++ failing slice.counts.trail slice.strays moment occasion failure)
-ended_done slice moment person before (Read reply) = outcome reply before
-ended_done slice moment person before (Made reply deed own) =
-    ended_made before slice.counts.trail moment person reply deed own
+    (before ++ failing rows strays moment occasion failure)
+ended_by rows strays moment person before (Read reply) = outcome reply before
+ended_by rows strays moment person before (Made reply deed own) =
+    ended_made before rows moment person reply deed own
+
+abbrev pub ended_done : Slice → ℕ → List ℕ → List Change → Done → Outcome
+ended_done slice moment person before done =
+    ended_by slice.counts.trail slice.strays moment person before done
 
 abbrev pub touching : ℕ → Session → List Change
 touching moment session = Last moment ∷ SessionSet (touched_session moment session) ∷ []

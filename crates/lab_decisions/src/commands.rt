@@ -83,14 +83,35 @@ fn done_on_records(
     let person = &caller.code;
     match command {
         Command::MakeForm { code, form } => making_done(alloc, code, form, slice.form.take()),
-        Command::OpenRecord { form: _form, sample } => {
-            opening_record_done(alloc, slice, sample, person, moment)
-        }
+        Command::OpenRecord {
+            form: _form,
+            sample,
+        } => { opening_record_done(alloc, slice, sample, person, moment) }
         Command::Enter { item, reason, .. } => {
-            entering_done(alloc, &slice.code, &slice.filed, item, reason, person, moment)
+            entering_done(
+                alloc,
+                &slice.code,
+                &slice.filed,
+                item,
+                reason,
+                person,
+                moment,
+            )
         }
-        Command::Amend { reason, altered, .. } => {
-            amending_done(alloc, &slice.code, &slice.filed, reason, &altered, person, moment)
+        Command::Amend {
+            reason,
+            altered,
+            ..
+        } => {
+            amending_done(
+                alloc,
+                &slice.code,
+                &slice.filed,
+                reason,
+                &altered,
+                person,
+                moment,
+            )
         }
         Command::Sign {
             version,

@@ -2,7 +2,7 @@
 ghost use Rattle.std.specs.Prelude.{◌≡◌, ◌++◌, ◌∷◌, [], Some, IfOk};
 ghost use Rattle.lab_kept.specs.Trails.{row_of};
 ghost use Rattle.lab_machine.specs.Machine.{passage};
-ghost use Rattle.lab_decisions.specs.Deciding.{failing, outcome, ended_made, touching, opening_ended, decided_without, decided_by, decided};
+ghost use Rattle.lab_decisions.specs.Deciding.{done_of, failing, outcome, ended_made, ended_by, ended_done, touching, opening_ended, decided_without, decided_by, decided};
 
 use crate::commands::done_of;
 use crate::done::{Done, Outcome};
@@ -27,8 +27,27 @@ pub fn decide(
     ensures { IfOk result (λ outcome. outcome ≡ decided slice tick.now command) }
 {
     let mut slice = slice;
-    let reached = passage(&slice, tick, &command)?;
-    decide_by(alloc, &mut slice, tick, command, reached)
+    let outcome = decide_on(alloc, &mut slice, tick, command);
+    drop(slice);
+    outcome
+}
+
+// What is left of the part isn't said.
+fn decide_on(
+    alloc: Global,
+    slice: &mut Slice,
+    tick: &Tick,
+    command: Command,
+) -> Result<Outcome, OutOfMemory>
+    ensures { IfOk result (λ outcome. outcome ≡ decided slice.old tick.now command) }
+{
+    match passage(slice, tick, &command) {
+        Ok(reached) => decide_by(alloc, slice, tick, command, reached),
+        Err(fault) => {
+            drop(command);
+            Err(fault)
+        }
+    }
 }
 
 // How far the command gets.
@@ -71,20 +90,50 @@ fn decide_by(
         (λ outcome. outcome ≡ decided_by slice.old tick.now command reached) }
 {
     match reached {
-        Passage::Early => Ok(refused(Series::new(alloc), Refusal::ClockBehind)),
+        Passage::Early => {
+            drop(command);
+            Ok(refused(Series::new(alloc), Refusal::ClockBehind))
+        }
         Passage::NeedsNone(repeated) => {
-            decide_without(alloc, slice, tick, &repeated, &command)
+            let outcome = decide_without(alloc, slice, tick, &repeated, &command);
+            drop(repeated);
+            drop(command);
+            outcome
         }
         Passage::Stranger => {
+            drop(command);
             let refusal = Refusal::People(PeopleRefusal::NoSession);
             Ok(refused(Series::new(alloc), refusal))
         }
         Passage::Barred(session, refusal) => {
-            let changes = touching(alloc, tick.moment, &session)?;
-            Ok(refused(changes, refusal))
+            drop(command);
+            barred(alloc, tick.moment, session, refusal)
         }
         Passage::Passes(session, caller) => {
-            decide_in(alloc, slice, tick, session, &caller, command)
+            let outcome = decide_in(alloc, slice, tick, session, &caller, command);
+            drop(caller);
+            outcome
+        }
+    }
+}
+
+// A command that its session may not give, of which it is noted that it came.
+fn barred(
+    alloc: Global,
+    moment: Moment,
+    session: Session,
+    refusal: Refusal,
+) -> Result<Outcome, OutOfMemory>
+    ensures { IfOk result
+        (λ told. told ≡ outcome (Reply.Refused refusal) (touching moment session)) }
+{
+    let changes = touching(alloc, moment, &session);
+    drop(session);
+    match changes {
+        Ok(changes) => Ok(refused(changes, refusal)),
+        Err(fault) => {
+            drop(refusal);
+            Err(fault)
         }
     }
 }
@@ -100,11 +149,7 @@ fn refused(changes: Series<Change>, refusal: Refusal) -> Outcome
 }
 
 // That a request came by the session at the moment.
-fn touching(
-    alloc: Global,
-    moment: Moment,
-    session: &Session,
-) -> Result<Series<Change>, OutOfMemory>
+fn touching(alloc: Global, moment: Moment, session: &Session) -> Result<Series<Change>, OutOfMemory>
     ensures { IfOk result (λ changes. changes ≡ touching moment session.now) }
 {
     let mut touched = session.copy()?;
@@ -176,19 +221,77 @@ fn opening_ended(
     match done {
         Done::Refused(refusal) => Ok(refused(Series::new(alloc), refusal)),
         Done::Failed(occasion, failure) => {
-            let before = single(alloc, Change::Last(moment))?;
-            failed(alloc, before, rows, slice.strays, moment, occasion, failure)
+            opening_failed(alloc, rows, slice.strays, moment, occasion, failure)
         }
         Done::Read(reply) => Ok(Outcome {
             reply,
             changes: Series::new(alloc),
         }),
         Done::Made(reply, deed, own) => {
-            let mut own = own;
-            own.push(Change::Last(moment))?;
-            ended_made(alloc, Series::new(alloc), rows, moment, code, reply, deed, own)
+            opening_made(alloc, rows, moment, code, reply, deed, own)
         }
     }
+}
+
+fn opening_failed(
+    alloc: Global,
+    rows: u64,
+    strays: u64,
+    moment: Moment,
+    occasion: Occasion,
+    failure: Failure,
+) -> Result<Outcome, OutOfMemory>
+    ensures { IfOk result (λ told. told
+        ≡ outcome (Reply.Refused (Refusal.People PeopleRefusal.Credentials))
+        (Change.Last moment ∷ failing rows strays moment occasion failure)) }
+{
+    match single(alloc, Change::Last(moment)) {
+        Ok(before) => failed(alloc, before, rows, strays, moment, occasion, failure),
+        Err(fault) => {
+            drop(failure);
+            Err(fault)
+        }
+    }
+}
+
+fn opening_made(
+    alloc: Global,
+    rows: u64,
+    moment: Moment,
+    code: &PersonCode,
+    reply: Reply,
+    deed: Deed,
+    own: Series<Change>,
+) -> Result<Outcome, OutOfMemory>
+    ensures { IfOk result (λ outcome. outcome
+        ≡ ended_made [] rows moment code.now reply deed (own ++ Change.Last moment ∷ [])) }
+{
+    match with_last(own, moment) {
+        Ok(own) => ended_made(
+            alloc,
+            Series::new(alloc),
+            rows,
+            moment,
+            code,
+            reply,
+            deed,
+            own,
+        ),
+        Err(fault) => {
+            drop(reply);
+            drop(deed);
+            Err(fault)
+        }
+    }
+}
+
+// Changes, and the moment of the last activity behind them.
+fn with_last(own: Series<Change>, moment: Moment) -> Result<Series<Change>, OutOfMemory>
+    ensures { IfOk result (λ changes. changes ≡ own ++ Change.Last moment ∷ []) }
+{
+    let mut own = own;
+    own.push(Change::Last(moment))?;
+    Ok(own)
 }
 
 // A command in a session: its request is taken note of before all.
@@ -203,13 +306,60 @@ fn decide_in(
     ensures { IfOk result (λ outcome. outcome
         ≡ decided_by slice.old tick.now command (Passage.Passes session caller.now)) }
 {
-    let moment = tick.moment;
+    let mut session = session;
+    match touching(alloc, tick.moment, &session) {
+        Ok(before) => {
+            session.touch(tick.moment);
+            let outcome = decide_noted(alloc, slice, tick, &session, caller, command, before);
+            drop(session);
+            outcome
+        }
+        Err(fault) => {
+            drop(session);
+            drop(command);
+            Err(fault)
+        }
+    }
+}
+
+// A command in a session whose request was noted by these changes.
+fn decide_noted(
+    alloc: Global,
+    slice: &mut Slice,
+    tick: &Tick,
+    session: &Session,
+    caller: &Person,
+    command: Command,
+    before: Series<Change>,
+) -> Result<Outcome, OutOfMemory>
+    ensures { IfOk result (λ outcome. outcome
+        ≡ ended_done slice.old tick.now.moment caller.now.code before
+        (done_of slice.old tick.now session.now caller.now command)) }
+{
     let rows = slice.counts.trail;
     let strays = slice.strays;
-    let before = touching(alloc, moment, &session)?;
-    let mut session = session;
-    session.touch(moment);
-    let done = done_of(alloc, slice, tick, &session, caller, command)?;
+    match done_of(alloc, slice, tick, session, caller, command) {
+        Ok(done) => end(alloc, before, rows, strays, tick.moment, &caller.code, done),
+        Err(fault) => {
+            drop(before);
+            Err(fault)
+        }
+    }
+}
+
+// The end of a command in a session.
+fn end(
+    alloc: Global,
+    before: Series<Change>,
+    rows: u64,
+    strays: u64,
+    moment: Moment,
+    person: &PersonCode,
+    done: Done,
+) -> Result<Outcome, OutOfMemory>
+    ensures { IfOk result
+        (λ outcome. outcome ≡ ended_by rows strays moment person.now before done) }
+{
     match done {
         Done::Refused(refusal) => Ok(refused(before, refusal)),
         Done::Failed(occasion, failure) => {
@@ -220,7 +370,7 @@ fn decide_in(
             changes: before,
         }),
         Done::Made(reply, deed, own) => {
-            ended_made(alloc, before, rows, moment, &caller.code, reply, deed, own)
+            ended_made(alloc, before, rows, moment, person, reply, deed, own)
         }
     }
 }
@@ -259,29 +409,37 @@ fn ended_made(
         ≡ ended_made before rows moment person.now reply deed own) }
 {
     let Some(number) = next_number(rows) else {
+        drop(reply);
+        drop(deed);
+        drop(own);
         return Ok(refused(before, Refusal::People(PeopleRefusal::LabFull)));
     };
-    let (reply, changes) = told(alloc, reply, before, own, number, moment, person, &deed)?;
-    Ok(Outcome { reply, changes })
+    let changes = told(alloc, before, own, number, moment, person, &deed);
+    drop(deed);
+    match changes {
+        Ok(changes) => Ok(Outcome { reply, changes }),
+        Err(fault) => {
+            drop(reply);
+            Err(fault)
+        }
+    }
 }
 
-// A reply, with the changes and the row that tells of the deed. What the reply is like is left open.
-fn told<R: Drop>(
+// Changes, and behind them the row that tells of the deed.
+fn told(
     alloc: Global,
-    reply: R,
     before: Series<Change>,
     own: Series<Change>,
     number: Ordinal,
     moment: Moment,
     person: &PersonCode,
     deed: &Deed,
-) -> Result<(R, Series<Change>), OutOfMemory>
-    ensures same { IfOk result (λ both. both.0 ≡ reply) }
-    ensures changes { IfOk result (λ both. both.1 ≡ before ++ own
+) -> Result<Series<Change>, OutOfMemory>
+    ensures { IfOk result (λ changes. changes ≡ before ++ own
         ++ Change.TrailAdded (row_of number moment (Some person.now) deed.now) ∷ []) }
 {
     let row = row_of(alloc, number, moment, person, deed)?;
     let mut changes = joined(before, own)?;
     changes.push(Change::TrailAdded(row))?;
-    Ok((reply, changes))
+    Ok(changes)
 }

@@ -86,7 +86,14 @@ fn note_two(
     };
     let row = row_of(alloc, number, moment, person, first)?;
     changes.push(Change::TrailAdded(row))?;
-    note(alloc, changes, u64::from(number.get()), moment, person, second)
+    note(
+        alloc,
+        changes,
+        u64::from(number.get()),
+        moment,
+        person,
+        second,
+    )
 }
 
 /// What a failed password changes. The only error is out of memory.
@@ -106,7 +113,14 @@ pub fn fail(
         Failure::Counted(person) => fail_counted(alloc, changes, rows, moment, occasion, person),
         Failure::Locking(person) => fail_locking(alloc, changes, rows, moment, occasion, person),
         Failure::AlreadyLocked(person) => {
-            note(alloc, changes, rows, moment, &person.code, &Deed::Refuse { occasion })
+            note(
+                alloc,
+                changes,
+                rows,
+                moment,
+                &person.code,
+                &Deed::Refuse { occasion },
+            )
         }
         Failure::Stray => {
             changes.push(Change::Strays(more_strays(strays)))?;
@@ -129,7 +143,14 @@ fn fail_counted(
 {
     let code = person.code.copy()?;
     changes.push(Change::PersonSet(person))?;
-    note(alloc, changes, rows, moment, &code, &Deed::Refuse { occasion })
+    note(
+        alloc,
+        changes,
+        rows,
+        moment,
+        &code,
+        &Deed::Refuse { occasion },
+    )
 }
 
 // What a failed password changes that locks.
