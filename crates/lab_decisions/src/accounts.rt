@@ -145,11 +145,7 @@ fn asked_done(alloc: Global, issued: Issued) -> Result<Done, OutOfMemory>
     let half = issued.half;
     let person = issued.person.code.copy()?;
     let changes = person_changes(alloc, issued.person, issued.closing)?;
-    Ok(Done::Made(
-        Reply::HalfTold { half },
-        Deed::Issue { person },
-        changes,
-    ))
+    Ok(Done::Made(Reply::HalfTold { half }, Deed::Issue { person }, changes))
 }
 
 /// What it comes to that a one-time word is confirmed. The only error is out of memory.
@@ -174,11 +170,7 @@ fn confirmed_done(alloc: Global, issued: Issued) -> Result<Done, OutOfMemory>
     let half = issued.half;
     let person = issued.person.code.copy()?;
     let changes = person_changes(alloc, issued.person, issued.closing)?;
-    Ok(Done::Made(
-        Reply::HalfTold { half },
-        Deed::Confirm { person },
-        changes,
-    ))
+    Ok(Done::Made(Reply::HalfTold { half }, Deed::Confirm { person }, changes))
 }
 
 /// What it comes to that a person is given roles. The only error is out of memory.
@@ -232,11 +224,7 @@ fn retired_done(alloc: Global, effect: Effect) -> Result<Done, OutOfMemory>
     let code = effect.person.code.copy()?;
     let person = effect.person.code.copy()?;
     let changes = person_changes(alloc, effect.person, effect.closing)?;
-    Ok(Done::Made(
-        Reply::PersonDone { code },
-        Deed::Retire { person },
-        changes,
-    ))
+    Ok(Done::Made(Reply::PersonDone { code }, Deed::Retire { person }, changes))
 }
 
 /// What it comes to that a lock is taken away. The only error is out of memory.
@@ -260,9 +248,5 @@ fn unlocked_done(alloc: Global, effect: Effect) -> Result<Done, OutOfMemory>
     let code = effect.person.code.copy()?;
     let person = effect.person.code.copy()?;
     let changes = person_changes(alloc, effect.person, effect.closing)?;
-    Ok(Done::Made(
-        Reply::PersonDone { code },
-        Deed::Unlock { person },
-        changes,
-    ))
+    Ok(Done::Made(Reply::PersonDone { code }, Deed::Unlock { person }, changes))
 }

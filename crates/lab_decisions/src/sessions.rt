@@ -27,7 +27,14 @@ pub fn opening_done(
     ensures { IfOk result (λ done. done
         ≡ opened_done (opening code person password.now tick.now sessions repeated.now)) }
 {
-    match open_counted(code, person, password.as_str(), tick, sessions, repeated.as_ref()) {
+    match open_counted(
+        code,
+        person,
+        password.as_str(),
+        tick,
+        sessions,
+        repeated.as_ref(),
+    ) {
         Ok(opened) => opened_done(alloc, opened),
         Err(fault) => match fault {
             PeopleFault::Failed(failure) => Ok(Done::Failed(Occasion::Opening, failure)),
