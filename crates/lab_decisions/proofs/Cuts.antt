@@ -14,6 +14,7 @@ use Rattle.lab_access.specs.Attempts.{attempt_of}
 use Rattle.lab_access.specs.Openings.{opening, opening_by, numbered_opening}
 use Rattle.lab_people.specs.Accounts.{enrolling, newcomer}
 
+-- by whether there is a next number
 number_by : (count : ℕ) (few : Bool) → nat_le (count + 1) 1000000000 ≡ few
     → ordinal_of (min count 4294967295 + 1) ≡ ordinal_of (count + 1)
 number_by count true is = grind (arith, nat_tests)
@@ -22,25 +23,36 @@ number_by count false is = grind (arith, nat_tests)
 same_number : (count : ℕ) → ordinal_of (min count 4294967295 + 1) ≡ ordinal_of (count + 1)
 same_number count = number_by count (nat_le (count + 1) 1000000000) refl
 
-opening_of : (outcome : Result Person Failure) (code : List ℕ) (tick : Tick) (count : ℕ) (repeated : Option Session)
-    → opening_by outcome code tick (min count 4294967295) repeated ≡ opening_by outcome code tick count repeated
+opening_of : (outcome : Result Person Failure) (code : List ℕ) (tick : Tick) (count : ℕ)
+    (repeated : Option Session)
+    → opening_by outcome code tick (min count 4294967295) repeated
+    ≡ opening_by outcome code tick count repeated
 opening_of (Err failure) code tick count repeated = refl
 opening_of (Ok person) code tick count (Some session) = refl
 opening_of (Ok person) code tick count None =
     ap (λ (number : Option ℕ). numbered_opening number code tick person) (same_number count)
 
-pub opening_cut : (code : List ℕ) (person : Option Person) (text : List ℕ) (tick : Tick) (count : ℕ) (repeated : Option Session)
-    → opening code person text tick (min count 4294967295) repeated ≡ opening code person text tick count repeated
+-- an opening, where the count of sessions is cut
+pub opening_cut : (code : List ℕ) (person : Option Person) (text : List ℕ) (tick : Tick)
+    (count : ℕ) (repeated : Option Session)
+    → opening code person text tick (min count 4294967295) repeated
+    ≡ opening code person text tick count repeated
 unfolding opening
-opening_cut code person text tick count repeated = opening_of (attempt_of person text tick.moment) code tick count repeated
+opening_cut code person text tick count repeated =
+    opening_of (attempt_of person text tick.moment) code tick count repeated
 
-test_by : (count : ℕ) (full : Bool) → nat_le 500 count ≡ full → nat_le 500 (min count 4294967295) ≡ full
+-- by whether the laboratory is full
+test_by : (count : ℕ) (full : Bool) → nat_le 500 count ≡ full
+    → nat_le 500 (min count 4294967295) ≡ full
 test_by count true is = grind (arith, nat_tests)
 test_by count false is = grind (arith, nat_tests)
 
+-- an enrolment, where the count of persons is cut
 pub enrolling_cut : (code name : List ℕ) (roles : Roles) (holder : Option Person) (count : ℕ)
-    → enrolling code name roles holder (min count 4294967295) ≡ enrolling code name roles holder count
+    → enrolling code name roles holder (min count 4294967295)
+    ≡ enrolling code name roles holder count
 unfolding enrolling
 enrolling_cut code name roles (Some person) count = refl
 enrolling_cut code name roles None count =
-    ap (λ (full : Bool). if full then Err LabFull else Ok (newcomer code name roles)) (test_by count (nat_le 500 count) refl)
+    ap (λ (full : Bool). if full then Err LabFull else Ok (newcomer code name roles))
+    (test_by count (nat_le 500 count) refl)

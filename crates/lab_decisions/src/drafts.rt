@@ -86,14 +86,8 @@ fn note_two(
     };
     let row = row_of(alloc, number, moment, person, first)?;
     changes.push(Change::TrailAdded(row))?;
-    note(
-        alloc,
-        changes,
-        u64::from(number.get()),
-        moment,
-        person,
-        second,
-    )
+    let told = u64::from(number.get());
+    note(alloc, changes, told, moment, person, second)
 }
 
 /// What a failed password changes. The only error is out of memory.
@@ -113,14 +107,8 @@ pub fn fail(
         Failure::Counted(person) => fail_counted(alloc, changes, rows, moment, occasion, person),
         Failure::Locking(person) => fail_locking(alloc, changes, rows, moment, occasion, person),
         Failure::AlreadyLocked(person) => {
-            note(
-                alloc,
-                changes,
-                rows,
-                moment,
-                &person.code,
-                &Deed::Refuse { occasion },
-            )
+            let refused = Deed::Refuse { occasion };
+            note(alloc, changes, rows, moment, &person.code, &refused)
         }
         Failure::Stray => {
             changes.push(Change::Strays(more_strays(strays)))?;
@@ -143,14 +131,8 @@ fn fail_counted(
 {
     let code = person.code.copy()?;
     changes.push(Change::PersonSet(person))?;
-    note(
-        alloc,
-        changes,
-        rows,
-        moment,
-        &code,
-        &Deed::Refuse { occasion },
-    )
+    let refused = Deed::Refuse { occasion };
+    note(alloc, changes, rows, moment, &code, &refused)
 }
 
 // What a failed password changes that locks.

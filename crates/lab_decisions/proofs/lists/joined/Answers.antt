@@ -6,6 +6,7 @@ use Rattle.lab_decisions.proofs.lists.joined.Goals as goal
 -- what went in is the second list
 pub returns : goal.returns
 returns g c =
+    let front = c.into_vec-list.result.items in
     fact_from_extend {E = ℕ} (λ x. x) (Ok c.in_ok-extend.field-0) c.in_ok-extend.ensures.ran
     (λ it b. YieldsList-from_vec {s = it} _ b.0 (b.1 ∙ c.into_vec.result.ok.0))
-    (λ xs e h. c.from_vec.ensures ∙ (h.0 ∙ ap (λ ys. c.into_vec-list.result.items ++ ys) (sym (map-id xs) ∙ e)) ∙ cc)
+    (λ xs e h. c.from_vec.ensures ∙ (h.0 ∙ ap (λ ys. front ++ ys) (sym (map-id xs) ∙ e)) ∙ cc)
