@@ -12,7 +12,7 @@ use crate::readings::{
     form_read_done, person_lines, record_lines, record_read_done, version_read_done,
 };
 use crate::records::{
-    amending_done, asked_signing_done, entering_done, making_done, opening_record_done,
+    Asked, amending_done, asked_signing_done, entering_done, making_done, opening_record_done,
 };
 use crate::sessions::closed_done;
 use lab_access::{PeopleRefusal, Person, Session};
@@ -88,31 +88,13 @@ fn done_on_records(
             sample,
         } => { opening_record_done(alloc, slice, sample, person, moment) }
         Command::Enter { item, reason, .. } => {
-            entering_done(
-                alloc,
-                &slice.code,
-                &slice.filed,
-                item,
-                reason,
-                person,
-                moment,
-            )
+            entering_done(alloc, slice, item, reason, person, moment)
         }
         Command::Amend {
             reason,
             altered,
             ..
-        } => {
-            amending_done(
-                alloc,
-                &slice.code,
-                &slice.filed,
-                reason,
-                &altered,
-                person,
-                moment,
-            )
-        }
+        } => { amending_done(alloc, slice, reason, &altered, person, moment) }
         Command::Sign {
             version,
             digest,
@@ -120,9 +102,16 @@ fn done_on_records(
             password,
             code,
             ..
-        } => asked_signing_done(
-            alloc, slice, moment, session, caller, version, digest, signing, &password, &code,
-        ),
+        } => {
+            let asked = Asked {
+                version,
+                digest,
+                signing,
+            };
+            asked_signing_done(
+                alloc, slice, moment, session, caller, asked, &password, &code,
+            )
+        }
         command => done_reading(alloc, slice, tick, session, caller, &command),
     }
 }

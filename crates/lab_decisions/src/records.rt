@@ -12,7 +12,7 @@ use lab_access::{Person, Session, attempt_signing};
 use lab_forms::Form;
 use lab_kept::{Change, Deed, FormVersion, Occasion, Record, Slice};
 use lab_machine::Reply;
-use lab_names::{Key, LabCode, Moment, Name, Note, Ordinal, OutOfMemory, PersonCode};
+use lab_names::{Key, Moment, Name, Note, Ordinal, OutOfMemory, PersonCode};
 use lab_rules::{
     Altered, AmendmentMade, CommandFault, EntryMade, Item, Refusal, SignatureMade, Signing, Typed,
     amend, enter, is_code_wanted, make_form, open_record, sign,
@@ -35,6 +35,7 @@ pub fn making_done(
     }
 }
 
+// A version of a form that was made.
 fn form_done(alloc: Global, form: FormVersion) -> Result<Done, OutOfMemory>
     ensures { IfOk result (λ done. done ≡ form_done form) }
 {
@@ -79,6 +80,7 @@ pub fn opening_record_done(
     }
 }
 
+// A record that was opened.
 fn record_done(alloc: Global, kept: Record) -> Result<Done, OutOfMemory>
     ensures { IfOk result (λ done. done ≡ record_done kept) }
 {
@@ -97,18 +99,26 @@ fn record_done(alloc: Global, kept: Record) -> Result<Done, OutOfMemory>
 /// What it comes to that a value is entered. The only error is out of memory.
 pub fn entering_done(
     alloc: Global,
-    lab: &LabCode,
-    filed: &Option<Record>,
+    slice: &Slice,
     item: Item,
     reason: Option<Note>,
     caller: &PersonCode,
     moment: Moment,
 ) -> Result<Done, OutOfMemory>
     ensures { IfOk result (λ done. done
-        ≡ then_done (entering lab.now filed.now item reason caller.now moment) entry_done) }
+        ≡ then_done (entering slice.now.code slice.now.filed item reason caller.now moment)
+        entry_done) }
 {
     let caller = caller.copy()?;
-    match enter(alloc, lab, filed.as_ref(), item, reason, caller, moment) {
+    match enter(
+        alloc,
+        &slice.code,
+        slice.filed.as_ref(),
+        item,
+        reason,
+        caller,
+        moment,
+    ) {
         Ok(made) => entry_done(alloc, made),
         Err(fault) => match fault {
             CommandFault::Refused(refusal) => Ok(Done::Refused(refusal)),
@@ -117,6 +127,7 @@ pub fn entering_done(
     }
 }
 
+// A value that was entered: one row more, whatever stood under its key.
 fn entry_done(alloc: Global, made: EntryMade) -> Result<Done, OutOfMemory>
     ensures { IfOk result (λ done. done ≡ entry_done made) }
 {
@@ -151,19 +162,26 @@ fn entry_done(alloc: Global, made: EntryMade) -> Result<Done, OutOfMemory>
 /// What it comes to that a record is amended. The only error is out of memory.
 pub fn amending_done(
     alloc: Global,
-    lab: &LabCode,
-    filed: &Option<Record>,
+    slice: &Slice,
     reason: Option<Note>,
     altered: &Altered,
     caller: &PersonCode,
     moment: Moment,
 ) -> Result<Done, OutOfMemory>
     ensures { IfOk result (λ done. done
-        ≡ then_done (amending lab.now filed.now reason altered.now caller.now moment)
+        ≡ then_done (amending slice.now.code slice.now.filed reason altered.now caller.now moment)
         amendment_done) }
 {
     let caller = caller.copy()?;
-    match amend(alloc, lab, filed.as_ref(), reason, altered, caller, moment) {
+    match amend(
+        alloc,
+        &slice.code,
+        slice.filed.as_ref(),
+        reason,
+        altered,
+        caller,
+        moment,
+    ) {
         Ok(made) => amendment_done(alloc, made),
         Err(fault) => match fault {
             CommandFault::Refused(refusal) => Ok(Done::Refused(refusal)),
@@ -172,6 +190,7 @@ pub fn amending_done(
     }
 }
 
+// A version that an amendment opened, by its own number.
 fn amendment_done(alloc: Global, made: AmendmentMade) -> Result<Done, OutOfMemory>
     ensures { IfOk result (λ done. done ≡ amendment_done made) }
 {
@@ -199,6 +218,17 @@ fn amendment_done(alloc: Global, made: AmendmentMade) -> Result<Done, OutOfMemor
     ))
 }
 
+/// A signature that is asked for.
+#[derive(Drop)]
+pub struct Asked {
+    /// The number of the version.
+    pub version: Ordinal,
+    /// The version's digest, as the person saw it.
+    pub digest: Digest,
+    /// What the version is signed as.
+    pub signing: Signing,
+}
+
 /// What it comes to that a version is signed: the first signing of a session wants the code, then the password is looked at.
 /// The only error is out of memory.
 pub fn asked_signing_done(
@@ -207,15 +237,13 @@ pub fn asked_signing_done(
     moment: Moment,
     session: &Session,
     caller: &Person,
-    version: Ordinal,
-    digest: Digest,
-    signing: Signing,
+    asked: Asked,
     password: &Typed,
     code: &Option<PersonCode>,
 ) -> Result<Done, OutOfMemory>
     ensures { IfOk result (λ done. done
         ≡ (if is_code_wanted session.now code.now then Done.Refused Refusal.CodeWanted
-        else signing_done slice.now moment session.now version digest signing
+        else signing_done slice.now moment session.now asked.version asked.digest asked.signing
         (signing_attempt caller.now code.now password.now moment))) }
 {
     if is_code_wanted(session, code.as_ref()) {
@@ -223,9 +251,7 @@ pub fn asked_signing_done(
     }
     let caller = caller.copy()?;
     match attempt_signing(caller, code.as_ref(), password.as_str(), moment) {
-        Ok(person) => signing_done(
-            alloc, slice, moment, session, version, digest, signing, person,
-        ),
+        Ok(person) => signing_done(alloc, slice, moment, session, asked, person),
         Err(failure) => Ok(Done::Failed(Occasion::Signing, failure)),
     }
 }
@@ -236,21 +262,20 @@ fn signing_done(
     slice: &Slice,
     moment: Moment,
     session: &Session,
-    version: Ordinal,
-    digest: Digest,
-    signing: Signing,
+    asked: Asked,
     person: Person,
 ) -> Result<Done, OutOfMemory>
     ensures { IfOk result (λ done. done
-        ≡ signing_done slice.now moment session.now version digest signing (Ok person)) }
+        ≡ signing_done slice.now moment session.now asked.version asked.digest asked.signing
+        (Ok person)) }
 {
     match sign(
         alloc,
         &slice.code,
         slice.filed.as_ref(),
-        version,
-        digest,
-        signing,
+        asked.version,
+        asked.digest,
+        asked.signing,
         &person,
         moment,
     ) {
@@ -262,6 +287,7 @@ fn signing_done(
     }
 }
 
+// A signature that was given: the session is marked as one that has signed.
 fn signature_done(
     alloc: Global,
     session: &Session,
