@@ -1,5 +1,5 @@
 //! The part of a laboratory that is needed, as copies.
-ghost use Rattle.std.specs.Prelude.{◌≡◌, IfOk, length, option_and_then};
+ghost use Rattle.std.specs.Prelude.{◌≡◌, ◌++◌, ◌∷◌, [], Ok, IfOk, OnOk, length, option_and_then, option_copied};
 ghost use Rattle.lab_kept.specs.Lookups.{session_at, person_at, caller_of, is_within, records_within, rows_within};
 ghost use Rattle.lab_kept.specs.Parts.{part, counts_of, form_meant, record_meant, persons_meant, records_meant, rows_meant};
 
@@ -37,34 +37,39 @@ struct Listed {
 pub fn part(alloc: Global, lab: &Lab, need: &Need) -> Result<Slice, OutOfMemory>
     ensures { IfOk result (λ slice. slice ≡ part need.now lab.now) }
 {
-    let code = lab.code.copy()?;
-    let name = lab.name.copy()?;
-    let Callers { session, caller } = callers_of(lab, &need.token)?;
-    let Named {
-        person,
-        form,
-        filed,
-    } = named_in(lab, need)?;
-    let Listed {
-        persons,
-        records,
-        trail,
-    } = listed_in(lab, alloc, &need.list)?;
+    let names = both(lab.code.copy(), lab.name.copy());
+    let callers = callers_of(lab, &need.token);
+    let named = named_in(lab, need);
+    let listed = listed_in(lab, alloc, &need.list);
+    let ((names, callers), (named, listed)) = both(both(names, callers), both(named, listed))?;
     Ok(Slice {
-        code,
-        name,
+        code: names.0,
+        name: names.1,
         last: lab.last,
         strays: lab.strays,
         counts: counts(lab),
-        session,
-        caller,
-        person,
-        form,
-        filed,
-        persons,
-        records,
-        trail,
+        session: callers.session,
+        caller: callers.caller,
+        person: named.person,
+        form: named.form,
+        filed: named.filed,
+        persons: listed.persons,
+        records: listed.records,
+        trail: listed.trail,
     })
+}
+
+/// Two values, where both are made.
+fn both<A: Drop, B: Drop>(
+    one: Result<A, OutOfMemory>,
+    other: Result<B, OutOfMemory>,
+) -> Result<(A, B), OutOfMemory>
+    ensures one { IfOk result (λ pair. one ≡ Ok pair.0) }
+    ensures other { IfOk result (λ pair. other ≡ Ok pair.1) }
+{
+    let one = one?;
+    let other = other?;
+    Ok((one, other))
 }
 
 /// How many persons, sessions, records and rows of the trail it has.
@@ -85,40 +90,45 @@ fn callers_of(lab: &Lab, token: &Option<Digest>) -> Result<Callers, OutOfMemory>
     ensures caller { IfOk result (λ both.
         both.caller ≡ caller_of lab.now (option_and_then (session_at lab.now) token.now)) }
 {
-    let session = session(lab, token)?;
-    let caller = caller(lab, &session)?;
+    let found = session(lab, token);
+    let (session, caller) = both(session_copy(found), caller(lab, found))?;
     Ok(Callers { session, caller })
 }
 
-fn session(lab: &Lab, token: &Option<Digest>) -> Result<Option<Session>, OutOfMemory>
-    ensures { IfOk result (λ session.
-        session ≡ option_and_then (session_at lab.now) token.now) }
+fn session<'a>(lab: &'a Lab, token: &Option<Digest>) -> Option<&'a Session>
+    ensures { option_copied result ≡ option_and_then (session_at lab.now) token.now }
 {
-    let Some(digest) = token else {
-        return Ok(None);
-    };
-    let Some(session) = session_of(lab.sessions.as_slice(), digest) else {
-        return Ok(None);
-    };
-    Ok(Some(session.copy()?))
+    match token {
+        Some(digest) => session_of(lab.sessions.as_slice(), digest),
+        None => None,
+    }
 }
 
-fn caller(lab: &Lab, session: &Option<Session>) -> Result<Option<Person>, OutOfMemory>
-    ensures { IfOk result (λ caller. caller ≡ caller_of lab.now session.now) }
+fn session_copy(found: Option<&Session>) -> Result<Option<Session>, OutOfMemory>
+    ensures { IfOk result (λ copy. copy ≡ option_copied found.entry) }
 {
-    let Some(session) = session else {
-        return Ok(None);
-    };
-    person(lab, &session.person)
+    match found {
+        Some(session) => Ok(Some(session.copy()?)),
+        None => Ok(None),
+    }
+}
+
+fn caller(lab: &Lab, session: Option<&Session>) -> Result<Option<Person>, OutOfMemory>
+    ensures { IfOk result (λ caller. caller ≡ caller_of lab.now (option_copied session.entry)) }
+{
+    match session {
+        Some(session) => person(lab, &session.person),
+        None => Ok(None),
+    }
 }
 
 fn person(lab: &Lab, code: &PersonCode) -> Result<Option<Person>, OutOfMemory>
     ensures { IfOk result (λ person. person ≡ person_at lab.now code.now) }
 {
-    let Some(person) = person_of(lab.persons.as_slice(), code) else {
-        return Ok(None);
-    };
-    Ok(Some(person.copy()?))
+    match person_of(lab.persons.as_slice(), code) {
+        Some(person) => Ok(Some(person.copy()?)),
+        None => Ok(None),
+    }
 }
 
 fn named_in(lab: &Lab, need: &Need) -> Result<Named, OutOfMemory>
@@ -129,23 +139,42 @@ fn named_in(lab: &Lab, need: &Need) -> Result<Named, OutOfMemory>
     ensures filed { IfOk result (λ named.
         named.filed ≡ option_and_then (record_meant lab.now) need.now.filed) }
 {
-    let person = match &need.person {
-        Some(code) => person(lab, code)?,
-        None => None,
-    };
-    let form = match &need.form {
-        Some(wanted) => form(lab, wanted)?,
-        None => None,
-    };
-    let filed = match &need.filed {
-        Some(wanted) => filed(lab, wanted)?,
-        None => None,
-    };
+    let person = person_named(lab, &need.person);
+    let form = form_named(lab, &need.form);
+    let filed = record_named(lab, &need.filed);
+    let ((person, form), filed) = both(both(person, form), filed)?;
     Ok(Named {
         person,
         form,
         filed,
     })
+}
+
+fn person_named(lab: &Lab, code: &Option<PersonCode>) -> Result<Option<Person>, OutOfMemory>
+    ensures { IfOk result (λ person. person ≡ option_and_then (person_at lab.now) code.now) }
+{
+    match code {
+        Some(code) => person(lab, code),
+        None => Ok(None),
+    }
+}
+
+fn form_named(lab: &Lab, wanted: &Option<FormWanted>) -> Result<Option<FormVersion>, OutOfMemory>
+    ensures { IfOk result (λ form. form ≡ option_and_then (form_meant lab.now) wanted.now) }
+{
+    match wanted {
+        Some(wanted) => form(lab, wanted),
+        None => Ok(None),
+    }
+}
+
+fn record_named(lab: &Lab, wanted: &Option<RecordWanted>) -> Result<Option<Record>, OutOfMemory>
+    ensures { IfOk result (λ kept. kept ≡ option_and_then (record_meant lab.now) wanted.now) }
+{
+    match wanted {
+        Some(wanted) => filed(lab, wanted),
+        None => Ok(None),
+    }
 }
 
 fn form(lab: &Lab, wanted: &FormWanted) -> Result<Option<FormVersion>, OutOfMemory>
@@ -156,10 +185,16 @@ fn form(lab: &Lab, wanted: &FormWanted) -> Result<Option<FormVersion>, OutOfMemo
         FormWanted::Last { code } => last_form(forms, code),
         FormWanted::Exact { code, version } => exact_form(forms, code, *version),
     };
-    let Some(form) = found else {
-        return Ok(None);
-    };
-    Ok(Some(form.copy()?))
+    form_copy(found)
+}
+
+fn form_copy(found: Option<&FormVersion>) -> Result<Option<FormVersion>, OutOfMemory>
+    ensures { IfOk result (λ copy. copy ≡ option_copied found.entry) }
+{
+    match found {
+        Some(form) => Ok(Some(form.copy()?)),
+        None => Ok(None),
+    }
 }
 
 fn filed(lab: &Lab, wanted: &RecordWanted) -> Result<Option<Record>, OutOfMemory>
@@ -170,10 +205,16 @@ fn filed(lab: &Lab, wanted: &RecordWanted) -> Result<Option<Record>, OutOfMemory
         RecordWanted::Numbered { number } => record_of(records, *number),
         RecordWanted::About { form, sample } => record_about(records, form, sample),
     };
-    let Some(kept) = found else {
-        return Ok(None);
-    };
-    Ok(Some(kept.copy()?))
+    record_copy(found)
+}
+
+fn record_copy(found: Option<&Record>) -> Result<Option<Record>, OutOfMemory>
+    ensures { IfOk result (λ copy. copy ≡ option_copied found.entry) }
+{
+    match found {
+        Some(kept) => Ok(Some(kept.copy()?)),
+        None => Ok(None),
+    }
 }
 
 fn listed_in(lab: &Lab, alloc: Global, list: &Option<ListWanted>) -> Result<Listed, OutOfMemory>
@@ -181,27 +222,57 @@ fn listed_in(lab: &Lab, alloc: Global, list: &Option<ListWanted>) -> Result<List
     ensures records { IfOk result (λ listed. listed.records ≡ records_meant lab.now list.now) }
     ensures trail { IfOk result (λ listed. listed.trail ≡ rows_meant lab.now list.now) }
 {
+    let persons = persons_listed(lab, alloc, list);
+    let records = records_listed(lab, alloc, list);
+    let trail = rows_listed(lab, alloc, list);
+    let ((persons, records), trail) = both(both(persons, records), trail)?;
+    Ok(Listed {
+        persons,
+        records,
+        trail,
+    })
+}
+
+fn persons_listed(
+    lab: &Lab,
+    alloc: Global,
+    list: &Option<ListWanted>,
+) -> Result<Series<Person>, OutOfMemory>
+    ensures { IfOk result (λ persons. persons ≡ persons_meant lab.now list.now) }
+{
     match list {
-        None => Ok(Listed {
-            persons: Series::new(alloc),
-            records: Series::new(alloc),
-            trail: Series::new(alloc),
-        }),
-        Some(ListWanted::Persons) => Ok(Listed {
-            persons: lab.persons.clone()?,
-            records: Series::new(alloc),
-            trail: Series::new(alloc),
-        }),
-        Some(ListWanted::Records { from, to }) => Ok(Listed {
-            records: records_within(alloc, lab.records.as_slice(), *from, *to)?,
-            persons: Series::new(alloc),
-            trail: Series::new(alloc),
-        }),
-        Some(ListWanted::Trail { from, to }) => Ok(Listed {
-            trail: rows_within(alloc, lab.trail.as_slice(), *from, *to)?,
-            persons: Series::new(alloc),
-            records: Series::new(alloc),
-        }),
+        Some(ListWanted::Persons) => Ok(lab.persons.clone()?),
+        _ => Ok(Series::new(alloc)),
+    }
+}
+
+fn records_listed(
+    lab: &Lab,
+    alloc: Global,
+    list: &Option<ListWanted>,
+) -> Result<Series<Record>, OutOfMemory>
+    ensures { IfOk result (λ records. records ≡ records_meant lab.now list.now) }
+{
+    match list {
+        Some(ListWanted::Records { from, to }) => {
+            records_within(alloc, lab.records.as_slice(), *from, *to)
+        }
+        _ => Ok(Series::new(alloc)),
+    }
+}
+
+fn rows_listed(
+    lab: &Lab,
+    alloc: Global,
+    list: &Option<ListWanted>,
+) -> Result<Series<TrailRow>, OutOfMemory>
+    ensures { IfOk result (λ trail. trail ≡ rows_meant lab.now list.now) }
+{
+    match list {
+        Some(ListWanted::Trail { from, to }) => {
+            rows_within(alloc, lab.trail.as_slice(), *from, *to)
+        }
+        _ => Ok(Series::new(alloc)),
     }
 }
 
@@ -215,12 +286,38 @@ fn records_within(
     ensures { IfOk result (λ list. list ≡ records_within from to records.now) }
 {
     let mut list = Series::new(alloc);
-    for kept in records {
-        if is_within(kept.number, from, to) {
-            list.push(kept.copy()?)?;
+    match add_records_within(&mut list, records, from, to) {
+        Ok(()) => Ok(list),
+        Err(error) => {
+            drop(list);
+            Err(error)
         }
     }
-    Ok(list)
+}
+
+/// The records whose numbers lie in the range, behind others.
+fn add_records_within(
+    list: &mut Series<Record>,
+    records: &[Record],
+    from: Ordinal,
+    to: Ordinal,
+) -> Result<(), OutOfMemory>
+    ensures { OnOk result (list.new ≡ list.old ++ records_within from to records.now) }
+{
+    for kept in records {
+        if is_within(kept.number, from, to) {
+            add_record(list, kept)?;
+        }
+    }
+    Ok(())
+}
+
+fn add_record(list: &mut Series<Record>, kept: &Record) -> Result<(), OutOfMemory>
+    ensures { OnOk result (list.new ≡ list.old ++ kept.now ∷ []) }
+{
+    let copy = kept.copy()?;
+    list.push(copy)?;
+    Ok(())
 }
 
 /// The rows of a trail whose numbers lie in the range.
@@ -233,12 +330,38 @@ fn rows_within(
     ensures { IfOk result (λ list. list ≡ rows_within from to trail.now) }
 {
     let mut list = Series::new(alloc);
-    for row in trail {
-        if is_within(row.number, from, to) {
-            list.push(row.copy()?)?;
+    match add_rows_within(&mut list, trail, from, to) {
+        Ok(()) => Ok(list),
+        Err(error) => {
+            drop(list);
+            Err(error)
         }
     }
-    Ok(list)
+}
+
+/// The rows of a trail whose numbers lie in the range, behind others.
+fn add_rows_within(
+    list: &mut Series<TrailRow>,
+    trail: &[TrailRow],
+    from: Ordinal,
+    to: Ordinal,
+) -> Result<(), OutOfMemory>
+    ensures { OnOk result (list.new ≡ list.old ++ rows_within from to trail.now) }
+{
+    for row in trail {
+        if is_within(row.number, from, to) {
+            add_row(list, row)?;
+        }
+    }
+    Ok(())
+}
+
+fn add_row(list: &mut Series<TrailRow>, row: &TrailRow) -> Result<(), OutOfMemory>
+    ensures { OnOk result (list.new ≡ list.old ++ row.now ∷ []) }
+{
+    let copy = row.copy()?;
+    list.push(copy)?;
+    Ok(())
 }
 
 fn is_within(number: Ordinal, from: Ordinal, to: Ordinal) -> bool

@@ -1,10 +1,11 @@
 //! Values that are entered.
-ghost use Rattle.std.specs.Prelude.{◌≡◌, None, Some, IfOk, option_copied};
+ghost use Rattle.std.specs.Prelude.{◌≡◌, ◌&&◌, IfOk, is_none, option_copied};
 ghost use Rattle.lab_kept.specs.Changes.{with_row};
+ghost use Rattle.lab_kept.specs.Digests.{digest_of};
 ghost use Rattle.lab_rules.specs.Following.{Follows, IsRead};
-ghost use Rattle.lab_rules.specs.Entering.{is_open, has_value, item_refusal, entry_made, entering};
+ghost use Rattle.lab_rules.specs.Entering.{is_open, has_value, item_refusal, entry_made, entering_last, entering};
 
-use crate::faults::CommandFault;
+use crate::faults::{CommandFault, fail};
 use crate::items::Item;
 use crate::outcomes::EntryMade;
 use crate::refusals::Refusal;
@@ -12,7 +13,7 @@ use lab_access::PeopleRefusal;
 use lab_forms::FormFault;
 use lab_kept::{Record, Version, latest, noted};
 use lab_names::{Key, LabCode, Moment, Note, OutOfMemory, PersonCode};
-use lab_seal::{EntryRow, EntryRows, State};
+use lab_seal::{Digest, EntryRow, EntryRows, State};
 use std::alloc::Global;
 
 /// The most rows of a version.
@@ -33,29 +34,63 @@ pub fn enter(
         (entering lab.now (option_copied kept.entry) item reason caller moment) result }
 {
     let Some(kept) = kept else {
-        return Err(CommandFault::Refused(Refusal::NoSuchRecord));
+        return fail(
+            CommandFault::Refused(Refusal::NoSuchRecord),
+            (item, reason, caller),
+        );
     };
     let Some(version) = kept.current() else {
-        return Err(CommandFault::Refused(Refusal::NotOpen));
+        return fail(
+            CommandFault::Refused(Refusal::NotOpen),
+            (item, reason, caller),
+        );
     };
     if !is_open(kept.state_of(version)) {
-        return Err(CommandFault::Refused(Refusal::NotOpen));
+        return fail(
+            CommandFault::Refused(Refusal::NotOpen),
+            (item, reason, caller),
+        );
     }
-    let value = read_item(alloc, kept, &item)?;
-    if reason.is_none() && has_value(alloc, kept, &item.key)? {
-        return Err(CommandFault::Refused(Refusal::ReasonWanted));
+    match read_item(alloc, kept, &item) {
+        Ok(value) => {
+            let row = EntryRow {
+                key: item.key,
+                value,
+                unit: item.unit,
+                person: caller,
+                moment,
+                reason,
+            };
+            enter_row(alloc, lab, kept, version, row)
+        }
+        Err(fault) => fail(fault, (item, reason, caller)),
+    }
+}
+
+// A row whose value the form has read, into a version that is open.
+fn enter_row(
+    alloc: Global,
+    lab: &LabCode,
+    kept: &Record,
+    version: &Version,
+    row: EntryRow,
+) -> Result<EntryMade, CommandFault>
+    ensures { Follows
+        (entering_last lab.now kept.now version.now
+        (record { key = row.key; value = row.value; unit = row.unit }) row.reason row.person
+        row.moment) result }
+{
+    match lacks_reason(alloc, kept, &row) {
+        Ok(false) => {}
+        Ok(true) => return fail(CommandFault::Refused(Refusal::ReasonWanted), row),
+        Err(_) => return fail(CommandFault::Memory, row),
     }
     if version.rows.rows().len() >= ROWS_LIMIT {
-        return Err(CommandFault::Refused(Refusal::People(PeopleRefusal::LabFull)));
+        return fail(
+            CommandFault::Refused(Refusal::People(PeopleRefusal::LabFull)),
+            row,
+        );
     }
-    let row = EntryRow {
-        key: item.key,
-        value,
-        unit: item.unit,
-        person: caller,
-        moment,
-        reason,
-    };
     Ok(entry_made(alloc, lab, kept, version, row)?)
 }
 
@@ -84,6 +119,14 @@ pub(crate) fn read_item(alloc: Global, kept: &Record, item: &Item) -> Result<Not
     }
 }
 
+// Whether the row bears no reason, and its key has a value in the record already.
+fn lacks_reason(alloc: Global, kept: &Record, row: &EntryRow) -> Result<bool, OutOfMemory>
+    ensures { IfOk result
+        (λ lacks. lacks ≡ (has_value kept.now row.now.key && is_none row.now.reason)) }
+{
+    Ok(row.reason.is_none() && has_value(alloc, kept, &row.key)?)
+}
+
 // Whether the key has a value in the record already.
 fn has_value(alloc: Global, kept: &Record, key: &Key) -> Result<bool, OutOfMemory>
     ensures { IfOk result (λ has. has ≡ has_value kept.now key.now) }
@@ -102,15 +145,32 @@ fn entry_made(
 ) -> Result<EntryMade, OutOfMemory>
     ensures { IfOk result (λ made. made ≡ entry_made lab.now kept.now version.now row) }
 {
-    let next = with_row(version, &row)?;
-    let digest = kept.digest_of(alloc, lab, &next)?;
-    Ok(EntryMade {
-        number: kept.number,
-        version: version.origin.number(),
-        row,
-        rows: next.rows.rows().len() as u64,
-        digest,
-    })
+    match digest_with(alloc, lab, kept, version, &row) {
+        Ok(digest) => Ok(EntryMade {
+            number: kept.number,
+            version: version.origin.number(),
+            row,
+            rows: version.rows.rows().len() as u64 + 1,
+            digest,
+        }),
+        Err(error) => fail(error, row),
+    }
+}
+
+// The digest of a version with a row more.
+fn digest_with(
+    alloc: Global,
+    lab: &LabCode,
+    kept: &Record,
+    version: &Version,
+    row: &EntryRow,
+) -> Result<Digest, OutOfMemory>
+    ensures { IfOk result (λ digest. digest ≡ digest_of lab.now kept.now (with_row row.now version.now)) }
+{
+    let next = with_row(version, row)?;
+    let digest = kept.digest_of(alloc, lab, &next);
+    drop(next);
+    digest
 }
 
 // A version with a row more.

@@ -1,5 +1,5 @@
 //! Why a command makes nothing: it is refused, or memory ran out.
-ghost use Rattle.std.specs.Prelude.{◌≡◌};
+ghost use Rattle.std.specs.Prelude.{◌≡◌, Err};
 ghost use Rattle.lab_rules.specs.declared.faults.CommandFault.TheVariants.{Memory};
 
 use crate::refusals::Refusal;
@@ -13,6 +13,13 @@ pub enum CommandFault {
     Refused(Refusal),
     /// Memory ran out.
     Memory,
+}
+
+/// The error, where nothing comes of what was given. One call lets it all go.
+pub(crate) fn fail<T, E, G: Drop>(error: E, _given: G) -> Result<T, E>
+    ensures { result ≡ Err error }
+{
+    Err(error)
 }
 
 impl From<OutOfMemory> for CommandFault {

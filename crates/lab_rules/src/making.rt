@@ -1,14 +1,14 @@
 //! Forms that are made, and records that are opened.
-ghost use Rattle.std.specs.Prelude.{◌≡◌};
+ghost use Rattle.std.specs.Prelude.{◌≡◌, ◌∷◌, [], None, IfOk};
 ghost use Rattle.lab_rules.specs.Following.{Follows};
-ghost use Rattle.lab_rules.specs.Making.{making, first_version, opening_record};
+ghost use Rattle.lab_rules.specs.Making.{making, first_version, opening_new, opening_record};
 
-use crate::faults::CommandFault;
+use crate::faults::{CommandFault, fail};
 use crate::refusals::Refusal;
 use lab_access::PeopleRefusal;
 use lab_forms::Form;
 use lab_kept::{FormVersion, Record, Version};
-use lab_names::{Key, Moment, Name, Ordinal, PersonCode, Series};
+use lab_names::{Key, Moment, Name, Ordinal, OutOfMemory, PersonCode, Series};
 use lab_seal::{EntryRows, Format, Origin};
 use std::alloc::Global;
 
@@ -20,6 +20,7 @@ pub fn make_form(code: Key, form: Form, last: Option<FormVersion>) -> Result<For
     ensures { result ≡ making code form last }
 {
     let Some(last) = last else {
+        drop(last);
         return Ok(FormVersion {
             code,
             version: Ordinal::FIRST,
@@ -27,18 +28,21 @@ pub fn make_form(code: Key, form: Form, last: Option<FormVersion>) -> Result<For
         });
     };
     if last.form == form {
-        return Err(Refusal::NothingAltered);
+        return fail(Refusal::NothingAltered, (code, form, last));
     }
     if last.version.get() >= FORM_VERSIONS_LIMIT {
-        return Err(Refusal::People(PeopleRefusal::LabFull));
+        return fail(Refusal::People(PeopleRefusal::LabFull), (code, form, last));
     }
     match last.version.next() {
-        Some(version) => Ok(FormVersion {
-            code,
-            version,
-            form,
-        }),
-        None => Err(Refusal::People(PeopleRefusal::LabFull)),
+        Some(version) => {
+            drop(last);
+            Ok(FormVersion {
+                code,
+                version,
+                form,
+            })
+        }
+        None => fail(Refusal::People(PeopleRefusal::LabFull), (code, form, last)),
     }
 }
 
@@ -59,26 +63,65 @@ pub fn open_record(
     ensures { Follows (opening_record form found sample caller moment records) result }
 {
     let Some(form) = form else {
-        return Err(CommandFault::Refused(Refusal::NoSuchForm));
+        return fail(
+            CommandFault::Refused(Refusal::NoSuchForm),
+            (form, found, sample, caller),
+        );
     };
-    if let Some(kept) = found {
-        return Err(CommandFault::Refused(Refusal::RecordExists(kept.number)));
+    match found {
+        Some(kept) => fail(
+            CommandFault::Refused(Refusal::RecordExists(kept.number)),
+            (kept, form, sample, caller),
+        ),
+        None => {
+            drop(found);
+            open_new(alloc, form, sample, caller, moment, records)
+        }
     }
+}
+
+// A record of a form and a sample that have none.
+fn open_new(
+    alloc: Global,
+    form: FormVersion,
+    sample: Name,
+    caller: PersonCode,
+    moment: Moment,
+    records: u64,
+) -> Result<Record, CommandFault>
+    ensures { Follows (opening_new form None sample caller moment records) result }
+{
     if records >= RECORDS_LIMIT {
-        return Err(CommandFault::Refused(Refusal::People(PeopleRefusal::LabFull)));
+        return fail(
+            CommandFault::Refused(Refusal::People(PeopleRefusal::LabFull)),
+            (form, sample, caller),
+        );
     }
     let Some(number) = Ordinal::after(records as u32) else {
-        return Err(CommandFault::Refused(Refusal::People(PeopleRefusal::LabFull)));
+        return fail(
+            CommandFault::Refused(Refusal::People(PeopleRefusal::LabFull)),
+            (form, sample, caller),
+        );
     };
     let first = first_version(alloc, form.form.approval(), caller, moment);
+    match one_version(alloc, first) {
+        Ok(versions) => Ok(Record {
+            number,
+            form,
+            sample,
+            versions,
+        }),
+        Err(_) => fail(CommandFault::Memory, (form, sample)),
+    }
+}
+
+// The versions of a record that has one.
+fn one_version(alloc: Global, first: Version) -> Result<Series<Version>, OutOfMemory>
+    ensures { IfOk result (λ versions. versions ≡ first ∷ []) }
+{
     let mut versions = Series::new(alloc);
     versions.push(first)?;
-    Ok(Record {
-        number,
-        form,
-        sample,
-        versions,
-    })
+    Ok(versions)
 }
 
 /// The first version of a record, as it is opened. It takes no memory.

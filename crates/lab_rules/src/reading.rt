@@ -1,14 +1,18 @@
 //! What is read: a version of a form, a record, a version of a record, and a line of each record and each person.
 ghost use Rattle.std.specs.Prelude.{◌≡◌, IfOk, map};
+ghost use Rattle.lab_kept.specs.Digests.{digest_of};
+ghost use Rattle.lab_kept.specs.Lookups.{version_of};
+ghost use Rattle.lab_kept.specs.Values.{altered_at, values_at, version_state};
 ghost use Rattle.lab_rules.specs.Following.{Follows};
-ghost use Rattle.lab_rules.specs.Reading.{reading_form, version_line, reading_record, version_read, reading_version, record_line, person_line};
+ghost use Rattle.lab_rules.specs.Reading.{reading_form, version_line, reading_record, reading_found, reading_version, record_line, person_line};
 
-use crate::faults::CommandFault;
+use crate::faults::{CommandFault, fail};
 use crate::readings::{PersonLine, RecordRead, RecordState, VersionRead, VersionState};
 use crate::refusals::Refusal;
 use lab_access::Person;
 use lab_kept::{FormVersion, Record, Version};
-use lab_names::{LabCode, Moment, Ordinal, OutOfMemory, Series};
+use lab_names::{Key, LabCode, Moment, Ordinal, OutOfMemory, Series};
+use lab_seal::{Digest, EntryRow, State};
 use std::alloc::Global;
 
 /// The version of a form that was looked up.
@@ -83,41 +87,100 @@ pub fn read_version(
 ) -> Result<VersionRead, CommandFault>
     ensures { Follows (reading_version lab.now kept number) result }
 {
-    let Some(kept) = kept else {
-        return Err(CommandFault::Refused(Refusal::NoSuchRecord));
-    };
-    let Some(version) = kept.version(number) else {
-        return Err(CommandFault::Refused(Refusal::NoSuchVersion));
-    };
-    Ok(version_read(alloc, lab, &kept, version)?)
+    match kept {
+        Some(kept) => read_found(alloc, lab, kept, number),
+        None => fail(CommandFault::Refused(Refusal::NoSuchRecord), kept),
+    }
 }
 
-// A version of a record with what it comes to, as copies.
-fn version_read(
+// The version of the number of a record.
+fn read_found(
+    alloc: Global,
+    lab: &LabCode,
+    kept: Record,
+    number: Ordinal,
+) -> Result<VersionRead, CommandFault>
+    ensures { Follows (reading_found lab.now kept (version_of kept.versions number)) result }
+{
+    let read = match kept.version(number) {
+        Some(version) => version_parts(alloc, lab, &kept, version),
+        None => return fail(CommandFault::Refused(Refusal::NoSuchVersion), kept),
+    };
+    match read {
+        Ok(parts) => Ok(version_read(kept, parts)),
+        Err(_) => fail(CommandFault::Memory, kept),
+    }
+}
+
+/// What is read of a version beside its record's number, form and sample.
+#[derive(Drop)]
+struct VersionReadParts {
+    version: Version,
+    state: Option<State>,
+    digest: Digest,
+    altered: Series<Key>,
+    values: Series<EntryRow>,
+}
+
+// What a version of a record comes to, with a copy of it.
+fn version_parts(
     alloc: Global,
     lab: &LabCode,
     kept: &Record,
     version: &Version,
-) -> Result<VersionRead, OutOfMemory>
-    ensures { IfOk result (λ read. read ≡ version_read lab.now kept.now version.now) }
+) -> Result<VersionReadParts, OutOfMemory>
+    ensures version { IfOk result (λ parts. parts.version ≡ version.now) }
+    ensures state { IfOk result (λ parts. parts.state ≡ version_state kept.now version.now) }
+    ensures digest { IfOk result (λ parts. parts.digest ≡ digest_of lab.now kept.now version.now) }
+    ensures altered { IfOk result
+        (λ parts. parts.altered ≡ altered_at kept.now version.now.origin.number) }
+    ensures values { IfOk result
+        (λ parts. parts.values ≡ values_at kept.now version.now.origin.number) }
 {
     let number = version.origin.number();
     let digest = kept.digest_of(alloc, lab, version)?;
-    let form = kept.form.copy()?;
-    let sample = kept.sample.copy()?;
-    let own = version.copy()?;
     let altered = kept.altered_at(alloc, number)?;
     let values = kept.values_at(alloc, number)?;
-    Ok(VersionRead {
-        number: kept.number,
-        form,
-        sample,
-        version: own,
+    let version_copy = version.copy()?;
+    Ok(VersionReadParts {
+        version: version_copy,
         state: kept.state_of(version),
         digest,
         altered,
         values,
     })
+}
+
+// What is read of a version, with the form and the sample of its record.
+fn version_read(kept: Record, parts: VersionReadParts) -> VersionRead
+    ensures { result ≡ record {
+      number = kept.number;
+      form = kept.form;
+      sample = kept.sample;
+      version = parts.version;
+      state = parts.state;
+      digest = parts.digest;
+      altered = parts.altered;
+      values = parts.values;
+    } }
+{
+    let Record {
+        number,
+        form,
+        sample,
+        versions,
+    } = kept;
+    drop(versions);
+    VersionRead {
+        number,
+        form,
+        sample,
+        version: parts.version,
+        state: parts.state,
+        digest: parts.digest,
+        altered: parts.altered,
+        values: parts.values,
+    }
 }
 
 /// A record in a line, by its last version. The only error is out of memory.

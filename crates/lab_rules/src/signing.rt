@@ -1,5 +1,5 @@
 //! Signatures that are given (21 CFR 11.50, 11.70 and 11.200(a)).
-ghost use Rattle.std.specs.Prelude.{◌≡◌, ◌↔◌, ◌++◌, ◌∷◌, [], None, is_none, ◌&&◌, map, IfOk, IfSome, IsSome, option_copied};
+ghost use Rattle.std.specs.Prelude.{◌≡◌, ◌++◌, ◌∷◌, [], None, is_none, ◌&&◌, map, IfOk, option_copied};
 ghost use Rattle.std.specs.List.{list_any};
 ghost use Rattle.lab_kept.specs.Digests.{signature_of};
 ghost use Rattle.lab_kept.specs.Latest.{noted};
@@ -7,7 +7,7 @@ ghost use Rattle.lab_kept.specs.Values.{meaning_of, rows_to};
 ghost use Rattle.lab_rules.specs.Following.{Follows};
 ghost use Rattle.lab_rules.specs.Signing.{is_missing, content_refusal, reason_refusal, version_refusal, signed_meaning, signed_parts, signature_made, signing_record};
 
-use crate::faults::CommandFault;
+use crate::faults::{CommandFault, fail};
 use crate::outcomes::{SignatureMade, Signing};
 use crate::refusals::Refusal;
 use crate::signatures::{
@@ -38,28 +38,24 @@ pub fn sign(
         result }
 {
     let Some(kept) = kept else {
-        return Err(CommandFault::Refused(Refusal::NoSuchRecord));
+        return fail(CommandFault::Refused(Refusal::NoSuchRecord), signing);
     };
     let Some(version) = kept.version(number) else {
-        return Err(CommandFault::Refused(Refusal::NoSuchVersion));
+        return fail(CommandFault::Refused(Refusal::NoSuchVersion), signing);
     };
-    if let Some(refusal) = version_refusal(
-        alloc,
-        lab,
-        kept,
-        version,
-        digest,
-        &signing,
-        &person.code,
-    )? {
-        return Err(CommandFault::Refused(refusal));
+    let refusal = match version_refusal(alloc, lab, kept, version, digest, &signing, &person.code) {
+        Ok(refusal) => refusal,
+        Err(_) => return fail(CommandFault::Memory, signing),
+    };
+    match refusal {
+        Some(refusal) => fail(CommandFault::Refused(refusal), signing),
+        None => {
+            drop(refusal);
+            let meaning = signed_meaning(signing);
+            let signature = new_signature(lab, person, meaning, moment, digest)?;
+            Ok(signature_made(alloc, kept, version, signature)?)
+        }
     }
-    // A rejection without a reason was refused.
-    let Some(meaning) = signed_meaning(signing) else {
-        return Err(CommandFault::Refused(Refusal::ReasonWanted));
-    };
-    let signature = new_signature(lab, person, meaning, moment, digest)?;
-    Ok(signature_made(alloc, kept, version, signature)?)
 }
 
 /// What refuses a signature of a version, the first refusal in order. The only error is out of memory.
@@ -142,16 +138,19 @@ fn is_missing<'a>(table: &BTreeMap<&'a str, &'a EntryRow>, field: &Field) -> boo
     field.required && noted(table, &field.key).is_none()
 }
 
-// What the signature means; none for a rejection without a reason.
-fn signed_meaning(signing: Signing) -> Option<Meaning>
-    ensures meaning { IfSome result (λ meaning. meaning ≡ signed_meaning signing) }
-    ensures reason { IsSome result ↔ (reason_refusal signing ≡ None) }
+// What the signature means. A rejection without a reason was refused.
+fn signed_meaning(signing: Signing) -> Meaning
+    requires { reason_refusal signing ≡ None }
+    ensures { result ≡ signed_meaning signing }
 {
     match signing {
-        Signing::Authorship => Some(Meaning::Authorship),
-        Signing::Review => Some(Meaning::Review),
-        Signing::Rejection(reason) => Some(Meaning::Rejection(reason?)),
-        Signing::Approval => Some(Meaning::Approval),
+        Signing::Authorship => Meaning::Authorship,
+        Signing::Review => Meaning::Review,
+        Signing::Rejection(reason) => match reason {
+            Some(reason) => Meaning::Rejection(reason),
+            None => unreachable!(),
+        },
+        Signing::Approval => Meaning::Approval,
     }
 }
 
