@@ -5,6 +5,7 @@ and the laboratories of bench/laboratory.py, which is no part of the program and
     bench/days.py            writes both files
     bench/days.py --check    says whether they are as they would be written
     bench/days.py --setup    prints the lines of the laboratory with which most days begin
+    bench/days.py --growths  prints a short day with every command, for tests/growths
 
 A line is `MOMENT|WORDS|SESSION|COMMAND|..`: the tick is of that moment, its eight words of chance are WORDS and the seven
 numbers that follow it, and the token is that of the session which was opened with the words SESSION. What is wanted of a
@@ -14,7 +15,7 @@ import copy
 import os
 import sys
 
-from laboratory import Machine, Refused, Thing, digest_of, dash, field_words, found, lab_lines, line, refusal_line, sha
+from laboratory import Machine, Refused, Thing, digest_of, dash, field_words, found, lab_lines, line, refusal_line, sha, verifier
 
 LEAD = {"key": "lead", "label": "Lead", "required": True, "kind": "number", "unit": "mg/L", "decimals": 2, "min": "0", "max": None}
 NOTE = {"key": "note", "label": "Note", "required": False, "kind": "text", "size": 200}
@@ -36,6 +37,11 @@ class Day:
         self.quiet, self.words, self.sessions = False, 1000, {}
         self.asked, self.told = [], []
 
+    def parts(self):
+        """What is told of each line that was asked, of a day without titles and quiet lines."""
+        starts = [i for i, one in enumerate(self.told) if one in self.asked or one[:2] == "> " and one[2:] in self.asked]
+        return [self.told[a:b] for a, b in zip(starts, starts[1:] + [len(self.told)])]
+
     def echo(self, text):
         self.asked.append(text)
         self.told.append(text)
@@ -47,6 +53,21 @@ class Day:
     def found(self, code, moment, first, name):
         self.lab = found(code, moment, first, name, FOUNDERS)
         self.echo("|".join(["found", code, str(moment), str(first), name, *[word for one in FOUNDERS for word in one]]))
+        self.told += lab_lines(self.lab)
+
+    def bare(self, code, moment, name):
+        """A laboratory without persons."""
+        self.lab = Thing(code=code, name=name, last=moment, strays=0, persons=[], sessions=[], forms=[], records=[], trail=[])
+        self.echo(f"bare|{code}|{moment}|{name}")
+        self.told += lab_lines(self.lab)
+
+    def person(self, code, name, roles):
+        """A person whose password has one round of PBKDF2."""
+        kept = verifier(PASSWORDS[code], bytes(16), 1)
+        self.lab.persons.append(Thing(code=code, name=name, roles=set(roles.split()), retired=False, failures=0, locked=None,
+                                      password=("chosen", kept, self.lab.last), ask=None))
+        self.lab.persons.sort(key=lambda p: p.code.encode())
+        self.echo("|".join(["person", code, name, roles, PASSWORDS[code]]))
         self.told += lab_lines(self.lab)
 
     def keep(self):
@@ -84,7 +105,7 @@ class Day:
             words = self.words
         token = self.sessions.get(who, who if isinstance(who, int) else None)
         asked = "|".join([str(moment), str(words), str(dash(token)), command, *texts(command, args)])
-        before = set(lab_lines(self.lab))
+        before = set() if self.quiet else set(lab_lines(self.lab))
         lab = copy.deepcopy(self.lab)
         try:
             reply = Machine(lab, moment, words, self.counts).run(token, command, *args)
@@ -96,7 +117,8 @@ class Day:
             self.sessions[who] = words
         self.lab = lab
         self.asked.append(asked)
-        if not self.quiet or reply[0].startswith("refused"):
+        assert not self.quiet or not reply[0].startswith("refused")
+        if not self.quiet:
             self.told.append("> " + asked)
             self.told += reply
             self.told += ["  " + one for one in lab_lines(lab) if one not in before]
@@ -600,6 +622,47 @@ def limits(day):
     day.set_counts()
 
 
+def growths():
+    """A short day with every command, in which each growth of memory can be refused in turn: it has no title, and each of its
+    lines is told of."""
+    day = Day()
+    day.bare("aqua", 0, "Aqua Lab")
+    for code, name, roles in (("ann", "Ann Ames", "administrator"), ("bob", "Bob Bell", "administrator"), *NEWCOMERS[:4]):
+        day.person(code, name, roles)
+    for i, who in enumerate(["ann", "bob", "dan", "eve", "gus"]):
+        day.open(10 + i, who)
+    day.open(20, "dan", 20, password="dan password 2", who="x")
+    day.do(21, "ann", "person done|", "enrol", "ivy", "Ivy Inn", "analyst")
+    day.do(22, "ann", "half told|", "issue", "ivy")
+    day.do(23, "bob", "half told|", "confirm", "ivy")
+    day.do(24, "ann", "roles set|", "roles", "ivy", "analyst reviewer")
+    day.do(25, "ann", "person done|", "retire", "ivy")
+    day.do(26, "ann", "person done|", "unlock", "dan")
+    day.do(27, "ann", "persons|", "persons")
+    day.do(28, "gus", "form made|", "form", "water", False, LEAD, NOTE)
+    day.do(29, "dan", "form|", "read form", "water", 1)
+    day.do(30, "dan", "record opened|", "record", "water", "S1")
+    day.do(31, "dan", "entered|", "entry", 1, "lead", "7.50", "mg/L", None)
+    day.do(32, "dan", 47, "entry", 1, "lead", "7.5", "mg/L", None)
+    day.do(33, "dan", "entered|", "entry", 1, "lead", "7.5", "mg/L", "misread scale")
+    day.sign(34, "dan", 57, 1, 1, "authorship")
+    day.sign(35, "dan", "signed|", 1, 1, "authorship", code="dan")
+    day.sign(36, "eve", "signed|", 1, 1, "review", code="eve")
+    day.do(37, "dan", "amended|", "amend", 1, "one decimal is meant", ("lead", "7.6", "mg/L"), ("note", "clear", ""))
+    day.sign(38, "dan", "signed|", 1, 2, "authorship")
+    day.sign(39, "gus", "signed|", 1, 2, "rejection", code="gus", reason="not our scale")
+    day.do(40, "dan", "record|", "read record", 1)
+    day.do(41, "dan", "version of|", "read version", 1, 2)
+    day.do(42, "dan", "records|", "records", 1, 100)
+    day.do(43, "ann", "trail|", "trail", 1, 100)
+    day.do(44, "dan", "password changed|", "password", "dan password 1", "dan password 2")
+    day.do(45, "dan", "closed|", "close")
+    day.do(46, None, "card|", "card")
+    for i in range(5):
+        day.open(50 + i, "eve", 20, password="eve password 2", who="x")
+    return day
+
+
 def days():
     day = Day()
     day.title("Setup")
@@ -614,6 +677,10 @@ def main():
     if sys.argv[1:] == ["--setup"]:
         day = Day()
         setup(day)
+        print("\n".join(day.asked))
+        return 0
+    if sys.argv[1:] == ["--growths"]:
+        day = growths()
         print("\n".join(day.asked))
         return 0
     day = days()

@@ -9,6 +9,7 @@ mod halts;
 mod laboratories;
 mod records;
 mod replies;
+mod setups;
 mod sheets;
 mod stages;
 #[cfg(test)]
@@ -18,4 +19,5 @@ mod words;
 pub use halts::Halt;
 pub use laboratories::lab_text;
 pub use replies::reply_text;
+pub use setups::{SETUP, setup};
 pub use stages::{Stage, play};

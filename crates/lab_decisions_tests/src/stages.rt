@@ -3,14 +3,14 @@ use crate::asked::instruction;
 use crate::halts::Halt;
 use crate::laboratories::lab_text;
 use crate::replies::reply_text;
-use crate::words::{Words, chance, moment, number, text, tick};
+use crate::words::{Words, chance, moment, number, roles, text, tick};
 use lab_access::{Password, Person, Role, Roles};
 use lab_decisions::{Outcome, decide};
 use lab_kept::{Action, Change, Counts, Lab, Slice, Subject, TrailRow};
 use lab_lists::{change, part};
 use lab_machine::{Instruction, needs};
 use lab_names::{Moment, Ordinal, OutOfMemory, Series, Tick};
-use lab_secrets::{digest, founder_salts};
+use lab_secrets::{Verifier, digest, founder_salts};
 use std::alloc::Global;
 
 /// A laboratory on which days are played.
@@ -23,7 +23,7 @@ pub struct Stage {
     kept: Lab,
     // How many it is taken to have, where that isn't what it has.
     counts: Option<Counts>,
-    // Whether only refusals are told.
+    // Whether nothing is told but refusals.
     is_quiet: bool,
 }
 
@@ -49,6 +49,11 @@ impl Stage {
     pub fn lab(&self) -> &Lab {
         &self.lab
     }
+
+    /// Gives the laboratory up.
+    pub fn into_lab(self) -> Lab {
+        self.lab
+    }
 }
 
 /// Plays a line, and gives what is told of it.
@@ -60,6 +65,14 @@ pub fn play(alloc: Global, stage: &mut Stage, line: &str) -> Result<String, Halt
     match words.next_word() {
         "found" => {
             let lab = founded(alloc, &mut words)?;
+            enter_lab(alloc, stage, line, lab)
+        }
+        "bare" => {
+            let lab = bare(alloc, &mut words)?;
+            enter_lab(alloc, stage, line, lab)
+        }
+        "person" => {
+            let lab = with_person(alloc, stage, &mut words)?;
             enter_lab(alloc, stage, line, lab)
         }
         "keep" => {
@@ -76,10 +89,7 @@ pub fn play(alloc: Global, stage: &mut Stage, line: &str) -> Result<String, Halt
             stage.is_quiet = true;
             echoed(alloc, line)
         }
-        "loud" => {
-            stage.is_quiet = false;
-            echoed(alloc, line)
-        }
+        "loud" => become_loud(alloc, stage, line),
         "counts" => {
             stage.counts = counts(&mut words)?;
             echoed(alloc, line)
@@ -109,6 +119,15 @@ fn push_line(text: &mut String, before: &str, line: &str) -> Result<(), OutOfMem
 fn shown(alloc: Global, line: &str, told: &str) -> Result<String, Halt> {
     let mut text = echoed(alloc, line)?;
     text.push_str(told)?;
+    Ok(text)
+}
+
+// From here on the laboratory is told of again.
+fn become_loud(alloc: Global, stage: &mut Stage, line: &str) -> Result<String, Halt> {
+    let told = lab_text(alloc, &stage.lab)?;
+    let text = echoed(alloc, line)?;
+    stage.told = told;
+    stage.is_quiet = false;
     Ok(text)
 }
 
@@ -185,6 +204,36 @@ fn founder(
     })
 }
 
+// A laboratory without persons: its code, its moment and its name.
+fn bare(alloc: Global, words: &mut Words) -> Result<Lab, Halt> {
+    let code = words.next_word();
+    let last = moment(words.next_word())?;
+    bare_lab(alloc, code, words.next_word(), last)
+}
+
+// The laboratory with one person more, whose password is soon tried: it was chosen at the last moment, and has one round.
+fn with_person(alloc: Global, stage: &Stage, words: &mut Words) -> Result<Lab, Halt> {
+    let code = text(alloc, words.next_word())?;
+    let name = text(alloc, words.next_word())?;
+    let roles = roles(words.next_word());
+    let person = Person {
+        code,
+        name,
+        roles,
+        retired: false,
+        failures: 0,
+        locked: None,
+        password: Password::Chosen {
+            verifier: Verifier::make(words.next_word().as_bytes(), [0; 16], 1),
+            changed: stage.lab.last,
+        },
+        ask: None,
+    };
+    let mut lab = stage.lab.copy()?;
+    change(alloc, &mut lab, Change::PersonAdded(person))?;
+    Ok(lab)
+}
+
 fn founding_row(alloc: Global, code: &str, moment: Moment) -> Result<TrailRow, Halt> {
     Ok(TrailRow {
         number: Ordinal::FIRST,
@@ -248,9 +297,16 @@ fn acted(
     let outcome = answered(alloc, stage, tick, asked)?;
     let reply = reply_text(alloc, &outcome.reply)?;
     let lab = changed(alloc, &stage.lab, outcome.changes)?;
-    let told = lab_text(alloc, &lab)?;
+    let told = told_unless_quiet(alloc, stage, &lab)?;
     let text = told_of(alloc, stage, line, reply.as_str(), told.as_str())?;
     Ok(Played { lab, told, text })
+}
+
+fn told_unless_quiet(alloc: Global, stage: &Stage, lab: &Lab) -> Result<String, OutOfMemory> {
+    if stage.is_quiet {
+        return Ok(String::new(alloc));
+    }
+    lab_text(alloc, lab)
 }
 
 // What is decided on the part that the instruction needs.
