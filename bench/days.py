@@ -5,6 +5,9 @@ and the laboratories of bench/laboratory.py, which is no part of the program and
     bench/days.py            writes both files
     bench/days.py --check    says whether they are as they would be written
     bench/days.py --setup    prints the lines of the laboratory with which most days begin
+    bench/days.py --cases FOLDER
+                             writes each part by itself, for `rt try --cases FOLDER`, whose hashes are slow: its passwords have
+                             one round
     bench/days.py --growths  prints a short day with every command, for tests/growths
 
 A line is `MOMENT|WORDS|SESSION|COMMAND|..`: the tick is of that moment, its eight words of chance are WORDS and the seven
@@ -167,6 +170,18 @@ def setup(day):
     day.do(1100, "dan", "entered|1|1|1|", "entry", 1, "lead", "7.50", "mg/L", None)
 
 
+def quick_setup(day):
+    """The same with persons whose passwords have one round, so that a run of `rt try` ends soon."""
+    day.bare("aqua", 0, "Aqua Lab")
+    for code, name, roles in [(code, name, "administrator") for code, name, _ in FOUNDERS] + NEWCOMERS:
+        day.person(code, name, roles)
+    day.open(600, "gus")
+    day.do(600, "gus", "form made|water|1|", "form", "water", False, LEAD, NOTE)
+    day.open(900, "dan")
+    day.do(1000, "dan", "record opened|1|1|", "record", "water", "S1")
+    day.do(1100, "dan", "entered|1|1|1|", "entry", 1, "lead", "7.50", "mg/L", None)
+
+
 def release(day):
     """Record 1 released by dan and eve, record 2 of the sample S2 entered and signed by dan."""
     day.sign(1300, "dan", 57, 1, 1, "authorship")
@@ -309,6 +324,7 @@ def persons(day):
     day.do(86399, "hal 1", "password changed|", "password", "hal password 1", "hal password 2")
     day.open(7862399, "hal", "opened|", password="hal password 2", who="hal 2")
     day.do(7862400, "hal 2", 23, "records", 1, 100)
+    day.do(7862400, "hal 2", 23, "enrol", "ivy", "Ivy Inn", "")
     day.do(7862401, "hal 2", 26, "password", "hal password 2", "hal password 2")
     day.do(7862402, "hal 2", 25, "password", "hal password 2", "11 bytes on")
     day.do(7862403, "hal 2", "password changed|", "password", "hal password 2", "hal password 3")
@@ -523,6 +539,47 @@ def refusals(day):
         day.sign(1218, who, 53, 2, 2, meaning)
     day.show()
 
+    day.back("Of several refusals the first in order is told")
+    for who, meaning in (("dan", "authorship"), ("fay", "review"), ("fay", "rejection"), ("gus", "approval")):
+        none, wrong, right = "00" * 32, who + " password 2", who + " password 1"
+        day.do(1200, who, 57, "sign", 9, 9, none, meaning, wrong, None, None)
+        day.do(1200, who, 20, "sign", 9, 9, none, meaning, wrong, who, None)
+        day.do(1200, who, 20, "sign", 9, 9, none, meaning, right, "ann", None)
+        day.do(1200, who, 44, "sign", 9, 9, none, meaning, right, who, None)
+        day.do(1200, who, 45, "sign", 1, 9, none, meaning, right, who, None)
+        day.do(1200, who, {"authorship": 52, "approval": 58}.get(meaning, 56), "sign", 1, 1, none, meaning, right, who, None)
+    day.do(1201, "dan", "record opened|2|1|", "record", "water", "S2")
+    day.do(1202, "dan", "entered|2|1|1|", "entry", 2, "note", "clear", "", None)
+    day.sign(1203, "eve", 52, 2, 1, "authorship", code="eve", digest="00" * 32)
+    day.sign(1204, "eve", 55, 2, 1, "authorship", code="eve")
+    day.do(1205, "eve", "entered|1|1|2|", "entry", 1, "note", "clear", "", None)
+    day.do(1206, "dan", 7, "entry", 1, "iron", "", "g/L", None)
+    day.do(1207, "dan", 8, "entry", 1, "lead", "-7.505", "g/L", None)
+    day.do(1208, "dan", 9, "entry", 1, "lead", "-7.5", "g/L", None)
+    day.do(1209, "dan", 10, "entry", 1, "lead", "-7.5", "mg/L", None)
+    day.do(1210, "dan", 50, "amend", 1, None)
+    day.sign(1211, "dan", "signed|", 1, 1, "authorship", code="dan")
+    day.do(1212, "dan", 46, "entry", 1, "iron", "", "g/L", None)
+    day.sign(1213, "dan", 53, 1, 1, "authorship", digest="00" * 32)
+    day.sign(1214, "eve", 52, 1, 1, "rejection", code="eve", digest="00" * 32)
+    day.sign(1215, "eve", 54, 1, 1, "rejection", code="eve")
+    day.sign(1216, "fay", 47, 1, 1, "rejection", code="fay")
+    day.sign(1217, "fay", "signed|", 1, 1, "rejection", code="fay", reason="not our scale")
+    day.do(1218, "dan", 47, "amend", 1, None)
+    day.do(1219, "dan", 48, "amend", 1, "misread")
+    day.open(1220, "dan", 20, password="dan password 2", who="x", words=day.sessions["dan"])
+    day.set_counts(None, 1_000_000_000, None, 1_000_000_000)
+    day.open(1221, "dan", 21, who="x", words=day.sessions["dan"])
+    day.set_counts()
+    day.do(1222, "ann", "half told|", "issue", "dan")
+    day.open(1222 + 604800, "ann")
+    day.open(1222 + 604800, "bob")
+    day.do(1222 + 604800, "bob", 30, "issue", "dan")
+    day.do(1222 + 604800, "ann", 31, "confirm", "dan")
+    day.do(1223 + 604800, "ann", 32, "confirm", "dan")
+    day.do(1223 + 604800, "bob", 32, "confirm", "dan")
+    day.do(1224 + 604800, "bob", "half told|", "issue", "dan")
+
     day.back("A full trail refuses all that is made")
     day.do(1200, "ann", "half told|", "issue", "hal")
     day.set_counts(None, None, None, 999_999_999)
@@ -554,6 +611,15 @@ def refusals(day):
     day.sign(1203, "fay", "signed|", 1, 1, "review", code="fay")
     day.set_counts(None, None, None, 1_000_000_000)
     day.do(1204, "dan", 28, "amend", 1, "one decimal is meant", ("lead", "7.5", "mg/L"))
+    day.set_counts()
+    day.back("The same of a reviewed one")
+    day.do(1200, "gus", "form made|water|2|", "form", "water", True, LEAD, NOTE)
+    day.do(1201, "dan", "record opened|2|1|", "record", "water", "S2")
+    day.do(1202, "dan", "entered|2|1|1|", "entry", 2, "lead", "7.50", "mg/L", None)
+    day.sign(1203, "dan", "signed|", 2, 1, "authorship", code="dan")
+    day.sign(1204, "fay", "signed|", 2, 1, "review", code="fay")
+    day.set_counts(None, None, None, 1_000_000_000)
+    day.sign(1205, "gus", 28, 2, 1, "approval", code="gus")
     day.set_counts()
 
 
@@ -673,11 +739,25 @@ def days():
     return day
 
 
+def write_cases(folder):
+    """Each part by itself, quickly set up, with what must be told of it."""
+    for part in (worked, persons, limits, refusals):
+        day = Day()
+        quick_setup(day)
+        day.keep()
+        part(day)
+        for name, lines in ((part.__name__, day.asked), (part.__name__ + ".stdout", day.told)):
+            open(os.path.join(folder, name), "w").write("".join(one + "\n" for one in lines))
+
+
 def main():
     if sys.argv[1:] == ["--setup"]:
         day = Day()
         setup(day)
         print("\n".join(day.asked))
+        return 0
+    if sys.argv[1:2] == ["--cases"]:
+        write_cases(sys.argv[2])
         return 0
     if sys.argv[1:] == ["--growths"]:
         day = growths()
