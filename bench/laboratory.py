@@ -1,6 +1,7 @@
 """A laboratory as docs/LABORATORY.md, docs/PERSONS.md and docs/RECORDS.md describe it, written apart from the program: what each
 command is answered, and what the laboratory is like afterwards. Hashes are those of Python's hashlib."""
 import copy
+import datetime
 import hashlib
 import re
 
@@ -66,7 +67,6 @@ def verifies(kept, password):
 
 
 def printed(seconds):
-    import datetime
     moment = datetime.datetime(1970, 1, 1) + datetime.timedelta(seconds=seconds)
     return moment.strftime("%Y-%m-%dT%H:%M:%SZ")
 
@@ -214,6 +214,14 @@ def amount(text):
     return sign * int(whole + rest.ljust(6, "0"))
 
 
+def is_date(text):
+    try:
+        datetime.date(*map(int, text.split("-")))
+    except ValueError:
+        return False
+    return True
+
+
 def read_value(form, key, value, unit):
     field = next((f for f in form.fields if f["key"] == key), None)
     if field is None:
@@ -230,7 +238,7 @@ def read_value(form, key, value, unit):
     elif kind == "yesno":
         good = value in ("yes", "no")
     else:
-        good = re.fullmatch(r"[0-9]{4}-[0-9]{2}-[0-9]{2}", value)
+        good = re.fullmatch(r"[0-9]{4}-[0-9]{2}-[0-9]{2}", value) and is_date(value)
     if not good:
         raise Refused(8)
     if unit != field.get("unit", ""):
