@@ -494,7 +494,7 @@ def refusals(day):
     day.sign(1220, "eve", 54, 1, 1, "rejection", code="eve")
     day.sign(1221, "fay", 52, 1, 1, "review", code="fay", digest="ff" * 32)
     day.sign(1222, "fay", 47, 1, 1, "rejection", code="fay")
-    reply = day.sign(1223, "fay", "signed|fay|Fay Fox|rejection|", 1, 1, "rejection", code="fay", reason="the scale\twas off")
+    reply = day.sign(1223, "fay", "signed|fay|Fay Fox|rejection|", 1, 1, "rejection", code="fay", reason="the scale was off")
     assert reply[0].endswith("|rejected|")
     day.title("of a settled one, and amendments")
     for meaning in ("review", "rejection"):
