@@ -1,13 +1,13 @@
-// A library with one function.
+//! What a laboratory replies, as JSON data and its text (RFC 8259). It knows no HTTP.
 #![tactic(auto)]
 
-ghost use Rattle.std.specs.Prelude.{◌≡◌};
-ghost use Rattle.lab_replies.specs.Echo.{echo_of};
+mod forms;
+mod parts;
+mod persons;
+mod records;
+mod refusals;
+mod replies;
+mod trails;
 
-// The `ensures` clause is the contract: what `echo` returns is `echo_of` of its argument, a definition
-// in `specs/Echo.antt`, which a caller's clause can cite too.
-pub fn echo(x: usize) -> usize
-    ensures { result ≡ echo_of x }
-{
-    x
-}
+pub use refusals::{entry_value, refusal_value};
+pub use replies::{reply_body, reply_value};

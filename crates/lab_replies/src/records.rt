@@ -1,0 +1,240 @@
+//! Records, their versions, rows and signatures, as JSON.
+ghost use Rattle.std.specs.Prelude.{◌≡◌, IfOk, map};
+ghost use Rattle.serde_json.specs.Data.{string};
+ghost use Rattle.serde_json.specs.View.{view};
+ghost use Rattle.lab_replies.specs.Parts.{text_or_empty};
+ghost use Rattle.lab_replies.specs.Records.{record_opened_data, entered_data, amended_data, signed_data, current_of, record_data, value_data, format_number, reason_of, version_data, records_data};
+
+use crate::parts::{
+    Shown, current_value, list_of, moment_text, state_value, text_or_empty,
+};
+use lab_kept::Signature;
+use lab_names::{Ordinal, OutOfMemory};
+use lab_rules::{RecordRead, RecordState, VersionRead, VersionState};
+use lab_seal::{Amendment, Digest, EntryRow, Format, State};
+use serde_json::{Value, json};
+use std::alloc::Global;
+
+/// A record that was opened.
+pub(crate) fn record_opened_value(
+    alloc: Global,
+    number: Ordinal,
+    version: Ordinal,
+) -> Result<Value, OutOfMemory>
+    ensures { IfOk result (λ value. view value ≡ record_opened_data number version) }
+{
+    Ok(json!(in alloc; {"record": number.get(), "version": version.get()})?)
+}
+
+/// A value that was entered.
+pub(crate) fn entered_value(
+    alloc: Global,
+    number: Ordinal,
+    version: Ordinal,
+    rows: u64,
+    digest: &Digest,
+) -> Result<Value, OutOfMemory>
+    ensures { IfOk result (λ value. view value ≡ entered_data number version rows digest.now) }
+{
+    let digest = hex::encode(alloc, digest.bytes())?;
+    Ok(json!(in alloc; {
+        "digest": digest,
+        "record": number.get(),
+        "rows": rows,
+        "version": version.get()
+    })?)
+}
+
+/// A version that was opened by an amendment.
+pub(crate) fn amended_value(
+    alloc: Global,
+    number: Ordinal,
+    version: Ordinal,
+    digest: &Digest,
+) -> Result<Value, OutOfMemory>
+    ensures { IfOk result (λ value. view value ≡ amended_data number version digest.now) }
+{
+    let digest = hex::encode(alloc, digest.bytes())?;
+    Ok(json!(in alloc; {"digest": digest, "record": number.get(), "version": version.get()})?)
+}
+
+/// A signature that was given.
+pub(crate) fn signed_value(
+    alloc: Global,
+    signature: &Signature,
+    state: &Option<State>,
+) -> Result<Value, OutOfMemory>
+    ensures { IfOk result (λ value. view value ≡ signed_data signature.now state.now) }
+{
+    let digest = hex::encode(alloc, signature.digest.bytes())?;
+    let moment = moment_text(alloc, signature.moment)?;
+    let seal = hex::encode(alloc, signature.seal.bytes())?;
+    let state = state_value(alloc, state)?;
+    Ok(json!(in alloc; {
+        "digest": digest,
+        "meaning": signature.meaning.word(),
+        "moment": moment,
+        "name": signature.name.as_str(),
+        "seal": seal,
+        "state": state
+    })?)
+}
+
+impl Shown for VersionState {
+    ghost use Rattle.lab_replies.specs.Records.{version_state_data};
+
+    ghost data = { version_state_data };
+
+    fn value(&self, alloc: Global) -> Result<Value, OutOfMemory> {
+        let digest = hex::encode(alloc, self.digest.bytes())?;
+        let state = state_value(alloc, &self.state)?;
+        Ok(json!(in alloc; {"digest": digest, "state": state, "version": self.version.get()})?)
+    }
+}
+
+fn current_of(versions: &[VersionState]) -> Option<Ordinal>
+    ensures { result ≡ current_of versions.now }
+{
+    versions.last().map(|version| version.version)
+}
+
+/// A record.
+pub(crate) fn record_value(alloc: Global, read: &RecordRead) -> Result<Value, OutOfMemory>
+    ensures { IfOk result (λ value. view value ≡ record_data read.now) }
+{
+    let current = current_value(current_of(read.versions.as_slice()));
+    let versions = list_of(alloc, read.versions.as_slice())?;
+    Ok(json!(in alloc; {
+        "current": current,
+        "form": read.form.code.as_str(),
+        "form_version": read.form.version.get(),
+        "record": read.number.get(),
+        "sample": read.sample.as_str(),
+        "versions": versions
+    })?)
+}
+
+impl Shown for EntryRow {
+    ghost use Rattle.lab_replies.specs.Records.{row_data};
+
+    ghost data = { row_data };
+
+    fn value(&self, alloc: Global) -> Result<Value, OutOfMemory> {
+        let moment = moment_text(alloc, self.moment)?;
+        Ok(json!(in alloc; {
+            "key": self.key.as_str(),
+            "moment": moment,
+            "person": self.person.as_str(),
+            "reason": text_or_empty(&self.reason),
+            "unit": self.unit.as_str(),
+            "value": self.value.as_str()
+        })?)
+    }
+}
+
+impl Shown for Signature {
+    ghost use Rattle.lab_replies.specs.Records.{signature_data};
+
+    ghost data = { signature_data };
+
+    fn value(&self, alloc: Global) -> Result<Value, OutOfMemory> {
+        let moment = moment_text(alloc, self.moment)?;
+        let seal = hex::encode(alloc, self.seal.bytes())?;
+        Ok(json!(in alloc; {
+            "meaning": self.meaning.word(),
+            "moment": moment,
+            "name": self.name.as_str(),
+            "person": self.person.as_str(),
+            "reason": self.meaning.reason(),
+            "seal": seal
+        })?)
+    }
+}
+
+// Values, which are told without who entered them and when.
+fn values_list(alloc: Global, rows: &[EntryRow]) -> Result<Vec<Value>, OutOfMemory>
+    ensures { IfOk result (λ list. map view list.items ≡ map value_data rows.now) }
+{
+    let mut list = Vec::new(alloc);
+    for row in rows {
+        list.push(value_value(alloc, row)?)?;
+    }
+    Ok(list)
+}
+
+fn value_value(alloc: Global, row: &EntryRow) -> Result<Value, OutOfMemory>
+    ensures { IfOk result (λ value. view value ≡ value_data row.now) }
+{
+    Ok(json!(in alloc; {
+        "key": row.key.as_str(),
+        "unit": row.unit.as_str(),
+        "value": row.value.as_str()
+    })?)
+}
+
+fn format_number(format: Format) -> u32
+    ensures { result ≡ format_number format }
+{
+    match format {
+        Format::One => 1,
+        Format::Two { .. } => 2,
+    }
+}
+
+fn amendment_reason(amendment: &Option<Amendment>) -> &str
+    ensures { string result.now ≡ text_or_empty (reason_of amendment.now) }
+{
+    match amendment {
+        Some(amendment) => amendment.reason.as_str(),
+        None => "",
+    }
+}
+
+/// A version of a record.
+pub(crate) fn version_value(alloc: Global, read: &VersionRead) -> Result<Value, OutOfMemory>
+    ensures { IfOk result (λ value. view value ≡ version_data read.now) }
+{
+    Ok(json!(in alloc; {
+        "altered": list_of(alloc, read.altered.as_slice())?,
+        "approval": read.form.form.approval(),
+        "digest": hex::encode(alloc, read.digest.bytes())?,
+        "form": read.form.code.as_str(),
+        "form_version": read.form.version.get(),
+        "format": format_number(read.version.format),
+        "moment": moment_text(alloc, read.version.opened)?,
+        "opener": read.version.opener.as_str(),
+        "reason": amendment_reason(read.version.origin.amendment()),
+        "record": read.number.get(),
+        "rows": list_of(alloc, read.version.rows.rows())?,
+        "sample": read.sample.as_str(),
+        "signatures": list_of(alloc, read.version.signatures.as_slice())?,
+        "state": state_value(alloc, &read.state)?,
+        "values": values_list(alloc, read.values.as_slice())?,
+        "version": read.version.origin.number().get()
+    })?)
+}
+
+impl Shown for RecordState {
+    ghost use Rattle.lab_replies.specs.Records.{record_state_data};
+
+    ghost data = { record_state_data };
+
+    fn value(&self, alloc: Global) -> Result<Value, OutOfMemory> {
+        let state = state_value(alloc, &self.state)?;
+        Ok(json!(in alloc; {
+            "current": current_value(self.current),
+            "form": self.form.as_str(),
+            "record": self.number.get(),
+            "sample": self.sample.as_str(),
+            "state": state
+        })?)
+    }
+}
+
+/// Records.
+pub(crate) fn records_value(alloc: Global, records: &[RecordState]) -> Result<Value, OutOfMemory>
+    ensures { IfOk result (λ value. view value ≡ records_data records.now) }
+{
+    let records = list_of(alloc, records)?;
+    Ok(json!(in alloc; {"records": records})?)
+}
