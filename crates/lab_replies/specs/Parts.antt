@@ -7,15 +7,18 @@ use Rattle.lab_names.specs.Moment.{moment_text}
 use Rattle.lab_seal.specs.declared.states.State.{State}
 use Rattle.lab_seal.specs.States.{state_word}
 
--- the members of an object, which stand in ascending order of the bytes of their names, whatever
--- order they are listed in
+-- members, and those of a list. They stand in ascending order of the bytes of their names, whatever
+-- order they are listed in.
+abbrev pub members_onto : List (List ℕ × Data) → Members → Members
+members_onto [] members = members
+members_onto (one ∷ more) members = put one.0 one.1 (members_onto more members)
+
 abbrev pub members_from : List (List ℕ × Data) → Members
-members_from [] = no_members
-members_from (one ∷ more) = put one.0 one.1 (members_from more)
+members_from list = members_onto list no_members
 
 -- an object
 abbrev pub object_from : List (List ℕ × Data) → Data
-object_from members = object (members_from members)
+object_from list = object (members_from list)
 
 -- a list, in its order
 abbrev pub list_from : List Data → Data

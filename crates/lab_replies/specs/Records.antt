@@ -1,6 +1,6 @@
 -- Records, their versions, rows and signatures, as JSON.
 use Rattle.std.specs.Prelude.{ℕ, List, [], ◌∷◌, ◌-◌, length, map, codes, Option, Some, None, option_map, slice_get}
-use Rattle.serde_json.specs.Data.{Data, string, boolean}
+use Rattle.serde_json.specs.Data.{Data, object, string, boolean}
 use Rattle.lab_versions.specs.declared.origins.Amendment.{Amendment}
 use Rattle.lab_versions.specs.declared.rows.EntryRow.{EntryRow}
 use Rattle.lab_versions.specs.declared.versions.Format.{Format}
@@ -12,7 +12,7 @@ use Rattle.lab_rules.specs.declared.readings.VersionState.{VersionState}
 use Rattle.lab_rules.specs.declared.readings.RecordRead.{RecordRead}
 use Rattle.lab_rules.specs.declared.readings.RecordState.{RecordState}
 use Rattle.lab_rules.specs.declared.readings.VersionRead.{VersionRead}
-use Rattle.lab_replies.specs.Parts.{object_from, list_from, texts_data, whole, moment_data, digits_data, text_or_empty, state_data, current_data}
+use Rattle.lab_replies.specs.Parts.{members_onto, members_from, object_from, list_from, texts_data, whole, moment_data, digits_data, text_or_empty, state_data, current_data}
 
 -- a record that was opened, with its first version
 abbrev pub record_opened_data : ℕ → ℕ → Data
@@ -133,29 +133,43 @@ abbrev pub reason_of : Option Amendment → Option (List ℕ)
 reason_of None = None
 reason_of (Some amendment) = Some amendment.reason
 
--- a version: its moment is that of its opening, and whether an approval is wanted is said by the
--- version of the form
-abbrev pub version_data : VersionRead → Data
-version_data read =
-    object_from (
-    (codes "altered", texts_data read.altered)
-    ∷ (codes "approval", boolean read.form.form.approval)
-    ∷ (codes "digest", digits_data read.digest)
+-- a version of a record: which record it is of; whether an approval is wanted is said by the version
+-- of the form
+abbrev pub version_about : VersionRead → List (List ℕ × Data)
+version_about read =
+    (codes "approval", boolean read.form.form.approval)
     ∷ (codes "form", string read.form.code)
     ∷ (codes "form_version", whole read.form.version)
+    ∷ (codes "record", whole read.number)
+    ∷ (codes "sample", string read.sample)
+    ∷ []
+
+-- which version it is, its moment that of its opening
+abbrev pub version_opening : VersionRead → List (List ℕ × Data)
+version_opening read =
+    (codes "digest", digits_data read.digest)
     ∷ (codes "format", whole (format_number read.version.format))
     ∷ (codes "moment", moment_data read.version.opened)
     ∷ (codes "opener", string read.version.opener)
     ∷ (codes "reason", text_or_empty (reason_of read.version.origin.amendment))
-    ∷ (codes "record", whole read.number)
-    ∷ (codes "rows", list_from (map row_data read.version.rows))
-    ∷ (codes "sample", string read.sample)
-    ∷ (codes "signatures", list_from (map signature_data read.version.signatures))
     ∷ (codes "state", state_data read.state)
-    ∷ (codes "values", list_from (map value_data read.values))
     ∷ (codes "version", whole read.version.origin.number)
     ∷ []
-    )
+
+-- what was entered and signed in it, and what that comes to
+abbrev pub version_lists : VersionRead → List (List ℕ × Data)
+version_lists read =
+    (codes "altered", texts_data read.altered)
+    ∷ (codes "rows", list_from (map row_data read.version.rows))
+    ∷ (codes "signatures", list_from (map signature_data read.version.signatures))
+    ∷ (codes "values", list_from (map value_data read.values))
+    ∷ []
+
+-- a version, with all of these members
+abbrev pub version_data : VersionRead → Data
+version_data read =
+    object (members_onto (version_lists read)
+    (members_onto (version_opening read) (members_from (version_about read))))
 
 -- ---- records
 

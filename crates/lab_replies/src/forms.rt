@@ -1,11 +1,10 @@
 //! Forms, as JSON.
 ghost use Rattle.std.specs.Prelude.{◌≡◌, IfOk, OnOk};
-ghost use Rattle.serde_json.specs.Data.{string, put as with_member};
 ghost use Rattle.serde_json.specs.View.{view, members_view};
 ghost use Rattle.lab_forms.specs.Kinds.{kind_word};
 ghost use Rattle.lab_replies.specs.Forms.{form_made_data, form_data, with_bound, with_kind, field_members};
 
-use crate::parts::{Shown, list_of, put, text_value};
+use crate::parts::{Shown, list_of, put, put_list, put_text};
 use lab_forms::{Bound, Field, Kind};
 use lab_kept::FormVersion;
 use lab_names::{Key, Ordinal, OutOfMemory};
@@ -39,7 +38,7 @@ pub(crate) fn form_value(alloc: Global, form: &FormVersion) -> Result<Value, Out
 impl Shown for Field {
     ghost use Rattle.lab_replies.specs.Forms.{field_data};
 
-    ghost data = { field_data };
+    ghost data_of = { field_data };
 
     fn value(&self, alloc: Global) -> Result<Value, OutOfMemory> {
         let mut members = field_members(alloc, self)?;
@@ -95,8 +94,7 @@ fn put_kind(
         }
         Kind::Text { size } => put(members, alloc, "size", Value::from(*size)),
         Kind::Choice { choices } => {
-            let choices = list_of(alloc, choices.names())?;
-            put(members, alloc, "choices", Value::from(choices))
+            put_list(members, alloc, "choices", list_of(alloc, choices.names())?)
         }
         Kind::Date | Kind::YesNo => Ok(()),
     }
@@ -115,17 +113,4 @@ fn put_bound(
         Some(bound) => put_text(members, alloc, name, bound.as_str()),
         None => Ok(()),
     }
-}
-
-fn put_text(
-    members: &mut Map<String, Value>,
-    alloc: Global,
-    name: &str,
-    text: &str,
-) -> Result<(), OutOfMemory>
-    ensures { OnOk result (members_view members.new.entries
-        ≡ with_member name.now (string text.now) (members_view members.old.entries)) }
-{
-    let text = text_value(alloc, text)?;
-    put(members, alloc, name, text)
 }

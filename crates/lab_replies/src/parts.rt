@@ -4,27 +4,27 @@ ghost use Rattle.serde_json.specs.Data.{Data, string, put as with_member};
 ghost use Rattle.serde_json.specs.View.{view, members_view};
 ghost use Rattle.lab_names.specs.Moment.{moment_text};
 ghost use Rattle.hex.specs.Hex.{encode_lower};
-ghost use Rattle.lab_replies.specs.Parts.{text_or_empty, state_data, current_data};
+ghost use Rattle.lab_replies.specs.Parts.{list_from, moment_data, digits_data, text_or_empty, state_data, current_data};
 
 use lab_names::{Moment, Ordinal, OutOfMemory, Rule, Text};
 use lab_seal::State;
-use lab_secrets::Half;
+use lab_secrets::{Digest, Half};
 use serde_json::{Map, Value};
 use std::alloc::Global;
 
 /// What a reply lists.
 pub(crate) trait Shown {
     /// Its data.
-    ghost data: { Self → Data };
+    ghost data_of: { Self → Data };
 
     /// It as a value. The only error is out of memory.
     fn value(&self, alloc: Global) -> Result<Value, OutOfMemory>
-        ensures { IfOk result (λ value. view value ≡ data self.now) };
+        ensures { IfOk result (λ value. view value ≡ data_of self.now) };
 }
 
 /// What is listed, as values in its order. The only error is out of memory.
 pub(crate) fn list_of<T: Shown>(alloc: Global, things: &[T]) -> Result<Vec<Value>, OutOfMemory>
-    ensures { IfOk result (λ list. map view list.items ≡ map T.data things.now) }
+    ensures { IfOk result (λ list. map view list.items ≡ map T.data_of things.now) }
 {
     let mut list = Vec::new(alloc);
     for thing in things {
@@ -34,7 +34,7 @@ pub(crate) fn list_of<T: Shown>(alloc: Global, things: &[T]) -> Result<Vec<Value
 }
 
 impl<R: Rule> Shown for Text<R> {
-    ghost data = { string };
+    ghost data_of = { string };
 
     fn value(&self, alloc: Global) -> Result<Value, OutOfMemory> {
         text_value(alloc, self.as_str())
@@ -56,6 +56,20 @@ pub(crate) fn moment_text(alloc: Global, moment: Moment) -> Result<String, OutOf
     let mut printed = [0; 20];
     moment.print(&mut printed);
     Ok(String::from_utf8_lossy(alloc, &printed)?)
+}
+
+/// A moment as a value.
+pub(crate) fn moment_value(alloc: Global, moment: Moment) -> Result<Value, OutOfMemory>
+    ensures { IfOk result (λ value. view value ≡ moment_data moment) }
+{
+    Ok(Value::from(moment_text(alloc, moment)?))
+}
+
+/// A digest as its digits.
+pub(crate) fn digest_value(alloc: Global, digest: &Digest) -> Result<Value, OutOfMemory>
+    ensures { IfOk result (λ value. view value ≡ digits_data digest.now) }
+{
+    Ok(Value::from(hex::encode(alloc, digest.bytes())?))
 }
 
 /// A half of a one-time word as its digits.
@@ -107,4 +121,31 @@ pub(crate) fn put(
         ≡ with_member name.now (view value) (members_view members.old.entries)) }
 {
     Ok(serde_json::put(members, alloc, name, value)?)
+}
+
+/// Adds a member that is a text. The only error is out of memory.
+pub(crate) fn put_text(
+    members: &mut Map<String, Value>,
+    alloc: Global,
+    name: &str,
+    text: &str,
+) -> Result<(), OutOfMemory>
+    ensures { OnOk result (members_view members.new.entries
+        ≡ with_member name.now (string text.now) (members_view members.old.entries)) }
+{
+    let text = text_value(alloc, text)?;
+    put(members, alloc, name, text)
+}
+
+/// Adds a member that is a list. The only error is out of memory.
+pub(crate) fn put_list(
+    members: &mut Map<String, Value>,
+    alloc: Global,
+    name: &str,
+    list: Vec<Value>,
+) -> Result<(), OutOfMemory>
+    ensures { OnOk result (members_view members.new.entries
+        ≡ with_member name.now (list_from (map view list.items)) (members_view members.old.entries)) }
+{
+    put(members, alloc, name, Value::from(list))
 }

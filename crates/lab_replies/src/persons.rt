@@ -58,7 +58,7 @@ pub(crate) fn half_value(alloc: Global, half: &Half) -> Result<Value, OutOfMemor
 }
 
 impl Shown for Role {
-    ghost data = { λ role. string (role_word role) };
+    ghost data_of = { λ role. string (role_word role) };
 
     fn value(&self, alloc: Global) -> Result<Value, OutOfMemory> {
         text_value(alloc, self.word())
@@ -88,7 +88,7 @@ pub(crate) fn roles_set_value(
 impl Shown for PersonLine {
     ghost use Rattle.lab_replies.specs.Persons.{person_data};
 
-    ghost data = { person_data };
+    ghost data_of = { person_data };
 
     fn value(&self, alloc: Global) -> Result<Value, OutOfMemory> {
         let roles = roles_list(alloc, &self.roles)?;

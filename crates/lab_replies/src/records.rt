@@ -1,18 +1,19 @@
 //! Records, their versions, rows and signatures, as JSON.
-ghost use Rattle.std.specs.Prelude.{◌≡◌, IfOk, map};
+ghost use Rattle.std.specs.Prelude.{◌≡◌, IfOk, OnOk, map};
 ghost use Rattle.serde_json.specs.Data.{string};
-ghost use Rattle.serde_json.specs.View.{view};
-ghost use Rattle.lab_replies.specs.Parts.{text_or_empty};
-ghost use Rattle.lab_replies.specs.Records.{record_opened_data, entered_data, amended_data, signed_data, current_of, record_data, value_data, format_number, reason_of, version_data, records_data};
+ghost use Rattle.serde_json.specs.View.{view, members_view};
+ghost use Rattle.lab_replies.specs.Parts.{members_onto, text_or_empty};
+ghost use Rattle.lab_replies.specs.Records.{record_opened_data, entered_data, amended_data, signed_data, current_of, record_data, value_data, format_number, reason_of, version_about, version_opening, version_lists, version_data, records_data};
 
 use crate::parts::{
-    Shown, current_value, list_of, moment_text, state_value, text_or_empty,
+    Shown, current_value, digest_value, list_of, moment_text, moment_value, put, put_list, put_text,
+    state_value, text_or_empty,
 };
 use lab_kept::Signature;
 use lab_names::{Ordinal, OutOfMemory};
 use lab_rules::{RecordRead, RecordState, VersionRead, VersionState};
 use lab_seal::{Amendment, Digest, EntryRow, Format, State};
-use serde_json::{Value, json};
+use serde_json::{Map, Value, json};
 use std::alloc::Global;
 
 /// A record that was opened.
@@ -83,7 +84,7 @@ pub(crate) fn signed_value(
 impl Shown for VersionState {
     ghost use Rattle.lab_replies.specs.Records.{version_state_data};
 
-    ghost data = { version_state_data };
+    ghost data_of = { version_state_data };
 
     fn value(&self, alloc: Global) -> Result<Value, OutOfMemory> {
         let digest = hex::encode(alloc, self.digest.bytes())?;
@@ -117,7 +118,7 @@ pub(crate) fn record_value(alloc: Global, read: &RecordRead) -> Result<Value, Ou
 impl Shown for EntryRow {
     ghost use Rattle.lab_replies.specs.Records.{row_data};
 
-    ghost data = { row_data };
+    ghost data_of = { row_data };
 
     fn value(&self, alloc: Global) -> Result<Value, OutOfMemory> {
         let moment = moment_text(alloc, self.moment)?;
@@ -135,7 +136,7 @@ impl Shown for EntryRow {
 impl Shown for Signature {
     ghost use Rattle.lab_replies.specs.Records.{signature_data};
 
-    ghost data = { signature_data };
+    ghost data_of = { signature_data };
 
     fn value(&self, alloc: Global) -> Result<Value, OutOfMemory> {
         let moment = moment_text(alloc, self.moment)?;
@@ -194,30 +195,64 @@ fn amendment_reason(amendment: &Option<Amendment>) -> &str
 pub(crate) fn version_value(alloc: Global, read: &VersionRead) -> Result<Value, OutOfMemory>
     ensures { IfOk result (λ value. view value ≡ version_data read.now) }
 {
-    Ok(json!(in alloc; {
-        "altered": list_of(alloc, read.altered.as_slice())?,
-        "approval": read.form.form.approval(),
-        "digest": hex::encode(alloc, read.digest.bytes())?,
-        "form": read.form.code.as_str(),
-        "form_version": read.form.version.get(),
-        "format": format_number(read.version.format),
-        "moment": moment_text(alloc, read.version.opened)?,
-        "opener": read.version.opener.as_str(),
-        "reason": amendment_reason(read.version.origin.amendment()),
-        "record": read.number.get(),
-        "rows": list_of(alloc, read.version.rows.rows())?,
-        "sample": read.sample.as_str(),
-        "signatures": list_of(alloc, read.version.signatures.as_slice())?,
-        "state": state_value(alloc, &read.state)?,
-        "values": values_list(alloc, read.values.as_slice())?,
-        "version": read.version.origin.number().get()
-    })?)
+    let mut members = Map::new(alloc);
+    put_about(&mut members, alloc, read)?;
+    put_opening(&mut members, alloc, read)?;
+    put_lists(&mut members, alloc, read)?;
+    Ok(Value::Object(members))
+}
+
+fn put_about(
+    members: &mut Map<String, Value>,
+    alloc: Global,
+    read: &VersionRead,
+) -> Result<(), OutOfMemory>
+    ensures { OnOk result (members_view members.new.entries
+        ≡ members_onto (version_about read.now) (members_view members.old.entries)) }
+{
+    put_text(members, alloc, "sample", read.sample.as_str())?;
+    put(members, alloc, "record", Value::from(read.number.get()))?;
+    put(members, alloc, "form_version", Value::from(read.form.version.get()))?;
+    put_text(members, alloc, "form", read.form.code.as_str())?;
+    put(members, alloc, "approval", Value::from(read.form.form.approval()))
+}
+
+fn put_opening(
+    members: &mut Map<String, Value>,
+    alloc: Global,
+    read: &VersionRead,
+) -> Result<(), OutOfMemory>
+    ensures { OnOk result (members_view members.new.entries
+        ≡ members_onto (version_opening read.now) (members_view members.old.entries)) }
+{
+    let version = &read.version;
+    put(members, alloc, "version", Value::from(version.origin.number().get()))?;
+    put(members, alloc, "state", state_value(alloc, &read.state)?)?;
+    put_text(members, alloc, "reason", amendment_reason(version.origin.amendment()))?;
+    put_text(members, alloc, "opener", version.opener.as_str())?;
+    put(members, alloc, "moment", moment_value(alloc, version.opened)?)?;
+    put(members, alloc, "format", Value::from(format_number(version.format)))?;
+    put(members, alloc, "digest", digest_value(alloc, &read.digest)?)
+}
+
+fn put_lists(
+    members: &mut Map<String, Value>,
+    alloc: Global,
+    read: &VersionRead,
+) -> Result<(), OutOfMemory>
+    ensures { OnOk result (members_view members.new.entries
+        ≡ members_onto (version_lists read.now) (members_view members.old.entries)) }
+{
+    put_list(members, alloc, "values", values_list(alloc, read.values.as_slice())?)?;
+    put_list(members, alloc, "signatures", list_of(alloc, read.version.signatures.as_slice())?)?;
+    put_list(members, alloc, "rows", list_of(alloc, read.version.rows.rows())?)?;
+    put_list(members, alloc, "altered", list_of(alloc, read.altered.as_slice())?)
 }
 
 impl Shown for RecordState {
     ghost use Rattle.lab_replies.specs.Records.{record_state_data};
 
-    ghost data = { record_state_data };
+    ghost data_of = { record_state_data };
 
     fn value(&self, alloc: Global) -> Result<Value, OutOfMemory> {
         let state = state_value(alloc, &self.state)?;

@@ -12,7 +12,7 @@ use std::alloc::Global;
 impl Shown for TrailRow {
     ghost use Rattle.lab_replies.specs.Trails.{trail_row_data};
 
-    ghost data = { trail_row_data };
+    ghost data_of = { trail_row_data };
 
     fn value(&self, alloc: Global) -> Result<Value, OutOfMemory> {
         let moment = moment_text(alloc, self.moment)?;
