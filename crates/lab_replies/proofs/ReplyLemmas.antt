@@ -1,9 +1,10 @@
 -- No reply has a number with a point, so that each has one text.
 use Rattle.std.proofs.Common.{◌≡◌, ℕ, List, [], ◌∷◌, map, false, refl, Option, Some, None}
 use Rattle.serde_json.specs.Data.{Data}
-use Rattle.serde_json.specs.Written.{has_float}
+use Rattle.serde_json.specs.Written.{has_float, members_have_float}
 use Rattle.lab_access.specs.declared.refusals.PeopleRefusal.{PeopleRefusal}
 use Rattle.lab_access.specs.declared.refusals.PeopleRefusal.TheVariants as people
+use Rattle.lab_access.specs.Refusals.{people_refusal_entry}
 use Rattle.lab_access.specs.declared.roles.Roles.{Roles}
 use Rattle.lab_access.specs.Roles.{role_list, role_word}
 use Rattle.lab_names.specs.Faults.{Entry}
@@ -28,11 +29,11 @@ use Rattle.lab_machine.specs.declared.replies.Reply.TheVariants as reply
 use Rattle.lab_replies.specs.Parts.{texts_data, text_or_empty, state_data, current_data}
 use Rattle.lab_replies.specs.Refusals.{entry_data, people_members, refusal_data}
 use Rattle.lab_replies.specs.Persons.{roles_data, person_data, persons_data, roles_set_data}
-use Rattle.lab_replies.specs.Forms.{field_data, form_data}
+use Rattle.lab_replies.specs.Forms.{with_kind, field_members, field_data, form_data}
 use Rattle.lab_replies.specs.Records.{signed_data, version_state_data, current_of, record_data, row_data, signature_data, value_data, reason_of, version_data, record_state_data, records_data}
 use Rattle.lab_replies.specs.Trails.{trail_row_data, trail_data}
 use Rattle.lab_replies.specs.Replies.{reply_data}
-use Rattle.lab_replies.proofs.FloatLemmas.{list_floats, texts_floats}
+use Rattle.lab_replies.proofs.FloatLemmas.{neither, list_floats, texts_floats}
 
 -- ---- parts
 
@@ -54,13 +55,13 @@ roles_floats roles = texts_floats (map role_word (role_list roles))
 -- ---- what is listed
 
 person_floats : (person : PersonLine) → has_float (person_data person) ≡ false
-person_floats person = rw (roles_floats person.roles)
+person_floats person = neither _ _ (roles_floats person.roles) refl
 
 version_state_floats : (version : VersionState) → has_float (version_state_data version) ≡ false
-version_state_floats version = rw (state_floats version.state)
+version_state_floats version = neither _ _ (state_floats version.state) refl
 
 row_floats : (row : EntryRow) → has_float (row_data row) ≡ false
-row_floats row = rw (empty_floats row.reason)
+row_floats row = neither _ _ (empty_floats row.reason) refl
 
 signature_floats : (signature : Signature) → has_float (signature_data signature) ≡ false
 signature_floats signature = refl
@@ -69,10 +70,23 @@ value_floats : (row : EntryRow) → has_float (value_data row) ≡ false
 value_floats row = refl
 
 record_state_floats : (kept : RecordState) → has_float (record_state_data kept) ≡ false
-record_state_floats kept = rw (current_floats kept.current) (rw (state_floats kept.state))
+record_state_floats kept = neither _ _ (current_floats kept.current) (neither _ _ (state_floats kept.state) refl)
 
 trail_row_floats : (row : TrailRow) → has_float (trail_row_data row) ≡ false
-trail_row_floats row = rw (empty_floats row.person)
+trail_row_floats row = neither _ _ (empty_floats row.person) refl
+
+kind_floats : (field : Field) (kind : Kind) → members_have_float (with_kind kind (field_members field)) ≡ false
+kind_floats field (Number unit decimals None None) = refl
+kind_floats field (Number unit decimals None (Some max)) = refl
+kind_floats field (Number unit decimals (Some min) None) = refl
+kind_floats field (Number unit decimals (Some min) (Some max)) = refl
+kind_floats field (Text size) = refl
+kind_floats field (Choice choices) = neither _ _ (texts_floats choices) refl
+kind_floats field Date = refl
+kind_floats field YesNo = refl
+
+field_floats : (field : Field) → has_float (field_data field) ≡ false
+field_floats field = kind_floats field field.kind
 
 -- ---- replies
 
@@ -93,26 +107,47 @@ people_floats entry people.NoIssue = refl
 people_floats entry people.NoSuchPerson = refl
 
 refusal_floats : (told : Refusal) → has_float (refusal_data told) ≡ false
-refusal_floats told = ?
-
-field_floats : (field : Field) → has_float (field_data field) ≡ false
-field_floats field = ?
+refusal_floats refusal.NoSuchLab = refl
+refusal_floats refusal.ClockBehind = refl
+refusal_floats (refusal.People told) = people_floats (people_refusal_entry told) told
+refusal_floats (refusal.Form told) = refl
+refusal_floats refusal.NoSuchForm = refl
+refusal_floats (refusal.RecordExists number) = refl
+refusal_floats refusal.NoSuchRecord = refl
+refusal_floats refusal.NoSuchVersion = refl
+refusal_floats refusal.NotOpen = refl
+refusal_floats refusal.ReasonWanted = refl
+refusal_floats refusal.NothingAltered = refl
+refusal_floats (refusal.NotAltered key) = refl
+refusal_floats refusal.AmendmentOpen = refl
+refusal_floats refusal.EntriesMissing = refl
+refusal_floats (refusal.StaleDigest digest) = refl
+refusal_floats refusal.AlreadySigned = refl
+refusal_floats refusal.OwnWork = refl
+refusal_floats refusal.NotAuthor = refl
+refusal_floats refusal.NotSigned = refl
+refusal_floats refusal.CodeWanted = refl
+refusal_floats refusal.ApprovalNotWanted = refl
 
 form_floats : (form : FormVersion) → has_float (form_data form) ≡ false
-form_floats form = rw (list_floats field_data field_floats form.form.fields)
+form_floats form = neither _ _ (list_floats field_data field_floats form.form.fields) refl
 
 signed_floats : (signature : Signature) (state : Option State) → has_float (signed_data signature state) ≡ false
-signed_floats signature state = rw (state_floats state)
+signed_floats signature state = neither _ _ (state_floats state) refl
 
 record_floats : (read : RecordRead) → has_float (record_data read) ≡ false
 record_floats read =
-    rw (current_floats (current_of read.versions)) (rw (list_floats version_state_data version_state_floats read.versions))
+    neither _ _ (current_floats (current_of read.versions))
+    (neither _ _ (list_floats version_state_data version_state_floats read.versions) refl)
 
 version_floats : (read : VersionRead) → has_float (version_data read) ≡ false
 version_floats read =
-    rw (texts_floats read.altered) (rw (empty_floats (reason_of read.version.origin.amendment))
-    (rw (list_floats row_data row_floats read.version.rows) (rw (list_floats signature_data signature_floats read.version.signatures)
-    (rw (state_floats read.state) (rw (list_floats value_data value_floats read.values))))))
+    neither _ _ (texts_floats read.altered)
+    (neither _ _ (empty_floats (reason_of read.version.origin.amendment))
+    (neither _ _ (list_floats row_data row_floats read.version.rows)
+    (neither _ _ (list_floats signature_data signature_floats read.version.signatures)
+    (neither _ _ (state_floats read.state)
+    (neither _ _ (list_floats value_data value_floats read.values) refl)))))
 
 pub reply_floats : (told : Reply) → has_float (reply_data told) ≡ false
 reply_floats (reply.Refused told) = refusal_floats told
@@ -122,8 +157,8 @@ reply_floats (reply.Closed session) = refl
 reply_floats (reply.PasswordChanged changed) = refl
 reply_floats (reply.PersonDone code) = refl
 reply_floats (reply.HalfTold half) = refl
-reply_floats (reply.RolesSet code roles) = rw (roles_floats roles)
-reply_floats (reply.Persons persons) = rw (list_floats person_data person_floats persons)
+reply_floats (reply.RolesSet code roles) = neither _ _ (roles_floats roles) refl
+reply_floats (reply.Persons persons) = neither _ _ (list_floats person_data person_floats persons) refl
 reply_floats (reply.FormMade code version) = refl
 reply_floats (reply.FormRead form) = form_floats form
 reply_floats (reply.RecordOpened number version) = refl
@@ -132,5 +167,5 @@ reply_floats (reply.Amended number version digest) = refl
 reply_floats (reply.Signed signature state) = signed_floats signature state
 reply_floats (reply.RecordRead read) = record_floats read
 reply_floats (reply.VersionRead read) = version_floats read
-reply_floats (reply.Records records) = rw (list_floats record_state_data record_state_floats records)
-reply_floats (reply.Trail rows) = rw (list_floats trail_row_data trail_row_floats rows)
+reply_floats (reply.Records records) = neither _ _ (list_floats record_state_data record_state_floats records) refl
+reply_floats (reply.Trail rows) = neither _ _ (list_floats trail_row_data trail_row_floats rows) refl

@@ -73,7 +73,6 @@ pub(crate) fn digest_value(alloc: Global, digest: &Digest) -> Result<Value, OutO
 }
 
 /// A half of a one-time word as its digits.
-#[tactic(auto, using(crate::proofs::PartLemmas::digits_are_text))]
 pub(crate) fn half_text(alloc: Global, half: &Half) -> Result<String, OutOfMemory>
     ensures { IfOk result (λ text. string_bytes text ≡ encode_lower half.now) }
 {
