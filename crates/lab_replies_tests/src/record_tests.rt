@@ -24,13 +24,21 @@ fn what_is_written(rt: HostRuntime) {
         rows: 200,
         digest: digest(&rt, FIRST),
     };
-    is_told(&rt, entered, "{\"digest\":\"24bc980e818f9b2a99168c7d704eb4f5116d12ad90f6ff616b25cfcb7b303535\",\"record\":1,\"rows\":200,\"version\":99}");
+    is_told(
+        &rt,
+        entered,
+        "{\"digest\":\"24bc980e818f9b2a99168c7d704eb4f5116d12ad90f6ff616b25cfcb7b303535\",\"record\":1,\"rows\":200,\"version\":99}",
+    );
     let amended = Reply::Amended {
         number: Ordinal::FIRST,
         version: number(&rt, 2),
         digest: digest(&rt, NEXT),
     };
-    is_told(&rt, amended, "{\"digest\":\"49645447eb2a7dbc9144fc83d0c8c5a53a97fde235d7365d888dbe709e479cfe\",\"record\":1,\"version\":2}");
+    is_told(
+        &rt,
+        amended,
+        "{\"digest\":\"49645447eb2a7dbc9144fc83d0c8c5a53a97fde235d7365d888dbe709e479cfe\",\"record\":1,\"version\":2}",
+    );
 }
 
 fn signature(rt: &(impl Abort + AllocGlobal), meaning: Meaning) -> Signature {
@@ -50,7 +58,11 @@ fn a_signature(rt: HostRuntime) {
         signature: signature(&rt, Meaning::Rejection(text(&rt, "smudged"))),
         state: Some(State::Rejected),
     };
-    is_told(&rt, signed, "{\"digest\":\"49645447eb2a7dbc9144fc83d0c8c5a53a97fde235d7365d888dbe709e479cfe\",\"meaning\":\"rejection\",\"moment\":\"1970-01-01T00:21:40Z\",\"name\":\"Dan Day\",\"seal\":\"c93e28d56df6b41a6e30b7ae3d7f76b4df4c1627389f7ec67cb4b92372f8b77c\",\"state\":\"rejected\"}");
+    is_told(
+        &rt,
+        signed,
+        "{\"digest\":\"49645447eb2a7dbc9144fc83d0c8c5a53a97fde235d7365d888dbe709e479cfe\",\"meaning\":\"rejection\",\"moment\":\"1970-01-01T00:21:40Z\",\"name\":\"Dan Day\",\"seal\":\"c93e28d56df6b41a6e30b7ae3d7f76b4df4c1627389f7ec67cb4b92372f8b77c\",\"state\":\"rejected\"}",
+    );
 }
 
 fn state(rt: &impl Abort, place: u32, state: State, digits: &[u8; 64]) -> VersionState {
@@ -74,7 +86,11 @@ fn a_record(rt: HostRuntime) {
         sample: text(&rt, "S1"),
         versions,
     };
-    is_told(&rt, Reply::RecordRead(read), "{\"current\":2,\"form\":\"water\",\"form_version\":1,\"record\":5,\"sample\":\"S1\",\"versions\":[{\"digest\":\"24bc980e818f9b2a99168c7d704eb4f5116d12ad90f6ff616b25cfcb7b303535\",\"state\":\"released\",\"version\":1},{\"digest\":\"49645447eb2a7dbc9144fc83d0c8c5a53a97fde235d7365d888dbe709e479cfe\",\"state\":\"open\",\"version\":2}]}");
+    is_told(
+        &rt,
+        Reply::RecordRead(read),
+        "{\"current\":2,\"form\":\"water\",\"form_version\":1,\"record\":5,\"sample\":\"S1\",\"versions\":[{\"digest\":\"24bc980e818f9b2a99168c7d704eb4f5116d12ad90f6ff616b25cfcb7b303535\",\"state\":\"released\",\"version\":1},{\"digest\":\"49645447eb2a7dbc9144fc83d0c8c5a53a97fde235d7365d888dbe709e479cfe\",\"state\":\"open\",\"version\":2}]}",
+    );
 }
 
 fn row(
@@ -156,7 +172,11 @@ fn a_version(rt: HostRuntime) {
         altered: altered(&rt),
         values: values(&rt),
     };
-    is_told(&rt, Reply::VersionRead(read), "{\"altered\":[\"lead\",\"note\"],\"approval\":true,\"digest\":\"49645447eb2a7dbc9144fc83d0c8c5a53a97fde235d7365d888dbe709e479cfe\",\"form\":\"water\",\"form_version\":1,\"format\":2,\"moment\":\"1970-01-01T00:25:00Z\",\"opener\":\"dan\",\"reason\":\"one decimal\\nis meant\",\"record\":5,\"rows\":[{\"key\":\"lead\",\"moment\":\"1970-01-01T00:18:20Z\",\"person\":\"dan\",\"reason\":\"\",\"unit\":\"mg/L\",\"value\":\"<7.5\"},{\"key\":\"lead\",\"moment\":\"1970-01-01T00:20:00Z\",\"person\":\"dan\",\"reason\":\"misread \\\"scale\\\"\",\"unit\":\"mg/L\",\"value\":\"7.50\"}],\"sample\":\"S1\",\"signatures\":[{\"meaning\":\"authorship\",\"moment\":\"1970-01-01T00:21:40Z\",\"name\":\"Dan Day\",\"person\":\"dan\",\"reason\":\"\",\"seal\":\"c93e28d56df6b41a6e30b7ae3d7f76b4df4c1627389f7ec67cb4b92372f8b77c\"},{\"meaning\":\"rejection\",\"moment\":\"1970-01-01T00:21:40Z\",\"name\":\"Dan Day\",\"person\":\"dan\",\"reason\":\"smudged\",\"seal\":\"c93e28d56df6b41a6e30b7ae3d7f76b4df4c1627389f7ec67cb4b92372f8b77c\"}],\"state\":\"rejected\",\"values\":[{\"key\":\"lead\",\"unit\":\"mg/L\",\"value\":\"7.50\"}],\"version\":2}");
+    is_told(
+        &rt,
+        Reply::VersionRead(read),
+        "{\"altered\":[\"lead\",\"note\"],\"approval\":true,\"digest\":\"49645447eb2a7dbc9144fc83d0c8c5a53a97fde235d7365d888dbe709e479cfe\",\"form\":\"water\",\"form_version\":1,\"format\":2,\"moment\":\"1970-01-01T00:25:00Z\",\"opener\":\"dan\",\"reason\":\"one decimal\\nis meant\",\"record\":5,\"rows\":[{\"key\":\"lead\",\"moment\":\"1970-01-01T00:18:20Z\",\"person\":\"dan\",\"reason\":\"\",\"unit\":\"mg/L\",\"value\":\"<7.5\"},{\"key\":\"lead\",\"moment\":\"1970-01-01T00:20:00Z\",\"person\":\"dan\",\"reason\":\"misread \\\"scale\\\"\",\"unit\":\"mg/L\",\"value\":\"7.50\"}],\"sample\":\"S1\",\"signatures\":[{\"meaning\":\"authorship\",\"moment\":\"1970-01-01T00:21:40Z\",\"name\":\"Dan Day\",\"person\":\"dan\",\"reason\":\"\",\"seal\":\"c93e28d56df6b41a6e30b7ae3d7f76b4df4c1627389f7ec67cb4b92372f8b77c\"},{\"meaning\":\"rejection\",\"moment\":\"1970-01-01T00:21:40Z\",\"name\":\"Dan Day\",\"person\":\"dan\",\"reason\":\"smudged\",\"seal\":\"c93e28d56df6b41a6e30b7ae3d7f76b4df4c1627389f7ec67cb4b92372f8b77c\"}],\"state\":\"rejected\",\"values\":[{\"key\":\"lead\",\"unit\":\"mg/L\",\"value\":\"7.50\"}],\"version\":2}",
+    );
 }
 
 // Version 1 of the older format, without rows and signatures.
@@ -183,10 +203,19 @@ fn an_empty_version_of_the_older_format(rt: HostRuntime) {
         altered: Series::new(rt.alloc()),
         values: Series::new(rt.alloc()),
     };
-    is_told(&rt, Reply::VersionRead(read), "{\"altered\":[],\"approval\":true,\"digest\":\"24bc980e818f9b2a99168c7d704eb4f5116d12ad90f6ff616b25cfcb7b303535\",\"form\":\"water\",\"form_version\":1,\"format\":1,\"moment\":\"1970-01-01T00:16:40Z\",\"opener\":\"dan\",\"reason\":\"\",\"record\":5,\"rows\":[],\"sample\":\"S1\",\"signatures\":[],\"state\":\"open\",\"values\":[],\"version\":1}");
+    is_told(
+        &rt,
+        Reply::VersionRead(read),
+        "{\"altered\":[],\"approval\":true,\"digest\":\"24bc980e818f9b2a99168c7d704eb4f5116d12ad90f6ff616b25cfcb7b303535\",\"form\":\"water\",\"form_version\":1,\"format\":1,\"moment\":\"1970-01-01T00:16:40Z\",\"opener\":\"dan\",\"reason\":\"\",\"record\":5,\"rows\":[],\"sample\":\"S1\",\"signatures\":[],\"state\":\"open\",\"values\":[],\"version\":1}",
+    );
 }
 
-fn line(rt: &(impl Abort + AllocGlobal), place: u32, (form, sample): (&str, &str), (current, state): (u32, State)) -> RecordState {
+fn line(
+    rt: &(impl Abort + AllocGlobal),
+    place: u32,
+    (form, sample): (&str, &str),
+    (current, state): (u32, State),
+) -> RecordState {
     RecordState {
         number: number(rt, place),
         form: text(rt, form),
@@ -203,5 +232,9 @@ fn records(rt: HostRuntime) {
     list.push(water).expect(&rt, "memory");
     let soil = line(&rt, 7, ("soil", "S 2"), (3, State::Reviewed));
     list.push(soil).expect(&rt, "memory");
-    is_told(&rt, Reply::Records(list), "{\"records\":[{\"current\":1,\"form\":\"water\",\"record\":1,\"sample\":\"S1\",\"state\":\"signed\"},{\"current\":3,\"form\":\"soil\",\"record\":7,\"sample\":\"S 2\",\"state\":\"reviewed\"}]}");
+    is_told(
+        &rt,
+        Reply::Records(list),
+        "{\"records\":[{\"current\":1,\"form\":\"water\",\"record\":1,\"sample\":\"S1\",\"state\":\"signed\"},{\"current\":3,\"form\":\"soil\",\"record\":7,\"sample\":\"S 2\",\"state\":\"reviewed\"}]}",
+    );
 }
