@@ -72,11 +72,7 @@ fn kind_word(kind: &Kind) -> &'static str
 }
 
 // Adds what a kind has beside its word.
-fn put_kind(
-    members: &mut Map<String, Value>,
-    alloc: Global,
-    kind: &Kind,
-) -> Result<(), OutOfMemory>
+fn put_kind(members: &mut Map<String, Value>, alloc: Global, kind: &Kind) -> Result<(), OutOfMemory>
     ensures { OnOk result (members_view members.new.entries
         ≡ with_kind kind.now (members_view members.old.entries)) }
 {

@@ -7,7 +7,7 @@ ghost use Rattle.hex.specs.Hex.{encode_lower};
 ghost use Rattle.lab_replies.specs.Parts.{list_from, moment_data, digits_data, text_or_empty, state_data, current_data};
 
 use lab_names::{Moment, Ordinal, OutOfMemory, Rule, Text};
-use lab_seal::State;
+use lab_seal::{Seal, State};
 use lab_secrets::{Digest, Half};
 use serde_json::{Map, Value};
 use std::alloc::Global;
@@ -70,6 +70,13 @@ pub(crate) fn digest_value(alloc: Global, digest: &Digest) -> Result<Value, OutO
     ensures { IfOk result (λ value. view value ≡ digits_data digest.now) }
 {
     Ok(Value::from(hex::encode(alloc, digest.bytes())?))
+}
+
+/// A seal as its digits.
+pub(crate) fn seal_value(alloc: Global, seal: &Seal) -> Result<Value, OutOfMemory>
+    ensures { IfOk result (λ value. view value ≡ digits_data seal.now) }
+{
+    Ok(Value::from(hex::encode(alloc, seal.bytes())?))
 }
 
 /// A half of a one-time word as its digits.

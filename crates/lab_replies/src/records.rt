@@ -3,11 +3,11 @@ ghost use Rattle.std.specs.Prelude.{◌≡◌, IfOk, OnOk, map};
 ghost use Rattle.serde_json.specs.Data.{string};
 ghost use Rattle.serde_json.specs.View.{view, members_view};
 ghost use Rattle.lab_replies.specs.Parts.{members_onto, text_or_empty};
-ghost use Rattle.lab_replies.specs.Records.{record_opened_data, entered_data, amended_data, signed_data, current_of, record_data, value_data, format_number, reason_of, version_about, version_opening, version_lists, version_data, records_data};
+ghost use Rattle.lab_replies.specs.Records.{record_opened_data, entered_data, amended_data, signed_members, signed_data, current_of, record_data, signature_members, value_data, format_number, reason_of, version_about, version_opening, version_lists, version_data, record_state_members, records_data};
 
 use crate::parts::{
-    Shown, current_value, digest_value, list_of, moment_text, moment_value, put, put_list, put_text,
-    state_value, text_or_empty,
+    Shown, current_value, digest_value, list_of, moment_text, moment_value, put, put_list,
+    put_text, seal_value, state_value, text_or_empty,
 };
 use lab_kept::Signature;
 use lab_names::{Ordinal, OutOfMemory};
@@ -67,18 +67,36 @@ pub(crate) fn signed_value(
 ) -> Result<Value, OutOfMemory>
     ensures { IfOk result (λ value. view value ≡ signed_data signature.now state.now) }
 {
-    let digest = hex::encode(alloc, signature.digest.bytes())?;
-    let moment = moment_text(alloc, signature.moment)?;
-    let seal = hex::encode(alloc, signature.seal.bytes())?;
-    let state = state_value(alloc, state)?;
-    Ok(json!(in alloc; {
-        "digest": digest,
-        "meaning": signature.meaning.word(),
-        "moment": moment,
-        "name": signature.name.as_str(),
-        "seal": seal,
-        "state": state
-    })?)
+    let mut members = Map::new(alloc);
+    put_signed(&mut members, alloc, signature, state)?;
+    Ok(Value::Object(members))
+}
+
+fn put_signed(
+    members: &mut Map<String, Value>,
+    alloc: Global,
+    signature: &Signature,
+    state: &Option<State>,
+) -> Result<(), OutOfMemory>
+    ensures { OnOk result (members_view members.new.entries
+        ≡ members_onto (signed_members signature.now state.now) (members_view members.old.entries)) }
+{
+    put(members, alloc, "state", state_value(alloc, state)?)?;
+    put(members, alloc, "seal", seal_value(alloc, &signature.seal)?)?;
+    put_text(members, alloc, "name", signature.name.as_str())?;
+    put(
+        members,
+        alloc,
+        "moment",
+        moment_value(alloc, signature.moment)?,
+    )?;
+    put_text(members, alloc, "meaning", signature.meaning.word())?;
+    put(
+        members,
+        alloc,
+        "digest",
+        digest_value(alloc, &signature.digest)?,
+    )
 }
 
 impl Shown for VersionState {
@@ -139,17 +157,31 @@ impl Shown for Signature {
     ghost data_of = { signature_data };
 
     fn value(&self, alloc: Global) -> Result<Value, OutOfMemory> {
-        let moment = moment_text(alloc, self.moment)?;
-        let seal = hex::encode(alloc, self.seal.bytes())?;
-        Ok(json!(in alloc; {
-            "meaning": self.meaning.word(),
-            "moment": moment,
-            "name": self.name.as_str(),
-            "person": self.person.as_str(),
-            "reason": self.meaning.reason(),
-            "seal": seal
-        })?)
+        let mut members = Map::new(alloc);
+        put_signature(&mut members, alloc, self)?;
+        Ok(Value::Object(members))
     }
+}
+
+fn put_signature(
+    members: &mut Map<String, Value>,
+    alloc: Global,
+    signature: &Signature,
+) -> Result<(), OutOfMemory>
+    ensures { OnOk result (members_view members.new.entries
+        ≡ members_onto (signature_members signature.now) (members_view members.old.entries)) }
+{
+    put(members, alloc, "seal", seal_value(alloc, &signature.seal)?)?;
+    put_text(members, alloc, "reason", signature.meaning.reason())?;
+    put_text(members, alloc, "person", signature.person.as_str())?;
+    put_text(members, alloc, "name", signature.name.as_str())?;
+    put(
+        members,
+        alloc,
+        "moment",
+        moment_value(alloc, signature.moment)?,
+    )?;
+    put_text(members, alloc, "meaning", signature.meaning.word())
 }
 
 // Values, which are told without who entered them and when.
@@ -212,9 +244,19 @@ fn put_about(
 {
     put_text(members, alloc, "sample", read.sample.as_str())?;
     put(members, alloc, "record", Value::from(read.number.get()))?;
-    put(members, alloc, "form_version", Value::from(read.form.version.get()))?;
+    put(
+        members,
+        alloc,
+        "form_version",
+        Value::from(read.form.version.get()),
+    )?;
     put_text(members, alloc, "form", read.form.code.as_str())?;
-    put(members, alloc, "approval", Value::from(read.form.form.approval()))
+    put(
+        members,
+        alloc,
+        "approval",
+        Value::from(read.form.form.approval()),
+    )
 }
 
 fn put_opening(
@@ -226,12 +268,32 @@ fn put_opening(
         ≡ members_onto (version_opening read.now) (members_view members.old.entries)) }
 {
     let version = &read.version;
-    put(members, alloc, "version", Value::from(version.origin.number().get()))?;
+    put(
+        members,
+        alloc,
+        "version",
+        Value::from(version.origin.number().get()),
+    )?;
     put(members, alloc, "state", state_value(alloc, &read.state)?)?;
-    put_text(members, alloc, "reason", amendment_reason(version.origin.amendment()))?;
+    put_text(
+        members,
+        alloc,
+        "reason",
+        amendment_reason(version.origin.amendment()),
+    )?;
     put_text(members, alloc, "opener", version.opener.as_str())?;
-    put(members, alloc, "moment", moment_value(alloc, version.opened)?)?;
-    put(members, alloc, "format", Value::from(format_number(version.format)))?;
+    put(
+        members,
+        alloc,
+        "moment",
+        moment_value(alloc, version.opened)?,
+    )?;
+    put(
+        members,
+        alloc,
+        "format",
+        Value::from(format_number(version.format)),
+    )?;
     put(members, alloc, "digest", digest_value(alloc, &read.digest)?)
 }
 
@@ -243,10 +305,30 @@ fn put_lists(
     ensures { OnOk result (members_view members.new.entries
         ≡ members_onto (version_lists read.now) (members_view members.old.entries)) }
 {
-    put_list(members, alloc, "values", values_list(alloc, read.values.as_slice())?)?;
-    put_list(members, alloc, "signatures", list_of(alloc, read.version.signatures.as_slice())?)?;
-    put_list(members, alloc, "rows", list_of(alloc, read.version.rows.rows())?)?;
-    put_list(members, alloc, "altered", list_of(alloc, read.altered.as_slice())?)
+    put_list(
+        members,
+        alloc,
+        "values",
+        values_list(alloc, read.values.as_slice())?,
+    )?;
+    put_list(
+        members,
+        alloc,
+        "signatures",
+        list_of(alloc, read.version.signatures.as_slice())?,
+    )?;
+    put_list(
+        members,
+        alloc,
+        "rows",
+        list_of(alloc, read.version.rows.rows())?,
+    )?;
+    put_list(
+        members,
+        alloc,
+        "altered",
+        list_of(alloc, read.altered.as_slice())?,
+    )
 }
 
 impl Shown for RecordState {
@@ -255,15 +337,25 @@ impl Shown for RecordState {
     ghost data_of = { record_state_data };
 
     fn value(&self, alloc: Global) -> Result<Value, OutOfMemory> {
-        let state = state_value(alloc, &self.state)?;
-        Ok(json!(in alloc; {
-            "current": current_value(self.current),
-            "form": self.form.as_str(),
-            "record": self.number.get(),
-            "sample": self.sample.as_str(),
-            "state": state
-        })?)
+        let mut members = Map::new(alloc);
+        put_record_state(&mut members, alloc, self)?;
+        Ok(Value::Object(members))
     }
+}
+
+fn put_record_state(
+    members: &mut Map<String, Value>,
+    alloc: Global,
+    kept: &RecordState,
+) -> Result<(), OutOfMemory>
+    ensures { OnOk result (members_view members.new.entries
+        ≡ members_onto (record_state_members kept.now) (members_view members.old.entries)) }
+{
+    put(members, alloc, "state", state_value(alloc, &kept.state)?)?;
+    put_text(members, alloc, "sample", kept.sample.as_str())?;
+    put(members, alloc, "record", Value::from(kept.number.get()))?;
+    put_text(members, alloc, "form", kept.form.as_str())?;
+    put(members, alloc, "current", current_value(kept.current))
 }
 
 /// Records.
