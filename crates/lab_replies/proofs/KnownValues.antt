@@ -3,7 +3,6 @@
 use Rattle.std.proofs.Common.{◌≡◌, refl, ℕ, List, [], ◌∷◌, ◌++◌, codes, Some, None, true, false}
 use Rattle.std.specs.Fmt.{digits}
 use Rattle.hex.specs.Hex.{encode_with}
-use Rattle.serde_json.specs.Written.{compact_text}
 use Rattle.serde_json.proofs.OnLiterals.{serde_json_on_literals}
 use Rattle.lab_names.specs.Calendar.{year_of, place_in_year, month_of, day_of_month, hour_of, minute_of, second_of, span_of, place_of}
 use Rattle.lab_names.specs.Moment.{moment_text}
@@ -11,11 +10,10 @@ use Rattle.lab_access.specs.declared.policy.Rule.TheVariants.{SignReview}
 use Rattle.lab_access.specs.declared.refusals.PeopleRefusal.TheVariants.{RoleWanted}
 use Rattle.lab_access.specs.declared.roles.Roles.{Roles}
 use Rattle.lab_forms.specs.declared.kinds.Kind.TheVariants.{Number, Text, Choice, Date}
-use Rattle.lab_forms.specs.declared.forms.Field.{Field}
 use Rattle.lab_kept.specs.declared.records.FormVersion.{FormVersion}
 use Rattle.lab_kept.specs.declared.records.Signature.{Signature}
 use Rattle.lab_kept.specs.declared.trails.Action.TheVariants.{Found}
-use Rattle.lab_seal.specs.declared.seals.Meaning.TheVariants.{Authorship, Rejection}
+use Rattle.lab_seal.specs.declared.seals.Meaning.TheVariants.{Authorship}
 use Rattle.lab_seal.specs.declared.states.State.TheVariants as state
 use Rattle.lab_versions.specs.declared.rows.EntryRow.{EntryRow}
 use Rattle.lab_versions.specs.declared.versions.Format.TheVariants as format

@@ -1,6 +1,5 @@
 -- No reply has a number with a point, so that each has one text.
-use Rattle.std.proofs.Common.{◌≡◌, ℕ, List, [], ◌∷◌, map, false, refl, Option, Some, None}
-use Rattle.serde_json.specs.Data.{Data}
+use Rattle.std.proofs.Common.{◌≡◌, ℕ, List, map, false, refl, Option, Some, None}
 use Rattle.serde_json.specs.Written.{has_float, members_have_float}
 use Rattle.lab_access.specs.declared.refusals.PeopleRefusal.{PeopleRefusal}
 use Rattle.lab_access.specs.declared.refusals.PeopleRefusal.TheVariants as people
@@ -15,7 +14,6 @@ use Rattle.lab_kept.specs.declared.records.FormVersion.{FormVersion}
 use Rattle.lab_kept.specs.declared.records.Signature.{Signature}
 use Rattle.lab_kept.specs.declared.trails.TrailRow.{TrailRow}
 use Rattle.lab_seal.specs.declared.states.State.{State}
-use Rattle.lab_versions.specs.declared.origins.Amendment.{Amendment}
 use Rattle.lab_versions.specs.declared.rows.EntryRow.{EntryRow}
 use Rattle.lab_rules.specs.declared.readings.PersonLine.{PersonLine}
 use Rattle.lab_rules.specs.declared.readings.RecordRead.{RecordRead}
@@ -26,12 +24,12 @@ use Rattle.lab_rules.specs.declared.refusals.Refusal.{Refusal}
 use Rattle.lab_rules.specs.declared.refusals.Refusal.TheVariants as refusal
 use Rattle.lab_machine.specs.declared.replies.Reply.{Reply}
 use Rattle.lab_machine.specs.declared.replies.Reply.TheVariants as reply
-use Rattle.lab_replies.specs.Parts.{texts_data, text_or_empty, state_data, current_data}
+use Rattle.lab_replies.specs.Parts.{text_or_empty, state_data, current_data}
 use Rattle.lab_replies.specs.Refusals.{entry_data, people_members, refusal_data}
-use Rattle.lab_replies.specs.Persons.{roles_data, person_data, persons_data, roles_set_data}
+use Rattle.lab_replies.specs.Persons.{roles_data, person_data}
 use Rattle.lab_replies.specs.Forms.{with_kind, field_members, field_data, form_data}
-use Rattle.lab_replies.specs.Records.{signed_data, version_state_data, current_of, record_data, row_data, signature_data, value_data, reason_of, version_data, record_state_data, records_data}
-use Rattle.lab_replies.specs.Trails.{trail_row_data, trail_data}
+use Rattle.lab_replies.specs.Records.{signed_data, version_state_data, current_of, record_data, row_data, signature_data, value_data, reason_of, version_data, record_state_data}
+use Rattle.lab_replies.specs.Trails.{trail_row_data}
 use Rattle.lab_replies.specs.Replies.{reply_data}
 use Rattle.lab_replies.proofs.FloatLemmas.{neither, list_floats, texts_floats}
 
