@@ -1,0 +1,4 @@
+pub mod PartLemmas
+pub mod FloatLemmas
+pub mod ReplyLemmas
+pub mod KnownValues

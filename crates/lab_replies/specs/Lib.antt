@@ -1,0 +1,7 @@
+pub mod Parts
+pub mod Refusals
+pub mod Persons
+pub mod Forms
+pub mod Records
+pub mod Trails
+pub mod Replies

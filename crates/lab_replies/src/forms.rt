@@ -1,0 +1,112 @@
+//! Forms, as JSON.
+ghost use Rattle.std.specs.Prelude.{◌≡◌, IfOk, OnOk};
+ghost use Rattle.serde_json.specs.View.{view, members_view};
+ghost use Rattle.lab_forms.specs.Kinds.{kind_word};
+ghost use Rattle.lab_replies.specs.Forms.{form_made_data, form_data, with_bound, with_kind, field_members};
+
+use crate::parts::{Shown, list_of, put, put_list, put_text};
+use lab_forms::{Bound, Field, Kind};
+use lab_kept::FormVersion;
+use lab_names::{Key, Ordinal, OutOfMemory};
+use serde_json::{Map, Value, json};
+use std::alloc::Global;
+
+/// A version of a form that was made.
+pub(crate) fn form_made_value(
+    alloc: Global,
+    code: &Key,
+    version: Ordinal,
+) -> Result<Value, OutOfMemory>
+    ensures { IfOk result (λ value. view value ≡ form_made_data code.now version) }
+{
+    Ok(json!(in alloc; {"form": code.as_str(), "version": version.get()})?)
+}
+
+/// A version of a form.
+pub(crate) fn form_value(alloc: Global, form: &FormVersion) -> Result<Value, OutOfMemory>
+    ensures { IfOk result (λ value. view value ≡ form_data form.now) }
+{
+    let fields = list_of(alloc, form.form.fields())?;
+    Ok(json!(in alloc; {
+        "approval": form.form.approval(),
+        "fields": fields,
+        "form": form.code.as_str(),
+        "version": form.version.get()
+    })?)
+}
+
+impl Shown for Field {
+    ghost use Rattle.lab_replies.specs.Forms.{field_data};
+
+    ghost data_of = { field_data };
+
+    fn value(&self, alloc: Global) -> Result<Value, OutOfMemory> {
+        let mut members = field_members(alloc, self)?;
+        put_kind(&mut members, alloc, &self.kind)?;
+        Ok(Value::Object(members))
+    }
+}
+
+// What every field has.
+fn field_members(alloc: Global, field: &Field) -> Result<Map<String, Value>, OutOfMemory>
+    ensures { IfOk result (λ members. members_view members.entries ≡ field_members field.now) }
+{
+    let mut members = Map::new(alloc);
+    put_text(&mut members, alloc, "key", field.key.as_str())?;
+    put_text(&mut members, alloc, "kind", kind_word(&field.kind))?;
+    put_text(&mut members, alloc, "label", field.label.as_str())?;
+    put(&mut members, alloc, "required", Value::from(field.required))?;
+    Ok(members)
+}
+
+fn kind_word(kind: &Kind) -> &'static str
+    ensures { result.now ≡ kind_word kind.now }
+{
+    match kind {
+        Kind::Number { .. } => "number",
+        Kind::Text { .. } => "text",
+        Kind::Choice { .. } => "choice",
+        Kind::Date => "date",
+        Kind::YesNo => "yesno",
+    }
+}
+
+// Adds what a kind has beside its word.
+fn put_kind(members: &mut Map<String, Value>, alloc: Global, kind: &Kind) -> Result<(), OutOfMemory>
+    ensures { OnOk result (members_view members.new.entries
+        ≡ with_kind kind.now (members_view members.old.entries)) }
+{
+    match kind {
+        Kind::Number {
+            unit,
+            decimals,
+            min,
+            max,
+        } => {
+            put_text(members, alloc, "unit", unit.as_str())?;
+            put_bound(members, alloc, "min", min)?;
+            put_bound(members, alloc, "max", max)?;
+            put(members, alloc, "decimals", Value::from(*decimals))
+        }
+        Kind::Text { size } => put(members, alloc, "size", Value::from(*size)),
+        Kind::Choice { choices } => {
+            put_list(members, alloc, "choices", list_of(alloc, choices.names())?)
+        }
+        Kind::Date | Kind::YesNo => Ok(()),
+    }
+}
+
+fn put_bound(
+    members: &mut Map<String, Value>,
+    alloc: Global,
+    name: &str,
+    bound: &Option<Bound>,
+) -> Result<(), OutOfMemory>
+    ensures { OnOk result (members_view members.new.entries
+        ≡ with_bound name.now bound.now (members_view members.old.entries)) }
+{
+    match bound {
+        Some(bound) => put_text(members, alloc, name, bound.as_str()),
+        None => Ok(()),
+    }
+}

@@ -1,0 +1,157 @@
+//! What replies are made of: lists, moments, bytes and states.
+ghost use Rattle.std.specs.Prelude.{◌≡◌, IfOk, OnOk, List, ℕ, map, string_bytes};
+ghost use Rattle.serde_json.specs.Data.{Data, string, put as with_member};
+ghost use Rattle.serde_json.specs.View.{view, members_view};
+ghost use Rattle.lab_names.specs.Moment.{moment_text};
+ghost use Rattle.hex.specs.Hex.{encode_lower};
+ghost use Rattle.lab_replies.specs.Parts.{list_from, moment_data, digits_data, text_or_empty, state_data, current_data};
+
+use lab_names::{Moment, Ordinal, OutOfMemory, Rule, Text};
+use lab_seal::{Seal, State};
+use lab_secrets::{Digest, Half};
+use serde_json::{Map, Value};
+use std::alloc::Global;
+
+/// What a reply lists.
+pub(crate) trait Shown {
+    /// Its data.
+    ghost data_of: { Self → Data };
+
+    /// It as a value. The only error is out of memory.
+    fn value(&self, alloc: Global) -> Result<Value, OutOfMemory>
+        ensures { IfOk result (λ value. view value ≡ data_of self.now) };
+}
+
+/// What is listed, as values in its order. The only error is out of memory.
+pub(crate) fn list_of<T: Shown>(alloc: Global, things: &[T]) -> Result<Vec<Value>, OutOfMemory>
+    ensures { IfOk result (λ list. map view list.items ≡ map T.data_of things.now) }
+{
+    let mut list = Vec::new(alloc);
+    for thing in things {
+        list.push(thing.value(alloc)?)?;
+    }
+    Ok(list)
+}
+
+impl<R: Rule> Shown for Text<R> {
+    ghost data_of = { string };
+
+    fn value(&self, alloc: Global) -> Result<Value, OutOfMemory> {
+        text_value(alloc, self.as_str())
+    }
+}
+
+/// A text.
+pub(crate) fn text_value(alloc: Global, text: &str) -> Result<Value, OutOfMemory>
+    ensures { IfOk result (λ value. view value ≡ string text.now) }
+{
+    Ok(Value::try_from_str(alloc, text)?)
+}
+
+/// A moment as it is printed.
+#[tactic(auto, using(crate::proofs::PartLemmas::moment_is_text))]
+pub(crate) fn moment_text(alloc: Global, moment: Moment) -> Result<String, OutOfMemory>
+    ensures { IfOk result (λ text. string_bytes text ≡ moment_text moment) }
+{
+    let mut printed = [0; 20];
+    moment.print(&mut printed);
+    Ok(String::from_utf8_lossy(alloc, &printed)?)
+}
+
+/// A moment as a value.
+pub(crate) fn moment_value(alloc: Global, moment: Moment) -> Result<Value, OutOfMemory>
+    ensures { IfOk result (λ value. view value ≡ moment_data moment) }
+{
+    Ok(Value::from(moment_text(alloc, moment)?))
+}
+
+/// A digest as its digits.
+pub(crate) fn digest_value(alloc: Global, digest: &Digest) -> Result<Value, OutOfMemory>
+    ensures { IfOk result (λ value. view value ≡ digits_data digest.now) }
+{
+    Ok(Value::from(hex::encode(alloc, digest.bytes())?))
+}
+
+/// A seal as its digits.
+pub(crate) fn seal_value(alloc: Global, seal: &Seal) -> Result<Value, OutOfMemory>
+    ensures { IfOk result (λ value. view value ≡ digits_data seal.now) }
+{
+    Ok(Value::from(hex::encode(alloc, seal.bytes())?))
+}
+
+/// A half of a one-time word as its digits.
+pub(crate) fn half_text(alloc: Global, half: &Half) -> Result<String, OutOfMemory>
+    ensures { IfOk result (λ text. string_bytes text ≡ encode_lower half.now) }
+{
+    Ok(String::from_utf8_lossy(alloc, &half.digits())?)
+}
+
+/// A text, or the empty one where there is none.
+pub(crate) fn text_or_empty<R: Rule>(text: &Option<Text<R>>) -> &str
+    ensures { string result.now ≡ text_or_empty text.now }
+{
+    match text {
+        Some(text) => text.as_str(),
+        None => "",
+    }
+}
+
+/// A state's word, or null.
+pub(crate) fn state_value(alloc: Global, state: &Option<State>) -> Result<Value, OutOfMemory>
+    ensures { IfOk result (λ value. view value ≡ state_data state.now) }
+{
+    match state {
+        Some(state) => text_value(alloc, state.word()),
+        None => Ok(Value::Null),
+    }
+}
+
+/// The number of a last version, or null.
+pub(crate) fn current_value(current: Option<Ordinal>) -> Value
+    ensures { view result ≡ current_data current }
+{
+    match current {
+        Some(version) => Value::from(version.get()),
+        None => Value::Null,
+    }
+}
+
+/// Adds a member to an object. The only error is out of memory.
+pub(crate) fn put(
+    members: &mut Map<String, Value>,
+    alloc: Global,
+    name: &str,
+    value: Value,
+) -> Result<(), OutOfMemory>
+    ensures { OnOk result (members_view members.new.entries
+        ≡ with_member name.now (view value) (members_view members.old.entries)) }
+{
+    Ok(serde_json::put(members, alloc, name, value)?)
+}
+
+/// Adds a member that is a text. The only error is out of memory.
+pub(crate) fn put_text(
+    members: &mut Map<String, Value>,
+    alloc: Global,
+    name: &str,
+    text: &str,
+) -> Result<(), OutOfMemory>
+    ensures { OnOk result (members_view members.new.entries
+        ≡ with_member name.now (string text.now) (members_view members.old.entries)) }
+{
+    let text = text_value(alloc, text)?;
+    put(members, alloc, name, text)
+}
+
+/// Adds a member that is a list. The only error is out of memory.
+pub(crate) fn put_list(
+    members: &mut Map<String, Value>,
+    alloc: Global,
+    name: &str,
+    list: Vec<Value>,
+) -> Result<(), OutOfMemory>
+    ensures { OnOk result (members_view members.new.entries
+        ≡ with_member name.now (list_from (map view list.items)) (members_view members.old.entries)) }
+{
+    put(members, alloc, name, Value::from(list))
+}
