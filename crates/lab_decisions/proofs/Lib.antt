@@ -1,5 +1,4 @@
 pub mod CaseFits
-pub mod Cuts
 pub mod Endings
 pub mod Failing
 pub mod Joining

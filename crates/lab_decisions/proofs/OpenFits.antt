@@ -18,7 +18,7 @@ use Rattle.lab_kept.specs.Changes.{IsKnown, Fits}
 use Rattle.lab_kept.specs.Lookups.{person_at, session_at}
 use Rattle.lab_machine.specs.Machine.{at_moment}
 use Rattle.lab_laws.proofs.FitAttempts.{FitsAttempt, attempt_fits}
-use Rattle.lab_decisions.specs.Deciding.{opened_done}
+use Rattle.lab_commands.specs.Doing.{opened_done}
 use Rattle.lab_decisions.proofs.Joining.{change_knows}
 use Rattle.lab_decisions.proofs.CaseFits.{FitsDone}
 

@@ -25,7 +25,8 @@ use Rattle.lab_machine.specs.Needs.{token_in}
 use Rattle.lab_machine.specs.Machine.{named_session, allowed_passage, session_passage, passage, touched, opened, ended, answered}
 use Rattle.lab_laws.proofs.FitAccounts.{own_code}
 use Rattle.lab_laws.proofs.LimitParts.{session_set, session_token}
-use Rattle.lab_decisions.specs.Deciding.{done_of, opened_done, ended_done, opening_ended, touching, decided_by}
+use Rattle.lab_commands.specs.Doing.{done_of, opened_done}
+use Rattle.lab_decisions.specs.Deciding.{ended_done, opening_ended, touching, decided_by}
 use Rattle.lab_decisions.proofs.OwnCases.{slice_for, opened_is}
 use Rattle.lab_decisions.proofs.RuleCases.{own_is}
 use Rattle.lab_decisions.proofs.RuleFits.{own_fits}

@@ -5,7 +5,7 @@ use Rattle.lab_kept.specs.declared.labs.Lab.{Lab}
 use Rattle.lab_kept.specs.Changes.{AllFit, changed}
 use Rattle.lab_machine.specs.declared.commands.Instruction.{Instruction}
 use Rattle.lab_machine.specs.Machine.{step}
-use Rattle.lab_decisions.specs.declared.done.Outcome.{Outcome}
+use Rattle.lab_decisions.specs.declared.outcome.Outcome.{Outcome}
 
 -- the reply is the step's, the changes fit one after the other, and they make of the laboratory
 -- what the step makes

@@ -1,3 +1,2 @@
-pub mod Deciding
 pub mod Coming
-pub mod Groups
+pub mod Deciding

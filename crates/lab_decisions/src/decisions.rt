@@ -2,14 +2,13 @@
 ghost use Rattle.std.specs.Prelude.{◌≡◌, ◌++◌, ◌∷◌, [], Some, IfOk};
 ghost use Rattle.lab_kept.specs.Trails.{row_of};
 ghost use Rattle.lab_machine.specs.Machine.{passage};
-ghost use Rattle.lab_decisions.specs.Deciding.{done_of, failing, outcome, ended_made, ended_by, ended_done, touching, opening_ended, decided_without, decided_by, decided};
+ghost use Rattle.lab_commands.specs.Doing.{done_of};
+ghost use Rattle.lab_decisions.specs.Deciding.{failing, outcome, ended_made, ended_by, ended_done, touching, opening_ended, decided_without, decided_by, decided};
 
-use crate::commands::done_of;
-use crate::done::{Done, Outcome};
 use crate::drafts::{fail, next_number, row_of};
-use crate::lists::{joined, pair, single};
-use crate::sessions::opening_done;
+use crate::outcome::Outcome;
 use lab_access::{Failure, PeopleRefusal, Person, Session};
+use lab_commands::{Done, done_of, joined, opening_done, pair, single};
 use lab_kept::{Change, Deed, Occasion, Slice};
 use lab_machine::{Command, Passage, Reply, pass};
 use lab_names::{Moment, Ordinal, OutOfMemory, PersonCode, Series, Tick};

@@ -2,18 +2,11 @@
 //! 21 CFR Part 11). It is the step of the whole laboratory. It knows no bytes, no tables and no keeper.
 #![tactic(auto)]
 
-mod accounts;
-mod commands;
-mod counts;
 mod decisions;
-mod done;
 mod drafts;
 mod laws;
-mod lists;
-mod readings;
-mod records;
-mod sessions;
+mod outcome;
 
 pub use decisions::decide;
-pub use done::{Done, Outcome};
 pub use laws::what_is_decided;
+pub use outcome::Outcome;

@@ -1,4 +1,4 @@
-//! What a command comes to, and what is decided.
+//! What a command comes to by its own case.
 use lab_access::Failure;
 use lab_kept::{Change, Deed, Occasion, Series};
 use lab_machine::Reply;
@@ -15,13 +15,4 @@ pub enum Done {
     Read(Reply),
     /// Something is made: the reply, what the trail tells, and the changes.
     Made(Reply, Deed, Series<Change>),
-}
-
-/// What is decided: the reply, and the changes that are to be made, in order.
-#[derive(Drop)]
-pub struct Outcome {
-    /// The reply.
-    pub reply: Reply,
-    /// The changes.
-    pub changes: Series<Change>,
 }

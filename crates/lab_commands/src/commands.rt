@@ -1,7 +1,7 @@
 //! What each command comes to in a session.
 ghost use Rattle.std.specs.Prelude.{◌≡◌, false, IfOk};
-ghost use Rattle.lab_decisions.specs.Deciding.{done_of};
-ghost use Rattle.lab_decisions.specs.Groups.{is_on_accounts, is_on_records};
+ghost use Rattle.lab_commands.specs.Doing.{done_of};
+ghost use Rattle.lab_commands.specs.Groups.{is_on_accounts, is_on_records};
 
 use crate::accounts::{
     asking_done, changing_done, confirming_done, enrolling_done, retiring_done, setting_roles_done,
@@ -25,7 +25,7 @@ use std::mem;
 
 /// What a command comes to in the session of the caller, on the part of the laboratory that it needs. The only error is out
 /// of memory. What is left of the part isn't said.
-#[tactic(auto, unfolding(crate::specs::Deciding::done_of))]
+#[tactic(auto, unfolding(crate::specs::Doing::done_of))]
 pub fn done_of(
     alloc: Global,
     slice: &mut Slice,
@@ -66,7 +66,7 @@ pub fn done_of(
 }
 
 // The same of a command that makes something of forms and records, or reads.
-#[tactic(auto, unfolding(crate::specs::Deciding::done_of))]
+#[tactic(auto, unfolding(crate::specs::Doing::done_of))]
 fn done_on_records(
     alloc: Global,
     slice: &mut Slice,
@@ -117,7 +117,7 @@ fn done_on_records(
 }
 
 // The same of a command that reads. One that asks for no session is none in a session.
-#[tactic(auto, unfolding(crate::specs::Deciding::done_of))]
+#[tactic(auto, unfolding(crate::specs::Doing::done_of))]
 fn done_reading(
     alloc: Global,
     slice: &mut Slice,
