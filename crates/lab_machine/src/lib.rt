@@ -10,7 +10,7 @@ mod replies;
 mod tests;
 mod wanted;
 
-pub use births::{BirthRefusal, Founder, Founding};
+pub use births::{BirthRefusal, Founder, Founding, bear};
 pub use commands::{Command, Instruction};
 pub use passages::{Passage, pass};
 pub use replies::Reply;
