@@ -1,6 +1,6 @@
 -- What a write in place and a push do to the look-ups of a list of laboratories.
-use Rattle.std.proofs.Common.{◌≡◌, ◌≢◌, ◌<◌, ℕ, Bool, true, false, cond, List, [], ◌∷◌, ◌++◌, Option, Some, None, refl, sym, ◌∙◌, ap, subst, length, get_or, arith}
-use Rattle.std.specs.Prelude.{find, position, slice_get, slice_set, MatchOption, nat_lt, ◌==◌}
+use Rattle.std.proofs.Common.{◌≡◌, ◌≢◌, ◌<◌, ℕ, Bool, true, false, cond, List, [], ◌∷◌, ◌++◌, Option, Some, None, Result, Ok, Err, refl, sym, ◌∙◌, ap, subst, length, get_or, arith}
+use Rattle.std.specs.Prelude.{OnErr, find, position, slice_get, slice_set, MatchOption, nat_lt, ◌==◌}
 use borrow.Author.Tests.{ltb-false}
 use Rattle.std.specs.List.{position_or_len, remove}
 use Rattle.std.specs.Option.{option_or}
@@ -202,3 +202,8 @@ not_placed labs code none =
     unfound (nat_lt (position_or_len p labs) (length labs)) (position_or_len p labs) none in
     find_at p labs ∙ slice_get_past labs (position_or_len p labs)
     (ltb-false (position_or_len p labs) (length labs) past)
+
+-- what holds anyhow holds where there is an error
+pub on_any : {T E P : Type 0} (r : Result T E) → P → OnErr r P
+on_any (Ok value) p = tt
+on_any (Err error) p = p

@@ -29,6 +29,19 @@ unchanged_in_place old new code same = in_place (slice_get old place) refl
     in_place None none = same
     in_place (Some lab) there = same ∙ sym (set_same old place lab there)
 
+-- and what no change made is the list as it was
+pub nothing_moved : (old new : List Lab) (code : List ℕ) → ChangesInPlace old new code [] →
+    new ≡ old
+nothing_moved old new code moved = by_place (slice_get old place) refl moved
+  where
+    place : ℕ
+    place = position_or_len (has_code code) old
+
+    by_place : (found : Option Lab) → slice_get old place ≡ found → MatchOption found (new ≡ old)
+        (λ lab. new ≡ slice_set old place lab) → new ≡ old
+    by_place None none same = same
+    by_place (Some lab) there set = set ∙ set_same old place lab there
+
 -- changes after a rest are changes of the list before it
 pub changed_after_rest : (first next last : List Lab) (code : List ℕ) (changes : List Change) →
     next ≡ first → ChangesInPlace next last code changes → ChangesInPlace first last code changes
@@ -53,7 +66,3 @@ pub own_code : (labs : List Lab) (code : List ℕ) (lab : Lab) → lab_of labs c
     lab.code ≡ code
 own_code labs code lab found = (bytes_eq-Decides lab.code code).0
     (find_true (has_code code) labs lab found)
-
--- where no laboratory is meant, each that is has its own code
-pub none_kept : (code : List ℕ) (lab : Lab) → None ≡ Some lab → lab.code ≡ code
-none_kept code lab found = cc

@@ -1,5 +1,5 @@
 //! The plain keeper: laboratories in memory.
-ghost use Rattle.std.specs.Prelude.{◌≡◌, [], ◌∷◌, None, position, IfOk, OnOk, OnErr};
+ghost use Rattle.std.specs.Prelude.{◌≡◌, [], ◌∷◌, None, option_copied, position, IfOk, OnOk, OnErr};
 ghost use Rattle.lab_kept.specs.declared.trails.Deed.TheVariants.{Found};
 ghost use Rattle.lab_kept.specs.Births.{newborn_lab};
 ghost use Rattle.lab_kept.specs.Changes.{added_person};
@@ -70,7 +70,7 @@ impl Keeper for Lists {
 
     fn found(&mut self, newborn: Newborn) -> Result<(), PlacingFault> {
         let alloc = *self.labs.allocator();
-        if place_of(&self.labs, &newborn.code).is_some() {
+        if held_of(&self.labs, &newborn.code).is_some() {
             return Err(PlacingFault::LabExists);
         }
         let lab = founded(alloc, newborn)?;
@@ -89,6 +89,13 @@ impl Keeper for Lists {
     ghost moves_on = { changed_after_rest };
 }
 
+/// The laboratory of the code, if there is one.
+fn held_of<'a>(labs: &'a [Held], code: &LabCode) -> Option<&'a Held>
+    ensures { option_copied result ≡ lab_of labs.now code.now }
+{
+    labs.iter().find(|held| held.has_code(code))
+}
+
 /// Where the laboratory of the code stands, if there is one.
 fn place_of(labs: &[Held], code: &LabCode) -> Option<usize>
     ensures { result ≡ position (has_code code.now) labs.now }
@@ -98,36 +105,39 @@ fn place_of(labs: &[Held], code: &LabCode) -> Option<usize>
 
 /// The part of the laboratory of the code that is needed, where there is one.
 fn part_in(
-    labs: &mut [Held],
+    labs: &mut Vec<Held>,
     alloc: Global,
     code: &LabCode,
     need: &Need,
 ) -> Result<Option<Slice>, OutOfMemory>
-    ensures part { IfOk result (λ found. found ≡ part_of need.now (lab_of labs.old code.now)) }
-    ensures same { labs.new ≡ labs.old }
+    ensures part { IfOk result (λ found. found ≡ part_of need.now (lab_of labs.old.items code.now)) }
+    ensures same { labs.new.items ≡ labs.old.items }
 {
     let Some(place) = place_of(labs, code) else {
         return Ok(None);
     };
-    let slice = labs[place].part(alloc, need)?;
+    let held = &mut labs[place];
+    let slice = held.part(alloc, need)?;
     Ok(Some(slice))
 }
 
 /// Makes the changes of the laboratory of the code, where there is one.
 fn apply_in(
-    labs: &mut [Held],
+    labs: &mut Vec<Held>,
     alloc: Global,
     code: &LabCode,
     changes: Series<Change>,
 ) -> Result<(), OutOfMemory>
-    ensures changed { OnOk result (Changes code.now changes (lab_of labs.old) (lab_of labs.new)) }
-    ensures place { OnOk result (ChangesInPlace labs.old labs.new code.now changes) }
-    ensures err { OnErr result (labs.new ≡ labs.old) }
+    ensures changed { OnOk result (Changes code.now changes (lab_of labs.old.items)
+        (lab_of labs.new.items)) }
+    ensures place { OnOk result (ChangesInPlace labs.old.items labs.new.items code.now changes) }
+    ensures err { OnErr result (labs.new.items ≡ labs.old.items) }
 {
     let Some(place) = place_of(labs, code) else {
         return Ok(());
     };
-    labs[place].apply(alloc, changes)?;
+    let held = &mut labs[place];
+    held.apply(alloc, changes)?;
     Ok(())
 }
 
