@@ -1,13 +1,13 @@
 -- What a write in place and a push do to the look-ups of a list of laboratories.
 use Rattle.std.proofs.Common.{◌≡◌, ◌≢◌, ◌<◌, ℕ, Bool, true, false, cond, List, [], ◌∷◌, ◌++◌, Option, Some, None, Result, Ok, Err, refl, sym, ◌∙◌, ap, subst, length, get_or, arith}
-use Rattle.std.specs.Prelude.{OnErr, find, position, slice_get, slice_set, MatchOption, nat_lt, ◌==◌}
+use Rattle.std.specs.Prelude.{OnErr, find, position, slice_get, slice_set, MatchOption, nat_lt}
 use borrow.Author.Tests.{ltb-false}
 use Rattle.std.specs.List.{position_or_len, remove}
 use Rattle.std.specs.Option.{option_or}
 use Rattle.std.proofs.lemmas.List.Folds.{find_at, find-set, find_past, find-append}
 use Rattle.std.proofs.lemmas.Option.{slice_get-get_or, slice_get_past}
 use Rattle.std.proofs.lemmas.Bool.{false_from_ne_true}
-use Rattle.std.proofs.lemmas.Bool.Decides.{Decides-ltb, Decides-eqb}
+use Rattle.std.proofs.lemmas.Bool.Decides.{Decides-ltb}
 use Rattle.std.proofs.lemmas.Slice.Eq.{bytes_eq-Decides}
 use Rattle.lab_kept.specs.declared.labs.Lab.{Lab}
 use Rattle.lab_kept.specs.declared.changes.Change.{Change}

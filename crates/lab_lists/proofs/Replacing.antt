@@ -1,5 +1,5 @@
 -- What is done to the first item that passes a test, by its place; and what is done to the last item.
-use Rattle.std.proofs.Common.{ℕ, suc, ◌≡◌, ◌+◌, ◌≤◌, Bool, true, false, not, cond, refl, sym, ◌∙◌, ap, List, [], ◌∷◌, ◌++◌, Some, None, length, get_or, set, arith}
+use Rattle.std.proofs.Common.{ℕ, suc, ◌≡◌, ◌+◌, ◌≤◌, Bool, true, false, not, cond, refl, sym, ◌∙◌, ap, List, [], ◌∷◌, Some, None, length, get_or, set, arith}
 use Rattle.std.specs.Prelude.{position, bytes_eq, nat_lt}
 use Rattle.std.specs.List.{position_or_len}
 use borrow.Author.Tests.{ltb-false}

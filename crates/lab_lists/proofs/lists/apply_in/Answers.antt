@@ -1,11 +1,11 @@
 -- A list is changed in the place where the search ended.
-use Rattle.std.proofs.Common.{◌≡◌, Some, None, sym, ◌∙◌, ap, subst}
+use Rattle.std.proofs.Common.{◌≡◌, Some, None, sym, subst}
 use Rattle.std.specs.Prelude.{position, slice_set}
 use Rattle.lab_kept.specs.declared.labs.Lab.{Lab}
 use Rattle.lab_kept.specs.Changes.{changed}
 use Rattle.lab_kept.specs.Worlds.{Changes}
 use Rattle.lab_lists.specs.Lists.{has_code, lab_of, ChangesInPlace}
-use Rattle.lab_lists.proofs.Listing.{StandsAt, stands_at, changed_meaning, unchanged_meaning, changed_in_place, not_placed}
+use Rattle.lab_lists.proofs.Listing.{stands_at, changed_meaning, unchanged_meaning, changed_in_place, not_placed}
 use Rattle.lab_lists.proofs.lists.apply_in.Goals as goal
 
 pub returns-in_default-clause-changed : goal.returns-in_default-clause-changed

@@ -1,5 +1,5 @@
 -- The list after the call, and what a crash leaves, which is that list.
-use Rattle.std.proofs.Common.{◌≡◌, List, [], ◌∙◌, ap, subst, inr}
+use Rattle.std.proofs.Common.{◌≡◌, List, ◌∙◌, ap, subst, inr}
 use Rattle.lab_kept.specs.declared.labs.Lab.{Lab}
 use Rattle.lab_kept.specs.declared.changes.Change.{Change}
 use Rattle.lab_kept.specs.Worlds.{Changes}
