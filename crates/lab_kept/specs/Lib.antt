@@ -9,3 +9,6 @@ pub mod Bound
 pub mod Dual
 pub mod Keeping
 pub mod Latest
+pub mod Births
+pub mod Faults
+pub mod Worlds

@@ -4,8 +4,11 @@
 //! on.
 #![tactic(auto)]
 
+mod births;
 mod changes;
 mod digests;
+mod faults;
+mod keeper;
 mod labs;
 mod laws;
 mod needs;
@@ -14,7 +17,10 @@ mod subjects;
 mod trails;
 mod values;
 
+pub use births::Newborn;
 pub use changes::Change;
+pub use faults::{KeeperFault, PlacingFault};
+pub use keeper::Keeper;
 pub use lab_access::{Ask, Closing, Password, Person, Role, Roles, Session};
 pub use lab_forms::{Bound, Choices, Field, Form, FormRefusal, Kind, Value};
 pub use lab_names::Series;

@@ -1,5 +1,5 @@
 -- What is done to the first item that passes a test, by its place; and what is done to the last item.
-use Rattle.std.proofs.Common.{ℕ, suc, ◌≡◌, ◌+◌, ◌≤◌, Bool, true, false, not, cond, refl, sym, ◌∙◌, ap, List, [], ◌∷◌, ◌++◌, Some, None, length, get_or, set, arith}
+use Rattle.std.proofs.Common.{ℕ, suc, ◌≡◌, ◌+◌, ◌≤◌, Bool, true, false, not, cond, refl, sym, ◌∙◌, ap, List, [], ◌∷◌, Some, None, length, get_or, set, arith}
 use Rattle.std.specs.Prelude.{position, bytes_eq, nat_lt}
 use Rattle.std.specs.List.{position_or_len}
 use borrow.Author.Tests.{ltb-false}
@@ -140,13 +140,21 @@ pub in_record_none : (number : ℕ) (next : Record → Record) (records : List R
 in_record_none number next records none =
     in_record_is number next records ∙ replaced_none (has_number number) next records none
 
--- what is done to the last version
-pub in_last_of : (next : Version → Version) (versions : List Version) (last : Version)
-    → in_last next (versions ++ last ∷ []) ≡ versions ++ next last ∷ []
-in_last_of next [] last = refl
-in_last_of next (one ∷ []) last = refl
-in_last_of next (one ∷ other ∷ others) last =
-    ap (λ (rest : List Version). one ∷ rest) (in_last_of next (other ∷ others) last)
+-- what is done to the last version, by its place
+pub in_last_at : (next : Version → Version) (versions : List Version) (place : ℕ) (last : Version)
+    → length versions ≡ place + 1 → last ≡ get_or versions place last
+    → in_last next versions ≡ set versions place (next last)
+in_last_at next [] place last long here = refl
+in_last_at next (one ∷ []) place last long here =
+    let zero : place ≡ 0 = omega arith in
+    let same = rw zero at here in
+    rw zero (ap (λ y. next y ∷ []) (sym same))
+in_last_at next (one ∷ other ∷ others) place last long here =
+    let place_is : place ≡ suc (length others) = omega arith in
+    let there = rw place_is at here in
+    let shorter : length (other ∷ others) ≡ length others + 1 = omega arith in
+    rw place_is (ap (λ (list : List Version). one ∷ list)
+    (in_last_at next (other ∷ others) (length others) last shorter there))
 
 pub in_version_is : (number : ℕ) (next : Version → Version) (versions : List Version)
     → in_version number next versions ≡ replaced (is_numbered number) next versions

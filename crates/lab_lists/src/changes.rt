@@ -1,5 +1,5 @@
-//! The changes that are made of a laboratory in memory.
-ghost use Rattle.std.specs.Prelude.{◌≡◌, IfOk, OnOk};
+//! The changes that are made of a laboratory in memory. Where memory runs out, the laboratory is as before.
+ghost use Rattle.std.specs.Prelude.{◌≡◌, OnOk, OnErr};
 ghost use Rattle.lab_access.specs.Sessions.{session_after, sessions_after};
 ghost use Rattle.lab_kept.specs.Changes.{change, added_person, added_form, with_person, with_session, in_record, entered_in, opened_in, signed_in};
 
@@ -14,32 +14,34 @@ use lab_kept::{
 use std::alloc::Global;
 use std::mem;
 
-/// Makes the change of the laboratory. The only error is out of memory; what the laboratory is like then isn't said.
-pub fn change(alloc: Global, lab: &mut Lab, one: Change) -> Result<(), OutOfMemory>
-    ensures { OnOk result (lab.new ≡ change lab.old one) }
+/// Makes the change of the laboratory, by copies of what it brings. The only error is out of memory; the laboratory is then as
+/// before.
+pub fn change(alloc: Global, lab: &mut Lab, one: &Change) -> Result<(), OutOfMemory>
+    ensures ok { OnOk result (lab.new ≡ change lab.old one.now) }
+    ensures err { OnErr result (lab.new ≡ lab.old) }
 {
     match one {
-        Change::Last(last) => lab.last = last,
-        Change::Strays(strays) => lab.strays = strays,
+        Change::Last(last) => lab.last = *last,
+        Change::Strays(strays) => lab.strays = *strays,
         Change::PersonAdded(person) => add_person(alloc, &mut lab.persons, person)?,
-        Change::PersonSet(person) => set_person(alloc, &mut lab.persons, person),
-        Change::SessionAdded(session) => lab.sessions.push(session)?,
-        Change::SessionSet(session) => set_session(alloc, &mut lab.sessions, session),
+        Change::PersonSet(person) => set_person(alloc, &mut lab.persons, person)?,
+        Change::SessionAdded(session) => lab.sessions.push(session.copy()?)?,
+        Change::SessionSet(session) => set_session(alloc, &mut lab.sessions, session)?,
         Change::SessionsClosed { person, closing } => {
-            close_sessions(alloc, &mut lab.sessions, &person, closing)
+            close_sessions(alloc, &mut lab.sessions, person, *closing)
         }
         Change::FormAdded(form) => add_form(alloc, &mut lab.forms, form)?,
-        Change::RecordAdded(kept) => lab.records.push(kept)?,
-        Change::RowAdded { record, row } => add_row(alloc, &mut lab.records, record, row)?,
+        Change::RecordAdded(kept) => lab.records.push(kept.copy()?)?,
+        Change::RowAdded { record, row } => add_row(alloc, &mut lab.records, *record, row)?,
         Change::VersionOpened { record, version } => {
-            open_version(alloc, &mut lab.records, record, version)?
+            open_version(alloc, &mut lab.records, *record, version)?
         }
         Change::SignatureAdded {
             record,
             version,
             signature,
-        } => add_signature(alloc, &mut lab.records, record, version, signature)?,
-        Change::TrailAdded(row) => lab.trail.push(row)?,
+        } => add_signature(alloc, &mut lab.records, *record, *version, signature)?,
+        Change::TrailAdded(row) => lab.trail.push(row.copy()?)?,
     }
     Ok(())
 }
@@ -47,27 +49,57 @@ pub fn change(alloc: Global, lab: &mut Lab, one: Change) -> Result<(), OutOfMemo
 fn add_person(
     alloc: Global,
     persons: &mut Series<Person>,
+    person: &Person,
+) -> Result<(), OutOfMemory>
+    ensures ok { OnOk result (persons.new ≡ added_person person.now persons.old) }
+    ensures err { OnErr result (persons.new ≡ persons.old) }
+{
+    insert_person(alloc, persons, person.copy()?)
+}
+
+/// Adds the person, in the order of codes. The only error is out of memory; the persons are then as before.
+pub fn insert_person(
+    alloc: Global,
+    persons: &mut Series<Person>,
     person: Person,
 ) -> Result<(), OutOfMemory>
-    ensures { OnOk result (persons.new ≡ added_person person persons.old) }
+    ensures ok { OnOk result (persons.new ≡ added_person person persons.old) }
+    ensures err { OnErr result (persons.new ≡ persons.old) }
 {
-    let before = mem::replace(persons, Series::new(alloc));
-    *persons = with_person_added(before, person)?;
+    let mut list = mem::replace(persons, Series::new(alloc)).into_vec();
+    let place = place_for_person(&list, &person.code);
+    let done = list.insert(place, person);
+    *persons = Series::from_vec(list);
+    done?;
     Ok(())
 }
 
-fn set_person(alloc: Global, persons: &mut Series<Person>, person: Person)
-    ensures { persons.new ≡ with_person person persons.old }
+fn set_person(
+    alloc: Global,
+    persons: &mut Series<Person>,
+    person: &Person,
+) -> Result<(), OutOfMemory>
+    ensures ok { OnOk result (persons.new ≡ with_person person.now persons.old) }
+    ensures err { OnErr result (persons.new ≡ persons.old) }
 {
+    let person = person.copy()?;
     let before = mem::replace(persons, Series::new(alloc));
     *persons = with_person(before, person);
+    Ok(())
 }
 
-fn set_session(alloc: Global, sessions: &mut Series<Session>, session: Session)
-    ensures { sessions.new ≡ with_session session sessions.old }
+fn set_session(
+    alloc: Global,
+    sessions: &mut Series<Session>,
+    session: &Session,
+) -> Result<(), OutOfMemory>
+    ensures ok { OnOk result (sessions.new ≡ with_session session.now sessions.old) }
+    ensures err { OnErr result (sessions.new ≡ sessions.old) }
 {
+    let session = session.copy()?;
     let before = mem::replace(sessions, Series::new(alloc));
     *sessions = with_session(before, session);
+    Ok(())
 }
 
 fn close_sessions(
@@ -85,12 +117,17 @@ fn close_sessions(
 fn add_form(
     alloc: Global,
     forms: &mut Series<FormVersion>,
-    form: FormVersion,
+    form: &FormVersion,
 ) -> Result<(), OutOfMemory>
-    ensures { OnOk result (forms.new ≡ added_form form forms.old) }
+    ensures ok { OnOk result (forms.new ≡ added_form form.now forms.old) }
+    ensures err { OnErr result (forms.new ≡ forms.old) }
 {
-    let before = mem::replace(forms, Series::new(alloc));
-    *forms = with_form_added(before, form)?;
+    let form = form.copy()?;
+    let mut list = mem::replace(forms, Series::new(alloc)).into_vec();
+    let place = place_for_form(&list, &form.code);
+    let done = list.insert(place, form);
+    *forms = Series::from_vec(list);
+    done?;
     Ok(())
 }
 
@@ -98,12 +135,16 @@ fn add_row(
     alloc: Global,
     records: &mut Series<Record>,
     number: Ordinal,
-    row: EntryRow,
+    row: &EntryRow,
 ) -> Result<(), OutOfMemory>
-    ensures { OnOk result (records.new ≡ in_record number (entered_in row) records.old) }
+    ensures ok { OnOk result (records.new ≡ in_record number (entered_in row.now) records.old) }
+    ensures err { OnErr result (records.new ≡ records.old) }
 {
-    let before = mem::replace(records, Series::new(alloc));
-    *records = entered_in(before, number, row)?;
+    let row = row.copy()?;
+    let mut list = mem::replace(records, Series::new(alloc)).into_vec();
+    let done = enter_in(&mut list, alloc, number, row);
+    *records = Series::from_vec(list);
+    done?;
     Ok(())
 }
 
@@ -111,12 +152,16 @@ fn open_version(
     alloc: Global,
     records: &mut Series<Record>,
     number: Ordinal,
-    version: Version,
+    version: &Version,
 ) -> Result<(), OutOfMemory>
-    ensures { OnOk result (records.new ≡ in_record number (opened_in version) records.old) }
+    ensures ok { OnOk result (records.new ≡ in_record number (opened_in version.now) records.old) }
+    ensures err { OnErr result (records.new ≡ records.old) }
 {
-    let before = mem::replace(records, Series::new(alloc));
-    *records = opened_in(before, number, version)?;
+    let version = version.copy()?;
+    let mut list = mem::replace(records, Series::new(alloc)).into_vec();
+    let done = open_in(&mut list, number, version);
+    *records = Series::from_vec(list);
+    done?;
     Ok(())
 }
 
@@ -125,37 +170,18 @@ fn add_signature(
     records: &mut Series<Record>,
     number: Ordinal,
     version: Ordinal,
-    signature: Signature,
+    signature: &Signature,
 ) -> Result<(), OutOfMemory>
-    ensures { OnOk result
-        (records.new ≡ in_record number (signed_in version signature) records.old) }
+    ensures ok { OnOk result
+        (records.new ≡ in_record number (signed_in version signature.now) records.old) }
+    ensures err { OnErr result (records.new ≡ records.old) }
 {
-    let before = mem::replace(records, Series::new(alloc));
-    *records = signed_in(before, number, version, signature)?;
+    let signature = signature.copy()?;
+    let mut list = mem::replace(records, Series::new(alloc)).into_vec();
+    let done = sign_in(&mut list, alloc, number, version, signature);
+    *records = Series::from_vec(list);
+    done?;
     Ok(())
-}
-
-/// The persons with one more, in the order of their codes.
-fn with_person_added(persons: Series<Person>, person: Person) -> Result<Series<Person>, OutOfMemory>
-    ensures { IfOk result (λ after. after ≡ added_person person persons) }
-{
-    let mut list = persons.into_vec();
-    let place = place_for_person(&list, &person.code);
-    list.insert(place, person)?;
-    Ok(Series::from_vec(list))
-}
-
-/// The versions of forms with one more, in the order of their codes.
-fn with_form_added(
-    forms: Series<FormVersion>,
-    form: FormVersion,
-) -> Result<Series<FormVersion>, OutOfMemory>
-    ensures { IfOk result (λ after. after ≡ added_form form forms) }
-{
-    let mut list = forms.into_vec();
-    let place = place_for_form(&list, &form.code);
-    list.insert(place, form)?;
-    Ok(Series::from_vec(list))
 }
 
 /// The person takes the place of the one of the same code.
@@ -211,57 +237,47 @@ fn close_one(session: &mut Session, person: &PersonCode, closing: &Closing)
     }
 }
 
-/// The records with the row in the last version of the one of the number.
-fn entered_in(
-    records: Series<Record>,
+/// The row is added to the last version of the record of the number.
+fn enter_in(
+    records: &mut [Record],
+    alloc: Global,
     number: Ordinal,
     row: EntryRow,
-) -> Result<Series<Record>, OutOfMemory>
-    ensures { IfOk result (λ after. after ≡ in_record number (entered_in row) records) }
+) -> Result<(), OutOfMemory>
+    ensures ok { OnOk result (records.new ≡ in_record number (entered_in row) records.old) }
+    ensures err { OnErr result (records.new ≡ records.old) }
 {
-    let mut list = records.into_vec();
-    let Some(place) = place_of_record(&list, number) else {
-        return Ok(Series::from_vec(list));
+    let Some(place) = place_of_record(records, number) else {
+        return Ok(());
     };
-    let alloc = *list.allocator();
-    let kept = &mut list[place];
-    enter(kept, alloc, row)?;
-    Ok(Series::from_vec(list))
+    enter(&mut records[place], alloc, row)
 }
 
-/// The records with a version more of the one of the number.
-fn opened_in(
-    records: Series<Record>,
-    number: Ordinal,
-    version: Version,
-) -> Result<Series<Record>, OutOfMemory>
-    ensures { IfOk result (λ after. after ≡ in_record number (opened_in version) records) }
+/// The version is added to the record of the number.
+fn open_in(records: &mut [Record], number: Ordinal, version: Version) -> Result<(), OutOfMemory>
+    ensures ok { OnOk result (records.new ≡ in_record number (opened_in version) records.old) }
+    ensures err { OnErr result (records.new ≡ records.old) }
 {
-    let mut list = records.into_vec();
-    let Some(place) = place_of_record(&list, number) else {
-        return Ok(Series::from_vec(list));
+    let Some(place) = place_of_record(records, number) else {
+        return Ok(());
     };
-    let kept = &mut list[place];
-    open(kept, version)?;
-    Ok(Series::from_vec(list))
+    open(&mut records[place], version)
 }
 
-/// The records with the signature of the version of a number of the one of the number.
-fn signed_in(
-    records: Series<Record>,
+/// The signature is added to the version of a number of the record of the number.
+fn sign_in(
+    records: &mut [Record],
+    alloc: Global,
     number: Ordinal,
     version: Ordinal,
     signature: Signature,
-) -> Result<Series<Record>, OutOfMemory>
-    ensures { IfOk result
-        (λ after. after ≡ in_record number (signed_in version signature) records) }
+) -> Result<(), OutOfMemory>
+    ensures ok { OnOk result
+        (records.new ≡ in_record number (signed_in version signature) records.old) }
+    ensures err { OnErr result (records.new ≡ records.old) }
 {
-    let mut list = records.into_vec();
-    let Some(place) = place_of_record(&list, number) else {
-        return Ok(Series::from_vec(list));
+    let Some(place) = place_of_record(records, number) else {
+        return Ok(());
     };
-    let alloc = *list.allocator();
-    let kept = &mut list[place];
-    sign(kept, alloc, version, signature)?;
-    Ok(Series::from_vec(list))
+    sign(&mut records[place], alloc, version, signature)
 }

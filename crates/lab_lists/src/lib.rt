@@ -1,10 +1,13 @@
-//! A laboratory in memory: the part of it that is needed, and the changes that are made of it.
+//! Laboratories in memory: the part of one that is needed, the changes that are made of it, and a keeper of them.
 #![tactic(auto)]
 
 mod changes;
+mod held;
+mod lists;
 mod lookups;
 mod parts;
 mod places;
 
 pub use changes::change;
+pub use lists::Lists;
 pub use parts::part;

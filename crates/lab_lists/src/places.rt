@@ -1,5 +1,5 @@
 //! Where persons, sessions and records stand in their lists, and what is done to one record.
-ghost use Rattle.std.specs.Prelude.{◌≡◌, ◌≤◌, bytes_eq, length, position, OnOk, IfOk};
+ghost use Rattle.std.specs.Prelude.{◌≡◌, ◌≤◌, bytes_eq, length, position, OnOk, OnErr};
 ghost use Rattle.std.specs.List.{position_or_len};
 ghost use Rattle.lab_kept.specs.Lookups.{comes_before, has_number, is_numbered};
 ghost use Rattle.lab_kept.specs.Changes.{in_last, in_version, with_row, with_signature, entered_in, opened_in, signed_in};
@@ -91,85 +91,88 @@ pub fn place_of_record(records: &[Record], number: Ordinal) -> Option<usize>
     records.iter().position(|kept| kept.number == number)
 }
 
-/// A row more in the last version.
+/// A row more in the last version. The only error is out of memory; the record is then as before.
 pub fn enter(kept: &mut Record, alloc: Global, row: EntryRow) -> Result<(), OutOfMemory>
-    ensures { OnOk result (kept.new ≡ entered_in row kept.old) }
+    ensures ok { OnOk result (kept.new ≡ entered_in row kept.old) }
+    ensures err { OnErr result (kept.new ≡ kept.old) }
 {
-    let versions = mem::replace(&mut kept.versions, Series::new(alloc));
-    kept.versions = with_row_in_last(versions, row)?;
+    let mut versions = mem::replace(&mut kept.versions, Series::new(alloc)).into_vec();
+    let done = enter_last(&mut versions, alloc, row);
+    kept.versions = Series::from_vec(versions);
+    done?;
     Ok(())
 }
 
-/// A version more.
+/// A version more. The only error is out of memory; the record is then as before.
 pub fn open(kept: &mut Record, version: Version) -> Result<(), OutOfMemory>
-    ensures { OnOk result (kept.new ≡ opened_in version kept.old) }
+    ensures ok { OnOk result (kept.new ≡ opened_in version kept.old) }
+    ensures err { OnErr result (kept.new ≡ kept.old) }
 {
     kept.versions.push(version)?;
     Ok(())
 }
 
-/// A signature more in the version of the number.
+/// A signature more in the version of the number. The only error is out of memory; the record is then as before.
 pub fn sign(
     kept: &mut Record,
     alloc: Global,
     number: Ordinal,
     signature: Signature,
 ) -> Result<(), OutOfMemory>
-    ensures { OnOk result (kept.new ≡ signed_in number signature kept.old) }
+    ensures ok { OnOk result (kept.new ≡ signed_in number signature kept.old) }
+    ensures err { OnErr result (kept.new ≡ kept.old) }
 {
-    let versions = mem::replace(&mut kept.versions, Series::new(alloc));
-    kept.versions = signed_in_version(versions, number, signature)?;
+    let mut versions = mem::replace(&mut kept.versions, Series::new(alloc)).into_vec();
+    let done = sign_in(&mut versions, number, signature);
+    kept.versions = Series::from_vec(versions);
+    done?;
     Ok(())
 }
 
-/// The version with a row more.
-fn with_row(version: Version, row: EntryRow) -> Result<Version, OutOfMemory>
-    ensures { IfOk result (λ after. after ≡ with_row row version) }
+/// A row more in the last of the versions.
+fn enter_last(versions: &mut [Version], alloc: Global, row: EntryRow) -> Result<(), OutOfMemory>
+    ensures ok { OnOk result (versions.new ≡ in_last (with_row row) versions.old) }
+    ensures err { OnErr result (versions.new ≡ versions.old) }
 {
-    let mut rows = version.rows.into_rows();
-    rows.push(row)?;
-    Ok(Version {
-        rows: EntryRows::new(rows),
-        ..version
-    })
+    let count = versions.len();
+    if count == 0 {
+        return Ok(());
+    }
+    enter_version(&mut versions[count - 1], alloc, row)
+}
+
+/// A row more.
+fn enter_version(version: &mut Version, alloc: Global, row: EntryRow) -> Result<(), OutOfMemory>
+    ensures ok { OnOk result (version.new ≡ with_row row version.old) }
+    ensures err { OnErr result (version.new ≡ version.old) }
+{
+    let mut rows = mem::replace(&mut version.rows, EntryRows::new(Vec::new(alloc))).into_rows();
+    let done = rows.push(row);
+    version.rows = EntryRows::new(rows);
+    done?;
+    Ok(())
+}
+
+/// A signature more in the version of the number.
+fn sign_in(
+    versions: &mut [Version],
+    number: Ordinal,
+    signature: Signature,
+) -> Result<(), OutOfMemory>
+    ensures ok { OnOk result (versions.new ≡ in_version number (with_signature signature) versions.old) }
+    ensures err { OnErr result (versions.new ≡ versions.old) }
+{
+    let Some(place) = place_of_version(versions, number) else {
+        return Ok(());
+    };
+    sign_version(&mut versions[place], signature)
 }
 
 /// A signature more.
 fn sign_version(version: &mut Version, signature: Signature) -> Result<(), OutOfMemory>
-    ensures { OnOk result (version.new ≡ with_signature signature version.old) }
+    ensures ok { OnOk result (version.new ≡ with_signature signature version.old) }
+    ensures err { OnErr result (version.new ≡ version.old) }
 {
     version.signatures.push(signature)?;
     Ok(())
-}
-
-#[tactic(auto, using(crate::proofs::Replacing::in_last_of))]
-fn with_row_in_last(
-    versions: Series<Version>,
-    row: EntryRow,
-) -> Result<Series<Version>, OutOfMemory>
-    ensures { IfOk result (λ after. after ≡ in_last (with_row row) versions) }
-{
-    let mut list = versions.into_vec();
-    let Some(last) = list.pop() else {
-        return Ok(Series::from_vec(list));
-    };
-    list.push(with_row(last, row)?)?;
-    Ok(Series::from_vec(list))
-}
-
-// The versions with the signature in the one of the number.
-fn signed_in_version(
-    versions: Series<Version>,
-    number: Ordinal,
-    signature: Signature,
-) -> Result<Series<Version>, OutOfMemory>
-    ensures { IfOk result (λ after. after ≡ in_version number (with_signature signature) versions) }
-{
-    let mut list = versions.into_vec();
-    let Some(place) = place_of_version(&list, number) else {
-        return Ok(Series::from_vec(list));
-    };
-    let version = &mut list[place];
-    sign_version(version, signature)?;
-    Ok(Series::from_vec(list))
 }

@@ -310,7 +310,7 @@ fn signing(rt: &(impl Abort + AllocGlobal)) -> Change {
 // The change makes the laboratory of the case out of the one of nothing.
 fn makes(rt: &(impl Abort + AllocGlobal), one: Change, case: Case) {
     let mut lab = aqua(rt, Case::Nothing);
-    change(rt.alloc(), &mut lab, one).expect(rt, "memory");
+    change(rt.alloc(), &mut lab, &one).expect(rt, "memory");
     assert!(rt; is_lab(&lab, &aqua(rt, case)));
 }
 

@@ -1,5 +1,5 @@
--- How a laboratory is born: of three administrators with passwords of their own, so that from its
--- first moment on no account is changed by one person alone (21 CFR 11.200(a)(3)).
+-- How a laboratory is born: of three administrators with codes of their own, each with a password
+-- that was chosen at that moment; and why it isn't.
 use Rattle.std.specs.Prelude.{ℕ, Bool, not, ◌||◌, ◌&&◌, List, [], ◌∷◌, codes, Option, Some, None, Result, Ok, Err, bytes_eq, if◌then◌else◌}
 use Rattle.lab_names.specs.declared.tick.Tick.{Tick}
 use Rattle.lab_names.specs.Faults.{Entry}
