@@ -14,7 +14,7 @@ newborn_lab newborn = record {
   last = newborn.moment;
   strays = 0;
   persons =
-    added_person newborn.third (added_person newborn.second (added_person newborn.first []));
+      added_person newborn.third (added_person newborn.second (added_person newborn.first []));
   sessions = [];
   forms = [];
   records = [];
