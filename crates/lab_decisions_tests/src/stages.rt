@@ -294,9 +294,27 @@ fn acted(
     tick: &Tick,
     asked: Instruction,
 ) -> Result<Played, Halt> {
-    let outcome = answered(alloc, stage, tick, asked)?;
-    let reply = reply_text(alloc, &outcome.reply)?;
-    let lab = changed(alloc, &stage.lab, outcome.changes)?;
+    let (reply, changes) = spoken(alloc, answered(alloc, stage, tick, asked)?);
+    let reply = reply?;
+    let lab = changed(alloc, &stage.lab, changes)?;
+    finished(alloc, stage, line, reply, lab)
+}
+
+// What is told of the reply, which is let go, and the changes.
+fn spoken(alloc: Global, outcome: Outcome) -> (Result<String, OutOfMemory>, Series<Change>) {
+    let Outcome { reply, changes } = outcome;
+    let text = reply_text(alloc, &reply);
+    drop(reply);
+    (text, changes)
+}
+
+fn finished(
+    alloc: Global,
+    stage: &Stage,
+    line: &str,
+    reply: String,
+    lab: Lab,
+) -> Result<Played, Halt> {
     let told = told_unless_quiet(alloc, stage, &lab)?;
     let text = told_of(alloc, stage, line, reply.as_str(), told.as_str())?;
     Ok(Played { lab, told, text })
@@ -316,8 +334,13 @@ fn answered(
     tick: &Tick,
     asked: Instruction,
 ) -> Result<Outcome, OutOfMemory> {
-    let slice = needed(alloc, stage, tick, &asked)?;
-    decide(alloc, slice, tick, asked.command)
+    match needed(alloc, stage, tick, &asked) {
+        Ok(slice) => decide(alloc, slice, tick, asked.command),
+        Err(fault) => {
+            drop(asked);
+            Err(fault)
+        }
+    }
 }
 
 fn needed(
