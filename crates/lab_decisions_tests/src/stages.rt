@@ -177,10 +177,10 @@ fn founded(alloc: Global, words: &mut Words) -> Result<Lab, Halt> {
     let mut lab = bare_lab(alloc, code, words.next_word(), last)?;
     for salt in founder_salts(&chance) {
         let founder = founder(alloc, words, salt, last)?;
-        change(alloc, &mut lab, Change::PersonAdded(founder))?;
+        change(alloc, &mut lab, &Change::PersonAdded(founder))?;
     }
     let row = founding_row(alloc, code, last)?;
-    change(alloc, &mut lab, Change::TrailAdded(row))?;
+    change(alloc, &mut lab, &Change::TrailAdded(row))?;
     Ok(lab)
 }
 
@@ -230,7 +230,7 @@ fn with_person(alloc: Global, stage: &Stage, words: &mut Words) -> Result<Lab, H
         ask: None,
     };
     let mut lab = stage.lab.copy()?;
-    change(alloc, &mut lab, Change::PersonAdded(person))?;
+    change(alloc, &mut lab, &Change::PersonAdded(person))?;
     Ok(lab)
 }
 
@@ -360,7 +360,7 @@ fn needed(
 // A copy of the laboratory, changed.
 fn changed(alloc: Global, lab: &Lab, changes: Series<Change>) -> Result<Lab, OutOfMemory> {
     let mut after = lab.copy()?;
-    for one in changes.into_vec() {
+    for one in changes.as_slice() {
         change(alloc, &mut after, one)?;
     }
     Ok(after)
