@@ -1,5 +1,6 @@
--- What each command comes to by its own case, on the part of a laboratory that it needs, as values: a
--- reply, what the trail tells, and changes.
+-- What each command comes to by its own case, on the part of a laboratory that it needs: a refusal,
+-- a failed password, something read, or something made (a reply, what the trail tells, changes).
+-- `Done` is to a part what `Case` of lab_machine is to the whole laboratory.
 use Rattle.std.specs.Prelude.{ℕ, List, [], ◌∷◌, map, Result, Ok, Err, if◌then◌else◌}
 use Rattle.lab_names.specs.declared.tick.Tick.{Tick}
 use Rattle.lab_access.specs.declared.persons.Person.{Person}
@@ -44,14 +45,17 @@ use Rattle.lab_commands.specs.declared.done.Done.TheVariants.{Refused, Failed, R
 
 -- ---- what each command comes to by its own case
 
+-- what follows a rule: its refusal, or what it gives
 abbrev pub then_done : {A : Type 0} → Result A Refusal → (A → Done) → Done
 then_done (Err refusal) next = Refused refusal
 then_done (Ok value) next = next value
 
+-- the same for the rules of persons
 abbrev pub then_person_done : {A : Type 0} → Result A PeopleRefusal → (A → Done) → Done
 then_person_done (Err refusal) next = Refused (People refusal)
 then_person_done (Ok value) next = next value
 
+-- what is read
 abbrev pub then_read_done : {A : Type 0} → Result A Refusal → (A → Reply) → Done
 then_read_done (Err refusal) reply = Refused refusal
 then_read_done (Ok found) reply = Read (reply found)
@@ -151,7 +155,8 @@ signing_done slice moment session version digest signing (Ok person) =
     then_done (signing_record slice.code slice.filed version digest signing person moment)
     (signature_done session person)
 
--- each command, in a session
+-- Each command, in a session. The card and an opening come without one, and are no command of a
+-- session.
 unfoldable pub done_of : Slice → Tick → Session → Person → Command → Done
 done_of slice tick session caller Card = Refused (People NoSession)
 done_of slice tick session caller (Open code password) = Refused (People NoSession)

@@ -1,4 +1,4 @@
--- What is decided on a part is the step of the whole laboratory.
+-- What it means that an outcome is the step of a laboratory.
 use Rattle.std.specs.Prelude.{◌≡◌, Some}
 use Rattle.lab_names.specs.declared.tick.Tick.{Tick}
 use Rattle.lab_kept.specs.declared.labs.Lab.{Lab}

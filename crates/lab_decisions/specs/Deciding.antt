@@ -33,14 +33,16 @@ use Rattle.lab_commands.specs.Doing.{opened_done, done_of}
 
 -- ---- the rows that the trail is given, where it has so many
 
+-- the row of a deed, in a trail of `rows` rows
 abbrev pub told_row : ℕ → ℕ → List ℕ → Deed → Change
 told_row rows moment person deed = TrailAdded (row_of (rows + 1) moment (Some person) deed)
 
--- one where there is room, and two
+-- one row, where there is room for it
 abbrev pub noted_rows : ℕ → ℕ → List ℕ → Deed → List Change
 noted_rows rows moment person deed =
     if nat_le count_limit rows then [] else told_row rows moment person deed ∷ []
 
+-- two rows, as far as there is room
 abbrev pub two_rows : ℕ → ℕ → List ℕ → Deed → Deed → List Change
 two_rows rows moment person first second =
     if nat_le count_limit rows then []
@@ -68,8 +70,8 @@ ended_made before rows moment person reply deed own =
     if nat_le count_limit rows then outcome (ToldRefused (People LabFull)) before
     else outcome reply (before ++ own ++ told_row rows moment person deed ∷ [])
 
--- in a session, whose request is taken note of before all, where the trail has so many rows and so
--- many strays were counted
+-- in a session, where the trail has so many rows and so many strays were counted; `before` notes
+-- that the request came
 abbrev pub ended_by : ℕ → ℕ → ℕ → List ℕ → List Change → Done → Outcome
 ended_by rows strays moment person before (Refused refusal) = outcome (ToldRefused refusal) before
 ended_by rows strays moment person before (Failed occasion failure) =
@@ -83,6 +85,7 @@ abbrev pub ended_done : Slice → ℕ → List ℕ → List Change → Done → 
 ended_done slice moment person before done =
     ended_by slice.counts.trail slice.strays moment person before done
 
+-- what notes a request by the session at the moment
 abbrev pub touching : ℕ → Session → List Change
 touching moment session = Last moment ∷ SessionSet (touched_session moment session) ∷ []
 

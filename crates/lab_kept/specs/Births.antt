@@ -1,5 +1,5 @@
--- A laboratory as it is founded: three persons, in the order of their codes, the first row of the
--- trail, which tells of nobody, and nothing else.
+-- A laboratory as it is founded: it has three persons, in the order of their codes, and the first
+-- row of the trail, which names no person; it has no session, no form and no record.
 use Rattle.std.specs.Prelude.{[], ◌∷◌, None}
 use Rattle.lab_kept.specs.declared.births.Newborn.{Newborn}
 use Rattle.lab_kept.specs.declared.labs.Lab.{Lab}

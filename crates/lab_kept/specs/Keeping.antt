@@ -86,14 +86,15 @@ pub record IsAmended (opened : Version) (moment : ℕ) (person : List ℕ) (row 
   pub at : row.moment ≡ moment
   pub why : row.reason ≡ option_map (λ amendment. amendment.reason) opened.origin.amendment
 
--- Records became others by a deed of the person at the moment.
-
+-- a record was opened by the person at the moment, and stands behind the others
 pub record IsRecordAdded (old new : List KeptRecord) (number moment : ℕ) (person : List ℕ)
     : Type 0 where
   pub kept : KeptRecord
   pub added : new ≡ old ++ kept ∷ []
   pub opened : IsOpenedBy kept number moment person
 
+-- a row was entered into the record's last version, whose number is `version`: under the key, by
+-- the person at the moment
 pub record IsRowAdded (old new : List KeptRecord) (number version : ℕ) (key : List ℕ)
     (moment : ℕ) (person : List ℕ) : Type 0 where
   pub row : EntryRow
@@ -103,6 +104,8 @@ pub record IsRowAdded (old new : List KeptRecord) (number version : ℕ) (key : 
   pub by : row.person ≡ person
   pub at : row.moment ≡ moment
 
+-- a version was opened by an amendment of the person at the moment, and stands behind those of its
+-- record: it has rows, all of them the amendment's, and no signatures
 pub record IsVersionAdded (old new : List KeptRecord) (number version moment : ℕ)
     (person : List ℕ) : Type 0 where
   pub opened : Version
@@ -118,7 +121,8 @@ pub record IsVersionAdded (old new : List KeptRecord) (number version moment : �
 abbrev pub IsNamed : List Person → List ℕ → List ℕ → Type 0
 IsNamed persons code name = MatchOption (person_of persons code) ⊥ (λ one. name ≡ one.name)
 
--- a signature bears the printed name of its signer, its moment and its meaning (21 CFR 11.50(a))
+-- a signature of the person at the moment was added to the version; it bears the printed name of
+-- its signer, its moment and its meaning (21 CFR 11.50(a))
 pub record IsSignatureAdded (persons : List Person) (old new : List KeptRecord)
     (number version : ℕ) (meaning : Meaning) (moment : ℕ) (person : List ℕ) : Type 0 where
   pub signature : Signature
@@ -128,7 +132,7 @@ pub record IsSignatureAdded (persons : List Person) (old new : List KeptRecord)
   pub named : IsNamed persons person signature.name
   pub at : signature.moment ≡ moment
 
--- by which deed, or by none
+-- what the deed did to the records; any deed but these four left them as they were
 abbrev pub IsDoneTo : Deed → List Person → List KeptRecord → List KeptRecord → ℕ → List ℕ → Type 0
 IsDoneTo (Record number) persons old new moment person =
     IsRecordAdded old new number moment person
@@ -140,8 +144,8 @@ IsDoneTo (Sign number version meaning) persons old new moment person =
     IsSignatureAdded persons old new number version meaning moment person
 IsDoneTo _ persons old new moment person = new ≡ old
 
--- the trail has one row more, which tells by what deed, by whom of the laboratory and when the
--- records became others
+-- the trail has one row more, which tells of a deed, by whom of the laboratory and when; by it the
+-- records became others, or they stayed, where it isn't a deed on records
 pub record IsToldOnce (old new : Lab) : Type 0 where
   pub deed : Deed
   pub moment : ℕ

@@ -1,5 +1,6 @@
--- How much a laboratory holds at the most, in one place; and that what is numbered in it is
--- numbered from 1 on without gaps. The numbers are this system's own.
+-- How much a laboratory holds at the most, in one list; and that what is numbered in it is numbered
+-- from 1 on without gaps. lab_people and lab_forms define theirs once more, and code that refuses
+-- by a limit has a constant of its own. The numbers are this system's own.
 use Rattle.std.specs.Prelude.{◌≡◌, ◌≤◌, ℕ, ◌+◌, IsTrue, false, List, [], ◌∷◌, ◌++◌, length, Some, All}
 use Rattle.lab_names.specs.Ordinals.{last_ordinal}
 use Rattle.lab_kept.specs.declared.records.FormVersion.{FormVersion}

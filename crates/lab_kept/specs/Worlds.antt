@@ -53,8 +53,8 @@ pub record Places (lab : Lab) (old new : Meaning) : Type 0 where
 
 -- ---- what every call passes on
 
--- what is honest, or live, after a call was so before it; and a keeper that never refuses doesn't
--- begin to
+-- what is honest after a call was so before it, and is live after it only where it was live before;
+-- and a keeper that never refuses doesn't begin to
 pub record Passes (old new : World) : Type 0 where
   pub honest : new.is_honest → old.is_honest
   pub live : new.is_honest → new.is_live → old.is_live
@@ -95,19 +95,19 @@ IsSettled world = (held : Meaning) → world.may_leave held → SameMeaning worl
 
 -- ---- faults
 
--- the store is a keeper's fault only where it may refuse
+-- a keeper blames its store only where it may refuse
 abbrev pub KeeperFaultFits : Type 0 → KeeperFault → Type 0
 KeeperFaultFits may_refuse Storage = may_refuse
 KeeperFaultFits may_refuse Memory = Unit {0}
 
--- so it is of a founding, and that the laboratory exists only where it does
+-- so it does at a founding; and that there is a laboratory is told only where there is one
 abbrev pub PlacingFaultFits : Type 0 → Type 0 → PlacingFault → Type 0
 PlacingFaultFits may_refuse exists LabExists = exists
 PlacingFaultFits may_refuse exists NotStored = may_refuse
 PlacingFaultFits may_refuse exists NoMemory = Unit {0}
 
--- a fact on a founding that ended with what is kept: the laboratory is founded, or it exists
--- already
+-- a fact on a founding that was answered: the laboratory is founded, or was there already; where
+-- the store or memory failed, nothing is said
 abbrev pub OnPlaced : Result (Unit {0}) PlacingFault → Type 0 → Type 0
 OnPlaced (Ok _) P = P
 OnPlaced (Err LabExists) P = P

@@ -11,7 +11,7 @@ use std::alloc::{AllocError, AllocFailed};
 use std::fmt;
 use thiserror::Error;
 
-/// Why a keeper neither read nor changed a laboratory. Nothing was changed. Its text is its word.
+/// Why a keeper's read or change failed. Nothing was changed, where no fault shut the keeper. Its text is its word.
 #[derive(Clone, Copy, Debug, PartialEq, Eq, Error)]
 pub enum KeeperFault {
     /// The store refused.
@@ -81,7 +81,7 @@ impl<T: Drop> From<AllocFailed<T>> for KeeperFault {
     }
 }
 
-/// Why a keeper founded no laboratory. Nothing was changed. Its text is its word.
+/// Why a keeper's founding failed. Nothing was changed, where no fault shut the keeper. Its text is its word.
 #[derive(Clone, Copy, Debug, PartialEq, Eq, Error)]
 pub enum PlacingFault {
     /// The laboratory is there already.

@@ -9,7 +9,7 @@ ghost use Rattle.lab_machine.specs.Machine.{step};
 ghost use Rattle.lab_laws.specs.Stepping.{HoldsOf};
 
 /// Law: every step keeps what was, and where records become others, the trail tells of it once: by what deed, by whom and
-/// when. The versions of its forms bear the numbers from 1 on, as they do from a laboratory's birth on.
+/// when. The premise: the versions of the laboratory's forms bear the numbers from 1 on, as they do from its birth on.
 pub fn a_step_keeps_what_was()
     ensures { (lab : Lab) (tick : Tick) (instruction : Instruction) → AreFormsNumbered [] lab.forms
         → HoldsOf (Keeps lab) (step (Some lab) tick instruction).after }

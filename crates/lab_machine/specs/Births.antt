@@ -51,7 +51,8 @@ founders_of tick founding =
     (added_person (founder_person founding.second (salt_at tick.words 1) tick.moment)
     (added_person (founder_person founding.first (salt_at tick.words 0) tick.moment) []))
 
--- a laboratory as it is born: nobody is told of in the trail's first row
+-- a laboratory as it is born: it has its founders and the first row of the trail, which names no
+-- person; it has no session, no form and no record
 abbrev pub newborn : List ℕ → Tick → Founding → Lab
 newborn code tick founding = record {
   code = code;

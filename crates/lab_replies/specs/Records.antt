@@ -66,10 +66,11 @@ version_state_data version =
     ∷ []
     )
 
--- the number of the last version
+-- the number of a version
 abbrev pub number_of : VersionState → ℕ
 number_of version = version.version
 
+-- the number of the last version, where there is one
 abbrev pub current_of : List VersionState → Option ℕ
 current_of versions = option_map number_of (slice_get versions (length versions - 1))
 
@@ -158,7 +159,7 @@ version_opening read =
     ∷ (codes "version", whole read.version.origin.number)
     ∷ []
 
--- what was entered and signed in it, and what that comes to
+-- the keys that it altered, its rows and signatures, and the record's values at it
 abbrev pub version_lists : VersionRead → List (List ℕ × Data)
 version_lists read =
     (codes "altered", texts_data read.altered)
@@ -188,7 +189,7 @@ record_state_members kept =
 abbrev pub record_state_data : RecordState → Data
 record_state_data kept = object_from (record_state_members kept)
 
--- the records of a range that are there
+-- records, each by its last version
 abbrev pub records_data : List RecordState → Data
 records_data records =
     object_from ((codes "records", list_from (map record_state_data records)) ∷ [])

@@ -10,7 +10,7 @@ use Rattle.lab_rules.specs.declared.refusals.Refusal.TheVariants.{People, Record
 use Rattle.lab_rules.specs.Refusals.{refusal_entry}
 use Rattle.lab_replies.specs.Parts.{object_from, whole, digits_data}
 
--- a refusal of so many further members
+-- a refusal: its word, its number, and these members beside them
 abbrev pub entry_data : Entry → List (List ℕ × Data) → Data
 entry_data entry further =
     object_from (

@@ -17,6 +17,6 @@ trail_row_data row =
     ∷ []
     )
 
--- the rows of a range that are there
+-- rows of the trail
 abbrev pub trail_data : List TrailRow → Data
 trail_data rows = object_from ((codes "trail", list_from (map trail_row_data rows)) ∷ [])

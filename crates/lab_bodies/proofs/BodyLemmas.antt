@@ -1,0 +1,34 @@
+-- What comes of a whole body, by what comes of its JSON.
+use Rattle.std.proofs.Common.{◌≡◌, ◌∙◌, ◌<◌, ℕ, List, length, Option, Some, None, Result, Ok, Err, refl, ap}
+use Rattle.std.specs.Prelude.{IfErr}
+use Rattle.serde_json.specs.Data.{Data}
+use Rattle.lab_bodies.specs.declared.refusals.BodyRefusal.TheVariants.{BadBody}
+use Rattle.lab_bodies.specs.declared.refusals.BodyFault.{BodyFault}
+use Rattle.lab_bodies.specs.declared.refusals.BodyFault.TheVariants.{Refused, Memory}
+use Rattle.lab_bodies.specs.Members.{json_of}
+use Rattle.lab_bodies.specs.Readings.{Reading, Faulty}
+use Rattle.lab_bodies.specs.Bodies.{read_from, body_named, BodyFaultFits, JsonFaultFits}
+use Rattle.lab_bodies.proofs.MemberLemmas.{some_byte}
+
+-- what JSON says is what the body says
+pub body_read : {A : Type 0} (says : Data → Reading A) (body : List ℕ) (d : Data) (x : A) → json_of body ≡ Some d → says d ≡ Ok x → body_named says body ≡ Ok x
+unfolding body_named
+body_read says body d x is read = ap (read_from says) is ∙ read
+
+pub body_fault : {A : Type 0} (says : Data → Reading A) (body : List ℕ) (d : Data) (fault : BodyFault) → json_of body ≡ Some d → Faulty (says d) fault → BodyFaultFits says body fault
+unfolding body_named
+body_fault says body d (Refused refusal) is faulty = ap (read_from says) is ∙ faulty
+body_fault says body d Memory is faulty = some_byte body d is
+
+-- whatever fault comes of JSON fits the body
+pub body_faults : {A B : Type 0} (says : Data → Reading A) (body : List ℕ) (d : Data) (r : Result B BodyFault) → json_of body ≡ Some d → IfErr r (Faulty (says d)) → IfErr r (BodyFaultFits says body)
+body_faults says body d (Ok x) is faulty = faulty
+body_faults says body d (Err fault) is faulty = body_fault says body d fault is faulty
+
+-- a body that is no JSON is refused as such
+pub no_json : {A : Type 0} (says : Data → Reading A) (body : List ℕ) (fault : BodyFault) → JsonFaultFits body fault → BodyFaultFits says body fault
+unfolding body_named
+no_json says body (Refused refusal) (is, none) = rw (none, is) refl
+no_json says body Memory came = came
+
+pub ruleset of_body = (body_read, body_fault, no_json)

@@ -1,0 +1,6 @@
+pub mod BodyLemmas
+pub mod FoundingLemmas
+pub mod KeyLemmas
+pub mod KnownValues
+pub mod MemberLemmas
+pub mod ReadingLemmas

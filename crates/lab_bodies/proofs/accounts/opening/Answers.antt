@@ -1,0 +1,10 @@
+use Rattle.std.proofs.Common.{rules}
+use Rattle.lab_bodies.specs.Accounts.{opening_named}
+use Rattle.lab_bodies.proofs.ReadingLemmas.{exit_fault, fault_in_shape, first_fault}
+use Rattle.lab_bodies.proofs.accounts.opening.Goals as goal
+
+pub returns-in_err-code-clause-fault : goal.returns-in_err-code-clause-fault
+unfolding opening_named
+returns-in_err-code-clause-fault c =
+    exit_fault _ _ _ c.from_residual.ensures.1
+    (fault_in_shape _ _ _ (search rules) (first_fault _ _ _ c.in_err-code.ensures.fault))

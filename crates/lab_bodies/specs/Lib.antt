@@ -1,0 +1,9 @@
+pub mod Members
+pub mod Refusals
+pub mod Readings
+pub mod Accounts
+pub mod Forms
+pub mod Records
+pub mod Signatures
+pub mod Foundings
+pub mod Bodies

@@ -1,0 +1,96 @@
+//! The body of a founding.
+ghost use Rattle.std.specs.Prelude.{◌≡◌, Ok, Some, IfOk, IfErr, map};
+ghost use Rattle.serde_json.specs.View.{view};
+ghost use Rattle.lab_bodies.specs.Foundings.{is_founding_body, founder_read, founding_of_three, founding_by, founding_named};
+ghost use Rattle.lab_bodies.specs.Readings.{Faulty};
+
+use crate::members::{Member, each_has, elements_at, has_members, must};
+use crate::readings::{named_at, typed_at};
+use crate::refusals::{BodyFault, BodyRefusal};
+use lab_machine::{Founder, Founding};
+use lab_names::{Names, PersonCodes};
+use serde_json::Value;
+use std::alloc::Global;
+
+const FOUNDING: [Member; 2] = [must!("founders", List), must!("name", Text)];
+
+const FOUNDER: [Member; 3] = [
+    must!("code", Text),
+    must!("name", Text),
+    must!("password", Text),
+];
+
+#[tactic(auto, unfolding(crate::specs::Foundings::is_founding_body))]
+fn is_founding_body(value: &Value) -> bool
+    ensures { result ≡ is_founding_body (view value.now) }
+{
+    has_members(value, &FOUNDING) && each_has(value, "founders", &FOUNDER)
+}
+
+#[tactic(auto, using(crate::proofs::ReadingLemmas::in_turn), unfolding(crate::specs::Foundings::founder_read))]
+fn founder(alloc: Global, value: &Value) -> Result<Founder, BodyFault>
+    ensures read { IfOk result (λ founder. founder_read (view value.now) ≡ Ok founder) }
+    ensures fault { IfErr result (Faulty (founder_read (view value.now))) }
+{
+    let code = named_at::<PersonCodes>(alloc, value, "code")?;
+    let name = named_at::<Names>(alloc, value, "name")?;
+    let password = typed_at(alloc, value, "password")?;
+    Ok(Founder {
+        code,
+        name,
+        password,
+    })
+}
+
+// The three of them, then the laboratory's name.
+#[tactic(auto, using(crate::proofs::ReadingLemmas::in_turn))]
+fn founding_of_three(
+    alloc: Global,
+    one: &Value,
+    two: &Value,
+    three: &Value,
+    value: &Value,
+) -> Result<Founding, BodyFault>
+    ensures read { IfOk result (λ founding. founding_of_three (view one.now) (view two.now)
+        (view three.now) (view value.now) ≡ Ok founding) }
+    ensures fault { IfErr result (Faulty (founding_of_three (view one.now) (view two.now)
+        (view three.now) (view value.now))) }
+{
+    let first = founder(alloc, one)?;
+    let second = founder(alloc, two)?;
+    let third = founder(alloc, three)?;
+    let name = named_at::<Names>(alloc, value, "name")?;
+    Ok(Founding {
+        name,
+        first,
+        second,
+        third,
+    })
+}
+
+fn founding_by(alloc: Global, values: &[Value], value: &Value) -> Result<Founding, BodyFault>
+    ensures read { IfOk result
+        (λ founding. founding_by (Some (map view values.now)) (view value.now) ≡ Ok founding) }
+    ensures fault { IfErr result
+        (Faulty (founding_by (Some (map view values.now)) (view value.now))) }
+{
+    let [first, second, third] = values else {
+        return Err(BodyFault::Refused(BodyRefusal::BadBody));
+    };
+    founding_of_three(alloc, first, second, third, value)
+}
+
+/// A laboratory is founded.
+#[tactic(auto, using(crate::proofs::ReadingLemmas::in_turn), unfolding(crate::specs::Foundings::founding_named))]
+pub fn founding(alloc: Global, value: &Value) -> Result<Founding, BodyFault>
+    ensures read { IfOk result (λ founding. founding_named (view value.now) ≡ Ok founding) }
+    ensures fault { IfErr result (Faulty (founding_named (view value.now))) }
+{
+    if !is_founding_body(value) {
+        return Err(BodyFault::Refused(BodyRefusal::BadBody));
+    }
+    let Some(founders) = elements_at(value, "founders") else {
+        return Err(BodyFault::Refused(BodyRefusal::BadBody));
+    };
+    founding_by(alloc, founders, value)
+}

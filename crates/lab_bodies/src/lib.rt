@@ -1,0 +1,20 @@
+//! What the body of a request says: the command that it names, or the founding, read from JSON (RFC 8259) by a list of
+//! members. It knows no laboratory, no route and no head.
+#![tactic(auto)]
+
+mod accounts;
+mod bodies;
+mod forms;
+mod foundings;
+mod members;
+mod readings;
+mod records;
+mod refusals;
+mod signatures;
+#[cfg(test)]
+mod tests;
+
+pub use bodies::{Post, command_of, founding_of};
+pub use lab_forms::FormRefusal;
+pub use lab_machine::{Command, Founder, Founding};
+pub use refusals::{BodyFault, BodyRefusal};

@@ -1,0 +1,41 @@
+//! `lab_days`: plays days of a laboratory, a line of standard input at a time, and prints what is told of each.
+#![tactic(auto)]
+
+use anyhow::{Result, bail};
+use lab_decisions_tests::{Halt, Stage, play};
+use std::alloc::Global;
+use std::io::{self, Print, read_to_string};
+
+fn main(rt: HostRuntime) -> Result<()> {
+    let alloc = rt.alloc();
+    let days = read_to_string(alloc, rt.reader())?;
+    let mut stage = stage(alloc)?;
+    for line in days.lines() {
+        print_played(&rt, alloc, &mut stage, line)?;
+    }
+    Ok(())
+}
+
+fn stage(alloc: Global) -> Result<Stage> {
+    match Stage::new(alloc) {
+        Ok(stage) => Ok(stage),
+        Err(_) => bail!("no stage"),
+    }
+}
+
+// Where memory runs out, that is told, and the line is played again.
+fn print_played(rt: &impl Print, alloc: Global, stage: &mut Stage, line: &str) -> Result<()> {
+    match play(alloc, stage, line) {
+        Ok(text) => Ok(print!(rt; "{text}")?),
+        Err(Halt::Memory) => print_again(rt, alloc, stage, line),
+        Err(Halt::BadLine) => bail!("a line that can't be played"),
+    }
+}
+
+fn print_again(rt: &impl Print, alloc: Global, stage: &mut Stage, line: &str) -> Result<()> {
+    println!(rt; "memory")?;
+    match play(alloc, stage, line) {
+        Ok(text) => Ok(print!(rt; "{text}")?),
+        Err(_) => bail!("a line that can't be played again"),
+    }
+}

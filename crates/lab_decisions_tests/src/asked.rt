@@ -1,0 +1,173 @@
+//! What the words of a line ask.
+use crate::fields::form;
+use crate::halts::Halt;
+use crate::words::{Words, code, digest, ordinal, reason, roles, text, token, typed};
+use lab_machine::{Command, Instruction};
+use lab_names::{Note, Series};
+use lab_rules::{Altered, Item, Signing};
+use std::alloc::Global;
+
+/// An instruction: the words of the session's token, and the command.
+pub(crate) fn instruction(alloc: Global, words: &mut Words) -> Result<Instruction, Halt> {
+    let token = token(words.next_word())?;
+    let command = command(alloc, words)?;
+    Ok(Instruction { token, command })
+}
+
+fn command(alloc: Global, words: &mut Words) -> Result<Command, Halt> {
+    match words.next_word() {
+        "card" => Ok(Command::Card),
+        "open" => open(alloc, words),
+        "close" => Ok(Command::Close),
+        "password" => change_password(alloc, words),
+        "enrol" => enrol(alloc, words),
+        "persons" => Ok(Command::ReadPersons),
+        "issue" => Ok(Command::AskIssue {
+            code: text(alloc, words.next_word())?,
+        }),
+        "confirm" => Ok(Command::ConfirmIssue {
+            code: text(alloc, words.next_word())?,
+        }),
+        "roles" => Ok(Command::SetRoles {
+            code: text(alloc, words.next_word())?,
+            roles: roles(words.next_word()),
+        }),
+        "retire" => Ok(Command::Retire {
+            code: text(alloc, words.next_word())?,
+        }),
+        "unlock" => Ok(Command::Unlock {
+            code: text(alloc, words.next_word())?,
+        }),
+        word => command_on_records(alloc, word, words),
+    }
+}
+
+// The same of a command on forms and records, or on the trail.
+fn command_on_records(alloc: Global, word: &str, words: &mut Words) -> Result<Command, Halt> {
+    match word {
+        "form" => make_form(alloc, words),
+        "read form" => Ok(Command::ReadForm {
+            code: text(alloc, words.next_word())?,
+            version: ordinal(words.next_word())?,
+        }),
+        "record" => open_record(alloc, words),
+        "entry" => enter(alloc, words),
+        "amend" => amend(alloc, words),
+        "sign" => sign(alloc, words),
+        "read record" => Ok(Command::ReadRecord {
+            number: ordinal(words.next_word())?,
+        }),
+        "read version" => Ok(Command::ReadVersion {
+            number: ordinal(words.next_word())?,
+            version: ordinal(words.next_word())?,
+        }),
+        "records" => Ok(Command::ReadRecords {
+            from: ordinal(words.next_word())?,
+            to: ordinal(words.next_word())?,
+        }),
+        "trail" => Ok(Command::ReadTrail {
+            from: ordinal(words.next_word())?,
+            to: ordinal(words.next_word())?,
+        }),
+        _ => Err(Halt::BadLine),
+    }
+}
+
+fn open(alloc: Global, words: &mut Words) -> Result<Command, Halt> {
+    let code = text(alloc, words.next_word())?;
+    let password = typed(alloc, words.next_word())?;
+    Ok(Command::Open { code, password })
+}
+
+fn change_password(alloc: Global, words: &mut Words) -> Result<Command, Halt> {
+    let old = typed(alloc, words.next_word())?;
+    let new = typed(alloc, words.next_word())?;
+    Ok(Command::ChangePassword { old, new })
+}
+
+fn enrol(alloc: Global, words: &mut Words) -> Result<Command, Halt> {
+    let code = text(alloc, words.next_word())?;
+    let name = text(alloc, words.next_word())?;
+    let roles = roles(words.next_word());
+    Ok(Command::Enrol { code, name, roles })
+}
+
+fn make_form(alloc: Global, words: &mut Words) -> Result<Command, Halt> {
+    let code = text(alloc, words.next_word())?;
+    let form = form(alloc, words)?;
+    Ok(Command::MakeForm { code, form })
+}
+
+fn open_record(alloc: Global, words: &mut Words) -> Result<Command, Halt> {
+    let form = text(alloc, words.next_word())?;
+    let sample = text(alloc, words.next_word())?;
+    Ok(Command::OpenRecord { form, sample })
+}
+
+fn enter(alloc: Global, words: &mut Words) -> Result<Command, Halt> {
+    let number = ordinal(words.next_word())?;
+    let item = item(alloc, words)?;
+    let reason = reason(alloc, words.next_word())?;
+    Ok(Command::Enter {
+        number,
+        item,
+        reason,
+    })
+}
+
+fn item(alloc: Global, words: &mut Words) -> Result<Item, Halt> {
+    let key = text(alloc, words.next_word())?;
+    let value = typed(alloc, words.next_word())?;
+    let unit = text(alloc, words.next_word())?;
+    Ok(Item { key, value, unit })
+}
+
+fn amend(alloc: Global, words: &mut Words) -> Result<Command, Halt> {
+    let number = ordinal(words.next_word())?;
+    let reason = reason(alloc, words.next_word())?;
+    let altered = altered(alloc, words)?;
+    Ok(Command::Amend {
+        number,
+        reason,
+        altered,
+    })
+}
+
+fn altered(alloc: Global, words: &mut Words) -> Result<Altered, Halt> {
+    let mut items = Series::new(alloc);
+    for _ in 0..100u8 {
+        if words.are_read() {
+            break;
+        }
+        items.push(item(alloc, words)?)?;
+    }
+    Ok(items)
+}
+
+fn sign(alloc: Global, words: &mut Words) -> Result<Command, Halt> {
+    let number = ordinal(words.next_word())?;
+    let version = ordinal(words.next_word())?;
+    let digest = digest(words.next_word())?;
+    let meaning = words.next_word();
+    let password = typed(alloc, words.next_word())?;
+    let code = code(alloc, words.next_word())?;
+    let signing = signing(meaning, reason(alloc, words.next_word())?)?;
+    Ok(Command::Sign {
+        number,
+        version,
+        digest,
+        signing,
+        password,
+        code,
+    })
+}
+
+fn signing(meaning: &str, reason: Option<Note>) -> Result<Signing, Halt> {
+    match meaning {
+        "authorship" => Ok(Signing::Authorship),
+        "review" => Ok(Signing::Review),
+        "rejection" => Ok(Signing::Rejection(reason)),
+        "approval" => Ok(Signing::Approval),
+        _ => Err(Halt::BadLine),
+    }
+}
