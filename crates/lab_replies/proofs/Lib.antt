@@ -1,4 +1,5 @@
 pub mod PartLemmas
+pub mod MemberLemmas
 pub mod FloatLemmas
 pub mod ReplyLemmas
 pub mod KnownValues

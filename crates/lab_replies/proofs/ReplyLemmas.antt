@@ -25,7 +25,7 @@ use Rattle.lab_rules.specs.declared.refusals.Refusal.TheVariants as refusal
 use Rattle.lab_machine.specs.declared.replies.Reply.{Reply}
 use Rattle.lab_machine.specs.declared.replies.Reply.TheVariants as reply
 use Rattle.lab_replies.specs.Parts.{text_or_empty, state_data, current_data}
-use Rattle.lab_replies.specs.Refusals.{entry_data, people_members, refusal_data}
+use Rattle.lab_replies.specs.Refusals.{refused_data, people_members, refusal_data}
 use Rattle.lab_replies.specs.Persons.{roles_data, person_data}
 use Rattle.lab_replies.specs.Forms.{with_kind, field_members, field_data, form_data}
 use Rattle.lab_replies.specs.Records.{signed_data, version_state_data, current_of, record_data, row_data, signature_data, value_data, reason_of, version_data, record_state_data}
@@ -88,7 +88,7 @@ field_floats field = kind_floats field field.kind
 
 -- ---- replies
 
-people_floats : (entry : Entry) (told : PeopleRefusal) → has_float (entry_data entry (people_members told)) ≡ false
+people_floats : (entry : Entry) (told : PeopleRefusal) → has_float (refused_data entry (people_members told)) ≡ false
 people_floats entry people.Credentials = refl
 people_floats entry people.RandomRepeated = refl
 people_floats entry people.NoSession = refl

@@ -21,9 +21,9 @@ with_bound name (Some bound) members = put name (string bound) members
 -- members, and what a kind has beside its word
 abbrev pub with_kind : Kind → Members → Members
 with_kind (Number unit decimals min max) members =
-    put (codes "decimals") (whole decimals)
-    (with_bound (codes "max") max
+    with_bound (codes "max") max
     (with_bound (codes "min") min
+    (put (codes "decimals") (whole decimals)
     (put (codes "unit") (string unit) members)))
 with_kind (Text size) members = put (codes "size") (whole size) members
 with_kind (Choice choices) members = put (codes "choices") (texts_data choices) members
@@ -50,8 +50,8 @@ abbrev pub form_data : FormVersion → Data
 form_data form =
     object_from (
     (codes "approval", boolean form.form.approval)
-    ∷ (codes "fields", list_from (map field_data form.form.fields))
     ∷ (codes "form", string form.code)
     ∷ (codes "version", whole form.version)
+    ∷ (codes "fields", list_from (map field_data form.form.fields))
     ∷ []
     )

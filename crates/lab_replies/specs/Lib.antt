@@ -1,4 +1,5 @@
 pub mod Parts
+pub mod Members
 pub mod Refusals
 pub mod Persons
 pub mod Forms

@@ -11,7 +11,7 @@ use Rattle.lab_seal.specs.States.{state_word}
 -- order they are listed in.
 abbrev pub members_onto : List (List ℕ × Data) → Members → Members
 members_onto [] members = members
-members_onto (one ∷ more) members = put one.0 one.1 (members_onto more members)
+members_onto (one ∷ more) members = members_onto more (put one.0 one.1 members)
 
 abbrev pub members_from : List (List ℕ × Data) → Members
 members_from list = members_onto list no_members

@@ -41,8 +41,9 @@ amended_data number version digest =
     )
 
 -- a signature that was given, and the state that the version has with it
-abbrev pub signed_members : Signature → Option State → List (List ℕ × Data)
-signed_members signature state =
+abbrev pub signed_data : Signature → Option State → Data
+signed_data signature state =
+    object_from (
     (codes "digest", digits_data signature.digest)
     ∷ (codes "meaning", string (meaning_word signature.meaning))
     ∷ (codes "moment", moment_data signature.moment)
@@ -50,9 +51,7 @@ signed_members signature state =
     ∷ (codes "seal", digits_data signature.seal)
     ∷ (codes "state", state_data state)
     ∷ []
-
-abbrev pub signed_data : Signature → Option State → Data
-signed_data signature state = object_from (signed_members signature state)
+    )
 
 -- ---- a record
 
@@ -103,8 +102,9 @@ row_data row =
     )
 
 -- a signature
-abbrev pub signature_members : Signature → List (List ℕ × Data)
-signature_members signature =
+abbrev pub signature_data : Signature → Data
+signature_data signature =
+    object_from (
     (codes "meaning", string (meaning_word signature.meaning))
     ∷ (codes "moment", moment_data signature.moment)
     ∷ (codes "name", string signature.name)
@@ -112,9 +112,7 @@ signature_members signature =
     ∷ (codes "reason", string (meaning_reason signature.meaning))
     ∷ (codes "seal", digits_data signature.seal)
     ∷ []
-
-abbrev pub signature_data : Signature → Data
-signature_data signature = object_from (signature_members signature)
+    )
 
 -- a value
 abbrev pub value_data : EntryRow → Data
@@ -177,17 +175,16 @@ version_data read =
 -- ---- records
 
 -- a record, with the state of its last version
-abbrev pub record_state_members : RecordState → List (List ℕ × Data)
-record_state_members kept =
+abbrev pub record_state_data : RecordState → Data
+record_state_data kept =
+    object_from (
     (codes "current", current_data kept.current)
     ∷ (codes "form", string kept.form)
     ∷ (codes "record", whole kept.number)
     ∷ (codes "sample", string kept.sample)
     ∷ (codes "state", state_data kept.state)
     ∷ []
-
-abbrev pub record_state_data : RecordState → Data
-record_state_data kept = object_from (record_state_members kept)
+    )
 
 -- records, each by its last version
 abbrev pub records_data : List RecordState → Data

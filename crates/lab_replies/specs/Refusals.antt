@@ -11,8 +11,8 @@ use Rattle.lab_rules.specs.Refusals.{refusal_entry}
 use Rattle.lab_replies.specs.Parts.{object_from, whole, digits_data}
 
 -- a refusal: its word, its number, and these members beside them
-abbrev pub entry_data : Entry → List (List ℕ × Data) → Data
-entry_data entry further =
+abbrev pub refused_data : Entry → List (List ℕ × Data) → Data
+refused_data entry further =
     object_from (
     (codes "error", string entry.word)
     ∷ (codes "number", whole entry.number)
@@ -35,4 +35,4 @@ further_members _ = []
 
 -- a refusal
 abbrev pub refusal_data : Refusal → Data
-refusal_data refusal = entry_data (refusal_entry refusal) (further_members refusal)
+refusal_data refusal = refused_data (refusal_entry refusal) (further_members refusal)

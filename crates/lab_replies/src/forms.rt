@@ -4,11 +4,12 @@ ghost use Rattle.serde_json.specs.View.{view, members_view};
 ghost use Rattle.lab_forms.specs.Kinds.{kind_word};
 ghost use Rattle.lab_replies.specs.Forms.{form_made_data, form_data, with_bound, with_kind, field_members};
 
-use crate::parts::{Shown, list_of, put, put_list, put_text};
+use crate::members::{count, flag, object_of, object_with, ordinal, put_all, text};
+use crate::parts::{Shown, list_of, put_list};
 use lab_forms::{Bound, Field, Kind};
 use lab_kept::FormVersion;
 use lab_names::{Key, Ordinal, OutOfMemory};
-use serde_json::{Map, Value, json};
+use serde_json::{Map, Value};
 use std::alloc::Global;
 
 /// A version of a form that was made.
@@ -19,7 +20,10 @@ pub(crate) fn form_made_value(
 ) -> Result<Value, OutOfMemory>
     ensures { IfOk result (λ value. view value ≡ form_made_data code.now version) }
 {
-    Ok(json!(in alloc; {"form": code.as_str(), "version": version.get()})?)
+    object_of(
+        alloc,
+        &[text("form", code.as_str()), ordinal("version", version)],
+    )
 }
 
 /// A version of a form.
@@ -27,12 +31,12 @@ pub(crate) fn form_value(alloc: Global, form: &FormVersion) -> Result<Value, Out
     ensures { IfOk result (λ value. view value ≡ form_data form.now) }
 {
     let fields = list_of(alloc, form.form.fields())?;
-    Ok(json!(in alloc; {
-        "approval": form.form.approval(),
-        "fields": fields,
-        "form": form.code.as_str(),
-        "version": form.version.get()
-    })?)
+    let members = [
+        flag("approval", form.form.approval()),
+        text("form", form.code.as_str()),
+        ordinal("version", form.version),
+    ];
+    object_with(alloc, &members, "fields", fields)
 }
 
 impl Shown for Field {
@@ -52,10 +56,13 @@ fn field_members(alloc: Global, field: &Field) -> Result<Map<String, Value>, Out
     ensures { IfOk result (λ members. members_view members.entries ≡ field_members field.now) }
 {
     let mut members = Map::new(alloc);
-    put_text(&mut members, alloc, "key", field.key.as_str())?;
-    put_text(&mut members, alloc, "kind", kind_word(&field.kind))?;
-    put_text(&mut members, alloc, "label", field.label.as_str())?;
-    put(&mut members, alloc, "required", Value::from(field.required))?;
+    let told = [
+        text("key", field.key.as_str()),
+        text("kind", kind_word(&field.kind)),
+        text("label", field.label.as_str()),
+        flag("required", field.required),
+    ];
+    put_all(&mut members, alloc, &told)?;
     Ok(members)
 }
 
@@ -83,12 +90,15 @@ fn put_kind(members: &mut Map<String, Value>, alloc: Global, kind: &Kind) -> Res
             min,
             max,
         } => {
-            put_text(members, alloc, "unit", unit.as_str())?;
+            let told = [
+                text("unit", unit.as_str()),
+                count("decimals", u64::from(*decimals)),
+            ];
+            put_all(members, alloc, &told)?;
             put_bound(members, alloc, "min", min)?;
-            put_bound(members, alloc, "max", max)?;
-            put(members, alloc, "decimals", Value::from(*decimals))
+            put_bound(members, alloc, "max", max)
         }
-        Kind::Text { size } => put(members, alloc, "size", Value::from(*size)),
+        Kind::Text { size } => { put_all(members, alloc, &[count("size", u64::from(*size))]) }
         Kind::Choice { choices } => {
             put_list(members, alloc, "choices", list_of(alloc, choices.names())?)
         }
@@ -99,14 +109,14 @@ fn put_kind(members: &mut Map<String, Value>, alloc: Global, kind: &Kind) -> Res
 fn put_bound(
     members: &mut Map<String, Value>,
     alloc: Global,
-    name: &str,
+    name: &'static str,
     bound: &Option<Bound>,
 ) -> Result<(), OutOfMemory>
     ensures { OnOk result (members_view members.new.entries
         ≡ with_bound name.now bound.now (members_view members.old.entries)) }
 {
     match bound {
-        Some(bound) => put_text(members, alloc, name, bound.as_str()),
+        Some(bound) => put_all(members, alloc, &[text(name, bound.as_str())]),
         None => Ok(()),
     }
 }

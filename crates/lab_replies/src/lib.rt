@@ -2,6 +2,7 @@
 #![tactic(auto)]
 
 mod forms;
+mod members;
 mod parts;
 mod persons;
 mod records;

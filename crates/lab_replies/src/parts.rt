@@ -58,62 +58,11 @@ pub(crate) fn moment_text(alloc: Global, moment: Moment) -> Result<String, OutOf
     Ok(String::from_utf8_lossy(alloc, &printed)?)
 }
 
-/// A moment as a value.
-pub(crate) fn moment_value(alloc: Global, moment: Moment) -> Result<Value, OutOfMemory>
-    ensures { IfOk result (λ value. view value ≡ moment_data moment) }
-{
-    Ok(Value::from(moment_text(alloc, moment)?))
-}
-
-/// A digest as its digits.
-pub(crate) fn digest_value(alloc: Global, digest: &Digest) -> Result<Value, OutOfMemory>
-    ensures { IfOk result (λ value. view value ≡ digits_data digest.now) }
-{
-    Ok(Value::from(hex::encode(alloc, digest.bytes())?))
-}
-
-/// A seal as its digits.
-pub(crate) fn seal_value(alloc: Global, seal: &Seal) -> Result<Value, OutOfMemory>
-    ensures { IfOk result (λ value. view value ≡ digits_data seal.now) }
-{
-    Ok(Value::from(hex::encode(alloc, seal.bytes())?))
-}
-
 /// A half of a one-time word as its digits.
 pub(crate) fn half_text(alloc: Global, half: &Half) -> Result<String, OutOfMemory>
     ensures { IfOk result (λ text. string_bytes text ≡ encode_lower half.now) }
 {
     Ok(String::from_utf8_lossy(alloc, &half.digits())?)
-}
-
-/// A text, or the empty one where there is none.
-pub(crate) fn text_or_empty<R: Rule>(text: &Option<Text<R>>) -> &str
-    ensures { string result.now ≡ text_or_empty text.now }
-{
-    match text {
-        Some(text) => text.as_str(),
-        None => "",
-    }
-}
-
-/// A state's word, or null.
-pub(crate) fn state_value(alloc: Global, state: &Option<State>) -> Result<Value, OutOfMemory>
-    ensures { IfOk result (λ value. view value ≡ state_data state.now) }
-{
-    match state {
-        Some(state) => text_value(alloc, state.word()),
-        None => Ok(Value::Null),
-    }
-}
-
-/// The number of a last version, or null.
-pub(crate) fn current_value(current: Option<Ordinal>) -> Value
-    ensures { view result ≡ current_data current }
-{
-    match current {
-        Some(version) => Value::from(version.get()),
-        None => Value::Null,
-    }
 }
 
 /// Adds a member to an object. The only error is out of memory.
@@ -127,20 +76,6 @@ pub(crate) fn put(
         ≡ with_member name.now (view value) (members_view members.old.entries)) }
 {
     Ok(serde_json::put(members, alloc, name, value)?)
-}
-
-/// Adds a member that is a text. The only error is out of memory.
-pub(crate) fn put_text(
-    members: &mut Map<String, Value>,
-    alloc: Global,
-    name: &str,
-    text: &str,
-) -> Result<(), OutOfMemory>
-    ensures { OnOk result (members_view members.new.entries
-        ≡ with_member name.now (string text.now) (members_view members.old.entries)) }
-{
-    let text = text_value(alloc, text)?;
-    put(members, alloc, name, text)
 }
 
 /// Adds a member that is a list. The only error is out of memory.

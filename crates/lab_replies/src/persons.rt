@@ -6,12 +6,13 @@ ghost use Rattle.lab_access.specs.Roles.{role_list, role_word};
 ghost use Rattle.lab_replies.specs.Parts.{list_from};
 ghost use Rattle.lab_replies.specs.Persons.{opened_data, closed_data, changed_data, person_done_data, half_data, roles_set_data, persons_data};
 
-use crate::parts::{Shown, half_text, list_of, moment_text, text_value};
+use crate::members::{bytes, flag, moment, object_of, object_with, ordinal, text};
+use crate::parts::{Shown, half_text, list_of, text_value};
 use lab_access::{Role, Roles};
 use lab_names::{Moment, Ordinal, OutOfMemory, PersonCode};
 use lab_rules::PersonLine;
 use lab_secrets::{Half, Token};
-use serde_json::{Value, json};
+use serde_json::Value;
 use std::alloc::Global;
 
 /// A session that was opened.
@@ -23,30 +24,35 @@ pub(crate) fn opened_value(
 ) -> Result<Value, OutOfMemory>
     ensures { IfOk result (λ value. view value ≡ opened_data session token.now due) }
 {
-    let token = hex::encode(alloc, token.bytes())?;
-    Ok(json!(in alloc; {"due": due, "session": session.get(), "token": token})?)
+    object_of(
+        alloc,
+        &[
+            flag("due", due),
+            ordinal("session", session),
+            bytes("token", token.bytes()),
+        ],
+    )
 }
 
 /// A session that was closed.
 pub(crate) fn closed_value(alloc: Global, session: Ordinal) -> Result<Value, OutOfMemory>
     ensures { IfOk result (λ value. view value ≡ closed_data session) }
 {
-    Ok(json!(in alloc; {"session": session.get()})?)
+    object_of(alloc, &[ordinal("session", session)])
 }
 
 /// A password that was changed.
 pub(crate) fn changed_value(alloc: Global, changed: Moment) -> Result<Value, OutOfMemory>
     ensures { IfOk result (λ value. view value ≡ changed_data changed) }
 {
-    let changed = moment_text(alloc, changed)?;
-    Ok(json!(in alloc; {"changed": changed})?)
+    object_of(alloc, &[moment("changed", changed)])
 }
 
 /// A person who was enrolled, retired or unlocked.
 pub(crate) fn person_done_value(alloc: Global, code: &PersonCode) -> Result<Value, OutOfMemory>
     ensures { IfOk result (λ value. view value ≡ person_done_data code.now) }
 {
-    Ok(json!(in alloc; {"code": code.as_str()})?)
+    object_of(alloc, &[text("code", code.as_str())])
 }
 
 /// A half of a one-time word.
@@ -54,7 +60,7 @@ pub(crate) fn half_value(alloc: Global, half: &Half) -> Result<Value, OutOfMemor
     ensures { IfOk result (λ value. view value ≡ half_data half.now) }
 {
     let half = half_text(alloc, half)?;
-    Ok(json!(in alloc; {"half": half})?)
+    object_of(alloc, &[text("half", half.as_str())])
 }
 
 impl Shown for Role {
@@ -82,7 +88,7 @@ pub(crate) fn roles_set_value(
     ensures { IfOk result (λ value. view value ≡ roles_set_data code.now roles.now) }
 {
     let roles = roles_list(alloc, roles)?;
-    Ok(json!(in alloc; {"code": code.as_str(), "roles": roles})?)
+    object_with(alloc, &[text("code", code.as_str())], "roles", roles)
 }
 
 impl Shown for PersonLine {
@@ -92,13 +98,13 @@ impl Shown for PersonLine {
 
     fn value(&self, alloc: Global) -> Result<Value, OutOfMemory> {
         let roles = roles_list(alloc, &self.roles)?;
-        Ok(json!(in alloc; {
-            "code": self.code.as_str(),
-            "locked": self.locked,
-            "name": self.name.as_str(),
-            "retired": self.retired,
-            "roles": roles
-        })?)
+        let members = [
+            text("code", self.code.as_str()),
+            flag("locked", self.locked),
+            text("name", self.name.as_str()),
+            flag("retired", self.retired),
+        ];
+        object_with(alloc, &members, "roles", roles)
     }
 }
 
@@ -107,5 +113,5 @@ pub(crate) fn persons_value(alloc: Global, persons: &[PersonLine]) -> Result<Val
     ensures { IfOk result (λ value. view value ≡ persons_data persons.now) }
 {
     let persons = list_of(alloc, persons)?;
-    Ok(json!(in alloc; {"persons": persons})?)
+    object_with(alloc, &[], "persons", persons)
 }

@@ -3,17 +3,19 @@ ghost use Rattle.std.specs.Prelude.{◌≡◌, IfOk, OnOk, map};
 ghost use Rattle.serde_json.specs.Data.{string};
 ghost use Rattle.serde_json.specs.View.{view, members_view};
 ghost use Rattle.lab_replies.specs.Parts.{members_onto, text_or_empty};
-ghost use Rattle.lab_replies.specs.Records.{record_opened_data, entered_data, amended_data, signed_members, signed_data, current_of, record_data, signature_members, value_data, format_number, reason_of, version_about, version_opening, version_lists, version_data, record_state_members, records_data};
+ghost use Rattle.lab_replies.specs.Members.{member_data};
+ghost use Rattle.lab_replies.specs.Records.{record_opened_data, entered_data, amended_data, signed_data, current_of, record_data, value_data, format_number, reason_of, version_about, version_opening, version_lists, version_data, records_data};
 
-use crate::parts::{
-    Shown, current_value, digest_value, list_of, moment_text, moment_value, put, put_list,
-    put_text, seal_value, state_value, text_or_empty,
+use crate::members::{
+    bytes, count, current, flag, moment, object_of, object_with, ordinal, put_all, state, text,
+    text_if_any,
 };
+use crate::parts::{Shown, list_of, put_list};
 use lab_kept::Signature;
 use lab_names::{Ordinal, OutOfMemory};
 use lab_rules::{RecordRead, RecordState, VersionRead, VersionState};
 use lab_seal::{Amendment, Digest, EntryRow, Format, State};
-use serde_json::{Map, Value, json};
+use serde_json::{Map, Value};
 use std::alloc::Global;
 
 /// A record that was opened.
@@ -24,7 +26,10 @@ pub(crate) fn record_opened_value(
 ) -> Result<Value, OutOfMemory>
     ensures { IfOk result (λ value. view value ≡ record_opened_data number version) }
 {
-    Ok(json!(in alloc; {"record": number.get(), "version": version.get()})?)
+    object_of(
+        alloc,
+        &[ordinal("record", number), ordinal("version", version)],
+    )
 }
 
 /// A value that was entered.
@@ -37,13 +42,15 @@ pub(crate) fn entered_value(
 ) -> Result<Value, OutOfMemory>
     ensures { IfOk result (λ value. view value ≡ entered_data number version rows digest.now) }
 {
-    let digest = hex::encode(alloc, digest.bytes())?;
-    Ok(json!(in alloc; {
-        "digest": digest,
-        "record": number.get(),
-        "rows": rows,
-        "version": version.get()
-    })?)
+    object_of(
+        alloc,
+        &[
+            bytes("digest", digest.bytes()),
+            ordinal("record", number),
+            count("rows", rows),
+            ordinal("version", version),
+        ],
+    )
 }
 
 /// A version that was opened by an amendment.
@@ -55,48 +62,33 @@ pub(crate) fn amended_value(
 ) -> Result<Value, OutOfMemory>
     ensures { IfOk result (λ value. view value ≡ amended_data number version digest.now) }
 {
-    let digest = hex::encode(alloc, digest.bytes())?;
-    Ok(json!(in alloc; {"digest": digest, "record": number.get(), "version": version.get()})?)
+    object_of(
+        alloc,
+        &[
+            bytes("digest", digest.bytes()),
+            ordinal("record", number),
+            ordinal("version", version),
+        ],
+    )
 }
 
 /// A signature that was given.
 pub(crate) fn signed_value(
     alloc: Global,
     signature: &Signature,
-    state: &Option<State>,
+    given: &Option<State>,
 ) -> Result<Value, OutOfMemory>
-    ensures { IfOk result (λ value. view value ≡ signed_data signature.now state.now) }
+    ensures { IfOk result (λ value. view value ≡ signed_data signature.now given.now) }
 {
-    let mut members = Map::new(alloc);
-    put_signed(&mut members, alloc, signature, state)?;
-    Ok(Value::Object(members))
-}
-
-fn put_signed(
-    members: &mut Map<String, Value>,
-    alloc: Global,
-    signature: &Signature,
-    state: &Option<State>,
-) -> Result<(), OutOfMemory>
-    ensures { OnOk result (members_view members.new.entries
-        ≡ members_onto (signed_members signature.now state.now) (members_view members.old.entries)) }
-{
-    put(members, alloc, "state", state_value(alloc, state)?)?;
-    put(members, alloc, "seal", seal_value(alloc, &signature.seal)?)?;
-    put_text(members, alloc, "name", signature.name.as_str())?;
-    put(
-        members,
-        alloc,
-        "moment",
-        moment_value(alloc, signature.moment)?,
-    )?;
-    put_text(members, alloc, "meaning", signature.meaning.word())?;
-    put(
-        members,
-        alloc,
-        "digest",
-        digest_value(alloc, &signature.digest)?,
-    )
+    let members = [
+        bytes("digest", signature.digest.bytes()),
+        text("meaning", signature.meaning.word()),
+        moment("moment", signature.moment),
+        text("name", signature.name.as_str()),
+        bytes("seal", signature.seal.bytes()),
+        state("state", *given),
+    ];
+    object_of(alloc, &members)
 }
 
 impl Shown for VersionState {
@@ -105,9 +97,14 @@ impl Shown for VersionState {
     ghost data_of = { version_state_data };
 
     fn value(&self, alloc: Global) -> Result<Value, OutOfMemory> {
-        let digest = hex::encode(alloc, self.digest.bytes())?;
-        let state = state_value(alloc, &self.state)?;
-        Ok(json!(in alloc; {"digest": digest, "state": state, "version": self.version.get()})?)
+        object_of(
+            alloc,
+            &[
+                bytes("digest", self.digest.bytes()),
+                state("state", self.state),
+                ordinal("version", self.version),
+            ],
+        )
     }
 }
 
@@ -121,16 +118,15 @@ fn current_of(versions: &[VersionState]) -> Option<Ordinal>
 pub(crate) fn record_value(alloc: Global, read: &RecordRead) -> Result<Value, OutOfMemory>
     ensures { IfOk result (λ value. view value ≡ record_data read.now) }
 {
-    let current = current_value(current_of(read.versions.as_slice()));
     let versions = list_of(alloc, read.versions.as_slice())?;
-    Ok(json!(in alloc; {
-        "current": current,
-        "form": read.form.code.as_str(),
-        "form_version": read.form.version.get(),
-        "record": read.number.get(),
-        "sample": read.sample.as_str(),
-        "versions": versions
-    })?)
+    let members = [
+        current("current", current_of(read.versions.as_slice())),
+        text("form", read.form.code.as_str()),
+        ordinal("form_version", read.form.version),
+        ordinal("record", read.number),
+        text("sample", read.sample.as_str()),
+    ];
+    object_with(alloc, &members, "versions", versions)
 }
 
 impl Shown for EntryRow {
@@ -139,15 +135,17 @@ impl Shown for EntryRow {
     ghost data_of = { row_data };
 
     fn value(&self, alloc: Global) -> Result<Value, OutOfMemory> {
-        let moment = moment_text(alloc, self.moment)?;
-        Ok(json!(in alloc; {
-            "key": self.key.as_str(),
-            "moment": moment,
-            "person": self.person.as_str(),
-            "reason": text_or_empty(&self.reason),
-            "unit": self.unit.as_str(),
-            "value": self.value.as_str()
-        })?)
+        object_of(
+            alloc,
+            &[
+                text("key", self.key.as_str()),
+                moment("moment", self.moment),
+                text("person", self.person.as_str()),
+                text_if_any("reason", &self.reason),
+                text("unit", self.unit.as_str()),
+                text("value", self.value.as_str()),
+            ],
+        )
     }
 }
 
@@ -157,31 +155,18 @@ impl Shown for Signature {
     ghost data_of = { signature_data };
 
     fn value(&self, alloc: Global) -> Result<Value, OutOfMemory> {
-        let mut members = Map::new(alloc);
-        put_signature(&mut members, alloc, self)?;
-        Ok(Value::Object(members))
+        object_of(
+            alloc,
+            &[
+                text("meaning", self.meaning.word()),
+                moment("moment", self.moment),
+                text("name", self.name.as_str()),
+                text("person", self.person.as_str()),
+                text("reason", self.meaning.reason()),
+                bytes("seal", self.seal.bytes()),
+            ],
+        )
     }
-}
-
-fn put_signature(
-    members: &mut Map<String, Value>,
-    alloc: Global,
-    signature: &Signature,
-) -> Result<(), OutOfMemory>
-    ensures { OnOk result (members_view members.new.entries
-        ≡ members_onto (signature_members signature.now) (members_view members.old.entries)) }
-{
-    put(members, alloc, "seal", seal_value(alloc, &signature.seal)?)?;
-    put_text(members, alloc, "reason", signature.meaning.reason())?;
-    put_text(members, alloc, "person", signature.person.as_str())?;
-    put_text(members, alloc, "name", signature.name.as_str())?;
-    put(
-        members,
-        alloc,
-        "moment",
-        moment_value(alloc, signature.moment)?,
-    )?;
-    put_text(members, alloc, "meaning", signature.meaning.word())
 }
 
 // Values, which are told without who entered them and when.
@@ -198,11 +183,14 @@ fn values_list(alloc: Global, rows: &[EntryRow]) -> Result<Vec<Value>, OutOfMemo
 fn value_value(alloc: Global, row: &EntryRow) -> Result<Value, OutOfMemory>
     ensures { IfOk result (λ value. view value ≡ value_data row.now) }
 {
-    Ok(json!(in alloc; {
-        "key": row.key.as_str(),
-        "unit": row.unit.as_str(),
-        "value": row.value.as_str()
-    })?)
+    object_of(
+        alloc,
+        &[
+            text("key", row.key.as_str()),
+            text("unit", row.unit.as_str()),
+            text("value", row.value.as_str()),
+        ],
+    )
 }
 
 fn format_number(format: Format) -> u32
@@ -242,20 +230,16 @@ fn put_about(
     ensures { OnOk result (members_view members.new.entries
         ≡ members_onto (version_about read.now) (members_view members.old.entries)) }
 {
-    put_text(members, alloc, "sample", read.sample.as_str())?;
-    put(members, alloc, "record", Value::from(read.number.get()))?;
-    put(
+    put_all(
         members,
         alloc,
-        "form_version",
-        Value::from(read.form.version.get()),
-    )?;
-    put_text(members, alloc, "form", read.form.code.as_str())?;
-    put(
-        members,
-        alloc,
-        "approval",
-        Value::from(read.form.form.approval()),
+        &[
+            flag("approval", read.form.form.approval()),
+            text("form", read.form.code.as_str()),
+            ordinal("form_version", read.form.version),
+            ordinal("record", read.number),
+            text("sample", read.sample.as_str()),
+        ],
     )
 }
 
@@ -268,33 +252,16 @@ fn put_opening(
         ≡ members_onto (version_opening read.now) (members_view members.old.entries)) }
 {
     let version = &read.version;
-    put(
-        members,
-        alloc,
-        "version",
-        Value::from(version.origin.number().get()),
-    )?;
-    put(members, alloc, "state", state_value(alloc, &read.state)?)?;
-    put_text(
-        members,
-        alloc,
-        "reason",
-        amendment_reason(version.origin.amendment()),
-    )?;
-    put_text(members, alloc, "opener", version.opener.as_str())?;
-    put(
-        members,
-        alloc,
-        "moment",
-        moment_value(alloc, version.opened)?,
-    )?;
-    put(
-        members,
-        alloc,
-        "format",
-        Value::from(format_number(version.format)),
-    )?;
-    put(members, alloc, "digest", digest_value(alloc, &read.digest)?)
+    let told = [
+        bytes("digest", read.digest.bytes()),
+        count("format", u64::from(format_number(version.format))),
+        moment("moment", version.opened),
+        text("opener", version.opener.as_str()),
+        text("reason", amendment_reason(version.origin.amendment())),
+        state("state", read.state),
+        ordinal("version", version.origin.number()),
+    ];
+    put_all(members, alloc, &told)
 }
 
 fn put_lists(
@@ -308,14 +275,8 @@ fn put_lists(
     put_list(
         members,
         alloc,
-        "values",
-        values_list(alloc, read.values.as_slice())?,
-    )?;
-    put_list(
-        members,
-        alloc,
-        "signatures",
-        list_of(alloc, read.version.signatures.as_slice())?,
+        "altered",
+        list_of(alloc, read.altered.as_slice())?,
     )?;
     put_list(
         members,
@@ -326,8 +287,14 @@ fn put_lists(
     put_list(
         members,
         alloc,
-        "altered",
-        list_of(alloc, read.altered.as_slice())?,
+        "signatures",
+        list_of(alloc, read.version.signatures.as_slice())?,
+    )?;
+    put_list(
+        members,
+        alloc,
+        "values",
+        values_list(alloc, read.values.as_slice())?,
     )
 }
 
@@ -337,25 +304,17 @@ impl Shown for RecordState {
     ghost data_of = { record_state_data };
 
     fn value(&self, alloc: Global) -> Result<Value, OutOfMemory> {
-        let mut members = Map::new(alloc);
-        put_record_state(&mut members, alloc, self)?;
-        Ok(Value::Object(members))
+        object_of(
+            alloc,
+            &[
+                current("current", self.current),
+                text("form", self.form.as_str()),
+                ordinal("record", self.number),
+                text("sample", self.sample.as_str()),
+                state("state", self.state),
+            ],
+        )
     }
-}
-
-fn put_record_state(
-    members: &mut Map<String, Value>,
-    alloc: Global,
-    kept: &RecordState,
-) -> Result<(), OutOfMemory>
-    ensures { OnOk result (members_view members.new.entries
-        ≡ members_onto (record_state_members kept.now) (members_view members.old.entries)) }
-{
-    put(members, alloc, "state", state_value(alloc, &kept.state)?)?;
-    put_text(members, alloc, "sample", kept.sample.as_str())?;
-    put(members, alloc, "record", Value::from(kept.number.get()))?;
-    put_text(members, alloc, "form", kept.form.as_str())?;
-    put(members, alloc, "current", current_value(kept.current))
 }
 
 /// Records.
@@ -363,5 +322,5 @@ pub(crate) fn records_value(alloc: Global, records: &[RecordState]) -> Result<Va
     ensures { IfOk result (λ value. view value ≡ records_data records.now) }
 {
     let records = list_of(alloc, records)?;
-    Ok(json!(in alloc; {"records": records})?)
+    object_with(alloc, &[], "records", records)
 }

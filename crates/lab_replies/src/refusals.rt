@@ -1,21 +1,25 @@
 //! Refusals, as JSON.
 ghost use Rattle.std.specs.Prelude.{◌≡◌, [], IfOk};
 ghost use Rattle.serde_json.specs.View.{view};
-ghost use Rattle.lab_replies.specs.Refusals.{entry_data, people_members, refusal_data};
+ghost use Rattle.lab_replies.specs.Refusals.{refused_data, people_members, refusal_data};
 ghost use Rattle.lab_rules.specs.Refusals.{refusal_entry};
 
+use crate::members::{bytes, count, object_of, ordinal, text};
 use lab_access::PeopleRefusal;
 use lab_names::OutOfMemory;
 use lab_rules::Refusal;
-use serde_json::{Value, json};
+use serde_json::Value;
 use std::alloc::Global;
 
 /// A refusal that tells its word and its number alone. The only error is out of memory.
 pub fn entry_value(alloc: Global, number: u32, word: &str) -> Result<Value, OutOfMemory>
     ensures { IfOk result (λ value. view value
-        ≡ entry_data (record { number = number; word = word.now }) []) }
+        ≡ refused_data (record { number = number; word = word.now }) []) }
 {
-    Ok(json!(in alloc; {"error": word, "number": number})?)
+    object_of(
+        alloc,
+        &[text("error", word), count("number", u64::from(number))],
+    )
 }
 
 /// A refusal, with what else it tells. The only error is out of memory.
@@ -26,14 +30,32 @@ pub fn refusal_value(alloc: Global, refusal: &Refusal) -> Result<Value, OutOfMem
     match refusal {
         Refusal::People(people) => people_value(alloc, number, word, people),
         Refusal::RecordExists(record) => {
-            Ok(json!(in alloc; {"error": word, "number": number, "record": record.get()})?)
+            object_of(
+                alloc,
+                &[
+                    text("error", word),
+                    count("number", u64::from(number)),
+                    ordinal("record", *record),
+                ],
+            )
         }
-        Refusal::NotAltered(key) => {
-            Ok(json!(in alloc; {"error": word, "key": key.as_str(), "number": number})?)
-        }
+        Refusal::NotAltered(key) => object_of(
+            alloc,
+            &[
+                text("error", word),
+                count("number", u64::from(number)),
+                text("key", key.as_str()),
+            ],
+        ),
         Refusal::StaleDigest(digest) => {
-            let digest = hex::encode(alloc, digest.bytes())?;
-            Ok(json!(in alloc; {"digest": digest, "error": word, "number": number})?)
+            object_of(
+                alloc,
+                &[
+                    text("error", word),
+                    count("number", u64::from(number)),
+                    bytes("digest", digest.bytes()),
+                ],
+            )
         }
         _ => entry_value(alloc, number, word),
     }
@@ -46,11 +68,18 @@ fn people_value(
     refusal: &PeopleRefusal,
 ) -> Result<Value, OutOfMemory>
     ensures { IfOk result (λ value. view value
-        ≡ entry_data (record { number = number; word = word.now }) (people_members refusal.now)) }
+        ≡ refused_data (record { number = number; word = word.now }) (people_members refusal.now)) }
 {
     match refusal {
         PeopleRefusal::RoleWanted(rule) => {
-            Ok(json!(in alloc; {"error": word, "number": number, "rule": rule.word()})?)
+            object_of(
+                alloc,
+                &[
+                    text("error", word),
+                    count("number", u64::from(number)),
+                    text("rule", rule.word()),
+                ],
+            )
         }
         _ => entry_value(alloc, number, word),
     }

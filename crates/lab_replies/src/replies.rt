@@ -5,6 +5,7 @@ ghost use Rattle.serde_json.specs.Written.{compact_text, has_float};
 ghost use Rattle.lab_replies.specs.Replies.{card_data, reply_data, reply_text};
 
 use crate::forms::{form_made_value, form_value};
+use crate::members::{object_of, text};
 use crate::persons::{
     changed_value, closed_value, half_value, opened_value, person_done_value, persons_value,
     roles_set_value,
@@ -17,7 +18,7 @@ use crate::refusals::refusal_value;
 use crate::trails::trail_value;
 use lab_machine::Reply;
 use lab_names::{LabCode, Name, OutOfMemory};
-use serde_json::{Value, json};
+use serde_json::Value;
 use std::alloc::Global;
 
 /// The text of a reply, without blanks. The only error is out of memory.
@@ -72,5 +73,8 @@ pub fn reply_value(alloc: Global, reply: &Reply) -> Result<Value, OutOfMemory>
 fn card_value(alloc: Global, lab: &LabCode, name: &Name) -> Result<Value, OutOfMemory>
     ensures { IfOk result (λ value. view value ≡ card_data lab.now name.now) }
 {
-    Ok(json!(in alloc; {"lab": lab.as_str(), "name": name.as_str()})?)
+    object_of(
+        alloc,
+        &[text("lab", lab.as_str()), text("name", name.as_str())],
+    )
 }

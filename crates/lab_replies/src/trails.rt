@@ -3,10 +3,11 @@ ghost use Rattle.std.specs.Prelude.{◌≡◌, IfOk};
 ghost use Rattle.serde_json.specs.View.{view};
 ghost use Rattle.lab_replies.specs.Trails.{trail_data};
 
-use crate::parts::{Shown, list_of, moment_text, text_or_empty};
+use crate::members::{moment, object_of, object_with, ordinal, text, text_if_any};
+use crate::parts::{Shown, list_of};
 use lab_kept::TrailRow;
 use lab_names::OutOfMemory;
-use serde_json::{Value, json};
+use serde_json::Value;
 use std::alloc::Global;
 
 impl Shown for TrailRow {
@@ -15,14 +16,16 @@ impl Shown for TrailRow {
     ghost data_of = { trail_row_data };
 
     fn value(&self, alloc: Global) -> Result<Value, OutOfMemory> {
-        let moment = moment_text(alloc, self.moment)?;
-        Ok(json!(in alloc; {
-            "action": self.action.word(),
-            "moment": moment,
-            "number": self.number.get(),
-            "person": text_or_empty(&self.person),
-            "subject": self.subject.as_str()
-        })?)
+        object_of(
+            alloc,
+            &[
+                text("action", self.action.word()),
+                moment("moment", self.moment),
+                ordinal("number", self.number),
+                text_if_any("person", &self.person),
+                text("subject", self.subject.as_str()),
+            ],
+        )
     }
 }
 
@@ -31,5 +34,5 @@ pub(crate) fn trail_value(alloc: Global, rows: &[TrailRow]) -> Result<Value, Out
     ensures { IfOk result (λ value. view value ≡ trail_data rows.now) }
 {
     let rows = list_of(alloc, rows)?;
-    Ok(json!(in alloc; {"trail": rows})?)
+    object_with(alloc, &[], "trail", rows)
 }

@@ -5,7 +5,7 @@ use Rattle.serde_json.specs.Written.{compact_text}
 use Rattle.lab_names.specs.declared.tick.Tick.{Tick}
 use Rattle.lab_names.specs.Faults.{Entry, memory_entry}
 use Rattle.lab_kept.specs.Faults.{storage_entry}
-use Rattle.lab_replies.specs.Refusals.{entry_data}
+use Rattle.lab_replies.specs.Refusals.{refused_data}
 use Rattle.lab_replies.specs.Replies.{reply_text as body_text}
 use Rattle.lab_messages.specs.Messages.{line, message_text}
 use Rattle.lab_routes.specs.declared.refusals.RouteRefusal.{RouteRefusal}
@@ -26,7 +26,7 @@ json_type = codes "application/json"
 
 -- a refusal that tells its word and its number alone
 abbrev pub entry_text : Entry → List ℕ
-entry_text entry = compact_text (entry_data entry [])
+entry_text entry = compact_text (refused_data entry [])
 
 -- the body of an answer
 abbrev pub answer_text : Answer → List ℕ
