@@ -311,7 +311,16 @@ fn signing(rt: &(impl Abort + AllocGlobal)) -> Change {
 fn makes(rt: &(impl Abort + AllocGlobal), one: Change, case: Case) {
     let mut lab = aqua(rt, Case::Nothing);
     change(rt.alloc(), &mut lab, &one).expect(rt, "memory");
-    assert!(rt; is_lab(&lab, &aqua(rt, case)));
+    drop(one);
+    is_case(rt, &lab, case);
+    drop(lab);
+}
+
+fn is_case(rt: &(impl Abort + AllocGlobal), lab: &Lab, case: Case) {
+    let wanted = aqua(rt, case);
+    let is_wanted = is_lab(lab, &wanted);
+    drop(wanted);
+    assert!(rt; is_wanted);
 }
 
 #[test]
@@ -609,7 +618,11 @@ fn found(rt: &(impl Abort + AllocGlobal), wanted: Wanted) -> Slice {
 
 fn gives(rt: &(impl Abort + AllocGlobal), wanted: Wanted) {
     let slice = found(rt, wanted);
-    assert!(rt; is_slice(&slice, &expected(rt, wanted)));
+    let other = expected(rt, wanted);
+    let is_wanted = is_slice(&slice, &other);
+    drop(slice);
+    drop(other);
+    assert!(rt; is_wanted);
 }
 
 #[test]
@@ -644,5 +657,6 @@ fn copied(rt: &(impl Abort + AllocGlobal)) -> Lab {
 #[test]
 fn a_copy_is_the_same(rt: HostRuntime) {
     let copy = copied(&rt);
-    assert!(rt; is_lab(&copy, &aqua(&rt, Case::Nothing)));
+    is_case(&rt, &copy, Case::Nothing);
+    drop(copy);
 }

@@ -161,11 +161,19 @@ fn a_laboratory_is_born_of_three_administrators(rt: HostRuntime) {
     drop(newborn);
 }
 
-fn is_refused(rt: &(impl Abort + AllocGlobal), case: Case, number: u32, word: &str) {
-    match &borne(rt, case) {
-        Ok(_) => assert!(rt; false, "it is refused"),
-        Err(refusal) => assert!(rt; refusal.number() == Some(number) && refusal.word() == word),
+// The number and the word of a refusal.
+fn told(answer: &Result<Newborn, BirthRefusal>) -> (Option<u32>, &'static str) {
+    match answer {
+        Ok(_) => (None, "born"),
+        Err(refusal) => (refusal.number(), refusal.word()),
     }
+}
+
+fn is_refused(rt: &(impl Abort + AllocGlobal), case: Case, number: u32, word: &str) {
+    let answer = borne(rt, case);
+    let (its_number, its_word) = told(&answer);
+    drop(answer);
+    assert!(rt; its_number == Some(number) && its_word == word);
 }
 
 #[test]

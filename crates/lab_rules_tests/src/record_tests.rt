@@ -156,36 +156,40 @@ fn is_entry(rt: &impl Abort, made: &EntryMade) {
 #[test]
 fn a_value_is_entered(rt: HostRuntime) {
     let kept = record(&rt, 0, 0);
-    let made = entered(&rt, Some(&kept), item(&rt, "clear", "yes"), None);
-    is_entry(&rt, &made.expect(&rt, "an entry"));
+    let made = entered(&rt, Some(&kept), item(&rt, "clear", "yes"), None).expect(&rt, "an entry");
+    drop(kept);
+    is_entry(&rt, &made);
+    drop(made);
 }
 
+// A value of a record of so many rows and signatures is refused.
 fn is_entry_refused(
     rt: &(impl Abort + AllocGlobal),
-    kept: &Record,
+    (rows, signatures): (usize, usize),
     (key, value): (&str, &str),
+    reason: Option<Note>,
     word: &str,
 ) {
-    let answer = entered(rt, Some(kept), item(rt, key, value), None);
+    let kept = record(rt, rows, signatures);
+    let answer = entered(rt, Some(&kept), item(rt, key, value), reason);
+    drop(kept);
     same(rt, &refusal_of(rt, answer).word(), &word);
 }
 
 #[test]
-fn an_entry_is_refused(rt: HostRuntime) {
+fn an_entry_without_a_record_is_refused(rt: HostRuntime) {
     let none = entered(&rt, None, item(&rt, "clear", "yes"), None);
     same(&rt, &refusal_of(&rt, none).word(), &"no_such_record");
-    is_entry_refused(&rt, &record(&rt, 1, 1), ("clear", "yes"), "not_open");
-    is_entry_refused(&rt, &record(&rt, 0, 0), ("colour", "yes"), "no_such_field");
-    is_entry_refused(&rt, &record(&rt, 0, 0), ("clear", "maybe"), "bad_value");
-    is_entry_refused(&rt, &record(&rt, 1, 0), ("clear", "no"), "reason_wanted");
-    is_entry_refused(&rt, &record(&rt, 200, 0), ("clear", "no"), "reason_wanted");
-    let full = entered(
-        &rt,
-        Some(&record(&rt, 200, 0)),
-        item(&rt, "clear", "no"),
-        why(&rt),
-    );
-    same(&rt, &refusal_of(&rt, full).word(), &"lab_full");
+}
+
+#[test]
+fn an_entry_is_refused(rt: HostRuntime) {
+    is_entry_refused(&rt, (1, 1), ("clear", "yes"), None, "not_open");
+    is_entry_refused(&rt, (0, 0), ("colour", "yes"), None, "no_such_field");
+    is_entry_refused(&rt, (0, 0), ("clear", "maybe"), None, "bad_value");
+    is_entry_refused(&rt, (1, 0), ("clear", "no"), None, "reason_wanted");
+    is_entry_refused(&rt, (200, 0), ("clear", "no"), None, "reason_wanted");
+    is_entry_refused(&rt, (200, 0), ("clear", "no"), why(&rt), "lab_full");
 }
 
 fn why(rt: &(impl Abort + AllocGlobal)) -> Option<Note> {
@@ -226,13 +230,19 @@ fn altered(rt: &(impl Abort + AllocGlobal), value: Option<&str>) -> Series<Item>
 fn a_record_is_amended(rt: HostRuntime) {
     let kept = record(&rt, 1, 2);
     let made = amended(&rt, Some(&kept), why(&rt), Some("no")).expect(&rt, "an amendment");
+    drop(kept);
+    is_amendment(&rt, &made);
+    drop(made);
+}
+
+fn is_amendment(rt: &impl Abort, made: &AmendmentMade) {
     same(
-        &rt,
+        rt,
         &(made.number.get(), made.version.origin.number().get()),
         &(5, 2),
     );
-    same(&rt, &made.digest.digits(), NEXT);
-    same(&rt, &made.version.signatures.as_slice().len(), &0);
+    same(rt, &made.digest.digits(), NEXT);
+    same(rt, &made.version.signatures.as_slice().len(), &0);
 }
 
 fn is_amendment_refused(
@@ -241,7 +251,9 @@ fn is_amendment_refused(
     (reason, value): (Option<Note>, Option<&str>),
     word: &str,
 ) {
-    let answer = amended(rt, Some(&record(rt, 1, signed)), reason, value);
+    let kept = record(rt, 1, signed);
+    let answer = amended(rt, Some(&kept), reason, value);
+    drop(kept);
     same(rt, &refusal_of(rt, answer).word(), &word);
 }
 
@@ -306,79 +318,69 @@ fn is_signature(rt: &impl Abort, signature: &Signature) {
 fn a_version_is_signed(rt: HostRuntime) {
     let kept = record(&rt, 1, 0);
     let answer = signed(&rt, Some(&kept), (1, FIRST), Signing::Authorship, "dan");
+    drop(kept);
     let made = answer.expect(&rt, "a signature");
     same(&rt, &(made.number.get(), made.version.get()), &(5, 1));
     same(&rt, &made.state, &Some(State::Signed));
     is_signature(&rt, &made.signature);
+    drop(made);
 }
 
+// A signature of a version of one row and so many signatures is refused.
 fn is_signature_refused(
     rt: &(impl Abort + AllocGlobal),
-    kept: &Record,
-    digits: &[u8; 64],
+    signatures: usize,
+    version: (u32, &[u8; 64]),
     (signing, code): (Signing, &str),
     word: &str,
 ) {
-    let answer = signed(rt, Some(kept), (1, digits), signing, code);
+    let kept = record(rt, 1, signatures);
+    let answer = signed(rt, Some(&kept), version, signing, code);
+    drop(kept);
     same(rt, &refusal_of(rt, answer).word(), &word);
 }
 
 #[test]
-fn an_authorship_is_refused(rt: HostRuntime) {
-    let kept = record(&rt, 1, 0);
+fn a_signature_without_a_record_is_refused(rt: HostRuntime) {
     let none = signed(&rt, None, (1, FIRST), Signing::Authorship, "dan");
     same(&rt, &refusal_of(&rt, none).word(), &"no_such_record");
-    let second = signed(&rt, Some(&kept), (2, FIRST), Signing::Authorship, "dan");
-    same(&rt, &refusal_of(&rt, second).word(), &"no_such_version");
-    is_signature_refused(
-        &rt,
-        &kept,
-        EMPTY,
-        (Signing::Authorship, "dan"),
-        "stale_digest",
-    );
-    is_signature_refused(
-        &rt,
-        &kept,
-        FIRST,
-        (Signing::Authorship, "eve"),
-        "not_author",
-    );
-    let twice = record(&rt, 1, 1);
-    is_signature_refused(
-        &rt,
-        &twice,
-        FIRST,
-        (Signing::Authorship, "dan"),
-        "already_signed",
-    );
+}
+
+fn is_authorship_refused(
+    rt: &(impl Abort + AllocGlobal),
+    signatures: usize,
+    version: (u32, &[u8; 64]),
+    code: &str,
+    word: &str,
+) {
+    is_signature_refused(rt, signatures, version, (Signing::Authorship, code), word);
+}
+
+#[test]
+fn an_authorship_is_refused(rt: HostRuntime) {
+    is_authorship_refused(&rt, 0, (2, FIRST), "dan", "no_such_version");
+    is_authorship_refused(&rt, 0, (1, EMPTY), "dan", "stale_digest");
+    is_authorship_refused(&rt, 0, (1, FIRST), "eve", "not_author");
+    is_authorship_refused(&rt, 1, (1, FIRST), "dan", "already_signed");
+}
+
+// A later signature, of the text as it is.
+fn is_later_refused(
+    rt: &(impl Abort + AllocGlobal),
+    signatures: usize,
+    signing: Signing,
+    code: &str,
+    word: &str,
+) {
+    is_signature_refused(rt, signatures, (1, FIRST), (signing, code), word);
 }
 
 #[test]
 fn a_later_signature_is_refused(rt: HostRuntime) {
-    let kept = record(&rt, 1, 1);
-    is_signature_refused(
-        &rt,
-        &kept,
-        FIRST,
-        (Signing::Approval, "eve"),
-        "approval_not_wanted",
-    );
-    is_signature_refused(
-        &rt,
-        &record(&rt, 1, 0),
-        FIRST,
-        (Signing::Review, "eve"),
-        "not_signed",
-    );
-    is_signature_refused(&rt, &kept, FIRST, (Signing::Review, "dan"), "own_work");
-    is_signature_refused(
-        &rt,
-        &kept,
-        FIRST,
-        (Signing::Rejection(None), "eve"),
-        "reason_wanted",
-    );
+    is_later_refused(&rt, 1, Signing::Approval, "eve", "approval_not_wanted");
+    is_later_refused(&rt, 0, Signing::Review, "eve", "not_signed");
+    is_later_refused(&rt, 1, Signing::Review, "dan", "own_work");
+    is_later_refused(&rt, 1, Signing::Rejection(None), "eve", "reason_wanted");
 }
 
 // ---- readings
@@ -398,9 +400,14 @@ fn is_record(rt: &impl Abort, read: &RecordRead) {
 #[test]
 fn a_record_is_read(rt: HostRuntime) {
     let lab = text(&rt, "aqua");
-    let read = read_record(rt.alloc(), &lab, Some(record(&rt, 1, 0)));
-    is_record(&rt, &read.expect(&rt, "a record"));
-    let none = read_record(rt.alloc(), &lab, None);
+    let read = read_record(rt.alloc(), &lab, Some(record(&rt, 1, 0))).expect(&rt, "a record");
+    is_record(&rt, &read);
+    drop(read);
+}
+
+#[test]
+fn no_record_is_read(rt: HostRuntime) {
+    let none = read_record(rt.alloc(), &text(&rt, "aqua"), None);
     same(&rt, &refusal_of(&rt, none).word(), &"no_such_record");
 }
 
@@ -421,17 +428,31 @@ fn is_version(rt: &impl Abort, read: &VersionRead) {
 
 #[test]
 fn a_version_is_read(rt: HostRuntime) {
-    let lab = text(&rt, "aqua");
-    let read = read_version(rt.alloc(), &lab, Some(record(&rt, 1, 0)), Ordinal::FIRST);
-    is_version(&rt, &read.expect(&rt, "a version"));
+    let read = version_read(&rt, Ordinal::FIRST).expect(&rt, "a version");
+    is_version(&rt, &read);
+    drop(read);
+}
+
+fn version_read(
+    rt: &(impl Abort + AllocGlobal),
+    number: Ordinal,
+) -> Result<VersionRead, CommandFault> {
+    let lab = text(rt, "aqua");
+    read_version(rt.alloc(), &lab, Some(record(rt, 1, 0)), number)
+}
+
+#[test]
+fn no_second_version_is_read(rt: HostRuntime) {
     let second = Ordinal::new(2).expect(&rt, "a number");
-    let none = read_version(rt.alloc(), &lab, Some(record(&rt, 1, 0)), second);
+    let none = version_read(&rt, second);
     same(&rt, &refusal_of(&rt, none).word(), &"no_such_version");
 }
 
 #[test]
-fn lines_are_read(rt: HostRuntime) {
-    let line = record_line(&record(&rt, 1, 2)).expect(&rt, "a line");
+fn a_line_of_a_record_is_read(rt: HostRuntime) {
+    let kept = record(&rt, 1, 2);
+    let line = record_line(&kept).expect(&rt, "a line");
+    drop(kept);
     same(
         &rt,
         &(line.number.get(), line.form.as_str(), line.sample.as_str()),
@@ -442,7 +463,13 @@ fn lines_are_read(rt: HostRuntime) {
         &(line.current, line.state),
         &(Some(Ordinal::FIRST), Some(State::Released)),
     );
-    let line = person_line(&person(&rt, "dan"), moment(&rt, 2000)).expect(&rt, "a line");
+}
+
+#[test]
+fn a_line_of_a_person_is_read(rt: HostRuntime) {
+    let one = person(&rt, "dan");
+    let line = person_line(&one, moment(&rt, 2000)).expect(&rt, "a line");
+    drop(one);
     same(
         &rt,
         &[line.code.as_str(), line.name.as_str()],
@@ -460,6 +487,11 @@ fn a_form_is_read(rt: HostRuntime) {
         &(read.code.as_str(), read.version.get()),
         &("water", 2),
     );
+    drop(read);
+}
+
+#[test]
+fn no_form_is_read(rt: HostRuntime) {
     let none = read_form(None).err().expect(&rt, "a refusal");
     same(&rt, &none.word(), &"no_such_form");
 }
