@@ -1,16 +1,16 @@
 //! Sessions, as they are opened.
-ghost use Rattle.std.specs.Prelude.{◌≡◌, option_copied, IfOk};
+ghost use Rattle.std.specs.Prelude.{◌≡◌, option_copied};
 ghost use Rattle.lab_access.specs.Openings.{opening};
 
 use crate::attempts::attempt;
 use crate::persons::Person;
 use crate::refusals::{PeopleFault, PeopleRefusal};
 use crate::sessions::Session;
-use lab_names::{Ordinal, OutOfMemory, PersonCode, Tick};
+use lab_names::{Ordinal, PersonCode, Tick};
 use lab_secrets::Token;
 
 /// A session that was opened.
-#[derive(Clone, Drop)]
+#[derive(Drop)]
 pub struct Opened {
     /// The person, whose failed passwords are forgotten.
     pub person: Person,
@@ -20,15 +20,6 @@ pub struct Opened {
     pub token: Token,
     /// Whether the password, as it was before, is due to be changed.
     pub due: bool,
-}
-
-impl Opened {
-    /// A copy. The only error is out of memory.
-    pub fn copy(&self) -> Result<Opened, OutOfMemory>
-        ensures { IfOk result (λ copy. copy ≡ self.now) }
-    {
-        Ok(self.clone()?)
-    }
 }
 
 /// Opens a session by a code, by which the person was looked up, and a password. The laboratory gave so many numbers of

@@ -1,12 +1,11 @@
-//! Copies of persons and sessions, and of what calls on them answer: the calls themselves take no memory. Each has its
-//! arguments made for it alone, so that running out of memory stops one call and no other.
+//! Copies of persons, of what was asked for them, and of sessions: the calls on these take no memory. Each has its arguments
+//! made for it alone, so that running out of memory stops one call and no other.
 
 use crate::results::{both, made_of, print_made, text};
 use anyhow::{Context, Result};
 use lab_names::{Moment, PersonCodes, Tick};
 use lab_people::{
-    Ask, Effect, Issued, Opened, Password, PasswordChanged, Person, Roles, Session, Verifier,
-    ask_issue, change_password, enrol, open_session, retire,
+    Ask, Issued, Opened, Password, Person, Roles, Session, Verifier, ask_issue, enrol, open_session,
 };
 use std::alloc::Global;
 use std::io::{self, Print};
@@ -16,20 +15,8 @@ const PASSWORD: &str = "dan password 1";
 /// Makes each copy once, and prints for each the code of its person, or the word of its fault.
 pub(crate) fn print_person_growths(rt: &impl Print, alloc: Global) -> io::Result<()> {
     print_made(rt, copied_person(alloc), |dan| dan.code.as_str())?;
-    print_answers(rt, alloc)?;
     print_made(rt, copied_ask(alloc), |ask| ask.asker.as_str())?;
     print_made(rt, copied_session(alloc), |session| session.person.as_str())
-}
-
-fn print_answers(rt: &impl Print, alloc: Global) -> io::Result<()> {
-    let opened = made_of(opened(alloc), Opened::copy);
-    print_made(rt, opened, |opened| opened.person.code.as_str())?;
-    let changed = made_of(changed(alloc), PasswordChanged::copy);
-    print_made(rt, changed, |changed| changed.person.code.as_str())?;
-    let issued = made_of(issued(alloc), Issued::copy);
-    print_made(rt, issued, |issued| issued.person.code.as_str())?;
-    let effect = made_of(retired(alloc), Effect::copy);
-    print_made(rt, effect, |effect| effect.person.code.as_str())
 }
 
 fn tick() -> Result<Tick> {
@@ -59,27 +46,11 @@ fn opened(alloc: Global) -> Result<Opened> {
     Ok(open_session(code, Some(dan), PASSWORD, &tick, 0, None)?)
 }
 
-fn changed(alloc: Global) -> Result<PasswordChanged> {
-    let tick = tick()?;
-    let Opened {
-        person,
-        session,
-        ..
-    } = opened(alloc)?;
-    let new = "dan password 2";
-    Ok(change_password(person, session, PASSWORD, new, &tick)?)
-}
-
 // A one-time password was asked.
 fn issued(alloc: Global) -> Result<Issued> {
     let tick = tick()?;
     let (dan, ann) = both(person(alloc), text(alloc, "ann"))?;
     Ok(ask_issue(ann, Some(dan), &tick)?)
-}
-
-fn retired(alloc: Global) -> Result<Effect> {
-    let (dan, ann) = both(person(alloc), text::<PersonCodes>(alloc, "ann"))?;
-    Ok(retire(&ann, Some(dan))?)
 }
 
 // A copy of a person for whom a one-time password was asked.

@@ -1,16 +1,16 @@
 //! What is done to persons' accounts.
-ghost use Rattle.std.specs.Prelude.{◌≡◌, IfOk, option_copied};
+ghost use Rattle.std.specs.Prelude.{◌≡◌, option_copied};
 ghost use Rattle.lab_people.specs.Accounts.{changing, enrolling, person_meant, setting_roles, retiring, unlocking};
 
 use lab_access::{Closing, Password, PeopleFault, PeopleRefusal, Person, Roles, Session, attempt};
-use lab_names::{Name, OutOfMemory, PersonCode, Tick};
+use lab_names::{Name, PersonCode, Tick};
 use lab_secrets::salt;
 
 /// The most persons that a laboratory has.
 const PERSONS_LIMIT: u32 = 500;
 
 /// A password that was changed.
-#[derive(Clone, Drop)]
+#[derive(Drop)]
 pub struct PasswordChanged {
     /// The person, with the new password.
     pub person: Person,
@@ -20,31 +20,13 @@ pub struct PasswordChanged {
     pub closing: Closing,
 }
 
-impl PasswordChanged {
-    /// A copy. The only error is out of memory.
-    pub fn copy(&self) -> Result<PasswordChanged, OutOfMemory>
-        ensures { IfOk result (λ copy. copy ≡ self.now) }
-    {
-        Ok(self.clone()?)
-    }
-}
-
 /// A change of a person's account by an administrator.
-#[derive(Clone, Drop)]
+#[derive(Drop)]
 pub struct Effect {
     /// The person, changed.
     pub person: Person,
     /// Which of the person's sessions are closed.
     pub closing: Closing,
-}
-
-impl Effect {
-    /// A copy. The only error is out of memory.
-    pub fn copy(&self) -> Result<Effect, OutOfMemory>
-        ensures { IfOk result (λ copy. copy ≡ self.now) }
-    {
-        Ok(self.clone()?)
-    }
 }
 
 /// Changes a person's own password in a session, by the old one. The session, which has taken note of the request already, is

@@ -1,15 +1,15 @@
 //! One-time words, which two administrators give a person, each a half.
-ghost use Rattle.std.specs.Prelude.{◌≡◌, IfOk};
+ghost use Rattle.std.specs.Prelude.{◌≡◌};
 ghost use Rattle.lab_secrets.specs.Words.{half_of};
 ghost use Rattle.lab_people.specs.Issues.{half_verifier, asking, confirming};
 
 use crate::accounts::person_meant_by;
 use lab_access::{Ask, Closing, Password, PeopleRefusal, Person, ROUNDS};
-use lab_names::{OutOfMemory, PersonCode, Tick};
+use lab_names::{PersonCode, Tick};
 use lab_secrets::{Half, Verifier, salt};
 
 /// A half of a one-time word that was issued.
-#[derive(Clone, Drop)]
+#[derive(Drop)]
 pub struct Issued {
     /// The person for whom.
     pub person: Person,
@@ -17,15 +17,6 @@ pub struct Issued {
     pub half: Half,
     /// Which of the person's sessions are closed.
     pub closing: Closing,
-}
-
-impl Issued {
-    /// A copy. The only error is out of memory.
-    pub fn copy(&self) -> Result<Issued, OutOfMemory>
-        ensures { IfOk result (λ copy. copy ≡ self.now) }
-    {
-        Ok(self.clone()?)
-    }
 }
 
 // The verifier of a half of a one-time word, as it is written.
