@@ -90,6 +90,6 @@ fn make_first(alloc: Global, lab: &mut Lab, left: &mut Vec<Change>) -> Result<()
         return Ok(());
     }
     change(alloc, lab, &left[0])?;
-    left.remove(0);
+    drop(left.remove(0));
     Ok(())
 }

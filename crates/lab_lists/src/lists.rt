@@ -71,6 +71,7 @@ impl Keeper for Lists {
     fn found(&mut self, newborn: Newborn) -> Result<(), PlacingFault> {
         let alloc = *self.labs.allocator();
         if held_of(&self.labs, &newborn.code).is_some() {
+            drop(newborn);
             return Err(PlacingFault::LabExists);
         }
         let lab = founded(alloc, newborn)?;
