@@ -263,9 +263,9 @@ fn opening_made(
     own: Series<Change>,
 ) -> Result<Outcome, OutOfMemory>
     ensures { IfOk result (λ outcome. outcome
-        ≡ ended_made [] rows moment code.now reply deed (own ++ Change.Last moment ∷ [])) }
+        ≡ ended_made [] rows moment code.now reply deed (Change.Last moment ∷ own)) }
 {
-    match with_last(own, moment) {
+    match with_moment(alloc, moment, own) {
         Ok(own) => ended_made(
             alloc,
             Series::new(alloc),
@@ -284,13 +284,21 @@ fn opening_made(
     }
 }
 
-// Changes, and the moment of the last activity behind them.
-fn with_last(own: Series<Change>, moment: Moment) -> Result<Series<Change>, OutOfMemory>
-    ensures { IfOk result (λ changes. changes ≡ own ++ Change.Last moment ∷ []) }
+// The moment of the last activity, and changes behind it.
+fn with_moment(
+    alloc: Global,
+    moment: Moment,
+    own: Series<Change>,
+) -> Result<Series<Change>, OutOfMemory>
+    ensures { IfOk result (λ changes. changes ≡ Change.Last moment ∷ own) }
 {
-    let mut own = own;
-    own.push(Change::Last(moment))?;
-    Ok(own)
+    match single(alloc, Change::Last(moment)) {
+        Ok(first) => joined(first, own),
+        Err(fault) => {
+            drop(own);
+            Err(fault)
+        }
+    }
 }
 
 // A command in a session: its request is taken note of before all.
