@@ -33,7 +33,8 @@ FitsDone Premise lab person (Made reply deed changes) = Adds Premise lab person 
 
 -- ---- what follows a rule
 
-pub then_done_fits : {A : Type 0} (Premise : Type 0) (lab : Lab) (person : List ℕ) (result : Result A Refusal)
+pub then_done_fits : {A : Type 0} (Premise : Type 0) (lab : Lab) (person : List ℕ)
+    (result : Result A Refusal)
     (next : A → Done)
     → ((value : A) → result ≡ Ok value → FitsDone Premise lab person (next value))
     → FitsDone Premise lab person (then_done result next)
@@ -47,12 +48,14 @@ pub then_person_fits : {A : Type 0} (Premise : Type 0) (lab : Lab) (person : Lis
 then_person_fits Premise lab person (Err refusal) next fits = tt
 then_person_fits Premise lab person (Ok value) next fits = fits value refl
 
-pub then_read_fits : {A : Type 0} (Premise : Type 0) (lab : Lab) (person : List ℕ) (result : Result A Refusal)
+pub then_read_fits : {A : Type 0} (Premise : Type 0) (lab : Lab) (person : List ℕ)
+    (result : Result A Refusal)
     (reply : A → Reply) → FitsDone Premise lab person (then_read_done result reply)
 then_read_fits Premise lab person (Err refusal) reply = tt
 then_read_fits Premise lab person (Ok value) reply = tt
 
-pub wanted_fits : (wanted : Bool) (Premise : Type 0) (lab : Lab) (person : List ℕ) (refusal : Refusal)
+pub wanted_fits : (wanted : Bool) (Premise : Type 0) (lab : Lab) (person : List ℕ)
+    (refusal : Refusal)
     (done : Done) → FitsDone Premise lab person done
     → FitsDone Premise lab person (cond wanted (Refused refusal) done)
 wanted_fits true Premise lab person refusal done fits = tt

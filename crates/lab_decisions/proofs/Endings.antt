@@ -38,7 +38,8 @@ pub record Matches (Premise : Type 0) (lab : Lab) (stepped : Stepped) (decided :
 -- ---- something is made, and told
 
 -- the row that tells of it comes last
-told_last : (Premise : Type 0) (lab : Lab) (moment : ℕ) (person : List ℕ) (deed : Deed) (own : List Change)
+told_last : (Premise : Type 0) (lab : Lab) (moment : ℕ) (person : List ℕ) (deed : Deed)
+    (own : List Change)
     → Adds Premise lab person own
     → BecomesWhere Premise lab (own ++ told_row (length lab.trail) moment person deed ∷ [])
     (told moment (Some person) deed (changed lab own))
@@ -58,8 +59,9 @@ told_last Premise lab moment person deed own adds =
     }
 
 -- changes that were made before
-after_some : (Premise : Type 0) (lab : Lab) (before changes : List Change) (after : Lab) → AllFit lab before
-    → BecomesWhere Premise (changed lab before) changes after → BecomesWhere Premise lab (before ++ changes) after
+after_some : (Premise : Type 0) (lab : Lab) (before changes : List Change) (after : Lab)
+    → AllFit lab before → BecomesWhere Premise (changed lab before) changes after
+    → BecomesWhere Premise lab (before ++ changes) after
 after_some Premise lab before changes after fits rest = record {
   fits = λ given. all_fit_on lab before changes fits (rest.fits given);
   comes = changed_on lab before changes ∙ rest.comes;
@@ -72,12 +74,13 @@ grouped (one ∷ others) second third = ap (λ rest. one ∷ rest) (grouped othe
 
 -- and the reply
 replied : (Premise : Type 0) (lab : Lab) (reply : Reply) (changes : List Change) (after : Lab)
-    → BecomesWhere Premise lab changes after → Matches Premise lab (stays after reply) (outcome reply changes)
+    → BecomesWhere Premise lab changes after
+    → Matches Premise lab (stays after reply) (outcome reply changes)
 replied Premise lab reply changes after becomes =
     record { reply = refl; fits = becomes.fits; after = ap Some (sym becomes.comes) }
 
-made_case : (full : Bool) (Premise : Type 0) (lab : Lab) (before : List Change) (moment : ℕ) (person : List ℕ)
-    (reply refused : Reply) (deed : Deed) (own : List Change) → AllFit lab before
+made_case : (full : Bool) (Premise : Type 0) (lab : Lab) (before : List Change) (moment : ℕ)
+    (person : List ℕ) (reply refused : Reply) (deed : Deed) (own : List Change) → AllFit lab before
     → Adds Premise (changed lab before) person own
     → Matches Premise lab
     (cond full (stays (changed lab before) refused)
@@ -97,14 +100,15 @@ made_case false Premise lab before moment person reply refused deed own fits add
     (told_last Premise now moment person deed own adds)) in
     replied Premise lab reply (before ++ own ++ row ∷ []) after becomes
 
-made_is : (Premise : Type 0) (lab : Lab) (before : List Change) (moment : ℕ) (person : List ℕ) (reply : Reply)
-    (deed : Deed) (own : List Change) → AllFit lab before → Adds Premise (changed lab before) person own
+made_is : (Premise : Type 0) (lab : Lab) (before : List Change) (moment : ℕ) (person : List ℕ)
+    (reply : Reply) (deed : Deed) (own : List Change) → AllFit lab before
+    → Adds Premise (changed lab before) person own
     → Matches Premise lab
     (made (changed lab before) (changed (changed lab before) own) moment person reply deed)
     (ended_made before (length (changed lab before).trail) moment person reply deed own)
 made_is Premise lab before moment person reply deed own fits adds =
-    made_case (nat_le count_limit (length (changed lab before).trail)) Premise lab before moment person
-    reply (ToldRefused (People LabFull)) deed own fits adds
+    made_case (nat_le count_limit (length (changed lab before).trail)) Premise lab before moment
+    person reply (ToldRefused (People LabFull)) deed own fits adds
 
 -- ---- in a session
 
@@ -113,8 +117,9 @@ pub touching_fits : (lab : Lab) (moment : ℕ) (session : Session)
 touching_fits lab moment session found =
     (tt, (touched_fits (change lab (Last moment)) moment session found, tt))
 
-pub ended_is : (Premise : Type 0) (lab : Lab) (digest : Option (List ℕ)) (command : Command) (moment : ℕ)
-    (session : Session) (person : List ℕ) (done : Done) → (Premise → lab.strays ≤ stray_limit)
+pub ended_is : (Premise : Type 0) (lab : Lab) (digest : Option (List ℕ)) (command : Command)
+    (moment : ℕ) (session : Session) (person : List ℕ) (done : Done)
+    → (Premise → lab.strays ≤ stray_limit)
     → session_of lab.sessions session.token ≡ Some session
     → FitsDone Premise (touched lab moment session) person done
     → Matches Premise lab
@@ -130,8 +135,8 @@ ended_is Premise lab digest command moment session person (Failed occasion failu
     let now = touched lab moment session in
     let changes = failing (length lab.trail) lab.strays moment occasion failure in
     let after = failed now moment occasion failure in
-    replied Premise lab (ToldRefused (People Credentials)) (touching moment session ++ changes) after
-    (after_some Premise lab (touching moment session) changes after
+    replied Premise lab (ToldRefused (People Credentials)) (touching moment session ++ changes)
+    after (after_some Premise lab (touching moment session) changes after
     (touching_fits lab moment session found)
     (failing_is Premise now moment occasion failure few fits))
 ended_is Premise lab digest command moment session person (Read reply) few found fits =

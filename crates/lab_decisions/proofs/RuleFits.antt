@@ -57,16 +57,19 @@ changed_tests false false Premise lab caller person session new tick fits found 
     (record { number = refl; person = refl; token = refl; opened = refl }) in
     record { fits = λ given. (renewed, (unmarked, (tt, tt))); trail = refl; known = known }
 
-changed_by : (Premise : Type 0) (lab : Lab) (caller : List ℕ) (session : Session) (old new : List ℕ) (tick : Tick)
+changed_by : (Premise : Type 0) (lab : Lab) (caller : List ℕ) (session : Session)
+    (old new : List ℕ) (tick : Tick)
     (result : Result Person Failure) → FitsAttempt lab result
     → session_of lab.sessions session.token ≡ Some session → IsKnown lab caller
-    → FitsDone Premise lab caller (changed_done tick.moment (changing_by result session old new tick))
+    → FitsDone Premise lab caller
+    (changed_done tick.moment (changing_by result session old new tick))
 changed_by Premise lab caller session old new tick (Err failure) fits found known = fits
 changed_by Premise lab caller session old new tick (Ok person) fits found known =
-    changed_tests (not (is_password new)) (bytes_eq new old) Premise lab caller person session new tick fits
-    found known
+    changed_tests (not (is_password new)) (bytes_eq new old) Premise lab caller person session new
+    tick fits found known
 
-changing_fits : (Premise : Type 0) (lab : Lab) (caller : Person) (session : Session) (old new : List ℕ) (tick : Tick)
+changing_fits : (Premise : Type 0) (lab : Lab) (caller : Person) (session : Session)
+    (old new : List ℕ) (tick : Tick)
     → session_of lab.sessions session.token ≡ Some session
     → person_of lab.persons caller.code ≡ Some caller
     → FitsDone Premise lab caller.code
@@ -78,7 +81,8 @@ changing_fits Premise lab caller session old new tick found there =
 
 -- ---- a signature
 
-signing_fits : (Premise : Type 0) (lab : Lab) (digest : Option (List ℕ)) (old : Session) (moment : ℕ)
+signing_fits : (Premise : Type 0) (lab : Lab) (digest : Option (List ℕ)) (old : Session)
+    (moment : ℕ)
     (session : Session) (caller : List ℕ) (number version : ℕ) (text : List ℕ) (signing : Signing)
     (password : List ℕ) (code : Option (List ℕ)) (result : Result Person Failure)
     → FitsAttempt (touched lab moment old) result
@@ -113,7 +117,8 @@ signing_fits Premise lab digest old moment session caller number version text si
 
 -- ---- each command
 
-pub own_fits : (Premise : Type 0) (lab : Lab) (digest : Option (List ℕ)) (old : Session) (tick : Tick)
+pub own_fits : (Premise : Type 0) (lab : Lab) (digest : Option (List ℕ)) (old : Session)
+    (tick : Tick)
     (session : Session) (caller : Person) (command : Command)
     → (Premise → IsCommandFormed command)
     → session_of (touched lab tick.moment old).sessions session.token ≡ Some session
@@ -129,7 +134,8 @@ own_fits Premise lab digest old tick session caller Close formed found there =
       trail = refl;
       known = ap is_some there;
     }
-own_fits Premise lab digest old tick session caller (ChangePassword before after) formed found there =
+own_fits Premise lab digest old tick session caller (ChangePassword before after) formed found
+    there =
     changing_fits Premise (touched lab tick.moment old) caller session before after tick found there
 own_fits Premise lab digest old tick session caller (Enrol code name roles) formed found there =
     let now = touched lab tick.moment old in
@@ -144,7 +150,8 @@ own_fits Premise lab digest old tick session caller ReadPersons formed found the
 own_fits Premise lab digest old tick session caller (AskIssue code) formed found there =
     let now = touched lab tick.moment old in
     let known : IsKnown now caller.code = ap is_some there in
-    then_person_fits Premise now caller.code (asking caller.code (person_at lab code) tick) asked_done
+    then_person_fits Premise now caller.code (asking caller.code (person_at lab code) tick)
+    asked_done
     (λ issued is. person_adds Premise now caller.code issued.person issued.closing
     (asked_fits now caller.code code tick issued is known) known)
 own_fits Premise lab digest old tick session caller (ConfirmIssue code) formed found there =
@@ -161,12 +168,14 @@ own_fits Premise lab digest old tick session caller (SetRoles code roles) formed
     (roles_fit now caller.code code roles effect is) (ap is_some there))
 own_fits Premise lab digest old tick session caller (Retire code) formed found there =
     let now = touched lab tick.moment old in
-    then_person_fits Premise now caller.code (retiring caller.code (person_at lab code)) retired_done
+    then_person_fits Premise now caller.code (retiring caller.code (person_at lab code))
+    retired_done
     (λ effect is. person_adds Premise now caller.code effect.person effect.closing
     (retired_fits now caller.code code effect is) (ap is_some there))
 own_fits Premise lab digest old tick session caller (Unlock code) formed found there =
     let now = touched lab tick.moment old in
-    then_person_fits Premise now caller.code (unlocking caller.code (person_at lab code)) unlocked_done
+    then_person_fits Premise now caller.code (unlocking caller.code (person_at lab code))
+    unlocked_done
     (λ effect is. person_adds Premise now caller.code effect.person effect.closing
     (unlocked_fits now caller.code code effect is) (ap is_some there))
 own_fits Premise lab digest old tick session caller (MakeForm code form) formed found there =
@@ -179,7 +188,8 @@ own_fits Premise lab digest old tick session caller (MakeForm code form) formed 
     })
 own_fits Premise lab digest old tick session caller (ReadForm code version) formed found there =
     let now = touched lab tick.moment old in
-    then_read_fits Premise now caller.code (reading_form (exact_form lab.forms code version)) FormRead
+    then_read_fits Premise now caller.code (reading_form (exact_form lab.forms code version))
+    FormRead
 own_fits Premise lab digest old tick session caller (OpenRecord form sample) formed found there =
     let now = touched lab tick.moment old in
     let known : IsKnown now caller.code = ap is_some there in
@@ -200,17 +210,22 @@ own_fits Premise lab digest old tick session caller (Enter number item reason) f
       trail = refl;
       known = known;
     })
-own_fits Premise lab digest old tick session caller (Amend number reason altered) formed found there =
+own_fits Premise lab digest old tick session caller (Amend number reason altered) formed found
+    there =
     let now = touched lab tick.moment old in
     let known : IsKnown now caller.code = ap is_some there in
     then_done_fits Premise now caller.code
     (amending lab.code (record_of lab.records number) reason altered caller.code tick.moment)
     amendment_done (λ made is. record {
-      fits = λ given. (amendment_fits now number reason altered caller.code tick.moment made is known, tt);
+      fits = λ given. (
+        amendment_fits now number reason altered caller.code tick.moment made is known,
+        tt,
+      );
       trail = refl;
       known = known;
     })
-own_fits Premise lab digest old tick session caller (Sign number version text signing password code) formed found there =
+own_fits Premise lab digest old tick session caller
+    (Sign number version text signing password code) formed found there =
     let now = touched lab tick.moment old in
     let result = signing_attempt caller code password tick.moment in
     wanted_fits (is_code_wanted session code) Premise now caller.code CodeWanted
@@ -224,7 +239,8 @@ own_fits Premise lab digest old tick session caller (ReadRecord number) formed f
     let now = touched lab tick.moment old in
     then_read_fits Premise now caller.code (reading_record lab.code (record_of lab.records number))
     RecordRead
-own_fits Premise lab digest old tick session caller (ReadVersion number version) formed found there =
+own_fits Premise lab digest old tick session caller (ReadVersion number version) formed found
+    there =
     let now = touched lab tick.moment old in
     then_read_fits Premise now caller.code
     (reading_version lab.code (record_of lab.records number) version) VersionRead

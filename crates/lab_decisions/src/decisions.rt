@@ -2,6 +2,7 @@
 ghost use Rattle.std.specs.Prelude.{◌≡◌, ◌++◌, ◌∷◌, [], Some, IfOk};
 ghost use Rattle.lab_kept.specs.Trails.{row_of};
 ghost use Rattle.lab_machine.specs.Machine.{passage};
+ghost use Rattle.lab_laws.specs.Asking.{IsCommandFormed};
 ghost use Rattle.lab_commands.specs.Doing.{done_of};
 ghost use Rattle.lab_decisions.specs.Deciding.{failing, outcome, ended_made, ended_by, ended_done, touching, opening_ended, decided_without, decided_by, decided};
 
@@ -16,19 +17,30 @@ use lab_rules::{Refusal, Typed};
 use std::alloc::Global;
 
 /// What is decided of a command at a tick, on the part of a laboratory that it needs: the reply, and the changes, in order.
-/// The only error is out of memory.
+/// The only error is out of memory. If the command makes a form, it is one, as `what_is_decided` wants it.
 pub fn decide(
     alloc: Global,
     slice: Slice,
     tick: &Tick,
     command: Command,
 ) -> Result<Outcome, OutOfMemory>
-    ensures { IfOk result (λ outcome. outcome ≡ decided slice tick.now command) }
+    ensures decided { IfOk result (λ outcome. outcome ≡ decided slice tick.now command) }
+    ensures formed { IsCommandFormed command }
 {
+    formed(&command);
     let mut slice = slice;
     let outcome = decide_on(alloc, &mut slice, tick, command);
     drop(slice);
     outcome
+}
+
+// The form that a command makes is one, as every form is.
+fn formed(command: &Command)
+    ensures { IsCommandFormed command.now }
+{
+    if let Command::MakeForm { form, .. } = command {
+        let _fields = form.fields();
+    }
 }
 
 // What is left of the part isn't said.
