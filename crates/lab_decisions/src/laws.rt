@@ -8,8 +8,8 @@ ghost use Rattle.lab_decisions.specs.Deciding.{decided};
 ghost use Rattle.lab_decisions.specs.Coming.{Does};
 
 /// Law: what is decided on the part that an instruction needs, of any laboratory, has the reply of the step, and its changes
-/// make of the laboratory what the step makes. They fit one after the other, where the count of strays isn't above its limit
-/// and a form that is to be made is one, as every `Form` is.
+/// make of the laboratory what the step makes; the first of them notes the moment. They fit one after the other, where the
+/// count of strays isn't above its limit and a form that is to be made is one, as every `Form` is.
 pub fn what_is_decided()
     ensures { (lab : Lab) (tick : Tick) (instruction : Instruction)
         → Does lab tick instruction
