@@ -2,6 +2,7 @@ pub mod CaseFits
 pub mod Endings
 pub mod Failing
 pub mod Joining
+pub mod KnownValues
 pub mod Noting
 pub mod OpenFits
 pub mod OwnCases
