@@ -6,6 +6,7 @@ use Rattle.lab_names.specs.declared.tick.Tick.{Tick}
 use Rattle.lab_access.specs.declared.persons.Person.{Person}
 use Rattle.lab_access.specs.declared.sessions.Session.{Session}
 use Rattle.lab_access.specs.declared.sessions.Closing.{Closing}
+use Rattle.lab_access.specs.declared.sessions.Closing.TheVariants.{Nothing}
 use Rattle.lab_access.specs.declared.openings.Opened.{Opened}
 use Rattle.lab_access.specs.declared.refusals.Failure.{Failure}
 use Rattle.lab_access.specs.declared.refusals.PeopleFault.{PeopleFault}
@@ -89,8 +90,9 @@ abbrev pub enrolled_done : Person → Done
 enrolled_done person =
     Made (PersonDone person.code) (EnrolDeed person.code person.roles) (PersonAdded person ∷ [])
 
--- an account is set, and some of its sessions are closed
+-- an account is set, and its sessions are closed, where some are to be
 abbrev pub person_changes : Person → Closing → List Change
+person_changes person Nothing = PersonSet person ∷ []
 person_changes person closing = PersonSet person ∷ SessionsClosed person.code closing ∷ []
 
 abbrev pub asked_done : Issued → Done

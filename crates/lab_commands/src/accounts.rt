@@ -1,5 +1,5 @@
 //! What commands on accounts come to.
-ghost use Rattle.std.specs.Prelude.{◌≡◌, Ok, IfOk};
+ghost use Rattle.std.specs.Prelude.{◌≡◌, [], ◌∷◌, Ok, IfOk};
 ghost use Rattle.lab_people.specs.Accounts.{changing, enrolling, setting_roles, retiring, unlocking};
 ghost use Rattle.lab_people.specs.Issues.{asking, confirming};
 ghost use Rattle.lab_commands.specs.Doing.{then_person_done, changed_done, enrolled_done, person_changes, asked_done, confirmed_done, roles_done, retired_done, unlocked_done};
@@ -103,13 +103,27 @@ fn enrolled_done(alloc: Global, person: Person) -> Result<Done, OutOfMemory>
     ))
 }
 
-// An account is set, and some of its sessions are closed.
+// An account is set, and its sessions are closed, where some are to be.
 fn person_changes(
     alloc: Global,
     person: Person,
     closing: Closing,
 ) -> Result<Series<Change>, OutOfMemory>
     ensures { IfOk result (λ changes. changes ≡ person_changes person closing) }
+{
+    match closing {
+        Closing::Nothing => single(alloc, Change::PersonSet(person)),
+        Closing::All | Closing::Others(_) => closing_changes(alloc, person, closing),
+    }
+}
+
+fn closing_changes(
+    alloc: Global,
+    person: Person,
+    closing: Closing,
+) -> Result<Series<Change>, OutOfMemory>
+    ensures { IfOk result (λ changes. changes
+        ≡ Change.PersonSet person ∷ Change.SessionsClosed person.code closing ∷ []) }
 {
     let code = person.code.copy()?;
     pair(

@@ -1,5 +1,5 @@
 -- The end of a command: the changes make of the laboratory what the step makes.
-use Rattle.std.proofs.Common.{◌≡◌, ℕ, ◌+◌, Bool, true, false, cond, List, [], ◌∷◌, ◌++◌, length, Option, Some, refl, sym, ◌∙◌, ap, subst, nat_le}
+use Rattle.std.proofs.Common.{◌≡◌, ◌≤◌, ℕ, ◌+◌, Bool, true, false, cond, List, [], ◌∷◌, ◌++◌, length, Option, Some, refl, sym, ◌∙◌, ap, subst, nat_le}
 use Rattle.lab_access.specs.declared.sessions.Session.{Session}
 use Rattle.lab_access.specs.declared.refusals.PeopleRefusal.TheVariants.{Credentials, LabFull}
 use Rattle.lab_access.specs.Sessions.{session_of}
@@ -8,7 +8,7 @@ use Rattle.lab_kept.specs.declared.changes.Change.{Change}
 use Rattle.lab_kept.specs.declared.changes.Change.TheVariants.{Last}
 use Rattle.lab_kept.specs.declared.trails.Deed.{Deed}
 use Rattle.lab_kept.specs.declared.trails.TrailRow.{TrailRow}
-use Rattle.lab_kept.specs.Limits.{IsWithin, count_limit}
+use Rattle.lab_kept.specs.Limits.{count_limit, stray_limit}
 use Rattle.lab_kept.specs.Trails.{row_of}
 use Rattle.lab_kept.specs.Changes.{AllFit, change, changed}
 use Rattle.lab_rules.specs.declared.refusals.Refusal.TheVariants.{People}
@@ -25,22 +25,25 @@ use Rattle.lab_decisions.specs.Deciding.{told_row, failing, outcome, ended_made,
 use Rattle.lab_decisions.proofs.Joining.{changed_on, all_fit_on, changes_know}
 use Rattle.lab_decisions.proofs.OwnCases.{case_of, slice_for}
 use Rattle.lab_decisions.proofs.CaseFits.{Adds, FitsDone}
-use Rattle.lab_decisions.proofs.Failing.{Becomes, failing_is}
+use Rattle.lab_decisions.proofs.OpenFits.{TakesMoment}
+use Rattle.lab_decisions.proofs.Failing.{BecomesWhere, failing_is}
 
--- what is decided is what is stepped
-pub record Matches (lab : Lab) (stepped : Stepped) (decided : Outcome) : Type 0 where
+-- what is decided is what is stepped, and fits on a premise
+pub record Matches (Premise : Type 0) (lab : Lab) (stepped : Stepped) (decided : Outcome)
+    : Type 0 where
   pub reply : decided.reply ≡ stepped.reply
-  pub fits : AllFit lab decided.changes
+  pub fits : Premise → AllFit lab decided.changes
   pub after : stepped.after ≡ Some (changed lab decided.changes)
 
 -- ---- something is made, and told
 
 -- the row that tells of it comes last
-told_last : (lab : Lab) (moment : ℕ) (person : List ℕ) (deed : Deed) (own : List Change)
-    → Adds lab person own
-    → Becomes lab (own ++ told_row (length lab.trail) moment person deed ∷ [])
+told_last : (Premise : Type 0) (lab : Lab) (moment : ℕ) (person : List ℕ) (deed : Deed)
+    (own : List Change)
+    → Adds Premise lab person own
+    → BecomesWhere Premise lab (own ++ told_row (length lab.trail) moment person deed ∷ [])
     (told moment (Some person) deed (changed lab own))
-told_last lab moment person deed own adds =
+told_last Premise lab moment person deed own adds =
     let after = changed lab own in
     let row = told_row (length lab.trail) moment person deed in
     let number : length lab.trail + 1 ≡ length after.trail + 1 =
@@ -50,16 +53,17 @@ told_last lab moment person deed own adds =
       trail = after.trail ++ row_of n moment (Some person) deed ∷ [];
     }) number in
     record {
-      fits = all_fit_on lab own (row ∷ []) adds.fits
-          ((number, changes_know lab own person adds.fits adds.known), tt);
+      fits = λ given. all_fit_on lab own (row ∷ []) (adds.fits given)
+          ((number, changes_know lab own person (adds.fits given) adds.known), tt);
       comes = changed_on lab own (row ∷ []) ∙ same;
     }
 
 -- changes that were made before
-after_some : (lab : Lab) (before changes : List Change) (after : Lab) → AllFit lab before
-    → Becomes (changed lab before) changes after → Becomes lab (before ++ changes) after
-after_some lab before changes after fits rest = record {
-  fits = all_fit_on lab before changes fits rest.fits;
+after_some : (Premise : Type 0) (lab : Lab) (before changes : List Change) (after : Lab)
+    → AllFit lab before → BecomesWhere Premise (changed lab before) changes after
+    → BecomesWhere Premise lab (before ++ changes) after
+after_some Premise lab before changes after fits rest = record {
+  fits = λ given. all_fit_on lab before changes fits (rest.fits given);
   comes = changed_on lab before changes ∙ rest.comes;
 }
 
@@ -69,40 +73,42 @@ grouped [] second third = refl
 grouped (one ∷ others) second third = ap (λ rest. one ∷ rest) (grouped others second third)
 
 -- and the reply
-replied : (lab : Lab) (reply : Reply) (changes : List Change) (after : Lab)
-    → Becomes lab changes after → Matches lab (stays after reply) (outcome reply changes)
-replied lab reply changes after becomes =
+replied : (Premise : Type 0) (lab : Lab) (reply : Reply) (changes : List Change) (after : Lab)
+    → BecomesWhere Premise lab changes after
+    → Matches Premise lab (stays after reply) (outcome reply changes)
+replied Premise lab reply changes after becomes =
     record { reply = refl; fits = becomes.fits; after = ap Some (sym becomes.comes) }
 
-made_case : (full : Bool) (lab : Lab) (before : List Change) (moment : ℕ) (person : List ℕ)
-    (reply refused : Reply) (deed : Deed) (own : List Change) → AllFit lab before
-    → Adds (changed lab before) person own
-    → Matches lab
+made_case : (full : Bool) (Premise : Type 0) (lab : Lab) (before : List Change) (moment : ℕ)
+    (person : List ℕ) (reply refused : Reply) (deed : Deed) (own : List Change) → AllFit lab before
+    → Adds Premise (changed lab before) person own
+    → Matches Premise lab
     (cond full (stays (changed lab before) refused)
     (stays (told moment (Some person) deed (changed (changed lab before) own)) reply))
     (cond full (outcome refused before)
     (outcome reply
     (before ++ own ++ told_row (length (changed lab before).trail) moment person deed ∷ [])))
-made_case true lab before moment person reply refused deed own fits adds =
-    record { reply = refl; fits = fits; after = refl }
-made_case false lab before moment person reply refused deed own fits adds =
+made_case true Premise lab before moment person reply refused deed own fits adds =
+    record { reply = refl; fits = λ given. fits; after = refl }
+made_case false Premise lab before moment person reply refused deed own fits adds =
     let now = changed lab before in
     let after = told moment (Some person) deed (changed now own) in
     let row = told_row (length now.trail) moment person deed in
-    let becomes : Becomes lab (before ++ own ++ row ∷ []) after =
-    subst (λ changes. Becomes lab changes after) (grouped before own (row ∷ []))
-    (after_some lab before (own ++ row ∷ []) after fits
-    (told_last now moment person deed own adds)) in
-    replied lab reply (before ++ own ++ row ∷ []) after becomes
+    let becomes : BecomesWhere Premise lab (before ++ own ++ row ∷ []) after =
+    subst (λ changes. BecomesWhere Premise lab changes after) (grouped before own (row ∷ []))
+    (after_some Premise lab before (own ++ row ∷ []) after fits
+    (told_last Premise now moment person deed own adds)) in
+    replied Premise lab reply (before ++ own ++ row ∷ []) after becomes
 
-made_is : (lab : Lab) (before : List Change) (moment : ℕ) (person : List ℕ) (reply : Reply)
-    (deed : Deed) (own : List Change) → AllFit lab before → Adds (changed lab before) person own
-    → Matches lab
+made_is : (Premise : Type 0) (lab : Lab) (before : List Change) (moment : ℕ) (person : List ℕ)
+    (reply : Reply) (deed : Deed) (own : List Change) → AllFit lab before
+    → Adds Premise (changed lab before) person own
+    → Matches Premise lab
     (made (changed lab before) (changed (changed lab before) own) moment person reply deed)
     (ended_made before (length (changed lab before).trail) moment person reply deed own)
-made_is lab before moment person reply deed own fits adds =
-    made_case (nat_le count_limit (length (changed lab before).trail)) lab before moment person
-    reply (ToldRefused (People LabFull)) deed own fits adds
+made_is Premise lab before moment person reply deed own fits adds =
+    made_case (nat_le count_limit (length (changed lab before).trail)) Premise lab before moment
+    person reply (ToldRefused (People LabFull)) deed own fits adds
 
 -- ---- in a session
 
@@ -111,59 +117,64 @@ pub touching_fits : (lab : Lab) (moment : ℕ) (session : Session)
 touching_fits lab moment session found =
     (tt, (touched_fits (change lab (Last moment)) moment session found, tt))
 
-pub ended_is : (lab : Lab) (digest : Option (List ℕ)) (command : Command) (moment : ℕ)
-    (session : Session) (person : List ℕ) (done : Done) → IsWithin lab
+pub ended_is : (Premise : Type 0) (lab : Lab) (digest : Option (List ℕ)) (command : Command)
+    (moment : ℕ) (session : Session) (person : List ℕ) (done : Done)
+    → (Premise → lab.strays ≤ stray_limit)
     → session_of lab.sessions session.token ≡ Some session
-    → FitsDone (touched lab moment session) (touched lab moment session) person done
-    → Matches lab
+    → FitsDone Premise (touched lab moment session) person done
+    → Matches Premise lab
     (ended (touched lab moment session) moment person (case_of (touched lab moment session) done))
     (ended_done (slice_for lab digest command) moment person (touching moment session) done)
-ended_is lab digest command moment session person (Refused refusal) within found fits =
-    record { reply = refl; fits = touching_fits lab moment session found; after = refl }
-ended_is lab digest command moment session person (Failed occasion failure) within found fits =
+ended_is Premise lab digest command moment session person (Refused refusal) few found fits =
+    record {
+      reply = refl;
+      fits = λ given. touching_fits lab moment session found;
+      after = refl;
+    }
+ended_is Premise lab digest command moment session person (Failed occasion failure) few found fits =
     let now = touched lab moment session in
     let changes = failing (length lab.trail) lab.strays moment occasion failure in
     let after = failed now moment occasion failure in
-    replied lab (ToldRefused (People Credentials)) (touching moment session ++ changes) after
-    (after_some lab (touching moment session) changes after
+    replied Premise lab (ToldRefused (People Credentials)) (touching moment session ++ changes)
+    after (after_some Premise lab (touching moment session) changes after
     (touching_fits lab moment session found)
-    (failing_is now moment occasion failure within.strays fits))
-ended_is lab digest command moment session person (Read reply) within found fits =
-    record { reply = refl; fits = touching_fits lab moment session found; after = refl }
-ended_is lab digest command moment session person (Made reply deed own) within found fits =
-    made_is lab (touching moment session) moment person reply deed own
+    (failing_is Premise now moment occasion failure few fits))
+ended_is Premise lab digest command moment session person (Read reply) few found fits =
+    record {
+      reply = refl;
+      fits = λ given. touching_fits lab moment session found;
+      after = refl;
+    }
+ended_is Premise lab digest command moment session person (Made reply deed own) few found fits =
+    made_is Premise lab (touching moment session) moment person reply deed own
     (touching_fits lab moment session found) fits
 
 -- ---- at an opening
 
--- its moment is noted last
-moment_adds : (lab : Lab) (moment : ℕ) (person : List ℕ) (own : List Change)
-    → Adds lab person own → Adds lab person (own ++ Last moment ∷ [])
-moment_adds lab moment person own adds = record {
-  fits = all_fit_on lab own (Last moment ∷ []) adds.fits (tt, tt);
-  trail = ap (λ (after : Lab). after.trail) (changed_on lab own (Last moment ∷ [])) ∙ adds.trail;
-  known = adds.known;
-}
+-- its moment is noted first
+moment_adds : (Premise : Type 0) (lab : Lab) (moment : ℕ) (person : List ℕ) (own : List Change)
+    → Adds Premise (at_moment moment lab) person own → Adds Premise lab person (Last moment ∷ own)
+moment_adds Premise lab moment person own adds =
+    record { fits = λ given. (tt, adds.fits given); trail = adds.trail; known = adds.known }
 
-pub opened_ended : (lab : Lab) (digest : Option (List ℕ)) (command : Command) (moment : ℕ)
-    (code : List ℕ) (done : Done) → IsWithin lab
-    → FitsDone lab (at_moment moment lab) code done
-    → Matches lab (opened lab moment code (case_of lab done))
+pub opened_ended : (Premise : Type 0) (lab : Lab) (digest : Option (List ℕ)) (command : Command)
+    (moment : ℕ) (code : List ℕ) (done : Done) → (Premise → lab.strays ≤ stray_limit)
+    → FitsDone Premise (at_moment moment lab) code done → TakesMoment lab moment done
+    → Matches Premise lab (opened lab moment code (case_of lab done))
     (opening_ended (slice_for lab digest command) moment code done)
-opened_ended lab digest command moment code (Refused refusal) within fits =
-    record { reply = refl; fits = tt; after = refl }
-opened_ended lab digest command moment code (Failed occasion failure) within fits =
+opened_ended Premise lab digest command moment code (Refused refusal) few fits takes =
+    record { reply = refl; fits = λ given. tt; after = refl }
+opened_ended Premise lab digest command moment code (Failed occasion failure) few fits takes =
     let now = at_moment moment lab in
     let changes = failing (length lab.trail) lab.strays moment occasion failure in
     let after = failed now moment occasion failure in
-    replied lab (ToldRefused (People Credentials)) (Last moment ∷ changes) after
-    (after_some lab (Last moment ∷ []) changes after (tt, tt)
-    (failing_is now moment occasion failure within.strays fits))
-opened_ended lab digest command moment code (Read reply) within fits =
-    record { reply = refl; fits = tt; after = refl }
-opened_ended lab digest command moment code (Made reply deed own) within fits =
-    subst (λ after. Matches lab (made lab after moment code reply deed)
-    (ended_made [] (length lab.trail) moment code reply deed (own ++ Last moment ∷ [])))
-    (changed_on lab own (Last moment ∷ []))
-    (made_is lab [] moment code reply deed (own ++ Last moment ∷ []) tt
-    (moment_adds lab moment code own fits))
+    replied Premise lab (ToldRefused (People Credentials)) (Last moment ∷ changes) after
+    (after_some Premise lab (Last moment ∷ []) changes after (tt, tt)
+    (failing_is Premise now moment occasion failure few fits))
+opened_ended Premise lab digest command moment code (Read reply) few fits takes =
+    record { reply = refl; fits = λ given. tt; after = refl }
+opened_ended Premise lab digest command moment code (Made reply deed own) few fits takes =
+    subst (λ after. Matches Premise lab (made lab after moment code reply deed)
+    (ended_made [] (length lab.trail) moment code reply deed (Last moment ∷ own))) takes
+    (made_is Premise lab [] moment code reply deed (Last moment ∷ own) tt
+    (moment_adds Premise lab moment code own fits))

@@ -1,6 +1,7 @@
 -- What a failed password changes fits, and makes of the laboratory what the step makes.
 use Rattle.std.proofs.Common.{◌≡◌, ◌≤◌, ◌<◌, ℕ, ◌+◌, Bool, true, false, cond, List, [], ◌∷◌, length, Some, Err, refl, sym, ap, subst, arith, nat_le}
 use Rattle.std.proofs.lemmas.Bool.{leb-false}
+use Rattle.lab_access.specs.declared.persons.Person.{Person}
 use Rattle.lab_access.specs.declared.sessions.Closing.TheVariants.{All}
 use Rattle.lab_access.specs.declared.refusals.Failure.{Failure}
 use Rattle.lab_access.specs.declared.refusals.Failure.TheVariants.{Counted, Locking, AlreadyLocked, Stray}
@@ -19,8 +20,14 @@ use Rattle.lab_laws.proofs.LimitLists.{longer}
 use Rattle.lab_decisions.specs.Deciding.{told_row, noted_rows, two_rows, failing}
 use Rattle.lab_decisions.proofs.Joining.{set_known, change_knows}
 
--- changes that fit make another laboratory of one
-pub record Becomes (lab : Lab) (changes : List Change) (after : Lab) : Type 0 where
+-- changes make another laboratory of one, and fit on a premise
+pub record BecomesWhere (Premise : Type 0) (lab : Lab) (changes : List Change) (after : Lab)
+    : Type 0 where
+  pub fits : Premise → AllFit lab changes
+  pub comes : changed lab changes ≡ after
+
+-- or without one
+record Becomes (lab : Lab) (changes : List Change) (after : Lab) : Type 0 where
   pub fits : AllFit lab changes
   pub comes : changed lab changes ≡ after
 
@@ -81,18 +88,23 @@ few_strays false strays is few =
 
 -- ---- what a failed password changes
 
-pub failing_is : (lab : Lab) (moment : ℕ) (occasion : Occasion) (failure : Failure)
-    → lab.strays ≤ stray_limit → FitsAttempt lab (Err failure)
-    → Becomes lab (failing (length lab.trail) lab.strays moment occasion failure)
-    (failed lab moment occasion failure)
-failing_is lab moment occasion (Counted person) few fits =
+counted_is : (lab : Lab) (moment : ℕ) (occasion : Occasion) (person : Person)
+    → FitsAttempt lab (Err (Counted person))
+    → Becomes lab (failing (length lab.trail) lab.strays moment occasion (Counted person))
+    (failed lab moment occasion (Counted person))
+counted_is lab moment occasion person fits =
     let known : IsKnown (change lab (PersonSet person)) person.code =
     change_knows lab (PersonSet person) person.code fits (set_known lab person fits) in
     after_one lab (PersonSet person)
     (noted_rows (length lab.trail) moment person.code (Refuse occasion))
     (failed lab moment occasion (Counted person)) fits
     (noted_is (change lab (PersonSet person)) moment person.code (Refuse occasion) known)
-failing_is lab moment occasion (Locking person) few fits =
+
+locking_is : (lab : Lab) (moment : ℕ) (occasion : Occasion) (person : Person)
+    → FitsAttempt lab (Err (Locking person))
+    → Becomes lab (failing (length lab.trail) lab.strays moment occasion (Locking person))
+    (failed lab moment occasion (Locking person))
+locking_is lab moment occasion person fits =
     let known : IsKnown (change lab (PersonSet person)) person.code =
     change_knows lab (PersonSet person) person.code fits (set_known lab person fits) in
     let next = change lab (PersonSet person) in
@@ -103,9 +115,22 @@ failing_is lab moment occasion (Locking person) few fits =
     after_one lab (PersonSet person) (SessionsClosed person.code All ∷ rows) after fits
     (after_one next (SessionsClosed person.code All) rows after tt
     (two_are last moment person.code (Refuse occasion) (Lock person.code) known))
-failing_is lab moment occasion (AlreadyLocked person) few fits =
-    noted_is lab moment person.code (Refuse occasion) (set_known lab person fits)
-failing_is lab moment occasion Stray few fits = record {
-  fits = (few_strays (nat_le stray_limit lab.strays) lab.strays refl few, tt);
+
+pub failing_is : (Premise : Type 0) (lab : Lab) (moment : ℕ) (occasion : Occasion)
+    (failure : Failure) → (Premise → lab.strays ≤ stray_limit) → FitsAttempt lab (Err failure)
+    → BecomesWhere Premise lab (failing (length lab.trail) lab.strays moment occasion failure)
+    (failed lab moment occasion failure)
+failing_is Premise lab moment occasion (Counted person) few fits =
+    let is = counted_is lab moment occasion person fits in
+    record { fits = λ given. is.fits; comes = is.comes }
+failing_is Premise lab moment occasion (Locking person) few fits =
+    let is = locking_is lab moment occasion person fits in
+    record { fits = λ given. is.fits; comes = is.comes }
+failing_is Premise lab moment occasion (AlreadyLocked person) few fits =
+    let is = noted_is lab moment person.code (Refuse occasion) (set_known lab person fits) in
+    record { fits = λ given. is.fits; comes = is.comes }
+failing_is Premise lab moment occasion Stray few fits = record {
+  fits = λ given.
+      (few_strays (nat_le stray_limit lab.strays) lab.strays refl (few given), tt);
   comes = refl;
 }

@@ -60,7 +60,7 @@ change_knows lab (Last moment) code fits known = known
 change_knows lab (Strays count) code fits known = known
 change_knows lab (PersonAdded person) code fits known =
     known_kept lab.persons (added_person person lab.persons) code
-    (added_keeps lab.persons person fits) known
+    (added_keeps lab.persons person fits.0) known
 change_knows lab (PersonSet person) code fits known =
     known_kept lab.persons (with_person person lab.persons) code
     (set_keeps lab.persons person (set_of lab person fits)) known

@@ -2,6 +2,8 @@ pub mod CaseFits
 pub mod Endings
 pub mod Failing
 pub mod Joining
+pub mod KnownValues
+pub mod Noting
 pub mod OpenFits
 pub mod OwnCases
 pub mod Passing

@@ -1,6 +1,6 @@
 -- How far an instruction gets on a part is how far it gets on the laboratory, and what is decided
 -- then is the step.
-use Rattle.std.proofs.Common.{◌≡◌, ℕ, Bool, true, false, cond, List, length, Option, Some, None, refl, sym, subst, nat_lt}
+use Rattle.std.proofs.Common.{◌≡◌, ◌≤◌, ℕ, Bool, true, false, cond, List, length, Option, Some, None, refl, sym, subst, nat_lt}
 use Rattle.std.specs.Prelude.{option_map, option_and_then}
 use Rattle.sha2.specs.Sha256.{sha256}
 use Rattle.lab_names.specs.declared.tick.Tick.{Tick}
@@ -14,7 +14,7 @@ use Rattle.lab_access.specs.Persons.{person_of}
 use Rattle.lab_access.specs.Policy.{denial}
 use Rattle.lab_access.specs.Sessions.{session_of, is_live, touched_session}
 use Rattle.lab_kept.specs.declared.labs.Lab.{Lab}
-use Rattle.lab_kept.specs.Limits.{IsWithin}
+use Rattle.lab_kept.specs.Limits.{stray_limit}
 use Rattle.lab_kept.specs.Lookups.{session_at, person_at, caller_of}
 use Rattle.lab_rules.specs.Signing.{signing_rule}
 use Rattle.lab_machine.specs.declared.commands.Command.{Command}
@@ -22,7 +22,8 @@ use Rattle.lab_machine.specs.declared.commands.Command.TheVariants.{Card, Open, 
 use Rattle.lab_machine.specs.declared.passages.Passage.{Passage}
 use Rattle.lab_machine.specs.declared.passages.Passage.TheVariants.{Early, NeedsNone, Stranger, Barred, Passes}
 use Rattle.lab_machine.specs.Needs.{token_in}
-use Rattle.lab_machine.specs.Machine.{named_session, allowed_passage, session_passage, passage, touched, opened, ended, answered}
+use Rattle.lab_machine.specs.Machine.{named_session, allowed_passage, session_passage, passage, touched, at_moment, opened, ended, answered}
+use Rattle.lab_laws.specs.Asking.{IsCommandFormed}
 use Rattle.lab_laws.proofs.FitAccounts.{own_code}
 use Rattle.lab_laws.proofs.LimitParts.{session_set, session_token}
 use Rattle.lab_commands.specs.Doing.{done_of, opened_done}
@@ -30,8 +31,12 @@ use Rattle.lab_decisions.specs.Deciding.{ended_done, opening_ended, touching, de
 use Rattle.lab_decisions.proofs.OwnCases.{slice_for, opened_is}
 use Rattle.lab_decisions.proofs.RuleCases.{own_is}
 use Rattle.lab_decisions.proofs.RuleFits.{own_fits}
-use Rattle.lab_decisions.proofs.OpenFits.{open_fits}
+use Rattle.lab_decisions.proofs.OpenFits.{open_fits, opened_takes}
 use Rattle.lab_decisions.proofs.Endings.{Matches, touching_fits, ended_is, opened_ended}
+
+-- no more strays were counted than may be, and a form that is to be made is one
+abbrev Premise : Lab → Command → Type 0
+Premise lab command = (lab.strays ≤ stray_limit) × IsCommandFormed command
 
 -- ---- in a session
 
@@ -47,39 +52,40 @@ IsPassageOf lab (Passes session caller) =
     × (person_of lab.persons caller.code ≡ Some caller)
 
 passed_is : (lab : Lab) (digest : Option (List ℕ)) (tick : Tick) (command : Command)
-    (session : Session) (caller : Person) → IsWithin lab
+    (session : Session) (caller : Person)
     → session_of lab.sessions session.token ≡ Some session
     → person_of lab.persons caller.code ≡ Some caller
-    → Matches lab (answered lab tick command (Passes session caller))
+    → Matches (Premise lab command) lab (answered lab tick command (Passes session caller))
     (decided_by (slice_for lab digest command) tick command (Passes session caller))
-passed_is lab digest tick command session caller within found there =
+passed_is lab digest tick command session caller found there =
     let now = touched lab tick.moment session in
     let noted = touched_session tick.moment session in
     let done = done_of (slice_for lab digest command) tick noted caller command in
-    let fits = own_fits lab digest session tick noted caller command
-    (session_set noted session lab.sessions found) there in
-    subst (λ case. Matches lab (ended now tick.moment caller.code case)
+    let fits = own_fits (Premise lab command) lab digest session tick noted caller command
+    (λ given. given.1) (session_set noted session lab.sessions found) there in
+    subst (λ case. Matches (Premise lab command) lab (ended now tick.moment caller.code case)
     (ended_done (slice_for lab digest command) tick.moment caller.code
     (touching tick.moment session) done))
     (sym (own_is lab digest session tick noted caller command))
-    (ended_is lab digest command tick.moment session caller.code done within found fits)
+    (ended_is (Premise lab command) lab digest command tick.moment session caller.code done
+    (λ given. given.0) found fits)
 
 answer_is : (lab : Lab) (digest : Option (List ℕ)) (tick : Tick) (command : Command)
-    (passed : Passage) → IsWithin lab → IsPassageOf lab passed
-    → Matches lab (answered lab tick command passed)
+    (passed : Passage) → IsPassageOf lab passed
+    → Matches (Premise lab command) lab (answered lab tick command passed)
     (decided_by (slice_for lab digest command) tick command passed)
-answer_is lab digest tick command Early within is =
-    record { reply = refl; fits = tt; after = refl }
-answer_is lab digest tick command (NeedsNone session) within is = absurd is
-answer_is lab digest tick command Stranger within is =
-    record { reply = refl; fits = tt; after = refl }
-answer_is lab digest tick command (Barred session refusal) within is = record {
+answer_is lab digest tick command Early is =
+    record { reply = refl; fits = λ given. tt; after = refl }
+answer_is lab digest tick command (NeedsNone session) is = absurd is
+answer_is lab digest tick command Stranger is =
+    record { reply = refl; fits = λ given. tt; after = refl }
+answer_is lab digest tick command (Barred session refusal) is = record {
   reply = refl;
-  fits = touching_fits lab tick.moment session is;
+  fits = λ given. touching_fits lab tick.moment session is;
   after = refl;
 }
-answer_is lab digest tick command (Passes session caller) within is =
-    passed_is lab digest tick command session caller within is.0 is.1
+answer_is lab digest tick command (Passes session caller) is =
+    passed_is lab digest tick command session caller is.0 is.1
 
 -- ---- how far an instruction gets
 
@@ -129,104 +135,108 @@ ruled lab session moment rule =
     (session_passage session (caller_of lab session) moment rule)
 
 ruled_is : (lab : Lab) (digest : Option (List ℕ)) (tick : Tick) (command : Command)
-    (session : Option Session) (rule : Rule) → IsWithin lab → IsSessionOf lab session
-    → Matches lab (answered lab tick command (ruled lab session tick.moment rule))
+    (session : Option Session) (rule : Rule) → IsSessionOf lab session
+    → Matches (Premise lab command) lab
+    (answered lab tick command (ruled lab session tick.moment rule))
     (decided_by (slice_for lab digest command) tick command (ruled lab session tick.moment rule))
-ruled_is lab digest tick command session rule within is =
-    answer_is lab digest tick command (ruled lab session tick.moment rule) within
+ruled_is lab digest tick command session rule is =
+    answer_is lab digest tick command (ruled lab session tick.moment rule)
     (early_is (nat_lt tick.moment lab.last) lab
     (session_passage session (caller_of lab session) tick.moment rule)
     (session_is lab session (caller_of lab session) tick.moment rule is refl))
 
 -- by the session of a token
 by_token : (lab : Lab) (tick : Tick) (token : Option (List ℕ)) (command : Command) (rule : Rule)
-    → IsWithin lab
-    → Matches lab (answered lab tick command (ruled lab (named_session lab token) tick.moment rule))
+    → Matches (Premise lab command) lab
+    (answered lab tick command (ruled lab (named_session lab token) tick.moment rule))
     (decided_by (slice_for lab (option_map sha256 token) command) tick command
     (ruled lab (option_and_then (session_at lab) (option_map sha256 token)) tick.moment rule))
-by_token lab tick None command rule within =
-    ruled_is lab None tick command None rule within tt
-by_token lab tick (Some token) command rule within =
-    ruled_is lab (Some (sha256 token)) tick command (session_at lab (sha256 token)) rule within
+by_token lab tick None command rule =
+    ruled_is lab None tick command None rule tt
+by_token lab tick (Some token) command rule =
+    ruled_is lab (Some (sha256 token)) tick command (session_at lab (sha256 token)) rule
     (found_is lab (sha256 token) (session_at lab (sha256 token)) refl)
 
 -- ---- without a session
 
 card_is : (early : Bool) (lab : Lab) (digest : Option (List ℕ)) (tick : Tick)
     (one other : Option Session)
-    → Matches lab (answered lab tick Card (cond early Early (NeedsNone one)))
+    → Matches (Premise lab Card) lab (answered lab tick Card (cond early Early (NeedsNone one)))
     (decided_by (slice_for lab digest Card) tick Card (cond early Early (NeedsNone other)))
-card_is true lab digest tick one other = record { reply = refl; fits = tt; after = refl }
-card_is false lab digest tick one other = record { reply = refl; fits = tt; after = refl }
+card_is true lab digest tick one other = record { reply = refl; fits = λ given. tt; after = refl }
+card_is false lab digest tick one other = record { reply = refl; fits = λ given. tt; after = refl }
 
 open_is : (early : Bool) (lab : Lab) (digest : Option (List ℕ)) (tick : Tick)
-    (code password : List ℕ) (one : Option Session) → IsWithin lab
-    → Matches lab (answered lab tick (Open code password) (cond early Early (NeedsNone one)))
+    (code password : List ℕ) (one : Option Session)
+    → Matches (Premise lab (Open code password)) lab
+    (answered lab tick (Open code password) (cond early Early (NeedsNone one)))
     (decided_by (slice_for lab digest (Open code password)) tick (Open code password)
     (cond early Early (NeedsNone (session_at lab (token_digest tick)))))
-open_is true lab digest tick code password one within =
-    record { reply = refl; fits = tt; after = refl }
-open_is false lab digest tick code password one within =
+open_is true lab digest tick code password one =
+    record { reply = refl; fits = λ given. tt; after = refl }
+open_is false lab digest tick code password one =
     let result = opening code (person_at lab code) password tick (length lab.sessions)
     (session_at lab (token_digest tick)) in
-    subst (λ case. Matches lab (opened lab tick.moment code case)
+    let now = at_moment tick.moment lab in
+    subst (λ case. Matches (Premise lab (Open code password)) lab (opened lab tick.moment code case)
     (opening_ended (slice_for lab digest (Open code password)) tick.moment code
     (opened_done result)))
     (sym (opened_is lab result))
-    (opened_ended lab digest (Open code password) tick.moment code (opened_done result) within
-    (open_fits lab code password tick))
+    (opened_ended (Premise lab (Open code password)) lab digest (Open code password) tick.moment
+    code (opened_done result) (λ given. given.0)
+    (open_fits (Premise lab (Open code password)) now code password tick)
+    (opened_takes lab tick.moment result))
 
 -- ---- each command
 
 pub decided_is : (lab : Lab) (tick : Tick) (token : Option (List ℕ)) (command : Command)
-    → IsWithin lab
-    → Matches lab
+    → Matches (Premise lab command) lab
     (answered lab tick command (passage lab.last (named_session lab token)
     (caller_of lab (named_session lab token)) tick.moment command))
     (decided_by (slice_for lab (token_in tick token command) command) tick command
     (passage lab.last (option_and_then (session_at lab) (token_in tick token command))
     (caller_of lab (option_and_then (session_at lab) (token_in tick token command)))
     tick.moment command))
-decided_is lab tick token Card within =
+decided_is lab tick token Card =
     card_is (nat_lt tick.moment lab.last) lab None tick (named_session lab token) None
-decided_is lab tick token (Open code password) within =
+decided_is lab tick token (Open code password) =
     open_is (nat_lt tick.moment lab.last) lab (Some (token_digest tick)) tick code password
-    (named_session lab token) within
-decided_is lab tick token Close within = by_token lab tick token Close CloseSession within
-decided_is lab tick token (ChangePassword old new) within =
-    by_token lab tick token (ChangePassword old new) ByChangePassword within
-decided_is lab tick token (Enrol code name roles) within =
-    by_token lab tick token (Enrol code name roles) ByEnrol within
-decided_is lab tick token ReadPersons within =
-    by_token lab tick token ReadPersons ByReadPersons within
-decided_is lab tick token (AskIssue code) within =
-    by_token lab tick token (AskIssue code) ByAskIssue within
-decided_is lab tick token (ConfirmIssue code) within =
-    by_token lab tick token (ConfirmIssue code) ByConfirmIssue within
-decided_is lab tick token (SetRoles code roles) within =
-    by_token lab tick token (SetRoles code roles) BySetRoles within
-decided_is lab tick token (Retire code) within =
-    by_token lab tick token (Retire code) ByRetire within
-decided_is lab tick token (Unlock code) within =
-    by_token lab tick token (Unlock code) ByUnlock within
-decided_is lab tick token (MakeForm code form) within =
-    by_token lab tick token (MakeForm code form) ByMakeForm within
-decided_is lab tick token (ReadForm code version) within =
-    by_token lab tick token (ReadForm code version) ByReadForm within
-decided_is lab tick token (OpenRecord form sample) within =
-    by_token lab tick token (OpenRecord form sample) ByOpenRecord within
-decided_is lab tick token (Enter number item reason) within =
-    by_token lab tick token (Enter number item reason) ByEnter within
-decided_is lab tick token (Amend number reason altered) within =
-    by_token lab tick token (Amend number reason altered) ByAmend within
-decided_is lab tick token (Sign number version text signing password code) within =
+    (named_session lab token)
+decided_is lab tick token Close = by_token lab tick token Close CloseSession
+decided_is lab tick token (ChangePassword old new) =
+    by_token lab tick token (ChangePassword old new) ByChangePassword
+decided_is lab tick token (Enrol code name roles) =
+    by_token lab tick token (Enrol code name roles) ByEnrol
+decided_is lab tick token ReadPersons =
+    by_token lab tick token ReadPersons ByReadPersons
+decided_is lab tick token (AskIssue code) =
+    by_token lab tick token (AskIssue code) ByAskIssue
+decided_is lab tick token (ConfirmIssue code) =
+    by_token lab tick token (ConfirmIssue code) ByConfirmIssue
+decided_is lab tick token (SetRoles code roles) =
+    by_token lab tick token (SetRoles code roles) BySetRoles
+decided_is lab tick token (Retire code) =
+    by_token lab tick token (Retire code) ByRetire
+decided_is lab tick token (Unlock code) =
+    by_token lab tick token (Unlock code) ByUnlock
+decided_is lab tick token (MakeForm code form) =
+    by_token lab tick token (MakeForm code form) ByMakeForm
+decided_is lab tick token (ReadForm code version) =
+    by_token lab tick token (ReadForm code version) ByReadForm
+decided_is lab tick token (OpenRecord form sample) =
+    by_token lab tick token (OpenRecord form sample) ByOpenRecord
+decided_is lab tick token (Enter number item reason) =
+    by_token lab tick token (Enter number item reason) ByEnter
+decided_is lab tick token (Amend number reason altered) =
+    by_token lab tick token (Amend number reason altered) ByAmend
+decided_is lab tick token (Sign number version text signing password code) =
     by_token lab tick token (Sign number version text signing password code)
-    (signing_rule signing) within
-decided_is lab tick token (ReadRecord number) within =
-    by_token lab tick token (ReadRecord number) ByReadRecord within
-decided_is lab tick token (ReadVersion number version) within =
-    by_token lab tick token (ReadVersion number version) ByReadVersion within
-decided_is lab tick token (ReadRecords from to) within =
-    by_token lab tick token (ReadRecords from to) ByReadRecords within
-decided_is lab tick token (ReadTrail from to) within =
-    by_token lab tick token (ReadTrail from to) ByReadTrail within
+    (signing_rule signing)
+decided_is lab tick token (ReadRecord number) =
+    by_token lab tick token (ReadRecord number) ByReadRecord
+decided_is lab tick token (ReadVersion number version) =
+    by_token lab tick token (ReadVersion number version) ByReadVersion
+decided_is lab tick token (ReadRecords from to) =
+    by_token lab tick token (ReadRecords from to) ByReadRecords
+decided_is lab tick token (ReadTrail from to) =
+    by_token lab tick token (ReadTrail from to) ByReadTrail

@@ -8,6 +8,7 @@ use Rattle.lab_access.specs.Attempts.{signing_attempt}
 use Rattle.lab_people.specs.Accounts.{changing, enrolling, setting_roles, retiring, unlocking}
 use Rattle.lab_people.specs.Issues.{asking, confirming}
 use Rattle.lab_kept.specs.declared.labs.Lab.{Lab}
+use Rattle.lab_kept.specs.declared.trails.Deed.TheVariants.{Issue as IssueDeed, Confirm as ConfirmDeed, Roles as RolesDeed, Retire as RetireDeed, Unlock as UnlockDeed}
 use Rattle.lab_kept.specs.Lookups.{person_at, last_form, exact_form, record_of, record_about}
 use Rattle.lab_rules.specs.declared.outcomes.Signing.{Signing}
 use Rattle.lab_rules.specs.declared.refusals.Refusal.TheVariants.{CodeWanted}
@@ -17,11 +18,11 @@ use Rattle.lab_rules.specs.Reading.{reading_form, reading_record, reading_versio
 use Rattle.lab_rules.specs.Signing.{is_code_wanted, signing_record}
 use Rattle.lab_machine.specs.declared.commands.Command.{Command}
 use Rattle.lab_machine.specs.declared.commands.Command.TheVariants.{Card, Open, Close, ChangePassword, Enrol, ReadPersons, AskIssue, ConfirmIssue, SetRoles, Retire, Unlock, MakeForm, ReadForm, OpenRecord, Enter, Amend, Sign, ReadRecord, ReadVersion, ReadRecords, ReadTrail}
-use Rattle.lab_machine.specs.declared.replies.Reply.TheVariants.{FormRead, RecordRead, VersionRead}
+use Rattle.lab_machine.specs.declared.replies.Reply.TheVariants.{HalfTold, RolesSet, PersonDone, FormRead, RecordRead, VersionRead}
 use Rattle.lab_machine.specs.Own.{own, enrolled_case, asked_case, confirmed_case, roles_case, retired_case, unlocked_case, form_case, record_case, entry_case, amendment_case, signature_case, signing_by}
 use Rattle.lab_machine.specs.Machine.{touched}
 use Rattle.lab_commands.specs.Doing.{done_of, enrolled_done, asked_done, confirmed_done, roles_done, retired_done, unlocked_done, form_done, record_done, entry_done, amendment_done, signature_done, signing_done}
-use Rattle.lab_decisions.proofs.OwnCases.{case_of, slice_for, then_case_is, then_person_is, then_read_is, wanted_is, changed_is}
+use Rattle.lab_decisions.proofs.OwnCases.{case_of, slice_for, then_case_is, then_person_is, then_read_is, wanted_is, person_is, changed_is}
 
 -- what follows the password of a signing
 signing_is : (lab : Lab) (digest : Option (List ℕ)) (old : Session) (moment : ℕ) (session : Session)
@@ -58,23 +59,31 @@ own_is lab digest old tick session caller ReadPersons = refl
 own_is lab digest old tick session caller (AskIssue code) =
     let now = touched lab tick.moment old in
     then_person_is now (asking caller.code (person_at lab code) tick) (asked_case now) asked_done
-    (λ issued. refl)
+    (λ issued. person_is now (HalfTold issued.half) (IssueDeed issued.person.code) issued.person
+    issued.closing)
 own_is lab digest old tick session caller (ConfirmIssue code) =
     let now = touched lab tick.moment old in
     then_person_is now (confirming caller.code (person_at lab code) tick) (confirmed_case now)
-    confirmed_done (λ issued. refl)
+    confirmed_done
+    (λ issued. person_is now (HalfTold issued.half) (ConfirmDeed issued.person.code) issued.person
+    issued.closing)
 own_is lab digest old tick session caller (SetRoles code roles) =
     let now = touched lab tick.moment old in
     then_person_is now (setting_roles caller.code (person_at lab code) roles) (roles_case now)
-    roles_done (λ effect. refl)
+    roles_done
+    (λ effect. person_is now (RolesSet effect.person.code effect.person.roles)
+    (RolesDeed effect.person.code effect.person.roles) effect.person effect.closing)
 own_is lab digest old tick session caller (Retire code) =
     let now = touched lab tick.moment old in
     then_person_is now (retiring caller.code (person_at lab code)) (retired_case now) retired_done
-    (λ effect. refl)
+    (λ effect. person_is now (PersonDone effect.person.code) (RetireDeed effect.person.code)
+    effect.person effect.closing)
 own_is lab digest old tick session caller (Unlock code) =
     let now = touched lab tick.moment old in
     then_person_is now (unlocking caller.code (person_at lab code)) (unlocked_case now)
-    unlocked_done (λ effect. refl)
+    unlocked_done
+    (λ effect. person_is now (PersonDone effect.person.code) (UnlockDeed effect.person.code)
+    effect.person effect.closing)
 own_is lab digest old tick session caller (MakeForm code form) =
     let now = touched lab tick.moment old in
     then_case_is now (making code form (last_form lab.forms code)) (form_case now) form_done

@@ -97,7 +97,7 @@ opening_ended slice moment code (Failed occasion failure) =
     (Last moment ∷ failing slice.counts.trail slice.strays moment occasion failure)
 opening_ended slice moment code (Read reply) = outcome reply []
 opening_ended slice moment code (Made reply deed own) =
-    ended_made [] slice.counts.trail moment code reply deed (own ++ Last moment ∷ [])
+    ended_made [] slice.counts.trail moment code reply deed (Last moment ∷ own)
 
 -- a command that asks for no session; the part brings the session that has an opening's token
 abbrev pub decided_without : Slice → Tick → Option Session → Command → Outcome

@@ -2,6 +2,7 @@
 ghost use Rattle.std.specs.Prelude.{◌≡◌, ◌++◌, ◌∷◌, [], Some, IfOk};
 ghost use Rattle.lab_kept.specs.Trails.{row_of};
 ghost use Rattle.lab_machine.specs.Machine.{passage};
+ghost use Rattle.lab_laws.specs.Asking.{IsCommandFormed};
 ghost use Rattle.lab_commands.specs.Doing.{done_of};
 ghost use Rattle.lab_decisions.specs.Deciding.{failing, outcome, ended_made, ended_by, ended_done, touching, opening_ended, decided_without, decided_by, decided};
 
@@ -16,19 +17,30 @@ use lab_rules::{Refusal, Typed};
 use std::alloc::Global;
 
 /// What is decided of a command at a tick, on the part of a laboratory that it needs: the reply, and the changes, in order.
-/// The only error is out of memory.
+/// The only error is out of memory. If the command makes a form, it is one, as `what_is_decided` wants it.
 pub fn decide(
     alloc: Global,
     slice: Slice,
     tick: &Tick,
     command: Command,
 ) -> Result<Outcome, OutOfMemory>
-    ensures { IfOk result (λ outcome. outcome ≡ decided slice tick.now command) }
+    ensures decided { IfOk result (λ outcome. outcome ≡ decided slice tick.now command) }
+    ensures formed { IsCommandFormed command }
 {
+    formed(&command);
     let mut slice = slice;
     let outcome = decide_on(alloc, &mut slice, tick, command);
     drop(slice);
     outcome
+}
+
+// The form that a command makes is one, as every form is.
+fn formed(command: &Command)
+    ensures { IsCommandFormed command.now }
+{
+    if let Command::MakeForm { form, .. } = command {
+        let _fields = form.fields();
+    }
 }
 
 // What is left of the part isn't said.
@@ -263,9 +275,9 @@ fn opening_made(
     own: Series<Change>,
 ) -> Result<Outcome, OutOfMemory>
     ensures { IfOk result (λ outcome. outcome
-        ≡ ended_made [] rows moment code.now reply deed (own ++ Change.Last moment ∷ [])) }
+        ≡ ended_made [] rows moment code.now reply deed (Change.Last moment ∷ own)) }
 {
-    match with_last(own, moment) {
+    match with_moment(alloc, moment, own) {
         Ok(own) => ended_made(
             alloc,
             Series::new(alloc),
@@ -284,13 +296,21 @@ fn opening_made(
     }
 }
 
-// Changes, and the moment of the last activity behind them.
-fn with_last(own: Series<Change>, moment: Moment) -> Result<Series<Change>, OutOfMemory>
-    ensures { IfOk result (λ changes. changes ≡ own ++ Change.Last moment ∷ []) }
+// The moment of the last activity, and changes behind it.
+fn with_moment(
+    alloc: Global,
+    moment: Moment,
+    own: Series<Change>,
+) -> Result<Series<Change>, OutOfMemory>
+    ensures { IfOk result (λ changes. changes ≡ Change.Last moment ∷ own) }
 {
-    let mut own = own;
-    own.push(Change::Last(moment))?;
-    Ok(own)
+    match single(alloc, Change::Last(moment)) {
+        Ok(first) => joined(first, own),
+        Err(fault) => {
+            drop(own);
+            Err(fault)
+        }
+    }
 }
 
 // A command in a session: its request is taken note of before all.

@@ -1,17 +1,17 @@
 //! Law: what is decided on a part is the step of the whole laboratory.
 ghost use Rattle.lab_names.specs.declared.tick.Tick.{Tick};
 ghost use Rattle.lab_kept.specs.declared.labs.Lab.{Lab};
-ghost use Rattle.lab_kept.specs.Limits.{IsWithin};
 ghost use Rattle.lab_kept.specs.Parts.{part};
 ghost use Rattle.lab_machine.specs.declared.commands.Instruction.{Instruction};
 ghost use Rattle.lab_machine.specs.Needs.{need_of};
 ghost use Rattle.lab_decisions.specs.Deciding.{decided};
 ghost use Rattle.lab_decisions.specs.Coming.{Does};
 
-/// Law: what is decided on the part that an instruction needs, of a laboratory within its limits, has the reply of the step, its changes fit one after the other,
-/// and they make of the laboratory what the step makes.
+/// Law: what is decided on the part that an instruction needs, of any laboratory, has the reply of the step, and its changes
+/// make of the laboratory what the step makes; the first of them notes the moment. They fit one after the other, where the
+/// count of strays isn't above its limit and a form that is to be made is one, as every `Form` is.
 pub fn what_is_decided()
-    ensures { (lab : Lab) (tick : Tick) (instruction : Instruction) → IsWithin lab
+    ensures { (lab : Lab) (tick : Tick) (instruction : Instruction)
         → Does lab tick instruction
         (decided (part (need_of tick instruction) lab) tick instruction.command) }
 {}

@@ -1,8 +1,9 @@
 -- Changes of a laboratory: what each makes of it, and which fit it. Each adds something under its
 -- next number, or sets what is there; none takes anything away (21 CFR 11.10(e), "record changes
 -- shall not obscure previously recorded information").
-use Rattle.std.specs.Prelude.{◌≡◌, ◌≢◌, ◌⊎◌, ◌≤◌, ℕ, ◌+◌, All, option_map, List, [], ◌∷◌, ◌++◌, length, Option, Some, None, IsSome, MatchOption, bytes_eq, if◌then◌else◌}
+use Rattle.std.specs.Prelude.{◌≡◌, ◌≢◌, ◌⊎◌, ◌≤◌, ℕ, ◌+◌, All, option_map, List, [], ◌∷◌, ◌++◌, length, Option, Some, None, IsSome, IsTrue, MatchOption, bytes_eq, if◌then◌else◌}
 use Rattle.std.specs.List.{insert, position_or_len}
+use Rattle.lab_forms.specs.Forms.{is_form}
 use Rattle.lab_access.specs.declared.persons.Person.{Person}
 use Rattle.lab_access.specs.declared.sessions.Session.{Session}
 use Rattle.lab_access.specs.Persons.{person_of}
@@ -179,11 +180,14 @@ abbrev pub IsAskKnown : Lab → Option Ask → Option Ask → Type 0
 IsAskKnown lab old new =
     (new ≡ old) ⊎ IsKnownIfAny lab (option_map (λ ask. ask.asker) new)
 
--- what is added comes under its next number and brings no key twice, and what is set is there
+-- what is added comes under its next number and brings no key twice, nor does a form among its
+-- fields; who asked for something is known, and what is set is there
 abbrev pub Fits : Lab → Change → Type 0
 Fits lab (Last moment) = Unit {0}
 Fits lab (Strays count) = count ≤ stray_limit
-Fits lab (PersonAdded person) = person_of lab.persons person.code ≡ None
+Fits lab (PersonAdded person) =
+    (person_of lab.persons person.code ≡ None)
+    × IsKnownIfAny lab (option_map (λ ask. ask.asker) person.ask)
 Fits lab (PersonSet person) =
     MatchOption (person_of lab.persons person.code) ⊥
     (λ old. SamePerson old person × IsAskKnown lab old.ask person.ask)
@@ -193,7 +197,9 @@ Fits lab (SessionAdded session) =
 Fits lab (SessionSet session) =
     MatchOption (session_of lab.sessions session.token) ⊥ (λ old. SameSession old session)
 Fits lab (SessionsClosed person closing) = Unit {0}
-Fits lab (FormAdded form) = form.version ≡ next_form_version (last_form lab.forms form.code)
+Fits lab (FormAdded form) =
+    (form.version ≡ next_form_version (last_form lab.forms form.code))
+    × IsTrue (is_form form.form.fields)
 Fits lab (RecordAdded kept) = IsNewRecord lab kept
 Fits lab (RowAdded number row) =
     IsSome (last_version lab number) × IsKnown lab row.person

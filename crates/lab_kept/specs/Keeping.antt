@@ -1,7 +1,7 @@
 -- What a laboratory keeps from one event to the next (21 CFR 11.10(e), "record changes shall not
 -- obscure previously recorded information", and 11.100(a), a signature is not reassigned), and what
 -- the trail tells where its records differ.
-use Rattle.std.specs.Prelude.{◌≡◌, ◌≢◌, ◌⊎◌, ℕ, ◌+◌, List, [], ◌∷◌, ◌++◌, length, Option, Some, MatchOption, All, option_map, option_and_then}
+use Rattle.std.specs.Prelude.{◌≡◌, ◌≢◌, ◌⊎◌, ℕ, ◌+◌, List, [], ◌∷◌, ◌++◌, length, Option, Some, IsSome, MatchOption, All, option_map, option_and_then}
 use Rattle.lab_access.specs.declared.persons.Person.{Person}
 use Rattle.lab_access.specs.Persons.{person_of}
 use Rattle.lab_versions.specs.declared.rows.EntryRow.{EntryRow}
@@ -14,7 +14,7 @@ use Rattle.lab_kept.specs.declared.trails.Deed.{Deed}
 use Rattle.lab_kept.specs.declared.trails.Deed.TheVariants.{Record, Entry, Amend, Sign}
 use Rattle.lab_kept.specs.declared.labs.Lab.{Lab}
 use Rattle.lab_kept.specs.Trails.{row_of}
-use Rattle.lab_kept.specs.Lookups.{exact_form, record_of, last_of}
+use Rattle.lab_kept.specs.Lookups.{exact_form, record_of, last_of, version_of}
 use Rattle.lab_kept.specs.Changes.{SamePerson, SameSession, IsKnown, in_record, entered_in, opened_in, signed_in}
 
 -- each item of the old list stands in its place in the new one, related to it so; the new one may
@@ -79,6 +79,11 @@ last_number records number =
     option_map (λ version. version.origin.number)
     (option_and_then (λ kept. last_of kept.versions) (record_of records number))
 
+-- a record's version of a number is there
+abbrev pub HasVersion : List KeptRecord → ℕ → ℕ → Type 0
+HasVersion records number version =
+    IsSome (option_and_then (λ kept. version_of kept.versions version) (record_of records number))
+
 -- a row of an amendment bears its person, its moment and its reason
 pub record IsAmended (opened : Version) (moment : ℕ) (person : List ℕ) (row : EntryRow)
     : Type 0 where
@@ -105,10 +110,14 @@ pub record IsRowAdded (old new : List KeptRecord) (number version : ℕ) (key : 
   pub at : row.moment ≡ moment
 
 -- a version was opened by an amendment of the person at the moment, and stands behind those of its
--- record: it has rows, all of them the amendment's, and no signatures
+-- record, which has some, under the number after the last: it has rows, all of them the
+-- amendment's, and no signatures
 pub record IsVersionAdded (old new : List KeptRecord) (number version moment : ℕ)
     (person : List ℕ) : Type 0 where
   pub opened : Version
+  pub last : ℕ
+  pub before : last_number old number ≡ Some last
+  pub next : version ≡ last + 1
   pub added : new ≡ in_record number (opened_in opened) old
   pub numbered : opened.origin.number ≡ version
   pub by : opened.opener ≡ person
@@ -121,11 +130,12 @@ pub record IsVersionAdded (old new : List KeptRecord) (number version moment : �
 abbrev pub IsNamed : List Person → List ℕ → List ℕ → Type 0
 IsNamed persons code name = MatchOption (person_of persons code) ⊥ (λ one. name ≡ one.name)
 
--- a signature of the person at the moment was added to the version; it bears the printed name of
--- its signer, its moment and its meaning (21 CFR 11.50(a))
+-- a signature of the person at the moment was added to the version, which was there; it bears the
+-- printed name of its signer, its moment and its meaning (21 CFR 11.50(a))
 pub record IsSignatureAdded (persons : List Person) (old new : List KeptRecord)
     (number version : ℕ) (meaning : Meaning) (moment : ℕ) (person : List ℕ) : Type 0 where
   pub signature : Signature
+  pub there : HasVersion old number version
   pub added : new ≡ in_record number (signed_in version signature) old
   pub meant : signature.meaning ≡ meaning
   pub by : signature.person ≡ person

@@ -26,6 +26,8 @@ pub record World : Type 1 where
   pub may_refuse : Type 0
   -- a crash at this moment may leave laboratories of this meaning
   pub may_leave : Meaning → Type 0
+  -- the tables are well kept that a crash at this moment may leave, whichever of them it leaves
+  pub is_safe : Type 0
 
 -- ---- meanings
 
@@ -89,9 +91,14 @@ CommitsAs Makes old new =
     old.is_live → (held : Meaning) → new.may_leave held
     → old.may_leave held ⊎ Makes old.meaning held
 
--- only what is kept
+-- only what is kept, in tables that are well kept
 abbrev pub IsSettled : World → Type 0
-IsSettled world = (held : Meaning) → world.may_leave held → SameMeaning world.meaning held
+IsSettled world =
+    ((held : Meaning) → world.may_leave held → SameMeaning world.meaning held) × world.is_safe
+
+-- tables that are well kept, where before the call it was such alone
+abbrev pub StaysSafe : World → World → Type 0
+StaysSafe old new = old.is_live → old.is_safe → new.is_safe
 
 -- ---- faults
 

@@ -10,7 +10,7 @@ ghost use Rattle.lab_kept.specs.declared.faults.PlacingFault.TheVariants.{LabExi
 ghost use Rattle.lab_kept.specs.Births.{newborn_lab};
 ghost use Rattle.lab_kept.specs.Parts.{part_of};
 ghost use Rattle.lab_kept.specs.Changes.{ChangesFit};
-ghost use Rattle.lab_kept.specs.Worlds.{World, Changes, Places, Passes, Given, Lives, Leaves, Quiet, CommitsAs, IsSettled, KeeperFaultFits, PlacingFaultFits, OnPlaced};
+ghost use Rattle.lab_kept.specs.Worlds.{World, Meaning as AnyMeaning, Changes, Places, Passes, Given, Lives, Leaves, Quiet, CommitsAs, IsSettled, StaysSafe, KeeperFaultFits, PlacingFaultFits, OnPlaced};
 
 use crate::births::Newborn;
 use crate::changes::Change;
@@ -45,6 +45,8 @@ pub trait Keeper {
         ensures fault { IfErr result (KeeperFaultFits (world self.old).may_refuse) }
         ensures crash { Given (world self.old) (world self.new)
             (Quiet (world self.old) (world self.new)) }
+        ensures safe { Given (world self.old) (world self.new)
+            (StaysSafe (world self.old) (world self.new)) }
         ensures reached { Given (world self.old) (world self.new) (world self.new).is_reached }
         ensures passes { Passes (world self.old) (world self.new) };
 
@@ -62,6 +64,9 @@ pub trait Keeper {
         ensures crash { ChangesFit ((world self.old).meaning code.now) changes →
             Given (world self.old) (world self.new)
             (CommitsAs (Changes code.now changes) (world self.old) (world self.new)) }
+        ensures safe { ChangesFit ((world self.old).meaning code.now) changes →
+            Given (world self.old) (world self.new)
+            (StaysSafe (world self.old) (world self.new)) }
         ensures settled { ChangesFit ((world self.old).meaning code.now) changes →
             changes ≢ [] →
             Given (world self.old) (world self.new) (OnOk result (IsSettled (world self.new))) }
@@ -101,6 +106,8 @@ pub trait Keeper {
         ensures crash { Given (world self.old) (world self.new)
             (CommitsAs (Places (newborn_lab newborn)) (world self.old)
             (world self.new)) }
+        ensures safe { Given (world self.old) (world self.new)
+            (StaysSafe (world self.old) (world self.new)) }
         ensures settled { Given (world self.old) (world self.new)
             (OnOk result (IsSettled (world self.new))) }
         ensures quiet { result ≡ Err LabExists →
@@ -112,6 +119,11 @@ pub trait Keeper {
     ghost kept: { (keeper : Self) (code : List ℕ) (lab : WholeLab) → (world keeper).is_honest →
         (world keeper).is_live → (world keeper).is_reached →
         (world keeper).meaning code ≡ Some lab → lab.code ≡ code };
+
+    /// So is one that a crash leaves, where it leaves well-kept tables alone.
+    ghost kept_left: { (keeper : Self) (held : AnyMeaning) (code : List ℕ) (lab : WholeLab) →
+        (world keeper).is_honest → (world keeper).is_live → (world keeper).is_safe →
+        (world keeper).may_leave held → held code ≡ Some lab → lab.code ≡ code };
 
     /// Rows that nobody touched are as they were.
     ghost still: { (keeper : Self) → rests keeper keeper };

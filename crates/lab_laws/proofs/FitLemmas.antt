@@ -1,8 +1,8 @@
 -- Changes that forms, records, entries and amendments make fit the laboratory.
 use Rattle.std.proofs.Common.{◌≡◌, ℕ, List, length, Option, Some, None, Ok, refl, sym, ◌∙◌, ap, subst}
-use Rattle.std.specs.Prelude.{is_some, MatchOption, option_and_then}
+use Rattle.std.specs.Prelude.{is_some, IsTrue, MatchOption, option_and_then}
 use Rattle.std.proofs.lemmas.List.Elements.{All-map}
-use Rattle.lab_forms.specs.Forms.{FormSheet}
+use Rattle.lab_forms.specs.Forms.{FormSheet, is_form}
 use Rattle.lab_kept.specs.declared.labs.Lab.{Lab}
 use Rattle.lab_kept.specs.declared.records.FormVersion.{FormVersion}
 use Rattle.lab_kept.specs.declared.records.Record.{Record}
@@ -21,11 +21,15 @@ use Rattle.lab_laws.proofs.LimitCases.{own_number}
 
 -- a version of a form that is made
 pub form_fits : (lab : Lab) (code : List ℕ) (form : FormSheet) (made : FormVersion)
-    → making code form (last_form lab.forms code) ≡ Ok made → Fits lab (FormAdded made)
-form_fits lab code form made is =
+    → making code form (last_form lab.forms code) ≡ Ok made → IsTrue (is_form form.fields)
+    → Fits lab (FormAdded made)
+form_fits lab code form made is formed =
     let by : IsFormMade code form (last_form lab.forms code) made =
-    form_made_by code form (last_form lab.forms code) made is in
-    subst (λ c. made.version ≡ next_form_version (last_form lab.forms c)) (sym by.code_is) by.next
+    form_made_by code form (last_form lab.forms code) made is in (
+      subst (λ c. made.version ≡ next_form_version (last_form lab.forms c)) (sym by.code_is)
+          by.next,
+      subst (λ f. IsTrue (is_form f.fields)) (sym by.form_is) formed,
+    )
 
 -- a record that is opened by somebody of the laboratory
 pub record_fits : (lab : Lab) (form sample caller : List ℕ) (moment : ℕ) (made : Record)

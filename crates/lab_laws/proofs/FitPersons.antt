@@ -32,7 +32,8 @@ enrolled_fits lab code name roles made is =
     let free = not_refused (is_some (person_at lab code)) _ _ made is in
     let room = not_refused (nat_le person_limit (length lab.persons)) _ _ made free.1 in
     let same : made ≡ newcomer code name roles = given _ _ room.1 in
-    subst (λ one. Fits lab (PersonAdded one)) (sym same) (is_nobody (person_at lab code) free.0)
+    subst (λ one. Fits lab (PersonAdded one)) (sym same)
+    (is_nobody (person_at lab code) free.0, record {})
 
 -- what an opening gives: a session under the next number
 numbered_gives : (ordinal : Bool) (number : ℕ) (code : List ℕ) (tick : Tick) (person : Person)

@@ -1,7 +1,8 @@
 -- What the cases of forms, records and signatures keep, and what they do to the records.
 use Rattle.std.proofs.Common.{◌≡◌, ℕ, ◌+◌, Bool, true, false, cond, not, List, [], ◌∷◌, ◌++◌, length, Option, Some, None, Result, Ok, Err, refl, sym, ◌∙◌, ap, subst, inl, inr}
-use Rattle.std.specs.Prelude.{◌||◌, ◌&&◌, nat_lt, nat_le, is_none, option_map, option_and_then, IsSome, MatchOption}
+use Rattle.std.specs.Prelude.{◌||◌, ◌&&◌, nat_lt, nat_le, is_none, is_some, option_map, option_and_then, IsSome, MatchOption}
 use Rattle.std.specs.Option.{option_map_or}
+use Rattle.std.specs.Cmp.{unsigned_Decides}
 use Rattle.std.proofs.lemmas.List.Elements.{All-map}
 use Rattle.lab_forms.specs.Forms.{FormSheet, form_eq}
 use Rattle.lab_access.specs.declared.persons.Person.{Person}
@@ -19,10 +20,10 @@ use Rattle.lab_kept.specs.declared.records.Version.{Version}
 use Rattle.lab_kept.specs.declared.trails.Deed.{Deed}
 use Rattle.lab_kept.specs.declared.trails.Deed.TheVariants.{Record as RecordDeed, Entry as EntryDeed, Amend as AmendDeed}
 use Rattle.lab_kept.specs.Limits.{AreFormsNumbered, form_version_limit, record_limit, row_limit, version_limit}
-use Rattle.lab_kept.specs.Lookups.{last_form, next_form_version, record_of, version_of, last_of}
+use Rattle.lab_kept.specs.Lookups.{last_form, next_form_version, record_of, version_of, is_numbered, last_of}
 use Rattle.lab_kept.specs.Values.{version_state}
 use Rattle.lab_kept.specs.Changes.{IsKnown, in_record, entered_in, opened_in, signed_in}
-use Rattle.lab_kept.specs.Keeping.{Extends, KeepsRecord, IsDoneTo, IsAmended}
+use Rattle.lab_kept.specs.Keeping.{Extends, KeepsRecord, IsDoneTo, IsAmended, HasVersion, last_number}
 use Rattle.lab_rules.specs.declared.items.Item.{Item}
 use Rattle.lab_rules.specs.declared.outcomes.Signing.{Signing}
 use Rattle.lab_rules.specs.declared.outcomes.EntryMade.{EntryMade}
@@ -35,6 +36,7 @@ use Rattle.lab_rules.specs.Entering.{is_open, has_settled, entered_row, item_ref
 use Rattle.lab_rules.specs.Signing.{is_code_wanted, version_refusal, new_signature, signature_made, signing_version, signing_record}
 use Rattle.lab_machine.specs.Cases.{Case, Refuses}
 use Rattle.lab_machine.specs.Own.{form_case, record_case, entry_case, amendment_case, signature_case, signing_by}
+use Rattle.lab_laws.proofs.LimitLast.{found_passes}
 use Rattle.lab_laws.proofs.KeepPersons.{IsSet, set_from, set_keeps, persons_itself, sessions_itself, with_session_keeps}
 use Rattle.lab_laws.proofs.KeepForms.{forms_itself, form_added_keeps}
 use Rattle.lab_laws.proofs.KeepRecords.{records_itself, records_more, in_record_keeps, entered_in_keeps, opened_in_keeps, signed_in_keeps, found_number, open_unsigned}
@@ -224,22 +226,29 @@ entered_found records number lab (Some kept) item reason person moment made ther
     entered_last records lab kept (last_of kept.versions) item reason person moment made
     (found_own records number kept there) refl h
 
+-- the last version of a record that is there has its number
+numbered_last : (records : List KeptRecord) (kept : KeptRecord) (last : Version)
+    → record_of records kept.number ≡ Some kept → last_of kept.versions ≡ Some last
+    → last_number records kept.number ≡ Some last.origin.number
+numbered_last records kept last there at =
+    let number_of : Option KeptRecord → Option ℕ = λ found.
+    option_map (λ version. version.origin.number)
+    (option_and_then (λ kept. last_of kept.versions) found) in
+    ap number_of there ∙ ap (option_map (λ version. version.origin.number)) at
+
 row_entered : (lab : Lab) (person : List ℕ) (moment : ℕ) (kept : KeptRecord) (last : Version)
     (row : EntryRow) → record_of lab.records kept.number ≡ Some kept
     → last_of kept.versions ≡ Some last → last.signatures ≡ [] → row.person ≡ person
     → row.moment ≡ moment → IsKnown lab person
     → CaseKeeps lab moment person (entry_case lab (entry_made lab.code kept last row))
 row_entered lab person moment kept last row there at unsigned by moment_is known =
-    let number_of : Option KeptRecord → Option ℕ = λ found.
-    option_map (λ version. version.origin.number)
-    (option_and_then (λ kept. last_of kept.versions) found) in
     records_made lab (in_record kept.number (entered_in row) lab.records)
     (EntryDeed kept.number last.origin.number row.key) moment person known
     (in_record_keeps kept.number (entered_in row) lab.records kept there
     (entered_in_keeps row kept last at unsigned))
     (record {
       row = row;
-      last = ap number_of there ∙ ap (option_map (λ version. version.origin.number)) at;
+      last = numbered_last lab.records kept last there at;
       added = refl;
       under = refl;
       by = by;
@@ -275,17 +284,19 @@ record IsVersionMade (records : List KeptRecord) (lab person : List ℕ) (moment
   pub one : Item
   pub others : List Item
   pub there : record_of records kept.number ≡ Some kept
+  pub at : last_of kept.versions ≡ Some last
   pub is : amendment_made lab kept (next_version lab kept last reason (one ∷ others) person moment)
       ≡ made
 
 amended_reason : (records : List KeptRecord) (lab : List ℕ) (kept : KeptRecord) (last : Version)
     (reason : Option (List ℕ)) (altered : List Item) (person : List ℕ) (moment : ℕ)
     (made : AmendmentMade) → record_of records kept.number ≡ Some kept
+    → last_of kept.versions ≡ Some last
     → amending_by lab kept last reason altered person moment ≡ Ok made
     → IsVersionMade records lab person moment made
-amended_reason records lab kept last None altered person moment made there h = absurd (cc)
-amended_reason records lab kept last (Some reason) [] person moment made there h = absurd (cc)
-amended_reason records lab kept last (Some reason) (one ∷ others) person moment made there h =
+amended_reason records lab kept last None altered person moment made there at h = absurd (cc)
+amended_reason records lab kept last (Some reason) [] person moment made there at h = absurd (cc)
+amended_reason records lab kept last (Some reason) (one ∷ others) person moment made there at h =
     record {
       kept = kept;
       last = last;
@@ -293,6 +304,7 @@ amended_reason records lab kept last (Some reason) (one ∷ others) person momen
       one = one;
       others = others;
       there = there;
+      at = at;
       is = amended_by (first_altered_refusal kept (one ∷ others))
           (nat_le version_limit last.origin.number || nat_lt row_limit (length (one ∷ others)))
           (amendment_made lab kept (next_version lab kept last reason (one ∷ others) person moment))
@@ -307,11 +319,12 @@ settled_by false next made h = absurd (cc)
 amended_last : (records : List KeptRecord) (lab : List ℕ) (kept : KeptRecord)
     (last : Option Version) (reason : Option (List ℕ)) (altered : List Item) (person : List ℕ)
     (moment : ℕ) (made : AmendmentMade) → record_of records kept.number ≡ Some kept
+    → last_of kept.versions ≡ last
     → amending_of lab kept last reason altered person moment ≡ Ok made
     → IsVersionMade records lab person moment made
-amended_last records lab kept None reason altered person moment made there h = absurd (cc)
-amended_last records lab kept (Some last) reason altered person moment made there h =
-    amended_reason records lab kept last reason altered person moment made there
+amended_last records lab kept None reason altered person moment made there at h = absurd (cc)
+amended_last records lab kept (Some last) reason altered person moment made there at h =
+    amended_reason records lab kept last reason altered person moment made there at
     (settled_by (has_settled (version_state kept last))
     (amending_by lab kept last reason altered person moment) made h)
 
@@ -323,14 +336,15 @@ amended_found : (records : List KeptRecord) (number : ℕ) (lab : List ℕ) (fou
 amended_found records number lab None reason altered person moment made there h = absurd (cc)
 amended_found records number lab (Some kept) reason altered person moment made there h =
     amended_last records lab kept (last_of kept.versions) reason altered person moment made
-    (found_own records number kept there) h
+    (found_own records number kept there) refl h
 
 version_made : (lab : Lab) (person : List ℕ) (moment : ℕ) (kept : KeptRecord) (last : Version)
     (reason : List ℕ) (one : Item) (others : List Item)
-    → record_of lab.records kept.number ≡ Some kept → IsKnown lab person
+    → record_of lab.records kept.number ≡ Some kept → last_of kept.versions ≡ Some last
+    → IsKnown lab person
     → CaseKeeps lab moment person (amendment_case lab (amendment_made lab.code kept
     (next_version lab.code kept last reason (one ∷ others) person moment)))
-version_made lab person moment kept last reason one others there known =
+version_made lab person moment kept last reason one others there at known =
     let opened = next_version lab.code kept last reason (one ∷ others) person moment in
     records_made lab (in_record kept.number (opened_in opened) lab.records)
     (AmendDeed kept.number opened.origin.number) moment person known
@@ -338,6 +352,9 @@ version_made lab person moment kept last reason one others there known =
     (opened_in_keeps opened kept))
     (record {
       opened = opened;
+      last = last.origin.number;
+      before = numbered_last lab.records kept last there at;
+      next = refl;
       added = refl;
       numbered = refl;
       by = refl;
@@ -358,7 +375,7 @@ amendment_keeps lab number reason altered person moment made known h =
     altered person moment made refl h in
     subst (λ one. CaseKeeps lab moment person (amendment_case lab one)) amended.is
     (version_made lab person moment amended.kept amended.last amended.reason amended.one
-    amended.others amended.there known)
+    amended.others amended.there amended.at known)
 
 -- ---- signatures
 
@@ -372,21 +389,42 @@ record IsSignatureMade (records : List KeptRecord) (person name : List ℕ) (mom
     (made : SignatureMade) : Type 0 where
   pub kept : KeptRecord
   pub there : record_of records made.number ≡ Some kept
+  pub version : HasVersion records made.number made.version
   pub by : made.signature.person ≡ person
   pub named : made.signature.name ≡ name
   pub at : made.signature.moment ≡ moment
 
-signed_version : (records : List KeptRecord) (lab : List ℕ) (kept : KeptRecord)
+-- a version that is found in a record that is there is found by its own number
+version_found : (records : List KeptRecord) (kept : KeptRecord) (number : ℕ) (version : Version)
+    → record_of records kept.number ≡ Some kept → version_of kept.versions number ≡ Some version
+    → HasVersion records kept.number version.origin.number
+version_found records kept number version there at =
+    let own : version.origin.number ≡ number = (unsigned_Decides version.origin.number number).0
+    (found_passes (is_numbered number) version kept.versions at) in
+    ap (λ found. is_some (option_and_then
+    (λ kept. version_of kept.versions version.origin.number) found)) there
+    ∙ subst (λ n. is_some (version_of kept.versions n) ≡ true) (sym own) (ap is_some at)
+
+signed_version : (records : List KeptRecord) (lab : List ℕ) (kept : KeptRecord) (number : ℕ)
     (version : Option Version) (digest : List ℕ) (signing : Signing) (person : Person) (moment : ℕ)
     (made : SignatureMade) → record_of records kept.number ≡ Some kept
+    → version_of kept.versions number ≡ version
     → signing_version lab kept version digest signing person moment ≡ Ok made
     → IsSignatureMade records person.code person.name moment made
-signed_version records lab kept None digest signing person moment made there h = absurd (cc)
-signed_version records lab kept (Some version) digest signing person moment made there h =
+signed_version records lab kept number None digest signing person moment made there at h =
+    absurd (cc)
+signed_version records lab kept number (Some version) digest signing person moment made there at h =
     let is = signed_by (version_refusal lab kept version digest signing person.code)
     (signature_made kept version (new_signature lab person signing moment digest)) made h in
     subst (IsSignatureMade records person.code person.name moment) is
-    (record { kept = kept; there = there; by = refl; named = refl; at = refl })
+    (record {
+      kept = kept;
+      there = there;
+      version = version_found records kept number version there at;
+      by = refl;
+      named = refl;
+      at = refl;
+    })
 
 signed_found : (records : List KeptRecord) (number version : ℕ) (lab : List ℕ)
     (found : Option KeptRecord) (digest : List ℕ) (signing : Signing) (person : Person) (moment : ℕ)
@@ -395,8 +433,8 @@ signed_found : (records : List KeptRecord) (number version : ℕ) (lab : List �
     → IsSignatureMade records person.code person.name moment made
 signed_found records number version lab None digest signing person moment made there h = absurd (cc)
 signed_found records number version lab (Some kept) digest signing person moment made there h =
-    signed_version records lab kept (version_of kept.versions version) digest signing person moment
-    made (found_own records number kept there) h
+    signed_version records lab kept version (version_of kept.versions version) digest signing person
+    moment made (found_own records number kept there) refl h
 
 signature_keeps : (lab : Lab) (session : Session) (one : Person) (made : SignatureMade) (moment : ℕ)
     (caller : Person) → person_of lab.persons caller.code ≡ Some caller → IsSet lab.persons one
@@ -421,6 +459,7 @@ signature_keeps lab session one made moment caller known set there signed = reco
     subst IsSome (sym known) refl,
     record {
       signature = made.signature;
+      there = signed.version;
       added = refl;
       meant = refl;
       by = signed.by;

@@ -3,6 +3,7 @@ pub mod FitAttempts
 pub mod FitLemmas
 pub mod FitPersons
 pub mod FitSignatures
+pub mod FormedLemmas
 pub mod LimitCases
 pub mod LimitForms
 pub mod LimitKept

@@ -14,5 +14,5 @@ pub use births::{a_birth_is_right, a_laboratory_is_born_once};
 pub use bound::a_step_keeps_bound;
 pub use dual::a_step_keeps_dual;
 pub use keeping::a_step_keeps_what_was;
-pub use limits::a_step_keeps_limits;
+pub use limits::{a_form_is_asked_rightly, a_step_keeps_limits};
 pub use runs::a_run_is_right;

@@ -5,7 +5,7 @@ ghost use Rattle.lab_kept.specs.declared.labs.Lab.{Lab};
 ghost use Rattle.lab_kept.specs.Limits.{IsWithin};
 ghost use Rattle.lab_machine.specs.declared.commands.Instruction.{Instruction};
 ghost use Rattle.lab_machine.specs.Machine.{step};
-ghost use Rattle.lab_laws.specs.Asking.{IsAskedRightly};
+ghost use Rattle.lab_laws.specs.Asking.{IsAskedRightly, IsCommandFormed};
 ghost use Rattle.lab_laws.specs.Stepping.{HoldsOf};
 
 /// Law: a step leaves a laboratory within its limits, and what is numbered in it without gaps, where it was so before, and
@@ -14,4 +14,10 @@ pub fn a_step_keeps_limits()
     ensures { (lab : Lab) (tick : Tick) (instruction : Instruction) → IsWithin lab
         → IsAskedRightly instruction
         → HoldsOf IsWithin (step (Some lab) tick instruction).after }
+{}
+
+/// Law: whoever asks for a form asks rightly, since a form has no more fields than it may.
+pub fn a_form_is_asked_rightly()
+    ensures { (instruction : Instruction) → IsCommandFormed instruction.command
+        → IsAskedRightly instruction }
 {}

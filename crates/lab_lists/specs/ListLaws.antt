@@ -7,6 +7,7 @@ use Rattle.std.proofs.lemmas.Option.{get_or_from_slice_get}
 use Rattle.std.proofs.lemmas.List.{set-get_or}
 use Rattle.lab_kept.specs.declared.labs.Lab.{Lab}
 use Rattle.lab_kept.specs.declared.changes.Change.{Change}
+use Rattle.lab_kept.specs.Worlds.{Meaning, SameMeaning}
 use Rattle.lab_lists.specs.Lists.{ChangesInPlace, has_code, lab_of}
 
 -- writing what stands in a place leaves the list
@@ -66,3 +67,8 @@ pub own_code : (labs : List Lab) (code : List ℕ) (lab : Lab) → lab_of labs c
     lab.code ≡ code
 own_code labs code lab found = (bytes_eq-Decides lab.code code).0
     (find_true (has_code code) labs lab found)
+
+-- and so is one that a crash leaves
+pub own_code_left : (labs : List Lab) (held : Meaning) (code : List ℕ) (lab : Lab) →
+    SameMeaning (lab_of labs) held → held code ≡ Some lab → lab.code ≡ code
+own_code_left labs held code lab same found = own_code labs code lab (sym (same code) ∙ found)

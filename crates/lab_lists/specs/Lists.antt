@@ -31,4 +31,5 @@ world_of labs = record {
   is_reached = Unit {0};
   may_refuse = ⊥;
   may_leave = λ held. SameMeaning (lab_of labs) held;
+  is_safe = Unit {0};
 }

@@ -47,7 +47,7 @@ impl Keeper for Lists {
     ghost use Rattle.std.specs.Prelude.{◌≡◌, ◌++◌, ◌∷◌, [], refl};
     ghost use Rattle.std.proofs.Common.{◌∙◌};
     ghost use Rattle.lab_lists.specs.Lists.{world_of, ChangesInPlace};
-    ghost use Rattle.lab_lists.specs.ListLaws.{own_code, unchanged_in_place, changed_after_rest};
+    ghost use Rattle.lab_lists.specs.ListLaws.{own_code, own_code_left, unchanged_in_place, changed_after_rest};
 
     ghost world = { world_of };
 
@@ -80,6 +80,9 @@ impl Keeper for Lists {
     }
 
     ghost kept = { λ labs code lab honest live reached. own_code labs code lab };
+
+    ghost kept_left = { λ labs held code lab honest live safe left.
+        own_code_left labs held code lab left };
 
     ghost still = { λ _. refl };
 

@@ -9,11 +9,11 @@ use Rattle.lab_names.specs.Moment.{moment_text}
 use Rattle.lab_access.specs.declared.policy.Rule.TheVariants.{SignReview}
 use Rattle.lab_access.specs.declared.refusals.PeopleRefusal.TheVariants.{RoleWanted}
 use Rattle.lab_access.specs.declared.roles.Roles.{Roles}
-use Rattle.lab_forms.specs.declared.kinds.Kind.TheVariants.{Number, Text, Choice, Date}
+use Rattle.lab_forms.specs.declared.kinds.Kind.TheVariants.{Number, Text, Choice, Date, YesNo}
 use Rattle.lab_kept.specs.declared.records.FormVersion.{FormVersion}
 use Rattle.lab_kept.specs.declared.records.Signature.{Signature}
-use Rattle.lab_kept.specs.declared.trails.Action.TheVariants.{Found}
-use Rattle.lab_seal.specs.declared.seals.Meaning.TheVariants.{Authorship}
+use Rattle.lab_kept.specs.declared.trails.Action.TheVariants.{Found, Amend}
+use Rattle.lab_seal.specs.declared.seals.Meaning.TheVariants.{Authorship, Review, Rejection, Approval}
 use Rattle.lab_seal.specs.declared.states.State.TheVariants as state
 use Rattle.lab_versions.specs.declared.rows.EntryRow.{EntryRow}
 use Rattle.lab_versions.specs.declared.versions.Format.TheVariants as format
@@ -51,6 +51,12 @@ pub known_sessions :
 unfolding serde_json_on_literals digits encode_with
 known_sessions = (refl, refl, refl)
 
+pub known_due : reply_text (reply.Opened 12 token true)
+    ≡ codes "{\"due\":true,\"session\":12,"
+    ++ codes "\"token\":\"0000000000000001000000000000000200000000000000030000000000000004\"}"
+unfolding serde_json_on_literals digits encode_with
+known_due = refl
+
 pub known_password : reply_text (reply.PasswordChanged 500) ≡ codes "{\"changed\":\"1970-01-01T00:08:20Z\"}"
 unfolding serde_json_on_literals digits moment_text year_of place_in_year month_of day_of_month hour_of minute_of second_of span_of place_of
 known_password = refl
@@ -65,6 +71,22 @@ pub known_persons :
     ≡ codes "{\"persons\":[{\"code\":\"eve\",\"locked\":true,\"name\":\"Eve\",\"retired\":false,\"roles\":[\"analyst\",\"reviewer\"]}]}")
 unfolding serde_json_on_literals digits
 known_persons = (refl, refl, refl)
+
+abbrev nobody : Roles
+nobody = record { analyst = false; reviewer = false; manager = false; administrator = false; inspector = false }
+
+pub known_retired :
+    reply_text (reply.Persons (record {
+      code = codes "ivy";
+      name = codes "Ivy Ide";
+      roles = nobody;
+      retired = true;
+      locked = false;
+    } ∷ []))
+    ≡ codes "{\"persons\":[{\"code\":\"ivy\",\"locked\":false,\"name\":\"Ivy Ide\",\"retired\":true,"
+    ++ codes "\"roles\":[]}]}"
+unfolding serde_json_on_literals digits
+known_retired = refl
 
 abbrev water : FormVersion
 water = record {
@@ -91,6 +113,39 @@ pub known_forms :
 unfolding serde_json_on_literals digits
 known_forms = (refl, refl)
 
+-- a form that wants an approval, with a bound above and a question that is answered by yes or no
+abbrev air : FormVersion
+air = record {
+  code = codes "air";
+  version = 3;
+  form = record {
+    fields =
+        record {
+          key = codes "dust";
+          label = codes "Dust";
+          required = true;
+          kind = Number (codes "mg/m3") 1 None (Some (codes "9.5"));
+        }
+        ∷ record {
+          key = codes "heat";
+          label = codes "Heat";
+          required = false;
+          kind = Number [] 0 (Some (codes "-40")) (Some (codes "85"));
+        }
+        ∷ record { key = codes "clean"; label = codes "Clean"; required = true; kind = YesNo } ∷ [];
+    approval = true;
+  };
+}
+
+pub known_approved_form : reply_text (reply.FormRead air)
+    ≡ codes "{\"approval\":true,\"fields\":[{\"decimals\":1,\"key\":\"dust\",\"kind\":\"number\","
+    ++ codes "\"label\":\"Dust\",\"max\":\"9.5\",\"required\":true,\"unit\":\"mg/m3\"},{\"decimals\":0,"
+    ++ codes "\"key\":\"heat\",\"kind\":\"number\",\"label\":\"Heat\",\"max\":\"85\",\"min\":\"-40\","
+    ++ codes "\"required\":false,\"unit\":\"\"},{\"key\":\"clean\",\"kind\":\"yesno\","
+    ++ codes "\"label\":\"Clean\",\"required\":true}],\"form\":\"air\",\"version\":3}"
+unfolding serde_json_on_literals digits
+known_approved_form = refl
+
 pub known_entries :
     (reply_text (reply.RecordOpened 2 1) ≡ codes "{\"record\":2,\"version\":1}")
     × (reply_text (reply.Entered 1 2 3 (171 ∷ [])) ≡ codes "{\"digest\":\"ab\",\"record\":1,\"rows\":3,\"version\":2}")
@@ -112,6 +167,53 @@ pub known_signatures : reply_text (reply.Signed author (Some state.Signed))
     ≡ codes "{\"digest\":\"ab\",\"meaning\":\"authorship\",\"moment\":\"1970-01-01T00:21:40Z\",\"name\":\"Dan Day\",\"seal\":\"cd\",\"state\":\"signed\"}"
 unfolding serde_json_on_literals digits encode_with moment_text year_of place_in_year month_of day_of_month hour_of minute_of second_of span_of place_of
 known_signatures = refl
+
+-- a reviewer's, an approver's, and one that rejects, with its reason
+abbrev reviewer : Signature
+reviewer = record {
+  person = codes "eve";
+  name = codes "Eve Ede";
+  meaning = Review;
+  moment = 1400;
+  digest = 171 ∷ [];
+  seal = 206 ∷ [];
+}
+
+abbrev approver : Signature
+approver = record {
+  person = codes "fay";
+  name = codes "Fay Foe";
+  meaning = Approval;
+  moment = 1500;
+  digest = 171 ∷ [];
+  seal = 207 ∷ [];
+}
+
+abbrev rejecter : Signature
+rejecter = record {
+  person = codes "eve";
+  name = codes "Eve Ede";
+  meaning = Rejection (codes "wrong \"unit\"");
+  moment = 1600;
+  digest = 172 ∷ [];
+  seal = 208 ∷ [];
+}
+
+pub known_later_signatures :
+    (reply_text (reply.Signed reviewer (Some state.Reviewed))
+    ≡ codes "{\"digest\":\"ab\",\"meaning\":\"review\",\"moment\":\"1970-01-01T00:23:20Z\","
+    ++ codes "\"name\":\"Eve Ede\",\"seal\":\"ce\",\"state\":\"reviewed\"}")
+    × (reply_text (reply.Signed approver (Some state.Released))
+    ≡ codes "{\"digest\":\"ab\",\"meaning\":\"approval\",\"moment\":\"1970-01-01T00:25:00Z\","
+    ++ codes "\"name\":\"Fay Foe\",\"seal\":\"cf\",\"state\":\"released\"}")
+    × (reply_text (reply.Signed rejecter (Some state.Rejected))
+    ≡ codes "{\"digest\":\"ac\",\"meaning\":\"rejection\",\"moment\":\"1970-01-01T00:26:40Z\","
+    ++ codes "\"name\":\"Eve Ede\",\"seal\":\"d0\",\"state\":\"rejected\"}")
+    × (reply_text (reply.Signed rejecter None)
+    ≡ codes "{\"digest\":\"ac\",\"meaning\":\"rejection\",\"moment\":\"1970-01-01T00:26:40Z\","
+    ++ codes "\"name\":\"Eve Ede\",\"seal\":\"d0\",\"state\":null}")
+unfolding serde_json_on_literals digits encode_with moment_text year_of place_in_year month_of day_of_month hour_of minute_of second_of span_of place_of
+known_later_signatures = (refl, refl, refl, refl)
 
 pub known_records :
     (reply_text (reply.RecordRead (record {
@@ -135,6 +237,41 @@ pub known_records :
     × (reply_text (reply.Records []) ≡ codes "{\"records\":[]}")
 unfolding serde_json_on_literals digits encode_with
 known_records = (refl, refl, refl)
+
+-- versions that were reviewed and rejected; null stands in place of what is not there
+pub known_states :
+    (reply_text (reply.RecordRead (record {
+      number = 2;
+      form = air;
+      sample = codes "S2";
+      versions =
+          record { version = 1; state = Some state.Rejected; digest = 171 ∷ [] }
+          ∷ record { version = 2; state = Some state.Reviewed; digest = 205 ∷ [] }
+          ∷ record { version = 3; state = None; digest = 206 ∷ [] } ∷ [];
+    }))
+    ≡ codes "{\"current\":3,\"form\":\"air\",\"form_version\":3,\"record\":2,\"sample\":\"S2\","
+    ++ codes "\"versions\":[{\"digest\":\"ab\",\"state\":\"rejected\",\"version\":1},"
+    ++ codes "{\"digest\":\"cd\",\"state\":\"reviewed\",\"version\":2},{\"digest\":\"ce\","
+    ++ codes "\"state\":null,\"version\":3}]}")
+    × (reply_text (reply.RecordRead (record {
+      number = 2;
+      form = air;
+      sample = codes "S2";
+      versions = [];
+    }))
+    ≡ codes "{\"current\":null,\"form\":\"air\",\"form_version\":3,\"record\":2,\"sample\":\"S2\","
+    ++ codes "\"versions\":[]}")
+    × (reply_text (reply.Records (record {
+      number = 2;
+      form = codes "air";
+      sample = codes "S2";
+      current = None;
+      state = None;
+    } ∷ []))
+    ≡ codes "{\"records\":[{\"current\":null,\"form\":\"air\",\"record\":2,\"sample\":\"S2\","
+    ++ codes "\"state\":null}]}")
+unfolding serde_json_on_literals digits encode_with
+known_states = (refl, refl, refl)
 
 abbrev lead : EntryRow
 lead = record {
@@ -171,6 +308,65 @@ pub known_versions : reply_text (reply.VersionRead (record {
     ++ codes "\"unit\":\"mg/L\",\"value\":\"7.50\"}],\"version\":1}"
 unfolding serde_json_on_literals digits encode_with moment_text year_of place_in_year month_of day_of_month hour_of minute_of second_of span_of place_of
 known_versions = refl
+
+-- an amendment, with its reason, in the older format, of a record whose form wants an approval
+abbrev dust : EntryRow
+dust = record {
+  key = codes "dust";
+  value = codes "0.5";
+  unit = codes "mg/m3";
+  person = codes "dan";
+  moment = 1550;
+  reason = Some (codes "typing error");
+}
+
+pub known_amendments : reply_text (reply.VersionRead (record {
+  number = 2;
+  form = air;
+  sample = codes "S2";
+  version = record {
+    format = format.One;
+    origin = record {
+      number = 2;
+      amendment = Some (record { previous = 171 ∷ []; reason = codes "typing error" });
+    };
+    opener = codes "dan";
+    opened = 1550;
+    rows = dust ∷ [];
+    signatures = reviewer ∷ approver ∷ rejecter ∷ [];
+  };
+  state = Some state.Rejected;
+  digest = 172 ∷ [];
+  altered = codes "dust" ∷ [];
+  values = dust ∷ [];
+}))
+    ≡ codes "{\"altered\":[\"dust\"],\"approval\":true,\"digest\":\"ac\",\"form\":\"air\","
+    ++ codes "\"form_version\":3,\"format\":1,\"moment\":\"1970-01-01T00:25:50Z\",\"opener\":\"dan\","
+    ++ codes "\"reason\":\"typing error\",\"record\":2,\"rows\":[{\"key\":\"dust\","
+    ++ codes "\"moment\":\"1970-01-01T00:25:50Z\",\"person\":\"dan\",\"reason\":\"typing error\","
+    ++ codes "\"unit\":\"mg/m3\",\"value\":\"0.5\"}],\"sample\":\"S2\","
+    ++ codes "\"signatures\":[{\"meaning\":\"review\",\"moment\":\"1970-01-01T00:23:20Z\","
+    ++ codes "\"name\":\"Eve Ede\",\"person\":\"eve\",\"reason\":\"\",\"seal\":\"ce\"},"
+    ++ codes "{\"meaning\":\"approval\",\"moment\":\"1970-01-01T00:25:00Z\",\"name\":\"Fay Foe\","
+    ++ codes "\"person\":\"fay\",\"reason\":\"\",\"seal\":\"cf\"},{\"meaning\":\"rejection\","
+    ++ codes "\"moment\":\"1970-01-01T00:26:40Z\",\"name\":\"Eve Ede\",\"person\":\"eve\","
+    ++ codes "\"reason\":\"wrong \\\"unit\\\"\",\"seal\":\"d0\"}],\"state\":\"rejected\","
+    ++ codes "\"values\":[{\"key\":\"dust\",\"unit\":\"mg/m3\",\"value\":\"0.5\"}],\"version\":2}"
+unfolding serde_json_on_literals digits encode_with moment_text year_of place_in_year month_of day_of_month hour_of minute_of second_of span_of place_of
+known_amendments = refl
+
+-- a row of somebody
+pub known_deeds : reply_text (reply.Trail (record {
+  number = 27;
+  moment = 1550;
+  person = Some (codes "dan");
+  action = Amend;
+  subject = codes "2/2";
+} ∷ []))
+    ≡ codes "{\"trail\":[{\"action\":\"amend\",\"moment\":\"1970-01-01T00:25:50Z\",\"number\":27,"
+    ++ codes "\"person\":\"dan\",\"subject\":\"2/2\"}]}"
+unfolding serde_json_on_literals digits moment_text year_of place_in_year month_of day_of_month hour_of minute_of second_of span_of place_of
+known_deeds = refl
 
 pub known_trails : reply_text (reply.Trail (record {
   number = 1;
