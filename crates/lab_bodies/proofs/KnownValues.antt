@@ -1,11 +1,11 @@
 -- Bodies as the documents of the interface write them, so that a wrong rule in the definitions does not check.
-use Rattle.std.proofs.Common.{◌≡◌, refl, ℕ, List, [], ◌∷◌, codes, Option, Some, None, Ok, Err, true, false}
-use Rattle.serde_json.specs.Data.{Data, null, boolean, number, unsigned, string, array, object, no_items, item, no_members, member}
+use Rattle.std.proofs.Common.{◌≡◌, refl, ℕ, List, [], ◌∷◌, codes, None, Ok, Err, false}
+use Rattle.serde_json.specs.Data.{Data, null, number, unsigned, string, array, object, no_items, item, no_members, member}
 use Rattle.lab_names.specs.Names.{is_person_code, is_key, is_unit}
 use Rattle.lab_machine.specs.declared.commands.Command.TheVariants.{Open, Close, AskIssue, Amend}
-use Rattle.lab_bodies.specs.declared.refusals.BodyRefusal.TheVariants.{BadBody, BadName, Form}
+use Rattle.lab_members.specs.declared.refusals.BodyRefusal.TheVariants.{BadBody, BadName, Form}
 use Rattle.lab_forms.specs.declared.faults.FormRefusal.TheVariants.{KeyTwice}
-use Rattle.lab_bodies.specs.Members.{has_members, ordinal_in, whole_in, roles_in}
+use Rattle.lab_members.specs.Members.{has_members}
 use Rattle.lab_bodies.specs.Accounts.{opening_named, closing_named, person_named, issue_named}
 use Rattle.lab_bodies.specs.Records.{is_amendment_body, item_read, altered_read, amendment_named}
 use Rattle.lab_bodies.specs.Signatures.{is_signature_body}
@@ -32,20 +32,6 @@ known_closing = (refl, refl, refl)
 pub known_issue : (issue_named (object (member (codes "code") (says (codes "ann")) no_members)) ≡ Ok (AskIssue (codes "ann"))) × (issue_named ann ≡ Err BadBody)
 unfolding issue_named person_named has_members is_person_code
 known_issue = (refl, refl)
-
-pub known_numbers : (ordinal_in (number (unsigned 0)) ≡ None) × (ordinal_in (number (unsigned 1)) ≡ Some 1)
-    × (ordinal_in (number (unsigned 1000000000)) ≡ Some 1000000000) × (ordinal_in (number (unsigned 1000000001)) ≡ None)
-    × (ordinal_in (says (codes "1")) ≡ None)
-    × (whole_in (number (unsigned 0)) ≡ Some 0) × (whole_in (number (unsigned 4294967295)) ≡ Some 4294967295)
-    × (whole_in (number (unsigned 4294967296)) ≡ None)
-known_numbers = (refl, refl, refl, refl, refl, refl, refl, refl)
-
-pub known_roles : (roles_in (array (item (says (codes "reviewer")) (item (says (codes "analyst")) no_items)))
-    ≡ Some (record { analyst = true; reviewer = true; manager = false; administrator = false; inspector = false }))
-    × (roles_in (array no_items) ≡ Some (record { analyst = false; reviewer = false; manager = false; administrator = false; inspector = false }))
-    × (roles_in (array (item (says (codes "analyst")) (item (says (codes "analyst")) no_items))) ≡ None)
-    × (roles_in (array (item (says (codes "owner")) no_items)) ≡ None) × (roles_in null ≡ None)
-known_roles = (refl, refl, refl, refl, refl)
 
 -- two altered values of one key
 abbrev lead : Data

@@ -1,14 +1,14 @@
 -- The body of a founding: three founders, each with code, name and password, and the laboratory's
 -- name.
-use Rattle.std.specs.Prelude.{ℕ, List, [], ◌∷◌, ◌&&◌, Bool, codes, Option, Some, None, Ok, Err}
+use Rattle.std.specs.Prelude.{List, [], ◌∷◌, ◌&&◌, Bool, codes, Option, Some, Ok, Err}
 use Rattle.serde_json.specs.Data.{Data}
 use Rattle.lab_names.specs.Names.{is_person_code, is_name}
 use Rattle.lab_machine.specs.declared.births.Founder.{Founder}
 use Rattle.lab_machine.specs.declared.births.Founding.{Founding}
-use Rattle.lab_bodies.specs.declared.refusals.BodyRefusal.TheVariants.{BadBody}
-use Rattle.lab_bodies.specs.declared.members.Kind.TheVariants.{Text, List as AnyList}
-use Rattle.lab_bodies.specs.Members.{MemberRule, must, has_members, elements_at, each_has}
-use Rattle.lab_bodies.specs.Readings.{Reading, then_read, text_at, named_at, shaped}
+use Rattle.lab_members.specs.declared.refusals.BodyRefusal.TheVariants.{BadBody}
+use Rattle.lab_members.specs.declared.members.MemberKind.TheVariants.{Text, List as AnyList}
+use Rattle.lab_members.specs.Members.{MemberRule, must, has_members, elements_at, each_has}
+use Rattle.lab_members.specs.Readings.{Reading, then_read, text_at, named_at, shaped}
 
 abbrev pub founding_members : List MemberRule
 founding_members = must (codes "founders") AnyList ∷ must (codes "name") Text ∷ []

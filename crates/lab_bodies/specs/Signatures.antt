@@ -1,25 +1,32 @@
 -- The body of a signature. Only a rejection may have a reason (21 CFR 11.50 asks for the meaning).
-use Rattle.std.specs.Prelude.{ℕ, List, [], ◌∷◌, ◌++◌, Bool, false, bytes_eq, find, codes, Option, Some, None, option_and_then, Ok}
+use Rattle.std.specs.Prelude.{ℕ, List, [], ◌∷◌, ◌++◌, Bool, false, bytes_eq, find, codes, Option, option_and_then, Ok}
 use Rattle.std.specs.Option.{option_map_or}
 use Rattle.serde_json.specs.Data.{Data}
 use Rattle.serde_json.specs.Find.{as_str}
 use Rattle.lab_names.specs.Names.{is_note, is_person_code}
+use Rattle.lab_seal.specs.declared.seals.Meaning.{Meaning}
+use Rattle.lab_seal.specs.declared.seals.Meaning.TheVariants as meaning
+use Rattle.lab_seal.specs.Seals.{meaning_word}
 use Rattle.lab_rules.specs.declared.outcomes.Signing.{Signing}
 use Rattle.lab_rules.specs.declared.outcomes.Signing.TheVariants as signing
 use Rattle.lab_machine.specs.declared.commands.Command.{Command}
 use Rattle.lab_machine.specs.declared.commands.Command.TheVariants.{Sign}
-use Rattle.lab_bodies.specs.declared.members.Kind.TheVariants.{Text, Ordinal, Digest}
+use Rattle.lab_members.specs.declared.members.MemberKind.TheVariants.{Text, Ordinal, Digest}
 use Rattle.lab_bodies.specs.declared.signatures.Meant.{Meant}
 use Rattle.lab_bodies.specs.declared.signatures.Meant.TheVariants.{Authorship, Review, Rejection, Approval}
-use Rattle.lab_bodies.specs.Members.{MemberRule, must, may, has_members, at, ordinal_in, digest_in}
-use Rattle.lab_bodies.specs.Readings.{Reading, then_read, wanted, text_at, named_if_at, shaped}
+use Rattle.lab_members.specs.Members.{MemberRule, must, may, has_members, at, ordinal_in, digest_in}
+use Rattle.lab_members.specs.Readings.{Reading, then_read, wanted, text_at, named_if_at, shaped}
 
--- the word of a meaning
+-- a meaning with nothing beside it: the reason stands at a name of its own
+abbrev pub meaning_of : Meant → Meaning
+meaning_of Authorship = meaning.Authorship
+meaning_of Review = meaning.Review
+meaning_of Rejection = meaning.Rejection []
+meaning_of Approval = meaning.Approval
+
+-- its word
 abbrev pub meant_word : Meant → List ℕ
-meant_word Authorship = codes "authorship"
-meant_word Review = codes "review"
-meant_word Rejection = codes "rejection"
-meant_word Approval = codes "approval"
+meant_word meant = meaning_word (meaning_of meant)
 
 abbrev pub all_meant : List Meant
 all_meant = Authorship ∷ Review ∷ Rejection ∷ Approval ∷ []

@@ -1,13 +1,13 @@
 -- How the members of a body are read, one after the other: the first that doesn't read is the
 -- refusal. That a member is there and of its kind was seen before.
-use Rattle.std.specs.Prelude.{◌≡◌, ℕ, List, [], ◌∷◌, Bool, Option, Some, None, Result, Ok, Err, if◌then◌else◌, ⊤}
+use Rattle.std.specs.Prelude.{◌≡◌, ℕ, List, Bool, Option, Some, None, Result, Ok, Err, if◌then◌else◌, ⊤}
 use Rattle.serde_json.specs.Data.{Data}
 use Rattle.serde_json.specs.Find.{as_str}
-use Rattle.lab_bodies.specs.declared.refusals.BodyRefusal.{BodyRefusal}
-use Rattle.lab_bodies.specs.declared.refusals.BodyRefusal.TheVariants.{BadBody, BadName}
-use Rattle.lab_bodies.specs.declared.refusals.BodyFault.{BodyFault}
-use Rattle.lab_bodies.specs.declared.refusals.BodyFault.TheVariants.{Refused, Memory}
-use Rattle.lab_bodies.specs.Members.{at}
+use Rattle.lab_members.specs.declared.refusals.BodyRefusal.{BodyRefusal}
+use Rattle.lab_members.specs.declared.refusals.BodyRefusal.TheVariants.{BadBody, BadName}
+use Rattle.lab_members.specs.declared.refusals.BodyFault.{BodyFault}
+use Rattle.lab_members.specs.declared.refusals.BodyFault.TheVariants.{Refused, Memory}
+use Rattle.lab_members.specs.Members.{at}
 
 -- what comes of a reading: what was read, or the refusal
 abbrev pub Reading : Type 0 → Type 0
@@ -42,12 +42,6 @@ admitted_if admits (Some text) = then_read (admitted admits text) (λ named. Ok 
 
 abbrev pub named_if_at : (List ℕ → Bool) → List ℕ → Data → Reading (Option (List ℕ))
 named_if_at admits name d = admitted_if admits (at as_str name d)
-
--- the elements of a list, in order
-abbrev pub each_read : {A : Type 0} → (Data → Reading A) → List Data → Reading (List A)
-each_read says [] = Ok []
-each_read says (d ∷ ds) =
-    then_read (says d) (λ first. then_read (each_read says ds) (λ others. Ok (first ∷ others)))
 
 -- what is read of a body of a shape, and of another one
 abbrev pub shaped : {A : Type 0} → Bool → Reading A → Reading A

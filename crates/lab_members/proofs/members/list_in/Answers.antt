@@ -1,9 +1,9 @@
 use Rattle.std.proofs.Common.{◌∙◌, sym, ap, Some, map}
 use Rattle.std.specs.Prelude.{option_map}
 use Rattle.serde_json.specs.View.{view}
-use Rattle.lab_bodies.specs.Members.{list_of}
-use Rattle.lab_bodies.proofs.MemberLemmas.{views_listed}
-use Rattle.lab_bodies.proofs.members.list_in.Goals as goal
+use Rattle.lab_members.specs.Members.{list_of}
+use Rattle.lab_members.proofs.MemberLemmas.{views_listed}
+use Rattle.lab_members.proofs.members.list_in.Goals as goal
 
 pub returns-in-Some : goal.returns-in-Some
 returns-in-Some c =

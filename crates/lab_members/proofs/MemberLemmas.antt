@@ -1,6 +1,5 @@
 -- What the reading of members comes to, step by step.
-use Rattle.std.proofs.Common.{◌≡◌, ◌≢◌, ◌<◌, ◌+◌, ℕ, suc, List, [], ◌∷◌, length, map, get_or, drop, Bool, true, false, cond, Option, Some, None, refl, sym, ap, ◌∙◌, arith, add-one}
-use Rattle.std.specs.Str.{is_utf8}
+use Rattle.std.proofs.Common.{◌≡◌, ◌≢◌, ◌<◌, ◌+◌, ℕ, suc, List, [], ◌∷◌, length, map, get_or, drop, Bool, false, cond, Some, None, refl, sym, ap, ◌∙◌, arith, add-one}
 use Rattle.std.specs.Prelude.{String, ◌&&◌, ◌==◌, count_by, is_some, option_and_then}
 use Rattle.std.specs.List.{list_all}
 use Rattle.std.proofs.Math.Seq.{drop-cons}
@@ -10,36 +9,11 @@ use Rattle.std.proofs.lemmas.List.Folds.{list_all-map}
 use Rattle.std.specs.declared.alloc.Global.{Global}
 use Rattle.serde_json.specs.Data.{Data, Members}
 use Rattle.serde_json.specs.Find.{get, as_object}
-use Rattle.serde_json.specs.Read.{read}
 use Rattle.serde_json.specs.View.{view, items_view, members_view}
 use Rattle.serde_json.specs.declared.value.Value.{Value}
-use Rattle.serde_json.proofs.OnLiterals.{serde_json_on_literals}
 use Rattle.lab_access.specs.declared.roles.Roles.{Roles}
-use Rattle.lab_bodies.specs.declared.members.Member.{Member}
-use Rattle.lab_bodies.specs.Members.{json_of, list_of, member_count, MemberRule, rule_shown, keeps, has_members, role_in, role_added, roles_with}
-
--- ---- JSON
-
-none_where : (is_text : Bool) (value : Option Data) → (is_text ≡ true → value ≡ None) → cond is_text value None ≡ None
-none_where true value h = h refl
-none_where false value h = refl
-
-pub json_of-none : (text : List ℕ) → (is_utf8 text ≡ true → read text ≡ None) → json_of text ≡ None
-unfolding json_of
-json_of-none text h = none_where (is_utf8 text) (read text) h
-
-pub json_of-some : (text : List ℕ) (value : Data) → is_utf8 text ≡ true → read text ≡ Some value → json_of text ≡ Some value
-unfolding json_of
-json_of-some text value utf8 h = rw utf8 h
-
--- a body that is JSON has some byte
-nothing_read : json_of [] ≡ None
-unfolding serde_json_on_literals
-nothing_read = json_of-none [] (λ _. refl)
-
-pub some_byte : (body : List ℕ) (d : Data) → json_of body ≡ Some d → 0 < length body
-some_byte [] d is = let none : None ≡ Some d = sym nothing_read ∙ is in absurd (cc)
-some_byte (b ∷ body) d is = omega arith
+use Rattle.lab_members.specs.declared.members.Member.{Member}
+use Rattle.lab_members.specs.Members.{list_of, member_count, MemberRule, rule_shown, keeps, has_members, role_in, role_added, roles_with}
 
 -- ---- lists
 

@@ -7,7 +7,7 @@ ghost use Rattle.lab_access.specs.declared.roles.Role.TheVariants.{Manager, Admi
 ghost use Rattle.lab_access.specs.Roles.{no_roles};
 ghost use Rattle.serde_json.specs.Find.{get, as_bool, as_str};
 ghost use Rattle.serde_json.specs.View.{view};
-ghost use Rattle.lab_bodies.specs.Members.{whole_in, ordinal_in, digest_in, list_in, names_role, role_of, role_in, role_added, roles_with, roles_in, is_text, is_of, rule_shown, keeps, has_members, at, elements_at, each_has};
+ghost use Rattle.lab_members.specs.Members.{whole_in, ordinal_in, digest_in, list_in, names_role, role_of, role_in, role_added, roles_with, roles_in, is_text, is_of, rule_shown, keeps, has_members, at, elements_at, each_has};
 
 use lab_access::{Role, Roles};
 use lab_names::Ordinal;
@@ -19,7 +19,7 @@ const LAST: u64 = 1_000_000_000;
 
 /// The kind of a member's value.
 #[derive(Clone, Copy, Debug, PartialEq, Eq, Drop)]
-pub enum Kind {
+pub enum MemberKind {
     /// A string.
     Text,
     /// `true` or `false`.
@@ -42,34 +42,33 @@ pub enum Kind {
 #[derive(Clone, Copy, Drop)]
 pub struct Member {
     pub name: &'static str,
-    pub kind: Kind,
+    pub kind: MemberKind,
     pub is_required: bool,
 }
 
-/// A member that must be there.
+/// A member that must be there, as `must!("code", Text)`.
+#[macro_export]
 macro_rules! must {
     ($name:literal, $kind:ident) => {
-        crate::members::Member {
+        $crate::Member {
             name: $name,
-            kind: crate::members::Kind::$kind,
+            kind: $crate::MemberKind::$kind,
             is_required: true,
         }
     };
 }
 
-/// A member that need not be there.
+/// A member that need not be there, as `may!("reason", Text)`.
+#[macro_export]
 macro_rules! may {
     ($name:literal, $kind:ident) => {
-        crate::members::Member {
+        $crate::Member {
             name: $name,
-            kind: crate::members::Kind::$kind,
+            kind: $crate::MemberKind::$kind,
             is_required: false,
         }
     };
 }
-
-pub(crate) use may;
-pub(crate) use must;
 
 /// A whole number.
 pub fn whole_in(value: &Value) -> Option<u32>
@@ -208,18 +207,18 @@ fn has_texts(value: &Value) -> bool
     }
 }
 
-fn is_of(kind: Kind, value: &Value) -> bool
+fn is_of(kind: MemberKind, value: &Value) -> bool
     ensures { result ≡ is_of kind (view value.now) }
 {
     match kind {
-        Kind::Text => is_text(value),
-        Kind::Flag => value.as_bool().is_some(),
-        Kind::Ordinal => ordinal_in(value).is_some(),
-        Kind::Whole => whole_in(value).is_some(),
-        Kind::Digest => digest_in(value).is_some(),
-        Kind::Roles => roles_in(value).is_some(),
-        Kind::Texts => has_texts(value),
-        Kind::List => list_in(value).is_some(),
+        MemberKind::Text => is_text(value),
+        MemberKind::Flag => value.as_bool().is_some(),
+        MemberKind::Ordinal => ordinal_in(value).is_some(),
+        MemberKind::Whole => whole_in(value).is_some(),
+        MemberKind::Digest => digest_in(value).is_some(),
+        MemberKind::Roles => roles_in(value).is_some(),
+        MemberKind::Texts => has_texts(value),
+        MemberKind::List => list_in(value).is_some(),
     }
 }
 

@@ -1,6 +1,6 @@
 //! What a body is refused for. Each refusal has a number and a word, by which the interface tells it.
 ghost use Rattle.std.specs.Prelude.{◌≡◌, Some};
-ghost use Rattle.lab_bodies.specs.Refusals.{body_entry, body_fault_entry};
+ghost use Rattle.lab_members.specs.Refusals.{body_entry, body_fault_entry};
 
 use lab_forms::FormRefusal;
 use lab_names::OutOfMemory;
@@ -76,7 +76,7 @@ impl BodyFault {
 
 impl fmt::Display for BodyFault {
     ghost use Rattle.std.specs.Prelude.{Some};
-    ghost use Rattle.lab_bodies.specs.Refusals.{body_fault_entry};
+    ghost use Rattle.lab_members.specs.Refusals.{body_fault_entry};
 
     ghost output = { λ told. Some (body_fault_entry told).word };
 
@@ -86,7 +86,7 @@ impl fmt::Display for BodyFault {
 }
 
 impl From<AllocError> for BodyFault {
-    ghost use Rattle.lab_bodies.specs.declared.refusals.BodyFault.TheVariants.{Memory};
+    ghost use Rattle.lab_members.specs.declared.refusals.BodyFault.TheVariants.{Memory};
 
     ghost from_gives = { λ _ e. e ≡ Memory };
 
@@ -96,7 +96,7 @@ impl From<AllocError> for BodyFault {
 }
 
 impl<T: Drop> From<AllocFailed<T>> for BodyFault {
-    ghost use Rattle.lab_bodies.specs.declared.refusals.BodyFault.TheVariants.{Memory};
+    ghost use Rattle.lab_members.specs.declared.refusals.BodyFault.TheVariants.{Memory};
 
     ghost from_gives = { λ _ e. e ≡ Memory };
 

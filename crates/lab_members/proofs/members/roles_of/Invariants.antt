@@ -1,8 +1,8 @@
 use Rattle.std.proofs.Common.{◌≡◌, map, drop}
 use Rattle.serde_json.specs.View.{view}
 use Rattle.lab_access.specs.Roles.{no_roles}
-use Rattle.lab_bodies.specs.Members.{roles_with}
-use Rattle.lab_bodies.proofs.members.roles_of.Given as goal
+use Rattle.lab_members.specs.Members.{roles_with}
+use Rattle.lab_members.proofs.members.roles_of.Given as goal
 
 -- what is left decides
 abbrev pub invariant-loop-value : goal.invariant-loop-value

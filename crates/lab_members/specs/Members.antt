@@ -1,25 +1,18 @@
--- What a body has: JSON (RFC 8259, read as the kit's `serde_json` states it) that is an object of
--- exactly the members that are listed, each of its kind. A member that need not be there is of its
--- kind where it is there, so it is never null.
-use Rattle.std.specs.Prelude.{ℕ, suc, ◌==◌, ◌&&◌, not, nat_lt, List, [], ◌∷◌, length, count_by, find, bytes_eq, Bool, true, false, if◌then◌else◌, is_some, Option, Some, None, option_map, option_and_then}
+-- What a body has: an object (RFC 8259) of exactly the members that are listed, each of its kind. A
+-- member that need not be there is of its kind where it is there, so it is never null.
+use Rattle.std.specs.Prelude.{ℕ, suc, ◌==◌, ◌&&◌, not, nat_lt, List, [], ◌∷◌, count_by, find, bytes_eq, Bool, true, false, if◌then◌else◌, is_some, Option, Some, None, option_map, option_and_then}
 use Rattle.std.specs.List.{list_all}
 use Rattle.std.specs.Option.{option_map_or}
-use Rattle.std.specs.Str.{is_utf8}
 use Rattle.serde_json.specs.Data.{Data, Items, no_items, item, Members, no_members, member}
 use Rattle.serde_json.specs.Find.{get, as_object, as_array, as_bool, as_number, as_str, as_u64}
-use Rattle.serde_json.specs.Read.{read}
 use Rattle.lab_names.specs.Ordinals.{ordinal_of}
 use Rattle.lab_secrets.specs.Digits.{bytes_of_digits}
 use Rattle.lab_access.specs.declared.roles.Role.{Role}
 use Rattle.lab_access.specs.declared.roles.Roles.{Roles as RoleSet}
 use Rattle.lab_access.specs.Roles.{role_word, all_roles, no_roles, has_role, with_role}
-use Rattle.lab_bodies.specs.declared.members.Kind.{Kind}
-use Rattle.lab_bodies.specs.declared.members.Kind.TheVariants.{Text, Flag, Ordinal, Whole, Digest, Roles, Texts, List as AnyList}
-use Rattle.lab_bodies.specs.declared.members.Member.{Member}
-
--- the value that a text is, which is UTF-8
-unfoldable pub json_of : List ℕ → Option Data
-json_of text = if is_utf8 text then read text else None
+use Rattle.lab_members.specs.declared.members.MemberKind.{MemberKind}
+use Rattle.lab_members.specs.declared.members.MemberKind.TheVariants.{Text, Flag, Ordinal, Whole, Digest, Roles, Texts, List as AnyList}
+use Rattle.lab_members.specs.declared.members.Member.{Member}
 
 -- ---- what a value may say
 
@@ -75,7 +68,7 @@ abbrev pub is_text : Data → Bool
 is_text d = is_some (as_str d)
 
 -- a value of a kind
-abbrev pub is_of : Kind → Data → Bool
+abbrev pub is_of : MemberKind → Data → Bool
 is_of Text d = is_text d
 is_of Flag d = is_some (as_bool d)
 is_of Ordinal d = is_some (ordinal_in d)
@@ -90,13 +83,13 @@ is_of AnyList d = is_some (list_in d)
 -- what a body may have at a name, and whether it must
 pub record MemberRule : Type 0 where
   pub name : List ℕ
-  pub kind : Kind
+  pub kind : MemberKind
   pub is_required : Bool
 
-abbrev pub must : List ℕ → Kind → MemberRule
+abbrev pub must : List ℕ → MemberKind → MemberRule
 must name kind = record { name = name; kind = kind; is_required = true }
 
-abbrev pub may : List ℕ → Kind → MemberRule
+abbrev pub may : List ℕ → MemberKind → MemberRule
 may name kind = record { name = name; kind = kind; is_required = false }
 
 -- as the code has it

@@ -1,8 +1,8 @@
 use Rattle.std.proofs.Common.{sym, ap, ◌∙◌}
 use Rattle.std.specs.Prelude.{◌&&◌}
 use Rattle.std.proofs.lemmas.Bool.{eq-eqb}
-use Rattle.lab_bodies.proofs.MemberLemmas.{no_object, object_found, object_others, member_count-view}
-use Rattle.lab_bodies.proofs.members.has_members.Goals as goal
+use Rattle.lab_members.proofs.MemberLemmas.{no_object, object_found, object_others, member_count-view}
+use Rattle.lab_members.proofs.members.has_members.Goals as goal
 
 pub returns-in_default : goal.returns-in_default
 returns-in_default c = sym (no_object _ _ (sym c.in_default.ensures))

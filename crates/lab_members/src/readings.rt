@@ -1,16 +1,13 @@
 //! What is read at the names of a body whose shape was seen: each reading answers what stands there, or why it doesn't read.
-ghost use Rattle.std.specs.Prelude.{◌≡◌, Ok, List, map, IfOk, IfErr, option_map};
-ghost use Rattle.serde_json.specs.Data.{Data};
-ghost use Rattle.serde_json.specs.Find.{as_bool};
+ghost use Rattle.std.specs.Prelude.{◌≡◌, Ok, IfOk, IfErr, string_bytes};
 ghost use Rattle.serde_json.specs.View.{view};
-ghost use Rattle.lab_bodies.specs.Members.{at, whole_in, ordinal_in, digest_in, roles_in, elements_at};
-ghost use Rattle.lab_bodies.specs.Readings.{Reading, Faulty, wanted, admitted, text_at, named_at, named_if_at, admitted_if, each_read};
+ghost use Rattle.lab_members.specs.Members.{at, whole_in, ordinal_in, digest_in, roles_in};
+ghost use Rattle.lab_members.specs.Readings.{Faulty, wanted, admitted, text_at, named_at, named_if_at};
 
 use crate::members;
 use crate::refusals::{BodyFault, BodyRefusal};
 use lab_access::Roles;
 use lab_names::{NameFault, Ordinal, Rule, Text};
-use lab_rules::Typed;
 use lab_secrets::Digest;
 use serde_json::Value;
 use std::alloc::Global;
@@ -67,14 +64,15 @@ pub fn named_if_at<R: Rule>(
     }
 }
 
-/// The text at a name, as it was typed.
-pub fn typed_at(alloc: Global, value: &Value, name: &str) -> Result<Typed, BodyFault>
-    ensures read { IfOk result (λ typed. text_at name.now (view value.now) ≡ Ok typed) }
+/// The text at a name, whatever it says.
+pub fn text_at(alloc: Global, value: &Value, name: &str) -> Result<String, BodyFault>
+    ensures read { IfOk result
+        (λ text. text_at name.now (view value.now) ≡ Ok (string_bytes text)) }
     ensures fault { IfErr result (Faulty (text_at name.now (view value.now))) }
 {
     match str_at(value, name) {
         Ok(text) => match String::from_str(alloc, text) {
-            Ok(text) => Ok(Typed::new(text)),
+            Ok(text) => Ok(text),
             Err(_) => Err(BodyFault::Memory),
         },
         Err(fault) => Err(fault),
@@ -118,28 +116,4 @@ pub fn roles_at(value: &Value, name: &str) -> Option<Roles>
     ensures { result ≡ at roles_in name.now (view value.now) }
 {
     members::roles_in(value.get(name)?)
-}
-
-/// What a body has a list of.
-pub trait Element: Sized + Drop {
-    /// What a value says.
-    ghost says: { Data → Reading Self };
-
-    /// Reads a value.
-    fn read(alloc: Global, value: &Value) -> Result<Self, BodyFault>
-        ensures read { IfOk result (λ it. says (view value.now) ≡ Ok it) }
-        ensures fault { IfErr result (Faulty (says (view value.now))) };
-}
-
-/// Reads each value of a list.
-pub fn each_of<T: Element>(alloc: Global, values: &[Value]) -> Result<Vec<T>, BodyFault>
-    ensures read { IfOk result (λ list. each_read T.says (map view values.now) ≡ Ok list.items) }
-    ensures fault { IfErr result (Faulty (each_read T.says (map view values.now))) }
-{
-    let mut list = Vec::new(alloc);
-    for value in values {
-        let element = T::read(alloc, value)?;
-        list.push(element)?;
-    }
-    Ok(list)
 }
