@@ -29,14 +29,19 @@ founder_read d =
     then_read (text_at (codes "password") d) (λ password.
     Ok (record { code = code; name = name; password = password }))))
 
+-- the name, behind the founders
+abbrev pub founding_behind : Founder → Founder → Founder → Data → Reading Founding
+founding_behind first second third d =
+    then_read (named_at is_name (codes "name") d) (λ name.
+    Ok (record { name = name; first = first; second = second; third = third }))
+
 -- the three of them, then the name
 abbrev pub founding_of_three : Data → Data → Data → Data → Reading Founding
 founding_of_three one two three d =
     then_read (founder_read one) (λ first.
     then_read (founder_read two) (λ second.
     then_read (founder_read three) (λ third.
-    then_read (named_at is_name (codes "name") d) (λ name.
-    Ok (record { name = name; first = first; second = second; third = third })))))
+    founding_behind first second third d)))
 
 -- exactly three founders
 abbrev pub founding_by : Option (List Data) → Data → Reading Founding

@@ -69,16 +69,21 @@ signing_read Rejection d =
     then_read (named_if_at is_note (codes "reason") d) (λ reason. Ok (signing.Rejection reason))
 signing_read Approval d = Ok signing.Approval
 
+-- who signs, and as what, behind what is signed
+abbrev pub signature_by : ℕ → ℕ → List ℕ → Meant → Data → Reading Command
+signature_by number version digest meant d =
+    then_read (text_at (codes "password") d) (λ password.
+    then_read (named_if_at is_person_code (codes "code") d) (λ code.
+    then_read (signing_read meant d) (λ signing.
+    Ok (Sign number version digest signing password code))))
+
 unfoldable pub signature_read : Data → Reading Command
 signature_read d =
     then_read (wanted (at ordinal_in (codes "record") d)) (λ number.
     then_read (wanted (at ordinal_in (codes "version") d)) (λ version.
     then_read (wanted (at digest_in (codes "digest") d)) (λ digest.
     then_read (wanted (meant_in d)) (λ meant.
-    then_read (text_at (codes "password") d) (λ password.
-    then_read (named_if_at is_person_code (codes "code") d) (λ code.
-    then_read (signing_read meant d) (λ signing.
-    Ok (Sign number version digest signing password code))))))))
+    signature_by number version digest meant d))))
 
 unfoldable pub signature_named : Data → Reading Command
 signature_named d = shaped (is_signature_body d) (signature_read d)

@@ -1,7 +1,7 @@
 //! The body of a founding.
 ghost use Rattle.std.specs.Prelude.{◌≡◌, Ok, Some, IfOk, IfErr, map};
 ghost use Rattle.serde_json.specs.View.{view};
-ghost use Rattle.lab_bodies.specs.Foundings.{is_founding_body, founder_read, founding_of_three, founding_by, founding_named};
+ghost use Rattle.lab_bodies.specs.Foundings.{is_founding_body, founder_read, founding_behind, founding_of_three, founding_by, founding_named};
 ghost use Rattle.lab_members.specs.Readings.{Faulty};
 
 use crate::parts::typed_at;
@@ -43,6 +43,33 @@ fn founder(alloc: Global, value: &Value) -> Result<Founder, BodyFault>
     })
 }
 
+// The laboratory's name, behind its founders.
+fn founding_behind(
+    alloc: Global,
+    first: Founder,
+    second: Founder,
+    third: Founder,
+    value: &Value,
+) -> Result<Founding, BodyFault>
+    ensures read { IfOk result (λ founding. founding_behind first second third (view value.now) ≡ Ok founding) }
+    ensures fault { IfErr result (Faulty (founding_behind first second third (view value.now))) }
+{
+    match named_at::<Names>(alloc, value, "name") {
+        Ok(name) => Ok(Founding {
+            name,
+            first,
+            second,
+            third,
+        }),
+        Err(fault) => {
+            drop(first);
+            drop(second);
+            drop(third);
+            Err(fault)
+        }
+    }
+}
+
 // The three of them, then the laboratory's name.
 #[tactic(auto, using(lab_members::proofs::ReadingLemmas::in_turn))]
 fn founding_of_three(
@@ -60,13 +87,7 @@ fn founding_of_three(
     let first = founder(alloc, one)?;
     let second = founder(alloc, two)?;
     let third = founder(alloc, three)?;
-    let name = named_at::<Names>(alloc, value, "name")?;
-    Ok(Founding {
-        name,
-        first,
-        second,
-        third,
-    })
+    founding_behind(alloc, first, second, third, value)
 }
 
 fn founding_by(alloc: Global, values: &[Value], value: &Value) -> Result<Founding, BodyFault>

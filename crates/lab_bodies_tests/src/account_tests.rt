@@ -8,17 +8,9 @@ fn code() -> Row {
 }
 
 #[test]
-fn opening_has_code_and_password(rt: HostRuntime) {
+fn bodies_on_sessions_have_exactly_their_members(rt: HostRuntime) {
     command_is_exact(&rt, Post::Open, &[code(), must("password", "\"\"")]);
-}
-
-#[test]
-fn closing_has_no_member(rt: HostRuntime) {
     command_is_exact(&rt, Post::Close, &[]);
-}
-
-#[test]
-fn a_change_of_a_password_has_old_and_new(rt: HostRuntime) {
     command_is_exact(
         &rt,
         Post::ChangePassword,
@@ -27,7 +19,7 @@ fn a_change_of_a_password_has_old_and_new(rt: HostRuntime) {
 }
 
 #[test]
-fn an_enrolment_has_code_name_and_roles(rt: HostRuntime) {
+fn bodies_with_roles_have_exactly_their_members(rt: HostRuntime) {
     command_is_exact(
         &rt,
         Post::Enrol,
@@ -37,10 +29,6 @@ fn an_enrolment_has_code_name_and_roles(rt: HostRuntime) {
             must("roles", "[\"analyst\"]"),
         ],
     );
-}
-
-#[test]
-fn setting_roles_has_code_and_roles(rt: HostRuntime) {
     command_is_exact(&rt, Post::SetRoles, &[code(), must("roles", "[]")]);
 }
 
@@ -104,20 +92,38 @@ fn bodies_with_a_code_say_their_commands(rt: HostRuntime) {
     says(&rt, Post::Unlock, "{\"code\":\"eve\"}", "unlock|eve|");
 }
 
-fn has_bad_roles(rt: &(impl Abort + AllocGlobal), body: &str) {
-    gets(rt, Post::SetRoles, body, BAD_BODY);
-}
-
 #[test]
 fn words_of_roles_are_known_and_different(rt: HostRuntime) {
-    has_bad_roles(
+    gets(
         &rt,
+        Post::SetRoles,
         "{\"code\":\"eve\",\"roles\":[\"analyst\",\"analyst\"]}",
+        BAD_BODY,
     );
-    has_bad_roles(&rt, "{\"code\":\"eve\",\"roles\":[\"Analyst\"]}");
-    has_bad_roles(&rt, "{\"code\":\"eve\",\"roles\":[\"owner\"]}");
-    has_bad_roles(&rt, "{\"code\":\"eve\",\"roles\":\"analyst\"}");
-    has_bad_roles(&rt, "{\"code\":\"eve\",\"roles\":[1]}");
+    gets(
+        &rt,
+        Post::SetRoles,
+        "{\"code\":\"eve\",\"roles\":[\"Analyst\"]}",
+        BAD_BODY,
+    );
+    gets(
+        &rt,
+        Post::SetRoles,
+        "{\"code\":\"eve\",\"roles\":[\"owner\"]}",
+        BAD_BODY,
+    );
+    gets(
+        &rt,
+        Post::SetRoles,
+        "{\"code\":\"eve\",\"roles\":\"analyst\"}",
+        BAD_BODY,
+    );
+    gets(
+        &rt,
+        Post::SetRoles,
+        "{\"code\":\"eve\",\"roles\":[1]}",
+        BAD_BODY,
+    );
 }
 
 #[test]

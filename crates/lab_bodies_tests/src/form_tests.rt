@@ -91,12 +91,8 @@ fn a_choice_has_choices(rt: HostRuntime) {
 }
 
 #[test]
-fn a_date_has_no_more(rt: HostRuntime) {
+fn a_date_and_yes_or_no_have_no_more(rt: HostRuntime) {
     field_is_exact(&rt, &[key(), label(), required(), must("kind", "\"date\"")]);
-}
-
-#[test]
-fn yes_or_no_has_no_more(rt: HostRuntime) {
     field_is_exact(
         &rt,
         &[key(), label(), required(), must("kind", "\"yesno\"")],
@@ -129,24 +125,23 @@ fn approval_is_wanted_only_where_it_is_said(rt: HostRuntime) {
     );
 }
 
-fn has_size(rt: &(impl Abort + AllocGlobal), body: &str, wanted: BodyFault) {
-    gets(rt, Post::MakeForm, body, wanted);
-}
-
 #[test]
 fn a_size_is_whole_and_below_two_to_the_32(rt: HostRuntime) {
-    has_size(
+    gets(
         &rt,
+        Post::MakeForm,
         "{\"form\":\"w\",\"fields\":[{\"key\":\"n\",\"label\":\"N\",\"required\":true,\"kind\":\"text\",\"size\":4294967295}]}",
         BodyFault::Refused(BodyRefusal::Form(FormRefusal::BadField)),
     );
-    has_size(
+    gets(
         &rt,
+        Post::MakeForm,
         "{\"form\":\"w\",\"fields\":[{\"key\":\"n\",\"label\":\"N\",\"required\":true,\"kind\":\"text\",\"size\":4294967296}]}",
         BAD_BODY,
     );
-    has_size(
+    gets(
         &rt,
+        Post::MakeForm,
         "{\"form\":\"w\",\"fields\":[{\"key\":\"n\",\"label\":\"N\",\"required\":true,\"kind\":\"text\",\"size\":0.0}]}",
         BAD_BODY,
     );

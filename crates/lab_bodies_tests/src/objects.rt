@@ -152,17 +152,19 @@ pub(crate) fn is_read(
     is_good
 }
 
-// Missing, null, of another type, and given twice: the last one counts.
-fn member_is_exact(rt: &(impl Abort + AllocGlobal), object: &Object<'_>, place: usize, row: &Row) {
+// Missing, null, and given twice: the last one counts.
+fn member_stands_once(
+    rt: &(impl Abort + AllocGlobal),
+    object: &Object<'_>,
+    place: usize,
+    row: &Row,
+) {
     let name = row.name;
     assert!(rt;
         is_read(rt, object, place, &[]) == !row.is_required,
         "without {name}"
     );
     assert!(rt; !is_read(rt, object, place, &["null"]), "null at {name}");
-    assert!(rt; !is_read(rt, object, place, &["[[]]"]), "a list at {name}");
-    assert!(rt; !is_read(rt, object, place, &["{}"]), "an object at {name}");
-    assert!(rt; !is_read(rt, object, place, &["-1"]), "a number at {name}");
     assert!(rt;
         is_read(rt, object, place, &["null", row.value]),
         "the first of two at {name}"
@@ -170,6 +172,27 @@ fn member_is_exact(rt: &(impl Abort + AllocGlobal), object: &Object<'_>, place: 
     assert!(rt;
         !is_read(rt, object, place, &[row.value, "null"]),
         "the last of two at {name}"
+    );
+}
+
+// Of another type.
+fn member_has_its_type(
+    rt: &(impl Abort + AllocGlobal),
+    object: &Object<'_>,
+    place: usize,
+    row: &Row,
+) {
+    let name = row.name;
+    assert!(rt; !is_read(rt, object, place, &["[[]]"]), "a list at {name}");
+    assert!(rt; !is_read(rt, object, place, &["{}"]), "an object at {name}");
+    assert!(rt; !is_read(rt, object, place, &["-1"]), "a number at {name}");
+    assert!(rt;
+        is_read(rt, object, place, &["true"]) == (row.value == "true"),
+        "true at {name}"
+    );
+    assert!(rt;
+        row.value.starts_with('"') || !is_read(rt, object, place, &["\"1\""]),
+        "a text at {name}"
     );
 }
 
@@ -190,7 +213,8 @@ pub(crate) fn is_exact(rt: &(impl Abort + AllocGlobal), object: &Object<'_>) {
     assert!(rt; is_read_with(rt, object, ""), "as it should be");
     assert!(rt; !is_read_with(rt, object, "note"), "a note");
     for (place, row) in object.rows.iter().enumerate() {
-        member_is_exact(rt, object, place, row);
+        member_stands_once(rt, object, place, row);
+        member_has_its_type(rt, object, place, row);
     }
 }
 

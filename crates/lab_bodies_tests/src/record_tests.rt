@@ -3,7 +3,6 @@ use crate::objects::{
     BAD_BODY, BAD_NAME, Object, Read, command_is_exact, gets, is_exact, may, must, says,
 };
 use lab_bodies::Post;
-use std::process::Abort;
 
 #[test]
 fn a_record_has_form_and_sample(rt: HostRuntime) {
@@ -97,20 +96,40 @@ fn amendments_say_what_they_alter(rt: HostRuntime) {
     );
 }
 
-// A record of this number, amended.
-fn has_bad_number(rt: &(impl Abort + AllocGlobal), body: &str) {
-    gets(rt, Post::Amend, body, BAD_BODY);
-}
-
 #[test]
 fn numbers_of_records_are_whole_and_in_range(rt: HostRuntime) {
-    has_bad_number(&rt, "{\"altered\":[],\"record\":0}");
-    has_bad_number(&rt, "{\"altered\":[],\"record\":-0}");
-    has_bad_number(&rt, "{\"altered\":[],\"record\":1000000001}");
-    has_bad_number(&rt, "{\"altered\":[],\"record\":4294967297}");
-    has_bad_number(&rt, "{\"altered\":[],\"record\":1.0}");
-    has_bad_number(&rt, "{\"altered\":[],\"record\":1e0}");
-    has_bad_number(&rt, "{\"altered\":[],\"record\":\"1\"}");
+    gets(&rt, Post::Amend, "{\"altered\":[],\"record\":0}", BAD_BODY);
+    gets(&rt, Post::Amend, "{\"altered\":[],\"record\":-0}", BAD_BODY);
+    gets(
+        &rt,
+        Post::Amend,
+        "{\"altered\":[],\"record\":1000000001}",
+        BAD_BODY,
+    );
+    gets(
+        &rt,
+        Post::Amend,
+        "{\"altered\":[],\"record\":4294967297}",
+        BAD_BODY,
+    );
+    gets(
+        &rt,
+        Post::Amend,
+        "{\"altered\":[],\"record\":1.0}",
+        BAD_BODY,
+    );
+    gets(
+        &rt,
+        Post::Amend,
+        "{\"altered\":[],\"record\":1e0}",
+        BAD_BODY,
+    );
+    gets(
+        &rt,
+        Post::Amend,
+        "{\"altered\":[],\"record\":\"1\"}",
+        BAD_BODY,
+    );
 }
 
 #[test]

@@ -2,7 +2,7 @@
 use lab_access::{Role, Roles};
 use lab_forms::{Bound, Choices, Field, Form, Kind};
 use lab_machine::{Command, Founder, Founding};
-use lab_names::{Note, Ordinal, Rule, Text};
+use lab_names::{Note, Ordinal, PersonCode, Rule, Text};
 use lab_rules::{Item, Signing};
 use lab_secrets::Digest;
 use std::fmt::Write;
@@ -200,7 +200,7 @@ fn put_signer(
     text: &mut String,
     signing: &Signing,
     password: &str,
-    code: &Option<lab_names::PersonCode>,
+    code: &Option<PersonCode>,
 ) {
     put_signing(rt, text, signing);
     put(rt, text, password);

@@ -16,27 +16,6 @@ fn rows(meaning: &'static str) -> [Row; 6] {
     ]
 }
 
-fn has_no_reason(rt: &(impl Abort + AllocGlobal), meaning: &'static str) {
-    let rows = rows(meaning);
-    command_is_exact(rt, Post::Sign, &rows);
-    assert!(rt; !is_read_with(rt, &whole(Post::Sign, &rows), "reason"));
-}
-
-#[test]
-fn authorship_has_no_reason(rt: HostRuntime) {
-    has_no_reason(&rt, "\"authorship\"");
-}
-
-#[test]
-fn a_review_has_no_reason(rt: HostRuntime) {
-    has_no_reason(&rt, "\"review\"");
-}
-
-#[test]
-fn an_approval_has_no_reason(rt: HostRuntime) {
-    has_no_reason(&rt, "\"approval\"");
-}
-
 #[test]
 fn a_rejection_may_have_a_reason(rt: HostRuntime) {
     command_is_exact(
@@ -52,6 +31,19 @@ fn a_rejection_may_have_a_reason(rt: HostRuntime) {
             may("reason", "\"blurred\""),
         ],
     );
+}
+
+fn has_no_reason(rt: &(impl Abort + AllocGlobal), meaning: &'static str) {
+    let rows = rows(meaning);
+    command_is_exact(rt, Post::Sign, &rows);
+    assert!(rt; !is_read_with(rt, &whole(Post::Sign, &rows), "reason"));
+}
+
+#[test]
+fn no_other_signature_has_a_reason(rt: HostRuntime) {
+    has_no_reason(&rt, "\"authorship\"");
+    has_no_reason(&rt, "\"review\"");
+    has_no_reason(&rt, "\"approval\"");
 }
 
 fn signs(rt: &(impl Abort + AllocGlobal), rest: &str, wanted: &str) {
@@ -89,18 +81,18 @@ fn a_signature_says_its_meaning(rt: HostRuntime) {
     );
 }
 
-fn has_bad_digest(rt: &(impl Abort + AllocGlobal), body: &str) {
-    gets(rt, Post::Sign, body, BAD_BODY);
-}
-
 #[test]
 fn a_digest_has_64_lower_digits(rt: HostRuntime) {
-    has_bad_digest(
+    gets(
         &rt,
+        Post::Sign,
         "{\"record\":1,\"version\":2,\"digest\":\"00112233445566778899aabbccddeeff00112233445566778899aabbccddeef\",\"password\":\"p\",\"meaning\":\"review\"}",
+        BAD_BODY,
     );
-    has_bad_digest(
+    gets(
         &rt,
+        Post::Sign,
         "{\"record\":1,\"version\":2,\"digest\":\"00112233445566778899aabbccddeeff00112233445566778899aabbccddeefF\",\"password\":\"p\",\"meaning\":\"review\"}",
+        BAD_BODY,
     );
 }
