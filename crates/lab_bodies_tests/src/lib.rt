@@ -1,5 +1,5 @@
-//! Tests of `lab_members` and `lab_bodies`, on whole commands. They stand apart, so that the crates aren't proved once more
-//! with them.
+//! Tests of `lab_members` and `lab_bodies`, on whole commands. They stand apart, so that the crates aren't proved once
+//! more with them.
 #![tactic(auto)]
 
 #[cfg(test)]

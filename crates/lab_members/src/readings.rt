@@ -1,4 +1,5 @@
-//! What is read at the names of a body whose shape was seen: each reading answers what stands there, or why it doesn't read.
+//! What is read at the names of a body whose shape was seen: each reading answers what stands there, or why it doesn't
+//! read.
 ghost use Rattle.std.specs.Prelude.{◌≡◌, Ok, IfOk, IfErr, string_bytes};
 ghost use Rattle.serde_json.specs.View.{view};
 ghost use Rattle.lab_members.specs.Members.{at, whole_in, ordinal_in, digest_in, roles_in};
