@@ -54,8 +54,8 @@ abbrev pub sort_in : Data → Option Sort
 sort_in d = option_and_then sort_of (at as_str (codes "kind") d)
 
 -- what every field has
-abbrev pub common_members : List MemberRule
-common_members =
+abbrev pub members_of_every_field : List MemberRule
+members_of_every_field =
     must (codes "key") Text ∷ must (codes "label") Text ∷ must (codes "required") Flag
     ∷ must (codes "kind") Text ∷ []
 
@@ -70,7 +70,7 @@ sort_members Date = []
 sort_members YesNo = []
 
 abbrev pub field_members : Sort → List MemberRule
-field_members sort = common_members ++ sort_members sort
+field_members sort = members_of_every_field ++ sort_members sort
 
 -- an element of the fields is of a kind, and has that kind's members
 unfoldable pub is_field_body : Data → Bool

@@ -42,8 +42,8 @@ abbrev pub meant_in : Data → Option Meant
 meant_in d = option_and_then meant_of (at as_str (codes "meaning") d)
 
 -- what a signature of every meaning has
-abbrev pub common_members : List MemberRule
-common_members =
+abbrev pub members_of_every_signature : List MemberRule
+members_of_every_signature =
     must (codes "record") Ordinal ∷ must (codes "version") Ordinal ∷ must (codes "digest") Digest
     ∷ must (codes "meaning") Text ∷ must (codes "password") Text ∷ may (codes "code") Text ∷ []
 
@@ -55,7 +55,7 @@ meant_members Rejection = may (codes "reason") Text ∷ []
 meant_members Approval = []
 
 abbrev pub signature_members : Meant → List MemberRule
-signature_members meant = common_members ++ meant_members meant
+signature_members meant = members_of_every_signature ++ meant_members meant
 
 unfoldable pub is_signature_body : Data → Bool
 is_signature_body d =

@@ -100,6 +100,40 @@ fn a_date_and_yes_or_no_have_no_more(rt: HostRuntime) {
 }
 
 #[test]
+fn fields_are_objects_of_a_known_kind(rt: HostRuntime) {
+    gets(
+        &rt,
+        Post::MakeForm,
+        "{\"form\":\"w\",\"fields\":[1]}",
+        BAD_BODY,
+    );
+    gets(
+        &rt,
+        Post::MakeForm,
+        "{\"form\":\"w\",\"fields\":[{}]}",
+        BAD_BODY,
+    );
+    gets(
+        &rt,
+        Post::MakeForm,
+        "{\"form\":\"w\",\"fields\":[{\"key\":\"a\",\"label\":\"A\",\"required\":true,\"kind\":\"Date\"}]}",
+        BAD_BODY,
+    );
+    gets(
+        &rt,
+        Post::MakeForm,
+        "{\"form\":\"w\",\"fields\":[{\"key\":\"a\",\"label\":\"A\",\"required\":true,\"kind\":\"date\",\"size\":1}]}",
+        BAD_BODY,
+    );
+    gets(
+        &rt,
+        Post::MakeForm,
+        "{\"form\":\"w\",\"fields\":[{\"key\":\"a\",\"label\":\"A\",\"required\":true,\"kind\":\"choice\",\"choices\":[\"b\",1]}]}",
+        BAD_BODY,
+    );
+}
+
+#[test]
 fn a_form_says_its_fields(rt: HostRuntime) {
     says(
         &rt,

@@ -1,7 +1,7 @@
 //! The body of a founding.
 use crate::objects::{BAD_BODY, Object, Read, fault_of, is_exact, must};
 use crate::said::founding_said;
-use lab_bodies::{Founding, founding_of};
+use lab_bodies::founding_of;
 use std::process::Abort;
 
 #[test]
@@ -69,12 +69,8 @@ fn a_founding_is_an_object(rt: HostRuntime) {
     is_no_founding(&rt, "[]");
 }
 
-fn founding(rt: &(impl Abort + AllocGlobal), body: &str) -> Founding {
-    founding_of(rt.alloc(), body.as_bytes()).expect(rt, "a founding")
-}
-
 fn founds(rt: &(impl Abort + AllocGlobal), body: &str, wanted: &str) {
-    let founding = founding(rt, body);
+    let founding = founding_of(rt.alloc(), body.as_bytes()).expect(rt, "a founding");
     let said = founding_said(rt, &founding);
     assert_eq!(rt; said.as_str(), wanted);
     drop(said);

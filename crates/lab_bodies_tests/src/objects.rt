@@ -1,6 +1,6 @@
 //! Bodies, good ones and ones that are amiss at one member, and what is read of them.
 use crate::said::command_said;
-use lab_bodies::{BodyFault, BodyRefusal, Command, Post, command_of, founding_of};
+use lab_bodies::{BodyFault, BodyRefusal, Post, command_of, founding_of};
 use std::fmt::Write;
 use std::process::Abort;
 
@@ -15,13 +15,9 @@ pub(crate) enum Read {
     Founding,
 }
 
-fn command(rt: &(impl Abort + AllocGlobal), post: Post, body: &str) -> Command {
-    command_of(rt.alloc(), post, body.as_bytes()).expect(rt, "a command")
-}
-
 /// The body says this command.
 pub(crate) fn says(rt: &(impl Abort + AllocGlobal), post: Post, body: &str, wanted: &str) {
-    let command = command(rt, post, body);
+    let command = command_of(rt.alloc(), post, body.as_bytes()).expect(rt, "a command");
     let said = command_said(rt, &command);
     assert_eq!(rt; said.as_str(), wanted);
     drop(said);

@@ -1,7 +1,23 @@
 //! Which refusal comes first, and the numbers and words of all.
 use crate::objects::{BAD_BODY, BAD_NAME, gets};
-use lab_bodies::{BodyFault, BodyRefusal, FormRefusal, Post};
+use lab_bodies::{BodyFault, BodyRefusal, FormRefusal, Post, command_of};
 use std::process::Abort;
+
+#[test]
+fn a_body_is_one_json_object_in_utf8(rt: HostRuntime) {
+    gets(&rt, Post::Close, "", BAD_BODY);
+    gets(&rt, Post::Close, "{", BAD_BODY);
+    gets(&rt, Post::Close, "{}{}", BAD_BODY);
+    gets(&rt, Post::Close, "\u{feff}{}", BAD_BODY);
+    gets(&rt, Post::Close, "[]", BAD_BODY);
+    let fault = command_of(
+        rt.alloc(),
+        Post::Open,
+        b"{\"code\":\"ann\",\"password\":\"\xff\"}",
+    )
+    .err();
+    assert!(&rt; fault == Some(BAD_BODY));
+}
 
 #[test]
 fn the_shape_comes_before_names(rt: HostRuntime) {

@@ -96,3 +96,19 @@ fn a_digest_has_64_lower_digits(rt: HostRuntime) {
         BAD_BODY,
     );
 }
+
+#[test]
+fn a_meaning_is_known(rt: HostRuntime) {
+    gets(
+        &rt,
+        Post::Sign,
+        "{\"record\":1,\"version\":2,\"digest\":\"00112233445566778899aabbccddeeff00112233445566778899aabbccddeeff\",\"password\":\"p\",\"meaning\":\"Review\"}",
+        BAD_BODY,
+    );
+    gets(
+        &rt,
+        Post::Sign,
+        "{\"record\":1,\"version\":2,\"digest\":\"00112233445566778899aabbccddeeff00112233445566778899aabbccddeeff\",\"password\":\"p\",\"meaning\":\"\"}",
+        BAD_BODY,
+    );
+}

@@ -25,7 +25,7 @@ pub fn admitted<R: Rule>(alloc: Global, text: &str) -> Result<Text<R>, BodyFault
     }
 }
 
-fn str_at<'v>(value: &'v Value, name: &str) -> Result<&'v str, BodyFault>
+fn wanted_str_at<'v>(value: &'v Value, name: &str) -> Result<&'v str, BodyFault>
     ensures read { IfOk result (λ text. text_at name.now (view value.now) ≡ Ok text.now) }
     ensures fault { IfErr result (Faulty (text_at name.now (view value.now))) }
 {
@@ -40,7 +40,7 @@ pub fn named_at<R: Rule>(alloc: Global, value: &Value, name: &str) -> Result<Tex
     ensures read { IfOk result (λ named. named_at R.admits name.now (view value.now) ≡ Ok named) }
     ensures fault { IfErr result (Faulty (named_at R.admits name.now (view value.now))) }
 {
-    match str_at(value, name) {
+    match wanted_str_at(value, name) {
         Ok(text) => admitted::<R>(alloc, text),
         Err(fault) => Err(fault),
     }
@@ -71,7 +71,7 @@ pub fn text_at(alloc: Global, value: &Value, name: &str) -> Result<String, BodyF
         (λ text. text_at name.now (view value.now) ≡ Ok (string_bytes text)) }
     ensures fault { IfErr result (Faulty (text_at name.now (view value.now))) }
 {
-    match str_at(value, name) {
+    match wanted_str_at(value, name) {
         Ok(text) => match String::from_str(alloc, text) {
             Ok(text) => Ok(text),
             Err(_) => Err(BodyFault::Memory),
