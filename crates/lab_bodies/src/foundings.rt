@@ -51,7 +51,8 @@ fn founding_behind(
     third: Founder,
     value: &Value,
 ) -> Result<Founding, BodyFault>
-    ensures read { IfOk result (λ founding. founding_behind first second third (view value.now) ≡ Ok founding) }
+    ensures read { IfOk result
+        (λ founding. founding_behind first second third (view value.now) ≡ Ok founding) }
     ensures fault { IfErr result (Faulty (founding_behind first second third (view value.now))) }
 {
     match named_at::<Names>(alloc, value, "name") {
