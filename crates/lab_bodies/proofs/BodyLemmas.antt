@@ -1,14 +1,13 @@
 -- What comes of a whole body, by what comes of its JSON.
-use Rattle.std.proofs.Common.{◌≡◌, ◌∙◌, ◌<◌, ℕ, List, length, Option, Some, None, Result, Ok, Err, refl, ap}
+use Rattle.std.proofs.Common.{◌≡◌, ◌∙◌, ℕ, List, Some, Result, Ok, Err, refl, ap}
 use Rattle.std.specs.Prelude.{IfErr}
 use Rattle.serde_json.specs.Data.{Data}
-use Rattle.lab_bodies.specs.declared.refusals.BodyRefusal.TheVariants.{BadBody}
-use Rattle.lab_bodies.specs.declared.refusals.BodyFault.{BodyFault}
-use Rattle.lab_bodies.specs.declared.refusals.BodyFault.TheVariants.{Refused, Memory}
-use Rattle.lab_bodies.specs.Members.{json_of}
-use Rattle.lab_bodies.specs.Readings.{Reading, Faulty}
-use Rattle.lab_bodies.specs.Bodies.{read_from, body_named, BodyFaultFits, JsonFaultFits}
-use Rattle.lab_bodies.proofs.MemberLemmas.{some_byte}
+use Rattle.lab_members.specs.declared.refusals.BodyFault.{BodyFault}
+use Rattle.lab_members.specs.declared.refusals.BodyFault.TheVariants.{Refused, Memory}
+use Rattle.lab_members.specs.Values.{json_of, JsonFaultFits}
+use Rattle.lab_members.specs.Readings.{Reading, Faulty}
+use Rattle.lab_bodies.specs.Bodies.{read_from, body_named, BodyFaultFits}
+use Rattle.lab_members.proofs.ValueLemmas.{some_byte}
 
 -- what JSON says is what the body says
 pub body_read : {A : Type 0} (says : Data → Reading A) (body : List ℕ) (d : Data) (x : A) → json_of body ≡ Some d → says d ≡ Ok x → body_named says body ≡ Ok x

@@ -2,5 +2,4 @@ pub mod BodyLemmas
 pub mod FoundingLemmas
 pub mod KeyLemmas
 pub mod KnownValues
-pub mod MemberLemmas
-pub mod ReadingLemmas
+pub mod PartLemmas

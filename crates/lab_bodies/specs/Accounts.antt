@@ -4,9 +4,9 @@ use Rattle.serde_json.specs.Data.{Data}
 use Rattle.lab_names.specs.Names.{is_person_code, is_name}
 use Rattle.lab_machine.specs.declared.commands.Command.{Command}
 use Rattle.lab_machine.specs.declared.commands.Command.TheVariants.{Open, Close, ChangePassword, Enrol, AskIssue, ConfirmIssue, SetRoles, Retire, Unlock}
-use Rattle.lab_bodies.specs.declared.members.Kind.TheVariants.{Text, Roles}
-use Rattle.lab_bodies.specs.Members.{MemberRule, must, has_members, at, roles_in}
-use Rattle.lab_bodies.specs.Readings.{Reading, then_read, wanted, text_at, named_at, shaped}
+use Rattle.lab_members.specs.declared.members.MemberKind.TheVariants.{Text, Roles}
+use Rattle.lab_members.specs.Members.{MemberRule, must, has_members, at, roles_in}
+use Rattle.lab_members.specs.Readings.{Reading, then_read, wanted, text_at, named_at, shaped}
 
 -- a session is opened by a person's code and password
 abbrev pub opening_members : List MemberRule

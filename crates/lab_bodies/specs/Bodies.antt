@@ -3,20 +3,18 @@
 -- wrong with the fields of a form or the keys of an amendment.
 use Rattle.std.specs.Prelude.{◌≡◌, ◌<◌, ℕ, List, length, Option, Some, None, Err}
 use Rattle.serde_json.specs.Data.{Data}
-use Rattle.lab_machine.specs.declared.births.Founding.{Founding}
 use Rattle.lab_machine.specs.declared.commands.Command.{Command}
-use Rattle.lab_bodies.specs.declared.refusals.BodyRefusal.TheVariants.{BadBody}
-use Rattle.lab_bodies.specs.declared.refusals.BodyFault.{BodyFault}
-use Rattle.lab_bodies.specs.declared.refusals.BodyFault.TheVariants.{Refused, Memory}
+use Rattle.lab_members.specs.declared.refusals.BodyRefusal.TheVariants.{BadBody}
+use Rattle.lab_members.specs.declared.refusals.BodyFault.{BodyFault}
+use Rattle.lab_members.specs.declared.refusals.BodyFault.TheVariants.{Refused, Memory}
 use Rattle.lab_bodies.specs.declared.bodies.Post.{Post}
 use Rattle.lab_bodies.specs.declared.bodies.Post.TheVariants.{Open, Close, ChangePassword, Enrol, AskIssue, ConfirmIssue, SetRoles, Retire, Unlock, MakeForm, OpenRecord, Enter, Amend, Sign}
-use Rattle.lab_bodies.specs.Members.{json_of}
-use Rattle.lab_bodies.specs.Readings.{Reading}
+use Rattle.lab_members.specs.Values.{json_of}
+use Rattle.lab_members.specs.Readings.{Reading}
 use Rattle.lab_bodies.specs.Accounts.{opening_named, closing_named, password_named, enrolment_named, issue_named, confirmation_named, roles_named, retirement_named, unlocking_named}
 use Rattle.lab_bodies.specs.Forms.{form_named}
 use Rattle.lab_bodies.specs.Records.{record_named, entry_named, amendment_named}
 use Rattle.lab_bodies.specs.Signatures.{signature_named}
-use Rattle.lab_bodies.specs.Foundings.{founding_named}
 
 -- what is read of JSON; what is none is refused
 abbrev pub read_from : {A : Type 0} → (Data → Reading A) → Option Data → Reading A
@@ -48,8 +46,3 @@ post_named Sign d = signature_named d
 abbrev pub BodyFaultFits : {A : Type 0} → (Data → Reading A) → List ℕ → BodyFault → Type 0
 BodyFaultFits says body (Refused refusal) = body_named says body ≡ Err refusal
 BodyFaultFits says body Memory = 0 < length body
-
--- those of reading JSON
-abbrev pub JsonFaultFits : List ℕ → BodyFault → Type 0
-JsonFaultFits body (Refused refusal) = (refusal ≡ BadBody) × (json_of body ≡ None)
-JsonFaultFits body Memory = 0 < length body

@@ -1,6 +1,6 @@
 -- The body of a form: its key, its fields, and whether it wants a third person's approval. A
 -- field's members are those of every field and those of its kind.
-use Rattle.std.specs.Prelude.{ℕ, List, [], ◌∷◌, ◌++◌, ◌&&◌, Bool, false, bytes_eq, find, codes, Option, Some, None, option_and_then, Result, Ok, Err}
+use Rattle.std.specs.Prelude.{ℕ, List, [], ◌∷◌, ◌++◌, ◌&&◌, Bool, false, bytes_eq, find, codes, Option, None, option_and_then, Result, Ok, Err}
 use Rattle.std.specs.List.{list_all}
 use Rattle.std.specs.Option.{option_map_or, unwrap_or}
 use Rattle.serde_json.specs.Data.{Data}
@@ -10,15 +10,17 @@ use Rattle.lab_forms.specs.declared.forms.Field.{Field}
 use Rattle.lab_forms.specs.declared.kinds.Kind.{Kind}
 use Rattle.lab_forms.specs.declared.kinds.Kind.TheVariants as kind
 use Rattle.lab_forms.specs.declared.faults.FormRefusal.{FormRefusal}
+use Rattle.lab_forms.specs.Kinds.{kind_word}
 use Rattle.lab_forms.specs.Forms.{FormSheet, form_made}
 use Rattle.lab_machine.specs.declared.commands.Command.{Command}
 use Rattle.lab_machine.specs.declared.commands.Command.TheVariants.{MakeForm}
-use Rattle.lab_bodies.specs.declared.refusals.BodyRefusal.TheVariants.{Form}
-use Rattle.lab_bodies.specs.declared.members.Kind.TheVariants.{Text, Flag, Whole, Texts, List as AnyList}
+use Rattle.lab_members.specs.declared.refusals.BodyRefusal.TheVariants.{Form}
+use Rattle.lab_members.specs.declared.members.MemberKind.TheVariants.{Text, Flag, Whole, Texts, List as AnyList}
 use Rattle.lab_bodies.specs.declared.forms.Sort.{Sort}
 use Rattle.lab_bodies.specs.declared.forms.Sort.TheVariants.{Number, Text as TextSort, Choice, Date, YesNo}
-use Rattle.lab_bodies.specs.Members.{MemberRule, must, may, has_members, at, whole_in, list_in, elements_at}
-use Rattle.lab_bodies.specs.Readings.{Reading, then_read, wanted, admitted, text_at, named_at, each_read, shaped}
+use Rattle.lab_members.specs.Members.{MemberRule, must, may, has_members, at, whole_in, elements_at}
+use Rattle.lab_members.specs.Readings.{Reading, then_read, wanted, admitted, named_at, shaped}
+use Rattle.lab_bodies.specs.Parts.{each_read}
 
 -- ---- members
 
@@ -26,13 +28,17 @@ abbrev pub form_members : List MemberRule
 form_members =
     must (codes "form") Text ∷ must (codes "fields") AnyList ∷ may (codes "approval") Flag ∷ []
 
--- the word of a field's kind
+-- a kind of a field with nothing beside it: what else it says stands at names of its own
+abbrev pub kind_of : Sort → Kind
+kind_of Number = kind.Number [] 0 None None
+kind_of TextSort = kind.Text 0
+kind_of Choice = kind.Choice []
+kind_of Date = kind.Date
+kind_of YesNo = kind.YesNo
+
+-- its word
 abbrev pub sort_word : Sort → List ℕ
-sort_word Number = codes "number"
-sort_word TextSort = codes "text"
-sort_word Choice = codes "choice"
-sort_word Date = codes "date"
-sort_word YesNo = codes "yesno"
+sort_word sort = kind_word (kind_of sort)
 
 abbrev pub all_sorts : List Sort
 all_sorts = Number ∷ TextSort ∷ Choice ∷ Date ∷ YesNo ∷ []
@@ -48,8 +54,8 @@ abbrev pub sort_in : Data → Option Sort
 sort_in d = option_and_then sort_of (at as_str (codes "kind") d)
 
 -- what every field has
-abbrev pub common_members : List MemberRule
-common_members =
+abbrev pub members_of_every_field : List MemberRule
+members_of_every_field =
     must (codes "key") Text ∷ must (codes "label") Text ∷ must (codes "required") Flag
     ∷ must (codes "kind") Text ∷ []
 
@@ -64,7 +70,7 @@ sort_members Date = []
 sort_members YesNo = []
 
 abbrev pub field_members : Sort → List MemberRule
-field_members sort = common_members ++ sort_members sort
+field_members sort = members_of_every_field ++ sort_members sort
 
 -- an element of the fields is of a kind, and has that kind's members
 unfoldable pub is_field_body : Data → Bool

@@ -1,14 +1,14 @@
 -- The body of a founding: three founders, each with code, name and password, and the laboratory's
 -- name.
-use Rattle.std.specs.Prelude.{ℕ, List, [], ◌∷◌, ◌&&◌, Bool, codes, Option, Some, None, Ok, Err}
+use Rattle.std.specs.Prelude.{List, [], ◌∷◌, ◌&&◌, Bool, codes, Option, Some, Ok, Err}
 use Rattle.serde_json.specs.Data.{Data}
 use Rattle.lab_names.specs.Names.{is_person_code, is_name}
 use Rattle.lab_machine.specs.declared.births.Founder.{Founder}
 use Rattle.lab_machine.specs.declared.births.Founding.{Founding}
-use Rattle.lab_bodies.specs.declared.refusals.BodyRefusal.TheVariants.{BadBody}
-use Rattle.lab_bodies.specs.declared.members.Kind.TheVariants.{Text, List as AnyList}
-use Rattle.lab_bodies.specs.Members.{MemberRule, must, has_members, elements_at, each_has}
-use Rattle.lab_bodies.specs.Readings.{Reading, then_read, text_at, named_at, shaped}
+use Rattle.lab_members.specs.declared.refusals.BodyRefusal.TheVariants.{BadBody}
+use Rattle.lab_members.specs.declared.members.MemberKind.TheVariants.{Text, List as AnyList}
+use Rattle.lab_members.specs.Members.{MemberRule, must, has_members, elements_at, each_has}
+use Rattle.lab_members.specs.Readings.{Reading, then_read, text_at, named_at, shaped}
 
 abbrev pub founding_members : List MemberRule
 founding_members = must (codes "founders") AnyList ∷ must (codes "name") Text ∷ []
@@ -29,14 +29,19 @@ founder_read d =
     then_read (text_at (codes "password") d) (λ password.
     Ok (record { code = code; name = name; password = password }))))
 
+-- the name, behind the founders
+abbrev pub founding_behind : Founder → Founder → Founder → Data → Reading Founding
+founding_behind first second third d =
+    then_read (named_at is_name (codes "name") d) (λ name.
+    Ok (record { name = name; first = first; second = second; third = third }))
+
 -- the three of them, then the name
 abbrev pub founding_of_three : Data → Data → Data → Data → Reading Founding
 founding_of_three one two three d =
     then_read (founder_read one) (λ first.
     then_read (founder_read two) (λ second.
     then_read (founder_read three) (λ third.
-    then_read (named_at is_name (codes "name") d) (λ name.
-    Ok (record { name = name; first = first; second = second; third = third })))))
+    founding_behind first second third d)))
 
 -- exactly three founders
 abbrev pub founding_by : Option (List Data) → Data → Reading Founding

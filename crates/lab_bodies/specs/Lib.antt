@@ -1,9 +1,7 @@
-pub mod Members
-pub mod Refusals
-pub mod Readings
 pub mod Accounts
+pub mod Bodies
 pub mod Forms
+pub mod Foundings
+pub mod Parts
 pub mod Records
 pub mod Signatures
-pub mod Foundings
-pub mod Bodies

@@ -8,10 +8,11 @@ use Rattle.lab_forms.specs.declared.faults.FormRefusal.TheVariants.{KeyTwice}
 use Rattle.lab_rules.specs.declared.items.Item.{Item}
 use Rattle.lab_machine.specs.declared.commands.Command.{Command}
 use Rattle.lab_machine.specs.declared.commands.Command.TheVariants.{OpenRecord, Enter, Amend}
-use Rattle.lab_bodies.specs.declared.refusals.BodyRefusal.TheVariants.{Form}
-use Rattle.lab_bodies.specs.declared.members.Kind.TheVariants.{Text, Ordinal, List as AnyList}
-use Rattle.lab_bodies.specs.Members.{MemberRule, must, may, has_members, at, ordinal_in, elements_at, each_has}
-use Rattle.lab_bodies.specs.Readings.{Reading, then_read, wanted, text_at, named_at, named_if_at, each_read, shaped}
+use Rattle.lab_members.specs.declared.refusals.BodyRefusal.TheVariants.{Form}
+use Rattle.lab_members.specs.declared.members.MemberKind.TheVariants.{Text, Ordinal, List as AnyList}
+use Rattle.lab_members.specs.Members.{MemberRule, must, may, has_members, at, ordinal_in, elements_at, each_has}
+use Rattle.lab_members.specs.Readings.{Reading, then_read, wanted, text_at, named_at, named_if_at, shaped}
+use Rattle.lab_bodies.specs.Parts.{each_read}
 
 -- a record is opened for a form and a sample
 abbrev pub record_members : List MemberRule

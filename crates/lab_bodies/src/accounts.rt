@@ -2,12 +2,11 @@
 ghost use Rattle.std.specs.Prelude.{◌≡◌, Ok, IfOk, IfErr};
 ghost use Rattle.serde_json.specs.View.{view};
 ghost use Rattle.lab_bodies.specs.Accounts.{opening_named, closing_named, password_named, enrolment_named, roles_named, person_named, issue_named, confirmation_named, retirement_named, unlocking_named};
-ghost use Rattle.lab_bodies.specs.Readings.{Faulty};
+ghost use Rattle.lab_members.specs.Readings.{Faulty};
 
-use crate::members::{Member, has_members, must};
-use crate::readings::{named_at, roles_at, typed_at, wanted};
-use crate::refusals::{BodyFault, BodyRefusal};
+use crate::parts::typed_at;
 use lab_machine::Command;
+use lab_members::{BodyFault, BodyRefusal, Member, has_members, must, named_at, roles_at, wanted};
 use lab_names::{Names, PersonCode, PersonCodes};
 use serde_json::Value;
 use std::alloc::Global;
@@ -27,7 +26,7 @@ const ROLES: [Member; 2] = [must!("code", Text), must!("roles", Roles)];
 const PERSON: [Member; 1] = [must!("code", Text)];
 
 /// A session is opened.
-#[tactic(auto, using(crate::proofs::ReadingLemmas::in_turn), unfolding(crate::specs::Accounts::opening_named))]
+#[tactic(auto, using(lab_members::proofs::ReadingLemmas::in_turn), unfolding(crate::specs::Accounts::opening_named))]
 pub fn opening(alloc: Global, value: &Value) -> Result<Command, BodyFault>
     ensures read { IfOk result (λ command. opening_named (view value.now) ≡ Ok command) }
     ensures fault { IfErr result (Faulty (opening_named (view value.now))) }
@@ -41,7 +40,7 @@ pub fn opening(alloc: Global, value: &Value) -> Result<Command, BodyFault>
 }
 
 /// The session is closed.
-#[tactic(auto, using(crate::proofs::ReadingLemmas::in_turn), unfolding(crate::specs::Accounts::closing_named))]
+#[tactic(auto, using(lab_members::proofs::ReadingLemmas::in_turn), unfolding(crate::specs::Accounts::closing_named))]
 pub fn closing(value: &Value) -> Result<Command, BodyFault>
     ensures read { IfOk result (λ command. closing_named (view value.now) ≡ Ok command) }
     ensures fault { IfErr result (Faulty (closing_named (view value.now))) }
@@ -53,7 +52,7 @@ pub fn closing(value: &Value) -> Result<Command, BodyFault>
 }
 
 /// A password is changed.
-#[tactic(auto, using(crate::proofs::ReadingLemmas::in_turn), unfolding(crate::specs::Accounts::password_named))]
+#[tactic(auto, using(lab_members::proofs::ReadingLemmas::in_turn), unfolding(crate::specs::Accounts::password_named))]
 pub fn password(alloc: Global, value: &Value) -> Result<Command, BodyFault>
     ensures read { IfOk result (λ command. password_named (view value.now) ≡ Ok command) }
     ensures fault { IfErr result (Faulty (password_named (view value.now))) }
@@ -67,7 +66,7 @@ pub fn password(alloc: Global, value: &Value) -> Result<Command, BodyFault>
 }
 
 /// A person is enrolled.
-#[tactic(auto, using(crate::proofs::ReadingLemmas::in_turn), unfolding(crate::specs::Accounts::enrolment_named))]
+#[tactic(auto, using(lab_members::proofs::ReadingLemmas::in_turn), unfolding(crate::specs::Accounts::enrolment_named))]
 pub fn enrolment(alloc: Global, value: &Value) -> Result<Command, BodyFault>
     ensures read { IfOk result (λ command. enrolment_named (view value.now) ≡ Ok command) }
     ensures fault { IfErr result (Faulty (enrolment_named (view value.now))) }
@@ -82,7 +81,7 @@ pub fn enrolment(alloc: Global, value: &Value) -> Result<Command, BodyFault>
 }
 
 /// A person's roles are set.
-#[tactic(auto, using(crate::proofs::ReadingLemmas::in_turn), unfolding(crate::specs::Accounts::roles_named))]
+#[tactic(auto, using(lab_members::proofs::ReadingLemmas::in_turn), unfolding(crate::specs::Accounts::roles_named))]
 pub fn setting_roles(alloc: Global, value: &Value) -> Result<Command, BodyFault>
     ensures read { IfOk result (λ command. roles_named (view value.now) ≡ Ok command) }
     ensures fault { IfErr result (Faulty (roles_named (view value.now))) }
@@ -95,7 +94,7 @@ pub fn setting_roles(alloc: Global, value: &Value) -> Result<Command, BodyFault>
     Ok(Command::SetRoles { code, roles })
 }
 
-#[tactic(auto, using(crate::proofs::ReadingLemmas::in_turn), unfolding(crate::specs::Accounts::person_named))]
+#[tactic(auto, using(lab_members::proofs::ReadingLemmas::in_turn), unfolding(crate::specs::Accounts::person_named))]
 fn person(alloc: Global, value: &Value) -> Result<PersonCode, BodyFault>
     ensures read { IfOk result (λ code. person_named (view value.now) ≡ Ok code) }
     ensures fault { IfErr result (Faulty (person_named (view value.now))) }
@@ -107,7 +106,7 @@ fn person(alloc: Global, value: &Value) -> Result<PersonCode, BodyFault>
 }
 
 /// A one-time password is asked for.
-#[tactic(auto, using(crate::proofs::ReadingLemmas::in_turn), unfolding(crate::specs::Accounts::issue_named))]
+#[tactic(auto, using(lab_members::proofs::ReadingLemmas::in_turn), unfolding(crate::specs::Accounts::issue_named))]
 pub fn issue(alloc: Global, value: &Value) -> Result<Command, BodyFault>
     ensures read { IfOk result (λ command. issue_named (view value.now) ≡ Ok command) }
     ensures fault { IfErr result (Faulty (issue_named (view value.now))) }
@@ -117,7 +116,7 @@ pub fn issue(alloc: Global, value: &Value) -> Result<Command, BodyFault>
 }
 
 /// A one-time password is confirmed.
-#[tactic(auto, using(crate::proofs::ReadingLemmas::in_turn), unfolding(crate::specs::Accounts::confirmation_named))]
+#[tactic(auto, using(lab_members::proofs::ReadingLemmas::in_turn), unfolding(crate::specs::Accounts::confirmation_named))]
 pub fn confirmation(alloc: Global, value: &Value) -> Result<Command, BodyFault>
     ensures read { IfOk result (λ command. confirmation_named (view value.now) ≡ Ok command) }
     ensures fault { IfErr result (Faulty (confirmation_named (view value.now))) }
@@ -127,7 +126,7 @@ pub fn confirmation(alloc: Global, value: &Value) -> Result<Command, BodyFault>
 }
 
 /// A person has left.
-#[tactic(auto, using(crate::proofs::ReadingLemmas::in_turn), unfolding(crate::specs::Accounts::retirement_named))]
+#[tactic(auto, using(lab_members::proofs::ReadingLemmas::in_turn), unfolding(crate::specs::Accounts::retirement_named))]
 pub fn retirement(alloc: Global, value: &Value) -> Result<Command, BodyFault>
     ensures read { IfOk result (λ command. retirement_named (view value.now) ≡ Ok command) }
     ensures fault { IfErr result (Faulty (retirement_named (view value.now))) }
@@ -137,7 +136,7 @@ pub fn retirement(alloc: Global, value: &Value) -> Result<Command, BodyFault>
 }
 
 /// A person's lock is taken away.
-#[tactic(auto, using(crate::proofs::ReadingLemmas::in_turn), unfolding(crate::specs::Accounts::unlocking_named))]
+#[tactic(auto, using(lab_members::proofs::ReadingLemmas::in_turn), unfolding(crate::specs::Accounts::unlocking_named))]
 pub fn unlocking(alloc: Global, value: &Value) -> Result<Command, BodyFault>
     ensures read { IfOk result (λ command. unlocking_named (view value.now) ≡ Ok command) }
     ensures fault { IfErr result (Faulty (unlocking_named (view value.now))) }

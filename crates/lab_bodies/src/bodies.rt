@@ -1,14 +1,13 @@
 //! What a whole body names, from its bytes: the command that is posted, or the founding.
-ghost use Rattle.std.specs.Prelude.{◌≡◌, ◌<◌, Ok, Some, length, IfOk, IfErr};
+ghost use Rattle.std.specs.Prelude.{◌≡◌, Ok, IfOk, IfErr};
 ghost use Rattle.serde_json.specs.View.{view};
-ghost use Rattle.lab_bodies.specs.Members.{json_of};
-ghost use Rattle.lab_bodies.specs.Readings.{Faulty};
+ghost use Rattle.lab_members.specs.Readings.{Faulty};
 ghost use Rattle.lab_bodies.specs.Foundings.{founding_named};
-ghost use Rattle.lab_bodies.specs.Bodies.{body_named, post_named, BodyFaultFits, JsonFaultFits};
+ghost use Rattle.lab_bodies.specs.Bodies.{body_named, post_named, BodyFaultFits};
 
-use crate::refusals::{BodyFault, BodyRefusal};
 use crate::{accounts, forms, foundings, records, signatures};
 use lab_machine::{Command, Founding};
+use lab_members::{BodyFault, value_of};
 use serde_json::Value;
 use std::alloc::Global;
 
@@ -100,17 +99,5 @@ fn posted(alloc: Global, post: Post, value: &Value) -> Result<Command, BodyFault
         Post::Enter => records::entry(alloc, value),
         Post::Amend => records::amendment(alloc, value),
         Post::Sign => signatures::signature(alloc, value),
-    }
-}
-
-/// The JSON value that a body is.
-fn value_of(alloc: Global, body: &[u8]) -> Result<Value, BodyFault>
-    ensures read { IfOk result (λ value. json_of body.now ≡ Some (view value)) }
-    ensures fault { IfErr result (JsonFaultFits body.now) }
-{
-    match Value::from_slice(alloc, body) {
-        Ok(value) => Ok(value),
-        Err(fault) if fault.is_memory() => Err(BodyFault::Memory),
-        Err(_) => Err(BodyFault::Refused(BodyRefusal::BadBody)),
     }
 }

@@ -6,16 +6,18 @@ ghost use Rattle.serde_json.specs.Find.{as_bool, as_str};
 ghost use Rattle.serde_json.specs.View.{view};
 ghost use Rattle.lab_forms.specs.Forms.{form_made};
 ghost use Rattle.lab_bodies.specs.declared.forms.Sort.TheVariants.{Choice, Date, YesNo};
-ghost use Rattle.lab_bodies.specs.declared.refusals.BodyFault.TheVariants.{Memory};
-ghost use Rattle.lab_bodies.specs.Members.{at, elements_at, has_members};
+ghost use Rattle.lab_members.specs.declared.refusals.BodyFault.TheVariants.{Memory};
+ghost use Rattle.lab_members.specs.Members.{at, elements_at, has_members};
 ghost use Rattle.lab_bodies.specs.Forms.{sort_word, names_sort, sort_of, sort_in, field_members, is_field_body, is_form_body, number_read, text_read, choices_read, kind_read, form_reading, form_read, form_named};
-ghost use Rattle.lab_bodies.specs.Readings.{Faulty};
+ghost use Rattle.lab_members.specs.Readings.{Faulty};
 
-use crate::members::{Member, elements_at, flag_at, has_members, may, must, str_at};
-use crate::readings::{Element, admitted, each_of, named_at, wanted, whole_at};
-use crate::refusals::{BodyFault, BodyRefusal};
+use crate::parts::{Element, each_of};
 use lab_forms::{Bound, Choices, Field, Form, Kind};
 use lab_machine::Command;
+use lab_members::{
+    BodyFault, BodyRefusal, Member, admitted, elements_at, flag_at, has_members, may, must,
+    named_at, str_at, wanted, whole_at,
+};
 use lab_names::{Keys, Name, Names, Units};
 use serde_json::Value;
 use std::alloc::Global;
@@ -152,7 +154,7 @@ fn are_fields(values: &[Value]) -> bool
     values.iter().all(|value| is_field_body(value))
 }
 
-#[tactic(auto, using(crate::proofs::MemberLemmas::all_of_views))]
+#[tactic(auto, using(lab_members::proofs::MemberLemmas::all_of_views))]
 fn has_fields(value: &Value) -> bool
     ensures { result ≡ option_map_or (list_all is_field_body)
         (elements_at (codes "fields") (view value.now)) false }
@@ -175,7 +177,7 @@ impl Element for Name {
 
     ghost says = { choice_read };
 
-    #[tactic(auto, using(crate::proofs::ReadingLemmas::in_turn))]
+    #[tactic(auto, using(lab_members::proofs::ReadingLemmas::in_turn))]
     fn read(alloc: Global, value: &Value) -> Result<Name, BodyFault> {
         match value.as_str() {
             Some(text) => admitted::<Names>(alloc, text),
@@ -197,7 +199,7 @@ fn bound_at(alloc: Global, value: &Value, name: &str) -> Result<Option<Bound>, B
     }
 }
 
-#[tactic(auto, using(crate::proofs::ReadingLemmas::in_turn))]
+#[tactic(auto, using(lab_members::proofs::ReadingLemmas::in_turn))]
 fn number(alloc: Global, value: &Value) -> Result<Kind, BodyFault>
     ensures read { IfOk result (λ kind. number_read (view value.now) ≡ Ok kind) }
     ensures fault { IfErr result (Faulty (number_read (view value.now))) }
@@ -214,7 +216,7 @@ fn number(alloc: Global, value: &Value) -> Result<Kind, BodyFault>
     })
 }
 
-#[tactic(auto, using(crate::proofs::ReadingLemmas::in_turn))]
+#[tactic(auto, using(lab_members::proofs::ReadingLemmas::in_turn))]
 fn text(value: &Value) -> Result<Kind, BodyFault>
     ensures read { IfOk result (λ kind. text_read (view value.now) ≡ Ok kind) }
     ensures fault { IfErr result (Faulty (text_read (view value.now))) }
@@ -223,7 +225,7 @@ fn text(value: &Value) -> Result<Kind, BodyFault>
     Ok(Kind::Text { size })
 }
 
-#[tactic(auto, using(crate::proofs::ReadingLemmas::in_turn))]
+#[tactic(auto, using(lab_members::proofs::ReadingLemmas::in_turn))]
 fn choices(alloc: Global, value: &Value) -> Result<Kind, BodyFault>
     ensures read { IfOk result (λ kind. choices_read (view value.now) ≡ Ok kind) }
     ensures fault { IfErr result (Faulty (choices_read (view value.now))) }
@@ -255,7 +257,7 @@ impl Element for Field {
 
     ghost says = { field_read };
 
-    #[tactic(auto, using(crate::proofs::ReadingLemmas::in_turn), unfolding(crate::specs::Forms::field_read))]
+    #[tactic(auto, using(lab_members::proofs::ReadingLemmas::in_turn), unfolding(crate::specs::Forms::field_read))]
     fn read(alloc: Global, value: &Value) -> Result<Field, BodyFault> {
         let key = named_at::<Keys>(alloc, value, "key")?;
         let label = named_at::<Names>(alloc, value, "label")?;
@@ -288,7 +290,7 @@ fn approval(value: &Value) -> bool
     flag_at(value, "approval").unwrap_or(false)
 }
 
-#[tactic(auto, using(crate::proofs::ReadingLemmas::in_turn), unfolding(crate::specs::Forms::form_read))]
+#[tactic(auto, using(lab_members::proofs::ReadingLemmas::in_turn), unfolding(crate::specs::Forms::form_read))]
 fn form_read(alloc: Global, value: &Value) -> Result<Command, BodyFault>
     ensures read { IfOk result (λ command. form_read (view value.now) ≡ Ok command) }
     ensures fault { IfErr result (Faulty (form_read (view value.now))) }
@@ -303,7 +305,7 @@ fn form_read(alloc: Global, value: &Value) -> Result<Command, BodyFault>
 }
 
 /// A form is made, or its next version.
-#[tactic(auto, using(crate::proofs::ReadingLemmas::in_turn), unfolding(crate::specs::Forms::form_named))]
+#[tactic(auto, using(lab_members::proofs::ReadingLemmas::in_turn), unfolding(crate::specs::Forms::form_named))]
 pub fn form(alloc: Global, value: &Value) -> Result<Command, BodyFault>
     ensures read { IfOk result (λ command. form_named (view value.now) ≡ Ok command) }
     ensures fault { IfErr result (Faulty (form_named (view value.now))) }

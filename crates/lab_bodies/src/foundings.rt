@@ -1,13 +1,14 @@
 //! The body of a founding.
 ghost use Rattle.std.specs.Prelude.{◌≡◌, Ok, Some, IfOk, IfErr, map};
 ghost use Rattle.serde_json.specs.View.{view};
-ghost use Rattle.lab_bodies.specs.Foundings.{is_founding_body, founder_read, founding_of_three, founding_by, founding_named};
-ghost use Rattle.lab_bodies.specs.Readings.{Faulty};
+ghost use Rattle.lab_bodies.specs.Foundings.{is_founding_body, founder_read, founding_behind, founding_of_three, founding_by, founding_named};
+ghost use Rattle.lab_members.specs.Readings.{Faulty};
 
-use crate::members::{Member, each_has, elements_at, has_members, must};
-use crate::readings::{named_at, typed_at};
-use crate::refusals::{BodyFault, BodyRefusal};
+use crate::parts::typed_at;
 use lab_machine::{Founder, Founding};
+use lab_members::{
+    BodyFault, BodyRefusal, Member, each_has, elements_at, has_members, must, named_at,
+};
 use lab_names::{Names, PersonCodes};
 use serde_json::Value;
 use std::alloc::Global;
@@ -27,7 +28,7 @@ fn is_founding_body(value: &Value) -> bool
     has_members(value, &FOUNDING) && each_has(value, "founders", &FOUNDER)
 }
 
-#[tactic(auto, using(crate::proofs::ReadingLemmas::in_turn), unfolding(crate::specs::Foundings::founder_read))]
+#[tactic(auto, using(lab_members::proofs::ReadingLemmas::in_turn), unfolding(crate::specs::Foundings::founder_read))]
 fn founder(alloc: Global, value: &Value) -> Result<Founder, BodyFault>
     ensures read { IfOk result (λ founder. founder_read (view value.now) ≡ Ok founder) }
     ensures fault { IfErr result (Faulty (founder_read (view value.now))) }
@@ -42,8 +43,36 @@ fn founder(alloc: Global, value: &Value) -> Result<Founder, BodyFault>
     })
 }
 
+// The laboratory's name, behind its founders.
+fn founding_behind(
+    alloc: Global,
+    first: Founder,
+    second: Founder,
+    third: Founder,
+    value: &Value,
+) -> Result<Founding, BodyFault>
+    ensures read { IfOk result
+        (λ founding. founding_behind first second third (view value.now) ≡ Ok founding) }
+    ensures fault { IfErr result (Faulty (founding_behind first second third (view value.now))) }
+{
+    match named_at::<Names>(alloc, value, "name") {
+        Ok(name) => Ok(Founding {
+            name,
+            first,
+            second,
+            third,
+        }),
+        Err(fault) => {
+            drop(first);
+            drop(second);
+            drop(third);
+            Err(fault)
+        }
+    }
+}
+
 // The three of them, then the laboratory's name.
-#[tactic(auto, using(crate::proofs::ReadingLemmas::in_turn))]
+#[tactic(auto, using(lab_members::proofs::ReadingLemmas::in_turn))]
 fn founding_of_three(
     alloc: Global,
     one: &Value,
@@ -59,13 +88,7 @@ fn founding_of_three(
     let first = founder(alloc, one)?;
     let second = founder(alloc, two)?;
     let third = founder(alloc, three)?;
-    let name = named_at::<Names>(alloc, value, "name")?;
-    Ok(Founding {
-        name,
-        first,
-        second,
-        third,
-    })
+    founding_behind(alloc, first, second, third, value)
 }
 
 fn founding_by(alloc: Global, values: &[Value], value: &Value) -> Result<Founding, BodyFault>
@@ -81,7 +104,7 @@ fn founding_by(alloc: Global, values: &[Value], value: &Value) -> Result<Foundin
 }
 
 /// A laboratory is founded.
-#[tactic(auto, using(crate::proofs::ReadingLemmas::in_turn), unfolding(crate::specs::Foundings::founding_named))]
+#[tactic(auto, using(lab_members::proofs::ReadingLemmas::in_turn), unfolding(crate::specs::Foundings::founding_named))]
 pub fn founding(alloc: Global, value: &Value) -> Result<Founding, BodyFault>
     ensures read { IfOk result (λ founding. founding_named (view value.now) ≡ Ok founding) }
     ensures fault { IfErr result (Faulty (founding_named (view value.now))) }

@@ -6,15 +6,11 @@ mod accounts;
 mod bodies;
 mod forms;
 mod foundings;
-mod members;
-mod readings;
+mod parts;
 mod records;
-mod refusals;
 mod signatures;
-#[cfg(test)]
-mod tests;
 
 pub use bodies::{Post, command_of, founding_of};
 pub use lab_forms::FormRefusal;
 pub use lab_machine::{Command, Founder, Founding};
-pub use refusals::{BodyFault, BodyRefusal};
+pub use lab_members::{BodyFault, BodyRefusal};

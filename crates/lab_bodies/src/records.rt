@@ -4,13 +4,15 @@ ghost use Rattle.std.specs.List.{list_any};
 ghost use Rattle.serde_json.specs.View.{view};
 ghost use Rattle.lab_forms.specs.Words.{has_text_twice};
 ghost use Rattle.lab_bodies.specs.Records.{record_named, entry_named, is_amendment_body, item_key, different, altered_read, amendment_named};
-ghost use Rattle.lab_bodies.specs.Readings.{Faulty};
+ghost use Rattle.lab_members.specs.Readings.{Faulty};
 
-use crate::members::{Member, each_has, elements_at, has_members, may, must};
-use crate::readings::{Element, each_of, named_at, named_if_at, ordinal_at, typed_at, wanted};
-use crate::refusals::{BodyFault, BodyRefusal};
+use crate::parts::{Element, each_of, typed_at};
 use lab_forms::FormRefusal;
 use lab_machine::Command;
+use lab_members::{
+    BodyFault, BodyRefusal, Member, each_has, elements_at, has_members, may, must, named_at,
+    named_if_at, ordinal_at, wanted,
+};
 use lab_names::{Keys, Names, Notes, Units};
 use lab_rules::{Altered, Item};
 use serde_json::Value;
@@ -39,7 +41,7 @@ const AMENDMENT: [Member; 3] = [
 ];
 
 /// A record is opened.
-#[tactic(auto, using(crate::proofs::ReadingLemmas::in_turn), unfolding(crate::specs::Records::record_named))]
+#[tactic(auto, using(lab_members::proofs::ReadingLemmas::in_turn), unfolding(crate::specs::Records::record_named))]
 pub fn record(alloc: Global, value: &Value) -> Result<Command, BodyFault>
     ensures read { IfOk result (λ command. record_named (view value.now) ≡ Ok command) }
     ensures fault { IfErr result (Faulty (record_named (view value.now))) }
@@ -57,7 +59,7 @@ impl Element for Item {
 
     ghost says = { item_read };
 
-    #[tactic(auto, using(crate::proofs::ReadingLemmas::in_turn), unfolding(crate::specs::Records::item_read))]
+    #[tactic(auto, using(lab_members::proofs::ReadingLemmas::in_turn), unfolding(crate::specs::Records::item_read))]
     fn read(alloc: Global, value: &Value) -> Result<Item, BodyFault> {
         let key = named_at::<Keys>(alloc, value, "key")?;
         let typed = typed_at(alloc, value, "value")?;
@@ -71,7 +73,7 @@ impl Element for Item {
 }
 
 /// A value is entered.
-#[tactic(auto, using(crate::proofs::ReadingLemmas::in_turn), unfolding(crate::specs::Records::entry_named))]
+#[tactic(auto, using(lab_members::proofs::ReadingLemmas::in_turn), unfolding(crate::specs::Records::entry_named))]
 pub fn entry(alloc: Global, value: &Value) -> Result<Command, BodyFault>
     ensures read { IfOk result (λ command. entry_named (view value.now) ≡ Ok command) }
     ensures fault { IfErr result (Faulty (entry_named (view value.now))) }
@@ -123,7 +125,7 @@ fn different(items: Vec<Item>) -> Result<Altered, BodyFault>
     Ok(Altered::from_vec(items))
 }
 
-#[tactic(auto, using(crate::proofs::ReadingLemmas::in_turn), unfolding(crate::specs::Records::altered_read))]
+#[tactic(auto, using(lab_members::proofs::ReadingLemmas::in_turn), unfolding(crate::specs::Records::altered_read))]
 fn altered(alloc: Global, value: &Value) -> Result<Altered, BodyFault>
     ensures read { IfOk result (λ altered. altered_read (view value.now) ≡ Ok altered) }
     ensures fault { IfErr result (Faulty (altered_read (view value.now))) }
@@ -136,7 +138,7 @@ fn altered(alloc: Global, value: &Value) -> Result<Altered, BodyFault>
 }
 
 /// A record is amended.
-#[tactic(auto, using(crate::proofs::ReadingLemmas::in_turn), unfolding(crate::specs::Records::amendment_named))]
+#[tactic(auto, using(lab_members::proofs::ReadingLemmas::in_turn), unfolding(crate::specs::Records::amendment_named))]
 pub fn amendment(alloc: Global, value: &Value) -> Result<Command, BodyFault>
     ensures read { IfOk result (λ command. amendment_named (view value.now) ≡ Ok command) }
     ensures fault { IfErr result (Faulty (amendment_named (view value.now))) }

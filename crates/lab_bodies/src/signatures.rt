@@ -2,16 +2,19 @@
 ghost use Rattle.std.specs.Prelude.{◌≡◌, ◌∷◌, [], find, Ok, IfOk, IfErr};
 ghost use Rattle.lab_bodies.specs.declared.signatures.Meant.TheVariants.{Rejection, Approval};
 ghost use Rattle.serde_json.specs.View.{view};
-ghost use Rattle.lab_bodies.specs.Members.{has_members};
-ghost use Rattle.lab_bodies.specs.Signatures.{meant_word, names_meant, meant_of, meant_in, signature_members, is_signature_body, signing_read, signature_read, signature_named};
-ghost use Rattle.lab_bodies.specs.Readings.{Faulty};
+ghost use Rattle.lab_members.specs.Members.{has_members};
+ghost use Rattle.lab_bodies.specs.Signatures.{meant_word, names_meant, meant_of, meant_in, signature_members, is_signature_body, signing_read, signature_by, signature_read, signature_named};
+ghost use Rattle.lab_members.specs.Readings.{Faulty};
 
-use crate::members::{Member, has_members, may, must, str_at};
-use crate::readings::{digest_at, named_if_at, ordinal_at, typed_at, wanted};
-use crate::refusals::{BodyFault, BodyRefusal};
+use crate::parts::typed_at;
 use lab_machine::Command;
-use lab_names::{Notes, PersonCodes};
+use lab_members::{
+    BodyFault, BodyRefusal, Member, digest_at, has_members, may, must, named_if_at, ordinal_at,
+    str_at, wanted,
+};
+use lab_names::{Notes, Ordinal, PersonCodes};
 use lab_rules::Signing;
+use lab_secrets::Digest;
 use serde_json::Value;
 use std::alloc::Global;
 
@@ -108,7 +111,7 @@ fn is_signature_body(value: &Value) -> bool
     }
 }
 
-#[tactic(auto, using(crate::proofs::ReadingLemmas::in_turn))]
+#[tactic(auto, using(lab_members::proofs::ReadingLemmas::in_turn))]
 fn signing(alloc: Global, value: &Value, meant: Meant) -> Result<Signing, BodyFault>
     ensures read { IfOk result (λ signing. signing_read meant (view value.now) ≡ Ok signing) }
     ensures fault { IfErr result (Faulty (signing_read meant (view value.now))) }
@@ -124,15 +127,21 @@ fn signing(alloc: Global, value: &Value, meant: Meant) -> Result<Signing, BodyFa
     }
 }
 
-#[tactic(auto, using(crate::proofs::ReadingLemmas::in_turn), unfolding(crate::specs::Signatures::signature_read))]
-fn signature_read(alloc: Global, value: &Value) -> Result<Command, BodyFault>
-    ensures read { IfOk result (λ command. signature_read (view value.now) ≡ Ok command) }
-    ensures fault { IfErr result (Faulty (signature_read (view value.now))) }
+// Who signs, and as what, behind what is signed.
+#[tactic(auto, using(lab_members::proofs::ReadingLemmas::in_turn))]
+fn signature_by(
+    alloc: Global,
+    value: &Value,
+    number: Ordinal,
+    version: Ordinal,
+    digest: Digest,
+    meant: Meant,
+) -> Result<Command, BodyFault>
+    ensures read { IfOk result (λ command. signature_by number version digest meant
+        (view value.now) ≡ Ok command) }
+    ensures fault { IfErr result (Faulty (signature_by number version digest meant
+        (view value.now))) }
 {
-    let number = wanted(ordinal_at(value, "record"))?;
-    let version = wanted(ordinal_at(value, "version"))?;
-    let digest = wanted(digest_at(value, "digest"))?;
-    let meant = wanted(meant_in(value))?;
     let password = typed_at(alloc, value, "password")?;
     let code = named_if_at::<PersonCodes>(alloc, value, "code")?;
     let signing = signing(alloc, value, meant)?;
@@ -146,8 +155,20 @@ fn signature_read(alloc: Global, value: &Value) -> Result<Command, BodyFault>
     })
 }
 
+#[tactic(auto, using(lab_members::proofs::ReadingLemmas::in_turn), unfolding(crate::specs::Signatures::signature_read))]
+fn signature_read(alloc: Global, value: &Value) -> Result<Command, BodyFault>
+    ensures read { IfOk result (λ command. signature_read (view value.now) ≡ Ok command) }
+    ensures fault { IfErr result (Faulty (signature_read (view value.now))) }
+{
+    let number = wanted(ordinal_at(value, "record"))?;
+    let version = wanted(ordinal_at(value, "version"))?;
+    let digest = wanted(digest_at(value, "digest"))?;
+    let meant = wanted(meant_in(value))?;
+    signature_by(alloc, value, number, version, digest, meant)
+}
+
 /// A version of a record is signed.
-#[tactic(auto, using(crate::proofs::ReadingLemmas::in_turn), unfolding(crate::specs::Signatures::signature_named))]
+#[tactic(auto, using(lab_members::proofs::ReadingLemmas::in_turn), unfolding(crate::specs::Signatures::signature_named))]
 pub fn signature(alloc: Global, value: &Value) -> Result<Command, BodyFault>
     ensures read { IfOk result (λ command. signature_named (view value.now) ≡ Ok command) }
     ensures fault { IfErr result (Faulty (signature_named (view value.now))) }

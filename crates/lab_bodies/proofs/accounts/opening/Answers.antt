@@ -1,6 +1,6 @@
 use Rattle.std.proofs.Common.{rules}
 use Rattle.lab_bodies.specs.Accounts.{opening_named}
-use Rattle.lab_bodies.proofs.ReadingLemmas.{exit_fault, fault_in_shape, first_fault}
+use Rattle.lab_members.proofs.ReadingLemmas.{exit_fault, fault_in_shape, first_fault}
 use Rattle.lab_bodies.proofs.accounts.opening.Goals as goal
 
 pub returns-in_err-code-clause-fault : goal.returns-in_err-code-clause-fault

@@ -1,0 +1,4 @@
+pub mod KnownValues
+pub mod MemberLemmas
+pub mod ReadingLemmas
+pub mod ValueLemmas

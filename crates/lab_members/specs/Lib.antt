@@ -1,0 +1,4 @@
+pub mod Refusals
+pub mod Values
+pub mod Members
+pub mod Readings

@@ -1,0 +1,15 @@
+//! JSON values as bodies have them (RFC 8259): the members of an object, what stands at their names, and what a body is
+//! refused for. It knows no command.
+#![tactic(auto)]
+
+mod members;
+mod readings;
+mod refusals;
+mod values;
+
+pub use members::{Member, MemberKind, each_has, elements_at, flag_at, has_members, str_at};
+pub use readings::{
+    admitted, digest_at, named_at, named_if_at, ordinal_at, roles_at, text_at, wanted, whole_at,
+};
+pub use refusals::{BodyFault, BodyRefusal};
+pub use values::value_of;

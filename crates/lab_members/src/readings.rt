@@ -1,0 +1,120 @@
+//! What is read at the names of a body whose shape was seen: each reading answers what stands there, or why it doesn't
+//! read.
+ghost use Rattle.std.specs.Prelude.{◌≡◌, Ok, IfOk, IfErr, string_bytes};
+ghost use Rattle.serde_json.specs.View.{view};
+ghost use Rattle.lab_members.specs.Members.{at, whole_in, ordinal_in, digest_in, roles_in};
+ghost use Rattle.lab_members.specs.Readings.{Faulty, wanted, admitted, text_at, named_at, named_if_at};
+
+use crate::members;
+use crate::refusals::{BodyFault, BodyRefusal};
+use lab_access::Roles;
+use lab_names::{NameFault, Ordinal, Rule, Text};
+use lab_secrets::Digest;
+use serde_json::Value;
+use std::alloc::Global;
+
+/// A text that a rule admits.
+pub fn admitted<R: Rule>(alloc: Global, text: &str) -> Result<Text<R>, BodyFault>
+    ensures read { IfOk result (λ named. admitted R.admits text.now ≡ Ok named) }
+    ensures fault { IfErr result (Faulty (admitted R.admits text.now)) }
+{
+    match Text::<R>::parse(alloc, text) {
+        Ok(named) => Ok(named),
+        Err(NameFault::BadName) => Err(BodyFault::Refused(BodyRefusal::BadName)),
+        Err(NameFault::Memory(_)) => Err(BodyFault::Memory),
+    }
+}
+
+fn wanted_str_at<'v>(value: &'v Value, name: &str) -> Result<&'v str, BodyFault>
+    ensures read { IfOk result (λ text. text_at name.now (view value.now) ≡ Ok text.now) }
+    ensures fault { IfErr result (Faulty (text_at name.now (view value.now))) }
+{
+    match members::str_at(value, name) {
+        Some(text) => Ok(text),
+        None => Err(BodyFault::Refused(BodyRefusal::BadBody)),
+    }
+}
+
+/// The text at a name, which a rule admits.
+pub fn named_at<R: Rule>(alloc: Global, value: &Value, name: &str) -> Result<Text<R>, BodyFault>
+    ensures read { IfOk result (λ named. named_at R.admits name.now (view value.now) ≡ Ok named) }
+    ensures fault { IfErr result (Faulty (named_at R.admits name.now (view value.now))) }
+{
+    match wanted_str_at(value, name) {
+        Ok(text) => admitted::<R>(alloc, text),
+        Err(fault) => Err(fault),
+    }
+}
+
+/// The same, where there is one.
+pub fn named_if_at<R: Rule>(
+    alloc: Global,
+    value: &Value,
+    name: &str,
+) -> Result<Option<Text<R>>, BodyFault>
+    ensures read { IfOk result
+        (λ named. named_if_at R.admits name.now (view value.now) ≡ Ok named) }
+    ensures fault { IfErr result (Faulty (named_if_at R.admits name.now (view value.now))) }
+{
+    match members::str_at(value, name) {
+        Some(text) => match admitted::<R>(alloc, text) {
+            Ok(named) => Ok(Some(named)),
+            Err(fault) => Err(fault),
+        },
+        None => Ok(None),
+    }
+}
+
+/// The text at a name, whatever it says.
+pub fn text_at(alloc: Global, value: &Value, name: &str) -> Result<String, BodyFault>
+    ensures read { IfOk result
+        (λ text. text_at name.now (view value.now) ≡ Ok (string_bytes text)) }
+    ensures fault { IfErr result (Faulty (text_at name.now (view value.now))) }
+{
+    match wanted_str_at(value, name) {
+        Ok(text) => match String::from_str(alloc, text) {
+            Ok(text) => Ok(text),
+            Err(_) => Err(BodyFault::Memory),
+        },
+        Err(fault) => Err(fault),
+    }
+}
+
+/// What has to be there.
+pub fn wanted<T: Drop>(found: Option<T>) -> Result<T, BodyFault>
+    ensures read { IfOk result (λ value. wanted found ≡ Ok value) }
+    ensures fault { IfErr result (Faulty (wanted found)) }
+{
+    match found {
+        Some(value) => Ok(value),
+        None => Err(BodyFault::Refused(BodyRefusal::BadBody)),
+    }
+}
+
+/// The number at a name.
+pub fn ordinal_at(value: &Value, name: &str) -> Option<Ordinal>
+    ensures { result ≡ at ordinal_in name.now (view value.now) }
+{
+    members::ordinal_in(value.get(name)?)
+}
+
+/// The whole number at a name.
+pub fn whole_at(value: &Value, name: &str) -> Option<u32>
+    ensures { result ≡ at whole_in name.now (view value.now) }
+{
+    members::whole_in(value.get(name)?)
+}
+
+/// The digest at a name.
+pub fn digest_at(value: &Value, name: &str) -> Option<Digest>
+    ensures { result ≡ at digest_in name.now (view value.now) }
+{
+    members::digest_in(value.get(name)?)
+}
+
+/// The roles at a name.
+pub fn roles_at(value: &Value, name: &str) -> Option<Roles>
+    ensures { result ≡ at roles_in name.now (view value.now) }
+{
+    members::roles_in(value.get(name)?)
+}
