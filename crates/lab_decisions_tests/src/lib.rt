@@ -5,19 +5,15 @@
 
 mod asked;
 mod fields;
+mod foundings;
 mod halts;
-mod laboratories;
-mod records;
-mod replies;
+mod lines;
 mod setups;
-mod sheets;
 mod stages;
 #[cfg(test)]
 mod tests;
 mod words;
 
 pub use halts::Halt;
-pub use laboratories::lab_text;
-pub use replies::reply_text;
 pub use setups::{SETUP, setup};
 pub use stages::{Stage, play};
