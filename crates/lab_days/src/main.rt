@@ -2,7 +2,8 @@
 #![tactic(auto)]
 
 use anyhow::{Result, bail};
-use lab_decisions_tests::{Halt, Stage, play};
+use lab_asked::Halt;
+use lab_decisions_tests::{Stage, play};
 use std::alloc::Global;
 use std::io::{self, Print, read_to_string};
 

@@ -1,7 +1,6 @@
 //! Laboratories with which a day begins.
-use crate::halts::Halt;
-use crate::words::{Words, chance, moment, roles, text};
 use lab_access::{Password, Person, Role, Roles};
+use lab_asked::{Halt, Words, chance, moment, roles, text};
 use lab_kept::{Action, Change, Lab, Subject, TrailRow};
 use lab_lists::change;
 use lab_names::{Moment, Ordinal, Series};

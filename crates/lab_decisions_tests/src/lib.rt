@@ -3,17 +3,12 @@
 //! above it.
 #![tactic(auto)]
 
-mod asked;
-mod fields;
 mod foundings;
-mod halts;
 mod lines;
 mod setups;
 mod stages;
 #[cfg(test)]
 mod tests;
-mod words;
 
-pub use halts::Halt;
 pub use setups::{SETUP, setup};
 pub use stages::{Stage, play};

@@ -40,6 +40,13 @@ pub(crate) fn answered(
     Ok(text)
 }
 
+/// That something was done so many times.
+pub(crate) fn repeated(alloc: Global, times: &str) -> Result<String, OutOfMemory> {
+    let mut text = String::new(alloc);
+    push_line(&mut text, "repeated ", times)?;
+    Ok(text)
+}
+
 fn push_line(text: &mut String, before: &str, line: &str) -> Result<(), OutOfMemory> {
     text.push_str(before)?;
     text.push_str(line)?;

@@ -1,6 +1,6 @@
 //! The laboratory with which most days begin: eight persons, a form and a record of one row.
-use crate::halts::Halt;
 use crate::stages::{Stage, play};
+use lab_asked::Halt;
 use lab_kept::Lab;
 use std::alloc::Global;
 

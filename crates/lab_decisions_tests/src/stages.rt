@@ -1,9 +1,7 @@
 //! A laboratory on which days are played, line by line.
-use crate::asked::instruction;
 use crate::foundings::{bare, bare_lab, founded, with_person};
-use crate::halts::Halt;
-use crate::lines::{answered, echoed, shown, summed};
-use crate::words::{Words, number, tick};
+use crate::lines::{answered, echoed, repeated, shown, summed};
+use lab_asked::{Halt, Words, instruction, number, tick};
 use lab_decisions::{Outcome, decide};
 use lab_kept::{Change, Counts, Lab, Slice};
 use lab_lists::{change, part};
@@ -83,6 +81,8 @@ pub fn play(alloc: Global, stage: &mut Stage, line: &str) -> Result<String, Halt
         "quiet" => become_quiet(alloc, stage, line),
         "loud" => become_loud(alloc, stage, line),
         "counts" => set_counts(alloc, stage, line, &mut words),
+        "repeat" => repeat(alloc, stage, &mut words),
+        "parts" => repeat_parts(alloc, stage, &mut words),
         word => play_word(alloc, stage, line, word, &mut words),
     }
 }
@@ -323,4 +323,42 @@ fn told_unless_quiet(alloc: Global, is_quiet: bool, lab: &Lab) -> Result<String,
         return Ok(String::new(alloc));
     }
     lab_text(alloc, lab)
+}
+
+// ---- for figures
+
+// The instruction is decided so many times, and nothing is changed.
+fn repeat(alloc: Global, stage: &Stage, words: &mut Words) -> Result<String, Halt> {
+    let times = words.next_word();
+    for _ in 0..number(times)? {
+        decide_once(alloc, stage, *words)?;
+    }
+    Ok(repeated(alloc, times)?)
+}
+
+// The instruction is read, and its part taken, so many times: what `repeat` takes beyond that is the deciding.
+fn repeat_parts(alloc: Global, stage: &Stage, words: &mut Words) -> Result<String, Halt> {
+    let times = words.next_word();
+    for _ in 0..number(times)? {
+        part_once(alloc, stage, *words)?;
+    }
+    Ok(repeated(alloc, times)?)
+}
+
+fn decide_once(alloc: Global, stage: &Stage, mut words: Words) -> Result<(), Halt> {
+    let tick = tick(words.next_word(), words.next_word())?;
+    let asked = instruction(alloc, &mut words)?;
+    let outcome = decided(alloc, &stage.lab, stage.counts, &tick, asked)?;
+    drop(outcome);
+    Ok(())
+}
+
+fn part_once(alloc: Global, stage: &Stage, mut words: Words) -> Result<(), Halt> {
+    let tick = tick(words.next_word(), words.next_word())?;
+    let asked = instruction(alloc, &mut words)?;
+    let slice = needed(alloc, &stage.lab, stage.counts, &tick, &asked);
+    drop(asked);
+    let slice = slice?;
+    drop(slice);
+    Ok(())
 }

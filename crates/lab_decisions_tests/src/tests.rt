@@ -1,5 +1,6 @@
 //! The laboratory of setup, compared with a value from outside, and lines that can't be played.
-use crate::{Halt, Stage, play, setup};
+use crate::{Stage, play, setup};
+use lab_asked::Halt;
 use lab_secrets::digest;
 use lab_told::lab_text;
 use std::process::Abort;
