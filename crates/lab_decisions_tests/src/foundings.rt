@@ -31,7 +31,8 @@ pub(crate) fn bare(alloc: Global, words: &mut Words) -> Result<Lab, Halt> {
     bare_lab(alloc, code, words.next_word(), last)
 }
 
-/// A laboratory: its code, its moment, the words of chance, its name, and code, name and password of three administrators.
+/// A laboratory: its code, its moment, the words of chance, its name, and code, name and password of three
+/// administrators.
 pub(crate) fn founded(alloc: Global, words: &mut Words) -> Result<Lab, Halt> {
     let code = words.next_word();
     let last = moment(words.next_word())?;

@@ -1,6 +1,6 @@
-//! Days of a laboratory in memory, as plain lines: each line is an instruction at a tick, which is decided on the part that it
-//! needs, and what is told of it is its reply and what the laboratory is like afterwards. For tests, of this crate and of those
-//! above it.
+//! Days of a laboratory in memory, as plain lines: each line is an instruction at a tick, which is decided on the part
+//! that it needs, and what is told of it is its reply and what the laboratory is like afterwards. For tests, of this
+//! crate and of those above it.
 #![tactic(auto)]
 
 mod foundings;

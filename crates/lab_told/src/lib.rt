@@ -1,4 +1,5 @@
-//! What is told of a laboratory and of a reply: plain lines of words, each of which ends in a bar. For tests of the crates above.
+//! What is told of a laboratory and of a reply: plain lines of words, each of which ends in a bar. For tests of the
+//! crates above.
 #![tactic(auto)]
 
 mod laboratories;
