@@ -100,14 +100,23 @@ class Day:
         self.counts = tuple(h if c is None else c for c, h in zip(counts, have)) if counts else None
         self.echo("|".join(["counts", *map(str, self.counts or ())]))
 
-    def do(self, moment, who, wanted, command, *args, words=None):
-        """An instruction in the session of `who`, and how its answer begins: a refusal's number, what it tells behind it, or
-        the words of a reply."""
+    def instruction(self, moment, who, command, args, words=None):
+        """The words of the token of the session of `who`, those of the tick, and the line."""
         if words is None:
             self.words += 8
             words = self.words
         token = self.sessions.get(who, who if isinstance(who, int) else None)
-        asked = "|".join([str(moment), str(words), str(dash(token)), command, *texts(command, args)])
+        return token, words, "|".join([str(moment), str(words), str(dash(token)), command, *texts(command, args)])
+
+    def repeat(self, how, times, moment, who, command, *args):
+        """An instruction that is decided so many times, or read with its part taken; nothing is changed."""
+        self.asked.append(f"{how}|{times}|{self.instruction(moment, who, command, args)[2]}")
+        self.told.append(f"repeated {times}")
+
+    def do(self, moment, who, wanted, command, *args, words=None):
+        """An instruction in the session of `who`, and how its answer begins: a refusal's number, what it tells behind it, or
+        the words of a reply."""
+        token, words, asked = self.instruction(moment, who, command, args, words)
         before = set() if self.quiet else set(lab_lines(self.lab))
         lab = copy.deepcopy(self.lab)
         try:
@@ -688,6 +697,14 @@ def limits(day):
     day.set_counts()
 
 
+def repeats(day):
+    day.back("What is repeated changes nothing")
+    day.repeat("repeat", 3, 1200, "dan", "entry", 1, "lead", "7.5", "mg/L", "misread scale")
+    day.repeat("parts", 3, 1200, "dan", "entry", 1, "lead", "7.5", "mg/L", "misread scale")
+    day.sum()
+    day.do(1200, "dan", "entered|1|1|2|", "entry", 1, "lead", "7.5", "mg/L", "misread scale")
+
+
 def growths():
     """A short day with every command, in which each growth of memory can be refused in turn: it has no title, and each of its
     lines is told of."""
@@ -734,14 +751,14 @@ def days():
     day.title("Setup")
     setup(day)
     day.keep()
-    for part in (worked, persons, limits, refusals):
+    for part in (worked, persons, limits, refusals, repeats):
         part(day)
     return day
 
 
 def write_cases(folder):
     """Each part by itself, quickly set up, with what must be told of it."""
-    for part in (worked, persons, limits, refusals):
+    for part in (worked, persons, limits, refusals, repeats):
         day = Day()
         quick_setup(day)
         day.keep()

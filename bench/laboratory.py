@@ -184,13 +184,18 @@ def state_of(record, v):
     }[meanings]
 
 
-def digest_of(lab, record, v):
+def text_of(lab, record, v):
+    """The text of a version, in bytes."""
     parts = ["labrecord 2", lab.code, str(record.number), str(v.number), record.form.code,
              str(record.form.version), "yes" if v.approval else "no", record.sample, v.previous or "-",
              v.reason or "", v.opener, printed(v.opened), str(len(v.rows))]
     for r in v.rows:
         parts += [r.key, r.value, r.unit, r.person, printed(r.moment), r.reason or ""]
-    return sha(b"".join(map(item, parts)))
+    return b"".join(map(item, parts))
+
+
+def digest_of(lab, record, v):
+    return sha(text_of(lab, record, v))
 
 
 def values_of(record, n):

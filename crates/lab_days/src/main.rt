@@ -2,18 +2,24 @@
 #![tactic(auto)]
 
 use anyhow::{Result, bail};
-use lab_decisions_tests::{Halt, Stage, play};
+use lab_asked::Halt;
+use lab_decisions_tests::{Stage, play};
 use std::alloc::Global;
 use std::io::{self, Print, read_to_string};
 
 fn main(rt: HostRuntime) -> Result<()> {
     let alloc = rt.alloc();
     let days = read_to_string(alloc, rt.reader())?;
+    let played = play_days(&rt, alloc, days.as_str());
+    drop(days);
+    played
+}
+
+fn play_days(rt: &impl Print, alloc: Global, days: &str) -> Result<()> {
     let mut stage = stage(alloc)?;
-    for line in days.lines() {
-        print_played(&rt, alloc, &mut stage, line)?;
-    }
-    Ok(())
+    let played = play_lines(rt, alloc, &mut stage, days);
+    drop(stage);
+    played
 }
 
 fn stage(alloc: Global) -> Result<Stage> {
@@ -23,10 +29,17 @@ fn stage(alloc: Global) -> Result<Stage> {
     }
 }
 
+fn play_lines(rt: &impl Print, alloc: Global, stage: &mut Stage, days: &str) -> Result<()> {
+    for line in days.lines() {
+        print_played(rt, alloc, stage, line)?;
+    }
+    Ok(())
+}
+
 // Where memory runs out, that is told, and the line is played again.
 fn print_played(rt: &impl Print, alloc: Global, stage: &mut Stage, line: &str) -> Result<()> {
     match play(alloc, stage, line) {
-        Ok(text) => Ok(print!(rt; "{text}")?),
+        Ok(text) => print_text(rt, text),
         Err(Halt::Memory) => print_again(rt, alloc, stage, line),
         Err(Halt::BadLine) => bail!("a line that can't be played"),
     }
@@ -35,7 +48,12 @@ fn print_played(rt: &impl Print, alloc: Global, stage: &mut Stage, line: &str) -
 fn print_again(rt: &impl Print, alloc: Global, stage: &mut Stage, line: &str) -> Result<()> {
     println!(rt; "memory")?;
     match play(alloc, stage, line) {
-        Ok(text) => Ok(print!(rt; "{text}")?),
+        Ok(text) => print_text(rt, text),
         Err(_) => bail!("a line that can't be played again"),
     }
+}
+
+fn print_text(rt: &impl Print, text: String) -> Result<()> {
+    print!(rt; "{text}")?;
+    Ok(())
 }

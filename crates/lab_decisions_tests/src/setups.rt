@@ -1,6 +1,6 @@
 //! The laboratory with which most days begin: eight persons, a form and a record of one row.
-use crate::halts::Halt;
 use crate::stages::{Stage, play};
+use lab_asked::Halt;
 use lab_kept::Lab;
 use std::alloc::Global;
 
@@ -46,8 +46,18 @@ pub const SETUP: &str =
 /// Memory ran out.
 pub fn setup(alloc: Global) -> Result<Lab, Halt> {
     let mut stage = Stage::new(alloc)?;
-    for line in SETUP.lines() {
-        play(alloc, &mut stage, line)?;
+    match play_lines(alloc, &mut stage, SETUP) {
+        Ok(()) => Ok(stage.into_lab()),
+        Err(halt) => {
+            drop(stage);
+            Err(halt)
+        }
     }
-    Ok(stage.into_lab())
+}
+
+fn play_lines(alloc: Global, stage: &mut Stage, lines: &str) -> Result<(), Halt> {
+    for line in lines.lines() {
+        drop(play(alloc, stage, line)?);
+    }
+    Ok(())
 }

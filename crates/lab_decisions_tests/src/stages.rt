@@ -1,16 +1,13 @@
 //! A laboratory on which days are played, line by line.
-use crate::asked::instruction;
-use crate::halts::Halt;
-use crate::laboratories::lab_text;
-use crate::replies::reply_text;
-use crate::words::{Words, chance, moment, number, roles, text, tick};
-use lab_access::{Password, Person, Role, Roles};
+use crate::foundings::{bare, bare_lab, founded, with_person};
+use crate::lines::{answered, echoed, repeated, shown, summed};
+use lab_asked::{Halt, Words, instruction, number, tick};
 use lab_decisions::{Outcome, decide};
-use lab_kept::{Action, Change, Counts, Lab, Slice, Subject, TrailRow};
+use lab_kept::{Change, Counts, Lab, Slice};
 use lab_lists::{change, part};
 use lab_machine::{Instruction, needs};
-use lab_names::{Moment, Ordinal, OutOfMemory, Series, Tick};
-use lab_secrets::{Verifier, digest, founder_salts};
+use lab_names::{Moment, OutOfMemory, Tick};
+use lab_told::{lab_text, reply_text};
 use std::alloc::Global;
 
 /// A laboratory on which days are played.
@@ -34,8 +31,9 @@ impl Stage {
     /// Memory ran out.
     pub fn new(alloc: Global) -> Result<Stage, Halt> {
         let lab = bare_lab(alloc, "nobody", "Nobody", Moment::from_seconds(0)?)?;
-        let kept = lab.copy()?;
-        let told = lab_text(alloc, &lab)?;
+        let told = lab_text(alloc, &lab);
+        let kept = lab.copy();
+        let (lab, (told, kept)) = both(Ok(lab), both(told, kept))?;
         Ok(Stage {
             lab,
             told,
@@ -56,6 +54,16 @@ impl Stage {
     }
 }
 
+// Two values, where both are made.
+fn both<A: Drop, B: Drop>(
+    one: Result<A, OutOfMemory>,
+    other: Result<B, OutOfMemory>,
+) -> Result<(A, B), OutOfMemory> {
+    let one = one?;
+    let other = other?;
+    Ok((one, other))
+}
+
 /// Plays a line, and gives what is told of it.
 ///
 /// # Errors
@@ -63,79 +71,130 @@ impl Stage {
 pub fn play(alloc: Global, stage: &mut Stage, line: &str) -> Result<String, Halt> {
     let mut words = Words::new(line);
     match words.next_word() {
-        "found" => {
-            let lab = founded(alloc, &mut words)?;
-            enter_lab(alloc, stage, line, lab)
-        }
-        "bare" => {
-            let lab = bare(alloc, &mut words)?;
-            enter_lab(alloc, stage, line, lab)
-        }
-        "person" => {
-            let lab = with_person(alloc, stage, &mut words)?;
-            enter_lab(alloc, stage, line, lab)
-        }
-        "keep" => {
-            stage.kept = stage.lab.copy()?;
-            echoed(alloc, line)
-        }
-        "back" => {
-            let lab = stage.kept.copy()?;
-            return_to(alloc, stage, line, lab)
-        }
-        "show" => shown(alloc, line, stage.told.as_str()),
-        "sum" => summed(alloc, line, stage.told.as_bytes()),
-        "quiet" => {
-            stage.is_quiet = true;
-            echoed(alloc, line)
-        }
+        "found" => enter_lab(alloc, stage, line, founded(alloc, &mut words)),
+        "bare" => enter_lab(alloc, stage, line, bare(alloc, &mut words)),
+        "person" => enter_person(alloc, stage, line, &mut words),
+        "keep" => keep(alloc, stage, line),
+        "back" => go_back(alloc, stage, line),
+        "show" => Ok(shown(alloc, line, stage.told.as_str())?),
+        "sum" => Ok(summed(alloc, line, stage.told.as_bytes())?),
+        "quiet" => become_quiet(alloc, stage, line),
         "loud" => become_loud(alloc, stage, line),
-        "counts" => {
-            stage.counts = counts(&mut words)?;
-            echoed(alloc, line)
-        }
-        word => {
-            if word.is_empty() || word.starts_with('#') {
-                return echoed(alloc, line);
-            }
-            act(alloc, stage, line, word, &mut words)
+        "counts" => set_counts(alloc, stage, line, &mut words),
+        "repeat" => repeat(alloc, stage, &mut words),
+        "parts" => repeat_parts(alloc, stage, &mut words),
+        word => play_word(alloc, stage, line, word, &mut words),
+    }
+}
+
+// An empty line, a title, or an instruction, whose moment is the word.
+fn play_word(
+    alloc: Global,
+    stage: &mut Stage,
+    line: &str,
+    word: &str,
+    words: &mut Words,
+) -> Result<String, Halt> {
+    if word.is_empty() || word.starts_with('#') {
+        return Ok(echoed(alloc, line)?);
+    }
+    act(alloc, stage, line, word, words)
+}
+
+// ---- the laboratory, and what is told
+
+// What a line makes: the laboratory, what is told of it, and what is told of the line.
+#[derive(Drop)]
+struct Played {
+    lab: Lab,
+    told: String,
+    text: String,
+}
+
+// The laboratory comes in place of the one that was there. Gives what is told of the line.
+fn take_up(stage: &mut Stage, played: Played) -> String {
+    let Played { lab, told, text } = played;
+    stage.lab = lab;
+    stage.told = told;
+    text
+}
+
+// The laboratory that was made, with what is told.
+fn with_texts(
+    lab: Lab,
+    texts: Result<(String, String), OutOfMemory>,
+) -> Result<Played, OutOfMemory> {
+    match texts {
+        Ok((told, text)) => Ok(Played { lab, told, text }),
+        Err(fault) => {
+            drop(lab);
+            Err(fault)
         }
     }
 }
 
-fn echoed(alloc: Global, line: &str) -> Result<String, Halt> {
-    let mut text = String::new(alloc);
-    push_line(&mut text, "", line)?;
+// The laboratory that a line makes; all that it keeps is told.
+fn enter_lab(
+    alloc: Global,
+    stage: &mut Stage,
+    line: &str,
+    made: Result<Lab, Halt>,
+) -> Result<String, Halt> {
+    let lab = made?;
+    let texts = entry_texts(alloc, line, &lab);
+    Ok(take_up(stage, with_texts(lab, texts)?))
+}
+
+fn entry_texts(alloc: Global, line: &str, lab: &Lab) -> Result<(String, String), OutOfMemory> {
+    let told = lab_text(alloc, lab)?;
+    let text = shown(alloc, line, told.as_str())?;
+    Ok((told, text))
+}
+
+fn enter_person(
+    alloc: Global,
+    stage: &mut Stage,
+    line: &str,
+    words: &mut Words,
+) -> Result<String, Halt> {
+    let made = with_person(alloc, &stage.lab, words);
+    enter_lab(alloc, stage, line, made)
+}
+
+fn keep(alloc: Global, stage: &mut Stage, line: &str) -> Result<String, Halt> {
+    let text = echoed(alloc, line)?;
+    stage.kept = stage.lab.copy()?;
     Ok(text)
 }
 
-fn push_line(text: &mut String, before: &str, line: &str) -> Result<(), OutOfMemory> {
-    text.push_str(before)?;
-    text.push_str(line)?;
-    text.push_str("\n")?;
-    Ok(())
+fn go_back(alloc: Global, stage: &mut Stage, line: &str) -> Result<String, Halt> {
+    let lab = stage.kept.copy()?;
+    let texts = both(lab_text(alloc, &lab), echoed(alloc, line));
+    Ok(take_up(stage, with_texts(lab, texts)?))
 }
 
-fn shown(alloc: Global, line: &str, told: &str) -> Result<String, Halt> {
-    let mut text = echoed(alloc, line)?;
-    text.push_str(told)?;
+fn become_quiet(alloc: Global, stage: &mut Stage, line: &str) -> Result<String, Halt> {
+    let text = echoed(alloc, line)?;
+    stage.is_quiet = true;
     Ok(text)
 }
 
 // From here on the laboratory is told of again.
 fn become_loud(alloc: Global, stage: &mut Stage, line: &str) -> Result<String, Halt> {
-    let told = lab_text(alloc, &stage.lab)?;
     let text = echoed(alloc, line)?;
-    stage.told = told;
+    stage.told = lab_text(alloc, &stage.lab)?;
     stage.is_quiet = false;
     Ok(text)
 }
 
-// The SHA-256 of what is told of the laboratory.
-fn summed(alloc: Global, line: &str, told: &[u8]) -> Result<String, Halt> {
-    let mut text = echoed(alloc, line)?;
-    let digits = hex::encode(alloc, &digest(told).bytes())?;
-    push_line(&mut text, "  ", digits.as_str())?;
+fn set_counts(
+    alloc: Global,
+    stage: &mut Stage,
+    line: &str,
+    words: &mut Words,
+) -> Result<String, Halt> {
+    let text = echoed(alloc, line)?;
+    stage.counts = counts(words)?;
     Ok(text)
 }
 
@@ -151,125 +210,7 @@ fn counts(words: &mut Words) -> Result<Option<Counts>, Halt> {
     }))
 }
 
-// ---- foundings
-
-fn bare_lab(alloc: Global, code: &str, name: &str, last: Moment) -> Result<Lab, Halt> {
-    let code = text(alloc, code)?;
-    let name = text(alloc, name)?;
-    Ok(Lab {
-        code,
-        name,
-        last,
-        strays: 0,
-        persons: Series::new(alloc),
-        sessions: Series::new(alloc),
-        forms: Series::new(alloc),
-        records: Series::new(alloc),
-        trail: Series::new(alloc),
-    })
-}
-
-// A laboratory: its code, its moment, the words of chance, its name, and code, name and password of three administrators.
-fn founded(alloc: Global, words: &mut Words) -> Result<Lab, Halt> {
-    let code = words.next_word();
-    let last = moment(words.next_word())?;
-    let chance = chance(words.next_word())?;
-    let mut lab = bare_lab(alloc, code, words.next_word(), last)?;
-    for salt in founder_salts(&chance) {
-        let founder = founder(alloc, words, salt, last)?;
-        change(alloc, &mut lab, &Change::PersonAdded(founder))?;
-    }
-    let row = founding_row(alloc, code, last)?;
-    change(alloc, &mut lab, &Change::TrailAdded(row))?;
-    Ok(lab)
-}
-
-fn founder(
-    alloc: Global,
-    words: &mut Words,
-    salt: [u8; 16],
-    moment: Moment,
-) -> Result<Person, Halt> {
-    let code = text(alloc, words.next_word())?;
-    let name = text(alloc, words.next_word())?;
-    Ok(Person {
-        code,
-        name,
-        roles: Roles::none().with(Role::Administrator),
-        retired: false,
-        failures: 0,
-        locked: None,
-        password: Password::choose(words.next_word(), salt, moment),
-        ask: None,
-    })
-}
-
-// A laboratory without persons: its code, its moment and its name.
-fn bare(alloc: Global, words: &mut Words) -> Result<Lab, Halt> {
-    let code = words.next_word();
-    let last = moment(words.next_word())?;
-    bare_lab(alloc, code, words.next_word(), last)
-}
-
-// The laboratory with one person more, whose password is soon tried: it was chosen at the last moment, and has one round.
-fn with_person(alloc: Global, stage: &Stage, words: &mut Words) -> Result<Lab, Halt> {
-    let code = text(alloc, words.next_word())?;
-    let name = text(alloc, words.next_word())?;
-    let roles = roles(words.next_word());
-    let person = Person {
-        code,
-        name,
-        roles,
-        retired: false,
-        failures: 0,
-        locked: None,
-        password: Password::Chosen {
-            verifier: Verifier::make(words.next_word().as_bytes(), [0; 16], 1),
-            changed: stage.lab.last,
-        },
-        ask: None,
-    };
-    let mut lab = stage.lab.copy()?;
-    change(alloc, &mut lab, &Change::PersonAdded(person))?;
-    Ok(lab)
-}
-
-fn founding_row(alloc: Global, code: &str, moment: Moment) -> Result<TrailRow, Halt> {
-    Ok(TrailRow {
-        number: Ordinal::FIRST,
-        moment,
-        person: None,
-        action: Action::Found,
-        subject: Subject::new(String::from_str(alloc, code)?),
-    })
-}
-
-// The laboratory comes in place of the one that was there; all that it keeps is told.
-fn enter_lab(alloc: Global, stage: &mut Stage, line: &str, lab: Lab) -> Result<String, Halt> {
-    let told = lab_text(alloc, &lab)?;
-    let text = shown(alloc, line, told.as_str())?;
-    stage.lab = lab;
-    stage.told = told;
-    Ok(text)
-}
-
-fn return_to(alloc: Global, stage: &mut Stage, line: &str, lab: Lab) -> Result<String, Halt> {
-    let told = lab_text(alloc, &lab)?;
-    let text = echoed(alloc, line)?;
-    stage.lab = lab;
-    stage.told = told;
-    Ok(text)
-}
-
 // ---- instructions
-
-// What an instruction makes: the laboratory, what is told of it, and what is told of the instruction.
-#[derive(Drop)]
-struct Played {
-    lab: Lab,
-    told: String,
-    text: String,
-}
 
 fn act(
     alloc: Global,
@@ -280,61 +221,36 @@ fn act(
 ) -> Result<String, Halt> {
     let tick = tick(seconds, words.next_word())?;
     let asked = instruction(alloc, words)?;
-    let acted = acted(alloc, stage, line, &tick, asked)?;
-    let Played { lab, told, text } = acted;
-    stage.lab = lab;
-    stage.told = told;
-    Ok(text)
+    let played = acted(alloc, stage, line, &tick, asked)?;
+    Ok(take_up(stage, played))
 }
 
+// What the instruction makes of the laboratory.
 fn acted(
     alloc: Global,
     stage: &Stage,
     line: &str,
     tick: &Tick,
     asked: Instruction,
-) -> Result<Played, Halt> {
-    let (reply, changes) = spoken(alloc, answered(alloc, stage, tick, asked)?);
-    let reply = reply?;
-    let lab = changed(alloc, &stage.lab, changes)?;
-    finished(alloc, stage, line, reply, lab)
-}
-
-// What is told of the reply, which is let go, and the changes.
-fn spoken(alloc: Global, outcome: Outcome) -> (Result<String, OutOfMemory>, Series<Change>) {
-    let Outcome { reply, changes } = outcome;
-    let text = reply_text(alloc, &reply);
-    drop(reply);
-    (text, changes)
-}
-
-fn finished(
-    alloc: Global,
-    stage: &Stage,
-    line: &str,
-    reply: String,
-    lab: Lab,
-) -> Result<Played, Halt> {
-    let told = told_unless_quiet(alloc, stage, &lab)?;
-    let text = told_of(alloc, stage, line, reply.as_str(), told.as_str())?;
-    Ok(Played { lab, told, text })
-}
-
-fn told_unless_quiet(alloc: Global, stage: &Stage, lab: &Lab) -> Result<String, OutOfMemory> {
-    if stage.is_quiet {
-        return Ok(String::new(alloc));
-    }
-    lab_text(alloc, lab)
+) -> Result<Played, OutOfMemory> {
+    let outcome = decided(alloc, &stage.lab, stage.counts, tick, asked)?;
+    let reply = reply_text(alloc, &outcome.reply);
+    let lab = changed(alloc, &stage.lab, outcome.changes.as_slice());
+    drop(outcome);
+    let (reply, lab) = both(reply, lab)?;
+    let texts = act_texts(alloc, stage, line, reply, &lab);
+    with_texts(lab, texts)
 }
 
 // What is decided on the part that the instruction needs.
-fn answered(
+fn decided(
     alloc: Global,
-    stage: &Stage,
+    lab: &Lab,
+    counts: Option<Counts>,
     tick: &Tick,
     asked: Instruction,
 ) -> Result<Outcome, OutOfMemory> {
-    match needed(alloc, stage, tick, &asked) {
+    match needed(alloc, lab, counts, tick, &asked) {
         Ok(slice) => decide(alloc, slice, tick, asked.command),
         Err(fault) => {
             drop(asked);
@@ -345,54 +261,104 @@ fn answered(
 
 fn needed(
     alloc: Global,
-    stage: &Stage,
+    lab: &Lab,
+    counts: Option<Counts>,
     tick: &Tick,
     asked: &Instruction,
 ) -> Result<Slice, OutOfMemory> {
     let need = needs(tick, asked)?;
-    let slice = part(alloc, &stage.lab, &need)?;
-    Ok(match stage.counts {
-        Some(counts) => Slice { counts, ..slice },
-        None => slice,
-    })
+    let slice = part(alloc, lab, &need);
+    drop(need);
+    let mut slice = slice?;
+    if let Some(counts) = counts {
+        slice.counts = counts;
+    }
+    Ok(slice)
 }
 
 // A copy of the laboratory, changed.
-fn changed(alloc: Global, lab: &Lab, changes: Series<Change>) -> Result<Lab, OutOfMemory> {
-    let mut after = lab.copy()?;
-    for one in changes.as_slice() {
-        change(alloc, &mut after, one)?;
-    }
-    Ok(after)
-}
-
-// The line, the reply, and each line of the laboratory that wasn't there before.
-fn told_of(
-    alloc: Global,
-    stage: &Stage,
-    line: &str,
-    reply: &str,
-    told: &str,
-) -> Result<String, OutOfMemory> {
-    let mut text = String::new(alloc);
-    if stage.is_quiet && !reply.starts_with("refused") {
-        return Ok(text);
-    }
-    push_line(&mut text, "> ", line)?;
-    text.push_str(reply)?;
-    push_news(&mut text, stage.told.as_str(), told)?;
-    Ok(text)
-}
-
-fn push_news(text: &mut String, before: &str, after: &str) -> Result<(), OutOfMemory> {
-    for line in after.lines() {
-        if !has_line(before, line) {
-            push_line(text, "  ", line)?;
+fn changed(alloc: Global, lab: &Lab, changes: &[Change]) -> Result<Lab, OutOfMemory> {
+    let mut lab = lab.copy()?;
+    match change_all(alloc, &mut lab, changes) {
+        Ok(()) => Ok(lab),
+        Err(fault) => {
+            drop(lab);
+            Err(fault)
         }
+    }
+}
+
+fn change_all(alloc: Global, lab: &mut Lab, changes: &[Change]) -> Result<(), OutOfMemory> {
+    for one in changes {
+        change(alloc, lab, one)?;
     }
     Ok(())
 }
 
-fn has_line(text: &str, wanted: &str) -> bool {
-    text.lines().any(|line| line == wanted)
+// What is told of the laboratory, and of the instruction.
+fn act_texts(
+    alloc: Global,
+    stage: &Stage,
+    line: &str,
+    reply: String,
+    lab: &Lab,
+) -> Result<(String, String), OutOfMemory> {
+    let told = told_unless_quiet(alloc, stage.is_quiet, lab)?;
+    let text = if stage.is_quiet && !reply.starts_with("refused") {
+        String::new(alloc)
+    } else {
+        answered(
+            alloc,
+            line,
+            reply.as_str(),
+            stage.told.as_str(),
+            told.as_str(),
+        )?
+    };
+    Ok((told, text))
+}
+
+fn told_unless_quiet(alloc: Global, is_quiet: bool, lab: &Lab) -> Result<String, OutOfMemory> {
+    if is_quiet {
+        return Ok(String::new(alloc));
+    }
+    lab_text(alloc, lab)
+}
+
+// ---- for figures
+
+// The instruction is decided so many times, and nothing is changed.
+fn repeat(alloc: Global, stage: &Stage, words: &mut Words) -> Result<String, Halt> {
+    let times = words.next_word();
+    for _ in 0..number(times)? {
+        decide_once(alloc, stage, *words)?;
+    }
+    Ok(repeated(alloc, times)?)
+}
+
+// The instruction is read, and its part taken, so many times: what `repeat` takes beyond that is the deciding.
+fn repeat_parts(alloc: Global, stage: &Stage, words: &mut Words) -> Result<String, Halt> {
+    let times = words.next_word();
+    for _ in 0..number(times)? {
+        part_once(alloc, stage, *words)?;
+    }
+    Ok(repeated(alloc, times)?)
+}
+
+fn decide_once(alloc: Global, stage: &Stage, mut words: Words) -> Result<(), Halt> {
+    let tick = tick(words.next_word(), words.next_word())?;
+    let asked = instruction(alloc, &mut words)?;
+    let outcome = decided(alloc, &stage.lab, stage.counts, &tick, asked)?;
+    drop(outcome);
+    Ok(())
+}
+
+fn part_once(alloc: Global, stage: &Stage, mut words: Words) -> Result<(), Halt> {
+    let tick = tick(words.next_word(), words.next_word())?;
+    let asked = instruction(alloc, &mut words)?;
+    let slice = needed(alloc, &stage.lab, stage.counts, &tick, &asked);
+    drop(asked);
+    let slice = slice?;
+    drop(slice);
+    Ok(())
 }

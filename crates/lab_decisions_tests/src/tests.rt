@@ -1,6 +1,8 @@
 //! The laboratory of setup, compared with a value from outside, and lines that can't be played.
-use crate::{Halt, Stage, lab_text, play, setup};
+use crate::{Stage, play, setup};
+use lab_asked::Halt;
 use lab_secrets::digest;
+use lab_told::lab_text;
 use std::process::Abort;
 
 // The SHA-256 of the 3,341 bytes that `bench/days.py --setup` writes of the laboratory, by Python's `hashlib`.

@@ -3,12 +3,12 @@ use crate::laboratories::{push_trail, roles};
 use crate::records::{form_words, push_version, row_words, signature_words};
 use crate::sheets::{count, digits, either, end, moment, ordinal, word};
 use lab_access::{PeopleRefusal, Roles};
-use lab_kept::{FormVersion, Signature};
+use lab_kept::{FormVersion, Signature, TrailRow};
 use lab_machine::Reply;
-use lab_names::{Key, Name, Ordinal, OutOfMemory, PersonCode};
+use lab_names::{Key, LabCode, Moment, Name, Ordinal, OutOfMemory, PersonCode};
 use lab_rules::{PersonLine, RecordRead, RecordState, Refusal, VersionRead, VersionState};
-use lab_seal::{Digest, State};
-use lab_secrets::Token;
+use lab_seal::{Digest, EntryRow, State};
+use lab_secrets::{Half, Token};
 use std::alloc::Global;
 
 /// A reply, in lines, with every field. The only error is out of memory.
@@ -21,38 +21,21 @@ pub fn reply_text(alloc: Global, reply: &Reply) -> Result<String, OutOfMemory> {
 fn push_reply(text: &mut String, reply: &Reply) -> Result<(), OutOfMemory> {
     match reply {
         Reply::Refused(refusal) => push_refusal(text, refusal),
-        Reply::Card { lab, name } => push_named(text, "card", lab.as_str(), name.as_str()),
+        Reply::Card { lab, name } => push_card(text, lab, name),
         Reply::Opened {
             session,
             token,
             due,
         } => push_opened(text, *session, token, *due),
-        Reply::Closed { session } => push_numbers(text, "closed", &[*session]),
-        Reply::PasswordChanged { changed } => {
-            word(text, "password changed")?;
-            moment(text, *changed)?;
-            end(text)
-        }
-        Reply::PersonDone { code } => push_words(text, &["person done", code.as_str()]),
-        Reply::HalfTold { half } => {
-            word(text, "half told")?;
-            digits(text, &half.digits())?;
-            end(text)
-        }
+        Reply::Closed { session } => push_closed(text, *session),
+        Reply::PasswordChanged { changed } => push_changed(text, *changed),
+        Reply::PersonDone { code } => push_person_done(text, code),
+        Reply::HalfTold { half } => push_half(text, half),
         Reply::RolesSet { code, roles } => push_roles_set(text, code, roles),
         Reply::Persons(lines) => push_person_lines(text, lines.as_slice()),
-        reply => push_reply_on_records(text, reply),
-    }
-}
-
-// The same of a reply on forms and records, or the trail.
-fn push_reply_on_records(text: &mut String, reply: &Reply) -> Result<(), OutOfMemory> {
-    match reply {
         Reply::FormMade { code, version } => push_form_made(text, code, *version),
         Reply::FormRead(form) => push_form(text, form),
-        Reply::RecordOpened { number, version } => {
-            push_numbers(text, "record opened", &[*number, *version])
-        }
+        Reply::RecordOpened { number, version } => push_record_opened(text, *number, *version),
         Reply::Entered {
             number,
             version,
@@ -68,31 +51,21 @@ fn push_reply_on_records(text: &mut String, reply: &Reply) -> Result<(), OutOfMe
         Reply::RecordRead(read) => push_record_read(text, read),
         Reply::VersionRead(read) => push_version_read(text, read),
         Reply::Records(lines) => push_record_lines(text, lines.as_slice()),
-        Reply::Trail(rows) => {
-            push_words(text, &["trail"])?;
-            push_trail(text, rows.as_slice())
-        }
-        _ => push_words(text, &["no reply on records"]),
+        Reply::Trail(rows) => push_rows_of_trail(text, rows.as_slice()),
     }
 }
 
-fn push_words(text: &mut String, words: &[&str]) -> Result<(), OutOfMemory> {
-    for one in words {
-        word(text, one)?;
-    }
+// A line of one word.
+fn push_title(text: &mut String, title: &str) -> Result<(), OutOfMemory> {
+    word(text, title)?;
     end(text)
 }
 
-fn push_numbers(text: &mut String, what: &str, numbers: &[Ordinal]) -> Result<(), OutOfMemory> {
-    word(text, what)?;
-    for number in numbers {
-        ordinal(text, *number)?;
-    }
+fn push_card(text: &mut String, lab: &LabCode, name: &Name) -> Result<(), OutOfMemory> {
+    word(text, "card")?;
+    word(text, lab.as_str())?;
+    word(text, name.as_str())?;
     end(text)
-}
-
-fn push_named(text: &mut String, what: &str, code: &str, name: &str) -> Result<(), OutOfMemory> {
-    push_words(text, &[what, code, name])
 }
 
 // The number, the word, and what the refusal tells.
@@ -130,6 +103,30 @@ fn push_opened(
     end(text)
 }
 
+fn push_closed(text: &mut String, session: Ordinal) -> Result<(), OutOfMemory> {
+    word(text, "closed")?;
+    ordinal(text, session)?;
+    end(text)
+}
+
+fn push_changed(text: &mut String, changed: Moment) -> Result<(), OutOfMemory> {
+    word(text, "password changed")?;
+    moment(text, changed)?;
+    end(text)
+}
+
+fn push_person_done(text: &mut String, code: &PersonCode) -> Result<(), OutOfMemory> {
+    word(text, "person done")?;
+    word(text, code.as_str())?;
+    end(text)
+}
+
+fn push_half(text: &mut String, half: &Half) -> Result<(), OutOfMemory> {
+    word(text, "half told")?;
+    digits(text, &half.digits())?;
+    end(text)
+}
+
 fn push_roles_set(text: &mut String, code: &PersonCode, set: &Roles) -> Result<(), OutOfMemory> {
     word(text, "roles set")?;
     word(text, code.as_str())?;
@@ -138,7 +135,7 @@ fn push_roles_set(text: &mut String, code: &PersonCode, set: &Roles) -> Result<(
 }
 
 fn push_person_lines(text: &mut String, lines: &[PersonLine]) -> Result<(), OutOfMemory> {
-    push_words(text, &["persons"])?;
+    push_title(text, "persons")?;
     for line in lines {
         push_person_line(text, line)?;
     }
@@ -164,6 +161,17 @@ fn push_form_made(text: &mut String, code: &Key, version: Ordinal) -> Result<(),
 fn push_form(text: &mut String, form: &FormVersion) -> Result<(), OutOfMemory> {
     word(text, "form")?;
     form_words(text, form)?;
+    end(text)
+}
+
+fn push_record_opened(
+    text: &mut String,
+    number: Ordinal,
+    version: Ordinal,
+) -> Result<(), OutOfMemory> {
+    word(text, "record opened")?;
+    ordinal(text, number)?;
+    ordinal(text, version)?;
     end(text)
 }
 
@@ -230,7 +238,11 @@ fn push_about(
 
 fn push_record_read(text: &mut String, read: &RecordRead) -> Result<(), OutOfMemory> {
     push_about(text, "record", read.number, &read.sample, &read.form)?;
-    for state in read.versions.as_slice() {
+    push_version_states(text, read.versions.as_slice())
+}
+
+fn push_version_states(text: &mut String, states: &[VersionState]) -> Result<(), OutOfMemory> {
+    for state in states {
         push_version_state(text, state)?;
     }
     Ok(())
@@ -246,11 +258,15 @@ fn push_version_state(text: &mut String, state: &VersionState) -> Result<(), Out
 fn push_version_read(text: &mut String, read: &VersionRead) -> Result<(), OutOfMemory> {
     push_about(text, "version of", read.number, &read.sample, &read.form)?;
     push_version(text, read.number, &read.version)?;
-    word(text, state_word(read.state))?;
-    digits(text, &read.digest.digits())?;
-    end(text)?;
+    push_state(text, read.state, &read.digest)?;
     push_altered(text, read.altered.as_slice())?;
-    push_values(text, read)
+    push_values(text, read.values.as_slice())
+}
+
+fn push_state(text: &mut String, state: Option<State>, digest: &Digest) -> Result<(), OutOfMemory> {
+    word(text, state_word(state))?;
+    digits(text, &digest.digits())?;
+    end(text)
 }
 
 fn push_altered(text: &mut String, keys: &[Key]) -> Result<(), OutOfMemory> {
@@ -261,17 +277,21 @@ fn push_altered(text: &mut String, keys: &[Key]) -> Result<(), OutOfMemory> {
     end(text)
 }
 
-fn push_values(text: &mut String, read: &VersionRead) -> Result<(), OutOfMemory> {
-    for row in read.values.as_slice() {
-        word(text, "value")?;
-        row_words(text, row)?;
-        end(text)?;
+fn push_values(text: &mut String, rows: &[EntryRow]) -> Result<(), OutOfMemory> {
+    for row in rows {
+        push_value(text, row)?;
     }
     Ok(())
 }
 
+fn push_value(text: &mut String, row: &EntryRow) -> Result<(), OutOfMemory> {
+    word(text, "value")?;
+    row_words(text, row)?;
+    end(text)
+}
+
 fn push_record_lines(text: &mut String, lines: &[RecordState]) -> Result<(), OutOfMemory> {
-    push_words(text, &["records"])?;
+    push_title(text, "records")?;
     for line in lines {
         push_record_line(text, line)?;
     }
@@ -288,4 +308,9 @@ fn push_record_line(text: &mut String, line: &RecordState) -> Result<(), OutOfMe
     }
     word(text, state_word(line.state))?;
     end(text)
+}
+
+fn push_rows_of_trail(text: &mut String, rows: &[TrailRow]) -> Result<(), OutOfMemory> {
+    push_title(text, "trail")?;
+    push_trail(text, rows)
 }

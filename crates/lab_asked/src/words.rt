@@ -8,18 +8,18 @@ use std::alloc::Global;
 
 /// The words of a line that are yet to be read, with a bar between them.
 #[derive(Clone, Copy)]
-pub(crate) struct Words<'a> {
+pub struct Words<'a> {
     rest: &'a str,
 }
 
 impl<'a> Words<'a> {
     /// The words of the line.
-    pub(crate) fn new(line: &'a str) -> Words<'a> {
+    pub fn new(line: &'a str) -> Words<'a> {
         Words { rest: line }
     }
 
     /// The next word; an empty one at the end.
-    pub(crate) fn next_word(&mut self) -> &'a str {
+    pub fn next_word(&mut self) -> &'a str {
         match self.rest.split_once('|') {
             Some((word, rest)) => {
                 self.rest = rest;
@@ -34,18 +34,18 @@ impl<'a> Words<'a> {
     }
 
     /// Whether all were read.
-    pub(crate) fn are_read(&self) -> bool {
+    pub fn are_read(&self) -> bool {
         self.rest.is_empty()
     }
 }
 
 /// A code, a key, a name, a note or a unit.
-pub(crate) fn text<R: Rule>(alloc: Global, word: &str) -> Result<Text<R>, Halt> {
+pub fn text<R: Rule>(alloc: Global, word: &str) -> Result<Text<R>, Halt> {
     Ok(Text::parse(alloc, word)?)
 }
 
 /// A reason, or none for a dash.
-pub(crate) fn reason(alloc: Global, word: &str) -> Result<Option<Note>, Halt> {
+pub fn reason(alloc: Global, word: &str) -> Result<Option<Note>, Halt> {
     match word {
         "-" => Ok(None),
         word => Ok(Some(text(alloc, word)?)),
@@ -53,7 +53,7 @@ pub(crate) fn reason(alloc: Global, word: &str) -> Result<Option<Note>, Halt> {
 }
 
 /// A person's code, or none for a dash.
-pub(crate) fn code(alloc: Global, word: &str) -> Result<Option<PersonCode>, Halt> {
+pub fn code(alloc: Global, word: &str) -> Result<Option<PersonCode>, Halt> {
     match word {
         "-" => Ok(None),
         word => Ok(Some(text(alloc, word)?)),
@@ -61,38 +61,38 @@ pub(crate) fn code(alloc: Global, word: &str) -> Result<Option<PersonCode>, Halt
 }
 
 /// A text as it was typed.
-pub(crate) fn typed(alloc: Global, word: &str) -> Result<Typed, Halt> {
+pub fn typed(alloc: Global, word: &str) -> Result<Typed, Halt> {
     Ok(Typed::new(String::from_str(alloc, word)?))
 }
 
 /// A number.
-pub(crate) fn number(word: &str) -> Result<u64, Halt> {
+pub fn number(word: &str) -> Result<u64, Halt> {
     word.parse::<u64>().map_err(|_| Halt::BadLine)
 }
 
 /// A number of 32 bits.
-pub(crate) fn short_number(word: &str) -> Result<u32, Halt> {
+pub fn short_number(word: &str) -> Result<u32, Halt> {
     word.parse::<u32>().map_err(|_| Halt::BadLine)
 }
 
 /// An ordinal.
-pub(crate) fn ordinal(word: &str) -> Result<Ordinal, Halt> {
+pub fn ordinal(word: &str) -> Result<Ordinal, Halt> {
     Ordinal::new(short_number(word)?).ok_or(Halt::BadLine)
 }
 
 /// A digest, of its digits.
-pub(crate) fn digest(word: &str) -> Result<Digest, Halt> {
+pub fn digest(word: &str) -> Result<Digest, Halt> {
     Digest::from_digits(word.as_bytes()).ok_or(Halt::BadLine)
 }
 
 /// The moment of so many seconds.
-pub(crate) fn moment(word: &str) -> Result<Moment, Halt> {
+pub fn moment(word: &str) -> Result<Moment, Halt> {
     let seconds = word.parse::<i64>().map_err(|_| Halt::BadLine)?;
     Ok(Moment::from_seconds(seconds)?)
 }
 
 /// Eight words of chance, one after the other.
-pub(crate) fn chance(word: &str) -> Result<[u64; 8], Halt> {
+pub fn chance(word: &str) -> Result<[u64; 8], Halt> {
     let first = number(word)?;
     let mut words = [first; 8];
     for place in 1..8 {
@@ -102,7 +102,7 @@ pub(crate) fn chance(word: &str) -> Result<[u64; 8], Halt> {
 }
 
 /// A tick, of its moment and the first of its words.
-pub(crate) fn tick(seconds: &str, first: &str) -> Result<Tick, Halt> {
+pub fn tick(seconds: &str, first: &str) -> Result<Tick, Halt> {
     Ok(Tick {
         moment: moment(seconds)?,
         words: chance(first)?,
@@ -110,7 +110,7 @@ pub(crate) fn tick(seconds: &str, first: &str) -> Result<Tick, Halt> {
 }
 
 /// The token of the session that was opened with these words; none for a dash.
-pub(crate) fn token(word: &str) -> Result<Option<Token>, Halt> {
+pub fn token(word: &str) -> Result<Option<Token>, Halt> {
     match word {
         "-" => Ok(None),
         word => Ok(Some(Token::from_words(&chance(word)?))),
@@ -118,7 +118,7 @@ pub(crate) fn token(word: &str) -> Result<Option<Token>, Halt> {
 }
 
 /// The roles whose words the text has.
-pub(crate) fn roles(text: &str) -> Roles {
+pub fn roles(text: &str) -> Roles {
     let mut roles = Roles::none();
     for role in Role::ALL {
         if text.contains(role.word()) {

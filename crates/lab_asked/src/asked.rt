@@ -8,7 +8,7 @@ use lab_rules::{Altered, Item, Signing};
 use std::alloc::Global;
 
 /// An instruction: the words of the session's token, and the command.
-pub(crate) fn instruction(alloc: Global, words: &mut Words) -> Result<Instruction, Halt> {
+pub fn instruction(alloc: Global, words: &mut Words) -> Result<Instruction, Halt> {
     let token = token(words.next_word())?;
     let command = command(alloc, words)?;
     Ok(Instruction { token, command })
