@@ -18,7 +18,7 @@ import copy
 import os
 import sys
 
-from laboratory import Machine, Refused, Thing, digest_of, dash, field_words, found, lab_lines, line, refusal_line, sha, verifier
+from laboratory import Machine, Refused, Thing, digest_of, dash, field_words, found, lab_lines, line, refusal, sha, verifier
 
 LEAD = {"key": "lead", "label": "Lead", "required": True, "kind": "number", "unit": "mg/L", "decimals": 2, "min": "0", "max": None}
 NOTE = {"key": "note", "label": "Note", "required": False, "kind": "text", "size": 200}
@@ -122,7 +122,7 @@ class Day:
         try:
             reply = Machine(lab, moment, words, self.counts).run(token, command, *args)
         except Refused as refused:
-            reply = [refusal_line(refused)]
+            reply = refusal(refused)
         begins = f"refused|{wanted}|" if isinstance(wanted, int) else wanted
         assert reply[0].startswith(begins), f"{asked}: {reply[0]} where {begins} is wanted"
         if command == "open" and reply[0].startswith("opened"):
@@ -132,7 +132,7 @@ class Day:
         assert not self.quiet or not reply[0].startswith("refused")
         if not self.quiet:
             self.told.append("> " + asked)
-            self.told += reply
+            self.told.append(reply[1])
             self.told += ["  " + one for one in lab_lines(lab) if one not in before]
         return reply
 
@@ -213,7 +213,8 @@ def worked(day):
     day.do(1200, "dan", 47, "entry", 1, "lead", "7.5", "mg/L", None)
     day.do(1200, "dan", "entered|1|1|2|", "entry", 1, "lead", "7.5", "mg/L", "misread scale")
     reply = day.do(1210, "dan", "version of|1|", "read version", 1, 1)
-    assert any(one.startswith("value|lead|7.5|mg/L|dan|1200|misread scale|") for one in reply)
+    assert reply[1].endswith(',"values":[{"key":"lead","unit":"mg/L","value":"7.5"}],"version":1}')
+    assert '"person":"dan","reason":"misread scale","unit":"mg/L","value":"7.5"}],' in reply[1]
 
     day.back("The first signing takes the code, the next ones the password; a second person releases")
     release(day)
@@ -251,9 +252,9 @@ def worked(day):
     day.do(1402, "dan", 47, "amend", 1, None, ("lead", "7.5", "mg/L"))
     day.do(1403, "dan", "amended|1|2|", "amend", 1, "one decimal is meant", ("lead", "7.5", "mg/L"))
     first = day.do(1404, "dan", "version of|1|", "read version", 1, 1)
-    assert sum(one.startswith("signature|") for one in first) == 2
+    assert first[1].count('"seal":') == 2
     second = day.do(1405, "dan", "version of|1|", "read version", 1, 2)
-    assert not any(one.startswith("signature|") for one in second)
+    assert '"signatures":[]' in second[1]
     day.do(1406, "dan", 50, "amend", 1, "once more", ("lead", "7.6", "mg/L"))
     day.title("A digest that has grown old is none; a version is signed once by its author")
     stale = day.sign(1410, "dan", 52, 1, 2, "authorship", digest=day.digest(1, 1))

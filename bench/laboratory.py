@@ -3,6 +3,7 @@ command is answered, and what the laboratory is like afterwards. Hashes are thos
 import copy
 import datetime
 import hashlib
+import json
 import re
 
 ROUNDS = 10_000
@@ -28,6 +29,8 @@ RULES = {
     "records": ("P20", "NRMI"), "trail": ("P21", "AMI"), "approval": ("P23", "M"),
 }
 LETTERS = dict(zip("NRMAI", ROLES))
+KIND_MEMBERS = {"number": ["unit", "decimals", "min", "max"], "text": ["size"], "choice": ["choices"], "date": [], "yesno": []}
+FURTHER = {24: "rule", 43: "record", 49: "key", 52: "digest"}
 
 
 class Refused(Exception):
@@ -144,6 +147,42 @@ def signature_words(s):
 
 def trail_line(t):
     return line("trail", t.number, t.moment, dash(t.person), t.action, t.subject)
+
+
+# ---- replies: a line for what is wanted of each, by hand, and the body, as JSON with its members in order
+
+
+def body(**members):
+    return json.dumps(members, sort_keys=True, separators=(",", ":"), ensure_ascii=False)
+
+
+def told(shown, **members):
+    return [shown, body(**members)]
+
+
+def roles_list(roles):
+    return [role for role in ROLES if role in roles]
+
+
+def field_members(f):
+    names = ["key", "kind", "label", "required", *KIND_MEMBERS[f["kind"]]]
+    return {name: f[name] for name in names if f.get(name) is not None}
+
+
+def row_members(r):
+    return {"key": r.key, "moment": printed(r.moment), "person": r.person, "reason": r.reason or "", "unit": r.unit, "value": r.value}
+
+
+def signature_members(one):
+    return {"meaning": one.meaning, "moment": printed(one.moment), "name": one.name, "person": one.person,
+            "reason": one.reason, "seal": one.seal}
+
+
+def about(r):
+    return {"form": r.form.code, "form_version": r.form.version, "record": r.number, "sample": r.sample}
+
+
+# ---- what a laboratory keeps
 
 
 def lab_lines(lab):
@@ -326,7 +365,7 @@ class Machine:
         if now < lab.last:
             raise Refused(41)
         if command == "card":
-            return [line("card", lab.code, lab.name)]
+            return told(line("card", lab.code, lab.name), lab=lab.code, name=lab.name)
         if command == "open":
             return self.open(*args)
         s = None if token is None else next((s for s in lab.sessions if s.token == sha(token_of(token))), None)
@@ -360,13 +399,14 @@ class Machine:
                                        closed=False, signed=False))
         self.tell(code, "open", number)
         self.lab.last = self.now
-        return [line("opened", number, token.hex(), "due" if is_due(p, self.now) else "not due")]
+        due = is_due(p, self.now)
+        return told(line("opened", number, token.hex(), "due" if due else "not due"), session=number, token=token.hex(), due=due)
 
     def do_close(self, p, s):
         self.room()
         s.closed = True
         self.tell(p.code, "close", s.number)
-        return [line("closed", s.number)]
+        return told(line("closed", s.number), session=s.number)
 
     def do_password(self, p, s, old, new):
         self.try_password(p, lambda: accepts(p, old, self.now), "password")
@@ -380,7 +420,7 @@ class Machine:
         s.signed = False
         self.close_sessions(p.code, s.number)
         self.tell(p.code, "password", p.code)
-        return [line("password changed", self.now)]
+        return told(line("password changed", self.now), changed=printed(self.now))
 
     def do_enrol(self, p, s, code, name, roles):
         if self.person(code) is not None:
@@ -392,12 +432,12 @@ class Machine:
         self.lab.persons.append(one)
         self.lab.persons.sort(key=lambda p: p.code.encode())
         self.tell(p.code, "enrol", (code + " " + roles_text(one.roles)).rstrip())
-        return [line("person done", code)]
+        return told(line("person done", code), code=code)
 
     def do_persons(self, p, s):
-        return ["persons|"] + [
-            line(o.code, o.name, roles_text(o.roles), "retired" if o.retired else "here",
-                 "locked" if is_locked(o, self.now) else "not locked") for o in self.lab.persons]
+        return told("persons|", persons=[
+            {"code": o.code, "locked": is_locked(o, self.now), "name": o.name, "retired": o.retired, "roles": roles_list(o.roles)}
+            for o in self.lab.persons])
 
     def other(self, p, code):
         o = self.person(code)
@@ -415,7 +455,7 @@ class Machine:
         half = pair(self.words, 0).hex()
         o.ask = (p.code, self.now, verifier(half, pair(self.words, 4)))
         self.tell(p.code, "issue", code)
-        return [line("half told", half)]
+        return told(line("half told", half), half=half)
 
     def do_confirm(self, p, s, code):
         o = self.other(p, code)
@@ -429,14 +469,14 @@ class Machine:
         o.ask = None
         self.close_sessions(code)
         self.tell(p.code, "confirm", code)
-        return [line("half told", half)]
+        return told(line("half told", half), half=half)
 
     def do_roles(self, p, s, code, roles):
         o = self.other(p, code)
         self.room()
         o.roles = set(roles.split())
         self.tell(p.code, "roles", (code + " " + roles_text(o.roles)).rstrip())
-        return [line("roles set", code, roles_text(o.roles))]
+        return told(line("roles set", code, roles_text(o.roles)), code=code, roles=roles_list(o.roles))
 
     def do_retire(self, p, s, code):
         o = self.other(p, code)
@@ -444,14 +484,14 @@ class Machine:
         o.retired = True
         self.close_sessions(code)
         self.tell(p.code, "retire", code)
-        return [line("person done", code)]
+        return told(line("person done", code), code=code)
 
     def do_unlock(self, p, s, code):
         o = self.other(p, code)
         self.room()
         self.accept(o)
         self.tell(p.code, "unlock", code)
-        return [line("person done", code)]
+        return told(line("person done", code), code=code)
 
     def do_form(self, p, s, code, approval, *fields):
         last = next((f for f in reversed(self.lab.forms) if f.code == code), None)
@@ -465,13 +505,14 @@ class Machine:
         self.lab.forms.append(Thing(code=code, version=version, approval=approval, fields=fields))
         self.lab.forms.sort(key=lambda f: (f.code.encode(), f.version))
         self.tell(p.code, "form", f"{code}/{version}")
-        return [line("form made", code, version)]
+        return told(line("form made", code, version), form=code, version=version)
 
     def do_read_form(self, p, s, code, version):
         f = next((f for f in self.lab.forms if f.code == code and f.version == version), None)
         if f is None:
             raise Refused(42)
-        return [line("form", *form_words(f))]
+        return told(line("form", *form_words(f)), approval=f.approval, fields=[field_members(one) for one in f.fields],
+                    form=f.code, version=f.version)
 
     def do_record(self, p, s, form, sample):
         last = next((f for f in reversed(self.lab.forms) if f.code == form), None)
@@ -487,7 +528,7 @@ class Machine:
         first = Thing(number=1, previous=None, reason=None, approval=last.approval, opener=p.code, opened=self.now, rows=[], signatures=[])
         self.lab.records.append(Thing(number=number, form=last, sample=sample, versions=[first]))
         self.tell(p.code, "record", number)
-        return [line("record opened", number, 1)]
+        return told(line("record opened", number, 1), record=number, version=1)
 
     def record(self, number):
         r = next((r for r in self.lab.records if r.number == number), None)
@@ -508,7 +549,9 @@ class Machine:
         self.room()
         v.rows.append(Thing(key=key, value=value, unit=unit, person=p.code, moment=self.now, reason=reason))
         self.tell(p.code, "entry", f"{number}/{v.number}/{key}")
-        return [line("entered", number, v.number, len(v.rows), digest_of(self.lab, r, v))]
+        digest = digest_of(self.lab, r, v)
+        return told(line("entered", number, v.number, len(v.rows), digest), record=number, version=v.number, rows=len(v.rows),
+                    digest=digest)
 
     def do_amend(self, p, s, number, reason, *items):
         r = self.record(number)
@@ -532,7 +575,8 @@ class Machine:
                   opener=p.code, opened=self.now, rows=rows, signatures=[])
         r.versions.append(n)
         self.tell(p.code, "amend", f"{number}/{n.number}")
-        return [line("amended", number, n.number, digest_of(self.lab, r, n))]
+        digest = digest_of(self.lab, r, n)
+        return told(line("amended", number, n.number, digest), record=number, version=n.number, digest=digest)
 
     def do_sign(self, p, s, number, version, digest, meaning, password, code, reason):
         if code is None and not s.signed:
@@ -574,19 +618,21 @@ class Machine:
             if meaning == "rejection" and reason is None:
                 raise Refused(47)
         self.room()
-        told = reason if meaning == "rejection" else ""
-        seal = sha(b"".join(map(item, [now_digest, self.lab.code, p.code, p.name, meaning, printed(self.now), told])))
-        one = Thing(person=p.code, name=p.name, meaning=meaning, reason=told, moment=self.now, digest=now_digest, seal=seal)
+        why = reason if meaning == "rejection" else ""
+        seal = sha(b"".join(map(item, [now_digest, self.lab.code, p.code, p.name, meaning, printed(self.now), why])))
+        one = Thing(person=p.code, name=p.name, meaning=meaning, reason=why, moment=self.now, digest=now_digest, seal=seal)
         v.signatures.append(one)
         self.accept(p)
         s.signed = True
         self.tell(p.code, "sign", f"{number}/{version}/{meaning}")
-        return [line("signed", *signature_words(one), state_of(r, v))]
+        state = state_of(r, v)
+        return told(line("signed", *signature_words(one), state), digest=now_digest, meaning=meaning, moment=printed(self.now),
+                    name=p.name, seal=seal, state=state)
 
     def do_read_record(self, p, s, number):
         r = self.record(number)
-        return [line("record", r.number, r.sample, *form_words(r.form))] + [
-            line(v.number, state_of(r, v), digest_of(self.lab, r, v)) for v in r.versions]
+        versions = [{"digest": digest_of(self.lab, r, v), "state": state_of(r, v), "version": v.number} for v in r.versions]
+        return told(line("record", r.number, r.sample), current=r.versions[-1].number, versions=versions, **about(r))
 
     def do_read_version(self, p, s, number, version):
         r = self.record(number)
@@ -594,20 +640,26 @@ class Machine:
             raise Refused(45)
         v = r.versions[version - 1]
         values = values_of(r, version)
-        head = line("version of", r.number, r.sample, *form_words(r.form))
-        told = line(state_of(r, v), digest_of(self.lab, r, v))
-        keys = line("altered", *altered(r, version))
-        shown = [line("value", *row_words(values[f["key"]])) for f in r.form.fields if f["key"] in values]
-        return [head, *version_lines(r, v), told, keys, *shown]
+        return told(
+            line("version of", r.number, version), approval=r.form.approval, digest=digest_of(self.lab, r, v), format=2,
+            moment=printed(v.opened), opener=v.opener, reason=v.reason or "", state=state_of(r, v), version=v.number,
+            altered=altered(r, version), rows=[row_members(one) for one in v.rows],
+            signatures=[signature_members(one) for one in v.signatures],
+            values=[{"key": f["key"], "unit": values[f["key"]].unit, "value": values[f["key"]].value}
+                    for f in r.form.fields if f["key"] in values], **about(r))
 
     def do_records(self, p, s, low, high):
-        return ["records|"] + [
-            line(r.number, r.form.code, r.sample, r.versions[-1].number, state_of(r, r.versions[-1]))
-            for r in self.lab.records if low <= r.number <= high]
+        return told("records|", records=[
+            {"current": r.versions[-1].number, "form": r.form.code, "record": r.number, "sample": r.sample,
+             "state": state_of(r, r.versions[-1])} for r in self.lab.records if low <= r.number <= high])
 
     def do_trail(self, p, s, low, high):
-        return ["trail|"] + [trail_line(t) for t in self.lab.trail if low <= t.number <= high]
+        return told("trail|", trail=[
+            {"action": t.action, "moment": printed(t.moment), "number": t.number, "person": t.person or "", "subject": str(t.subject)}
+            for t in self.lab.trail if low <= t.number <= high])
 
 
-def refusal_line(refused):
-    return line("refused", refused.number, WORDS[refused.number], refused.tells)
+def refusal(refused):
+    further = {FURTHER[refused.number]: refused.tells} if refused.number in FURTHER else {}
+    return told(line("refused", refused.number, WORDS[refused.number], refused.tells), number=refused.number,
+                error=WORDS[refused.number], **further)

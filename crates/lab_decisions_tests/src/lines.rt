@@ -35,7 +35,7 @@ pub(crate) fn answered(
 ) -> Result<String, OutOfMemory> {
     let mut text = String::new(alloc);
     push_line(&mut text, "> ", line)?;
-    text.push_str(reply)?;
+    push_line(&mut text, "", reply)?;
     push_news(&mut text, before, after)?;
     Ok(text)
 }

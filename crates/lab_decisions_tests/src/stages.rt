@@ -5,9 +5,10 @@ use lab_asked::{Halt, Words, instruction, number, tick};
 use lab_decisions::{Outcome, decide};
 use lab_kept::{Change, Counts, Lab, Slice};
 use lab_lists::{change, part};
-use lab_machine::{Instruction, needs};
+use lab_machine::{Instruction, Reply, needs};
 use lab_names::{Moment, OutOfMemory, Tick};
-use lab_told::{lab_text, reply_text};
+use lab_replies::reply_body;
+use lab_told::lab_text;
 use std::alloc::Global;
 
 /// A laboratory on which days are played.
@@ -234,11 +235,12 @@ fn acted(
     asked: Instruction,
 ) -> Result<Played, OutOfMemory> {
     let outcome = decided(alloc, &stage.lab, stage.counts, tick, asked)?;
-    let reply = reply_text(alloc, &outcome.reply);
+    let is_told = !stage.is_quiet || is_refused(&outcome.reply);
+    let reply = reply_body(alloc, &outcome.reply);
     let lab = changed(alloc, &stage.lab, outcome.changes.as_slice());
     drop(outcome);
     let (reply, lab) = both(reply, lab)?;
-    let texts = act_texts(alloc, stage, line, reply, &lab);
+    let texts = act_texts(alloc, stage, line, reply.as_str(), is_told, &lab);
     with_texts(lab, texts)
 }
 
@@ -300,22 +302,21 @@ fn act_texts(
     alloc: Global,
     stage: &Stage,
     line: &str,
-    reply: String,
+    reply: &str,
+    is_told: bool,
     lab: &Lab,
 ) -> Result<(String, String), OutOfMemory> {
     let told = told_unless_quiet(alloc, stage.is_quiet, lab)?;
-    let text = if stage.is_quiet && !reply.starts_with("refused") {
-        String::new(alloc)
+    let text = if is_told {
+        answered(alloc, line, reply, stage.told.as_str(), told.as_str())?
     } else {
-        answered(
-            alloc,
-            line,
-            reply.as_str(),
-            stage.told.as_str(),
-            told.as_str(),
-        )?
+        String::new(alloc)
     };
     Ok((told, text))
+}
+
+fn is_refused(reply: &Reply) -> bool {
+    matches!(reply, Reply::Refused(_))
 }
 
 fn told_unless_quiet(alloc: Global, is_quiet: bool, lab: &Lab) -> Result<String, OutOfMemory> {
