@@ -1,6 +1,7 @@
 //! What commands come to that make something of forms and records.
-ghost use Rattle.std.specs.Prelude.{◌≡◌, Ok, IfOk, if◌then◌else◌};
+ghost use Rattle.std.specs.Prelude.{◌≡◌, ◌∷◌, [], Ok, IfOk, if◌then◌else◌};
 ghost use Rattle.lab_access.specs.Attempts.{signing_attempt};
+ghost use Rattle.lab_access.specs.Sessions.{signed_session};
 ghost use Rattle.lab_rules.specs.Making.{making, opening_record};
 ghost use Rattle.lab_rules.specs.Entering.{entering, amending};
 ghost use Rattle.lab_rules.specs.Signing.{is_code_wanted};
@@ -10,7 +11,7 @@ use crate::done::Done;
 use crate::lists::{single, triple};
 use lab_access::{Person, Session, attempt_signing};
 use lab_forms::Form;
-use lab_kept::{Change, Deed, FormVersion, Occasion, Record, Slice};
+use lab_kept::{Change, Deed, FormVersion, Meaning, Occasion, Record, Signature, Slice};
 use lab_machine::Reply;
 use lab_names::{Key, Moment, Name, Note, Ordinal, OutOfMemory, PersonCode};
 use lab_rules::{
@@ -287,6 +288,30 @@ fn signing_done(
     }
 }
 
+// What is told of a signature, and the session that has signed.
+#[derive(Drop)]
+struct Copies {
+    signature: Signature,
+    meaning: Meaning,
+    session: Session,
+}
+
+fn copies_of(session: &Session, signature: &Signature) -> Result<Copies, OutOfMemory>
+    ensures signature { IfOk result (λ copies. copies.signature ≡ signature.now) }
+    ensures meaning { IfOk result (λ copies. copies.meaning ≡ signature.now.meaning) }
+    ensures session { IfOk result (λ copies. copies.session ≡ signed_session session.now) }
+{
+    let meaning = signature.meaning.copy()?;
+    let mut signed = session.copy()?;
+    signed.mark_signed();
+    let signature = signature.copy()?;
+    Ok(Copies {
+        signature,
+        meaning,
+        session: signed,
+    })
+}
+
 // A signature that was given: the session is marked as one that has signed.
 fn signature_done(
     alloc: Global,
@@ -296,29 +321,47 @@ fn signature_done(
 ) -> Result<Done, OutOfMemory>
     ensures { IfOk result (λ done. done ≡ signature_done session.now person made) }
 {
-    let number = made.number;
-    let version = made.version;
-    let state = made.state;
-    let signature = made.signature.copy()?;
-    let meaning = made.signature.meaning.copy()?;
-    let mut signed = session.copy()?;
-    signed.mark_signed();
+    match copies_of(session, &made.signature) {
+        Ok(copies) => signed_done(alloc, person, made, copies),
+        Err(fault) => {
+            drop(person);
+            drop(made);
+            Err(fault)
+        }
+    }
+}
+
+fn signed_done(
+    alloc: Global,
+    person: Person,
+    made: SignatureMade,
+    copies: Copies,
+) -> Result<Done, OutOfMemory>
+    ensures { IfOk result (λ done. done ≡ Done.Made
+        (Reply.Signed copies.signature made.state)
+        (Deed.Sign made.number made.version copies.meaning)
+        (Change.PersonSet person ∷ Change.SessionSet copies.session
+        ∷ Change.SignatureAdded made.number made.version made.signature ∷ [])) }
+{
     let changes = triple(
         alloc,
         Change::PersonSet(person),
-        Change::SessionSet(signed),
+        Change::SessionSet(copies.session),
         Change::SignatureAdded {
-            record: number,
-            version,
+            record: made.number,
+            version: made.version,
             signature: made.signature,
         },
     )?;
     Ok(Done::Made(
-        Reply::Signed { signature, state },
+        Reply::Signed {
+            signature: copies.signature,
+            state: made.state,
+        },
         Deed::Sign {
-            record: number,
-            version,
-            meaning,
+            record: made.number,
+            version: made.version,
+            meaning: copies.meaning,
         },
         changes,
     ))
