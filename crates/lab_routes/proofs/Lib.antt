@@ -1,0 +1,4 @@
+pub mod NumberLemmas
+pub mod Parts
+pub mod PathLemmas
+pub mod QueryLemmas
