@@ -1,0 +1,4 @@
+pub mod HeadLaws
+pub mod HeadLemmas
+pub mod LineLemmas
+pub mod ReadLemmas
