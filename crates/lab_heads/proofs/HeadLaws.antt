@@ -15,8 +15,8 @@ use Rattle.httparse.specs.Grammar.{is_token_byte, is_token, is_uri_byte, is_valu
 use Rattle.httparse.specs.Pieces.{is_newline, Stops}
 use Rattle.httparse.proofs.PieceLemmas.{space_ends_token, newline_not_stopped}
 use Rattle.httparse.proofs.GrammarLemmas.{print_request-append}
-use Rattle.lab_heads.specs.Heads.{without_front, is_line_feed, but_last, is_empty_line, head_lines, has_end, words, is_target, is_version, field_name, is_field_line, field_of, head_length, Head, is_head, head_of_words, head_of_lines, head_of}
-use Rattle.lab_heads.specs.HeadGrammar.{field_shown, head_shown, HasHead, IsReadAs, GrammarOfHeads}
+use Rattle.lab_heads.specs.Heads.{without_front, is_line_feed, but_last, is_empty_line, head_lines, has_end, words, is_target, is_version, is_field_line, field_of, head_length, Head, is_head, head_of_words, head_of_lines, head_of}
+use Rattle.lab_heads.specs.HeadGrammar.{field_shown, HasHead, IsReadAs, GrammarOfHeads}
 use Rattle.lab_heads.proofs.LineLemmas.{full_line}
 use Rattle.lab_heads.proofs.HeadLemmas.{IsPlain, plain_run, plain_token, return_of, end_split, ended_line, stripped, stripped_back, two_bytes, line_of, ended_line_of, plain_field, next_field, section_lines, avoids, name_of_line, value_of_line, end_length, is_token_from, token_from, is_field_line_of, field_from_line}
 

@@ -2,3 +2,4 @@ pub mod HeadLaws
 pub mod HeadLemmas
 pub mod LineLemmas
 pub mod ReadLemmas
+pub mod RequestLemmas

@@ -1,7 +1,7 @@
 -- The head of a request as lines and words that compute: where it ends, how long it may be, and
 -- what its request line and field lines are (RFC 9112, sections 2.1, 2.2, 3 and 5; RFC 9110,
 -- sections 5.1 and 7.2). The classes of bytes are those of the kit's `httparse`.
-use Rattle.std.specs.Prelude.{ℕ, suc, ◌+◌, Bool, true, false, ◌&&◌, ◌||◌, not, List, [], ◌∷◌, length, take, if◌then◌else◌, ◌==◌, nat_lt, nat_le, map, count_by, take_while, All, ◌≡◌, Option, Some, None, Result, Ok, Err, codes}
+use Rattle.std.specs.Prelude.{ℕ, suc, ◌+◌, Bool, true, false, ◌&&◌, ◌||◌, not, List, [], ◌∷◌, length, take, if◌then◌else◌, ◌==◌, nat_lt, nat_le, map, count_by, take_while, All, Option, Some, None, Result, Ok, Err, codes}
 use Rattle.std.specs.List.{list_all, list_any, slice_split, before_first, after_first}
 use Rattle.std.specs.Str.{is_utf8, bytes_eq, str_eq_ignore_ascii_case}
 use Rattle.std.specs.Str.Lines.{strip_carriage_return}

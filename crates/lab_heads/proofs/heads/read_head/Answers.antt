@@ -1,7 +1,6 @@
 use Rattle.std.proofs.Common.{◌≡◌, List, ℕ, ◌+◌, length, true, false, sym, ap, ◌∙◌, Ok}
 use Rattle.httparse.specs.Grammar.{print_version}
 use Rattle.lab_heads.specs.Heads.{head_end, head_length}
-use Rattle.lab_heads.specs.HeadGrammar.{head_shown}
 use Rattle.lab_heads.proofs.HeadLaws.{reads_head}
 use Rattle.lab_heads.proofs.ReadLemmas.{from_text, front_text, too_long, bad_head, fields_of_spans, hosts_of_fields, checked_answer}
 use Rattle.lab_heads.proofs.heads.read_head.Goals as goal
