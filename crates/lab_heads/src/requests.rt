@@ -12,7 +12,7 @@ use crate::tokens::token_in;
 use lab_secrets::Token;
 
 /// What is looked at of a request, where its bytes stand.
-#[derive(Drop)]
+#[derive(Clone, Copy)]
 pub struct RequestParts<'b> {
     /// The method, as written.
     pub method: &'b [u8],

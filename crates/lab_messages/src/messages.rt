@@ -45,3 +45,58 @@ fn date_line(alloc: Global, moment: Option<Moment>) -> Result<String, OutOfMemor
     let date = http_date(moment);
     Ok(format!(in alloc; "Date: {date}\r\n")?)
 }
+
+#[cfg(test)]
+mod tests {
+    use super::*;
+    use crate::tests::assert_bytes;
+    use std::process::Abort;
+
+    // The moment of so many seconds.
+    fn at(rt: &impl Abort, seconds: i64) -> Option<Moment> {
+        Some(Moment::from_seconds(seconds).expect(rt, "a moment"))
+    }
+
+    #[test]
+    fn a_message_has_its_lines_in_their_order(rt: HostRuntime) {
+        let status = StatusCode::UNAUTHORIZED;
+        let further = "WWW-Authenticate: LabSession\r\n";
+        let reply = message(
+            rt.alloc(),
+            status,
+            at(&rt, 100),
+            "application/json",
+            further,
+            "{}",
+        );
+        let text: &[u8] = b"HTTP/1.1 401 Unauthorized\r\nDate: Thu, 01 Jan 1970 00:01:40 GMT\r\n\
+            Content-Type: application/json\r\nContent-Length: 2\r\nConnection: close\r\n\
+            WWW-Authenticate: LabSession\r\n\r\n{}";
+        assert_bytes(&rt, &reply.expect(&rt, "memory"), text);
+    }
+
+    #[test]
+    fn a_length_is_counted_in_bytes(rt: HostRuntime) {
+        let reply = message(
+            rt.alloc(),
+            StatusCode::OK,
+            at(&rt, 0),
+            "text/csv",
+            "",
+            "a,\u{e9},\u{20ac}\r\n",
+        );
+        let text: &[u8] = b"HTTP/1.1 200 OK\r\nDate: Thu, 01 Jan 1970 00:00:00 GMT\r\n\
+            Content-Type: text/csv\r\nContent-Length: 10\r\nConnection: close\r\n\r\n\
+            a,\xc3\xa9,\xe2\x82\xac\r\n";
+        assert_bytes(&rt, &reply.expect(&rt, "memory"), text);
+    }
+
+    #[test]
+    fn a_message_without_moment_has_no_date(rt: HostRuntime) {
+        let status = StatusCode::SERVICE_UNAVAILABLE;
+        let reply = message(rt.alloc(), status, None, "application/json", "", "");
+        let text: &[u8] = b"HTTP/1.1 503 Service Unavailable\r\nContent-Type: application/json\r\n\
+            Content-Length: 0\r\nConnection: close\r\n\r\n";
+        assert_bytes(&rt, &reply.expect(&rt, "memory"), text);
+    }
+}
