@@ -1,4 +1,6 @@
+pub mod CommandLemmas
 pub mod NumberLemmas
 pub mod Parts
 pub mod PathLemmas
 pub mod QueryLemmas
+pub mod TableLemmas

@@ -9,7 +9,7 @@ mod queries;
 mod refusals;
 mod routes;
 
-pub use commands::command_at;
+pub use commands::{Asked, command_of};
 pub use queries::{Range, range_in};
 pub use refusals::{Allowed, RouteFault, RouteRefusal};
 pub use routes::{Destination, Route, Row, destination_of};
