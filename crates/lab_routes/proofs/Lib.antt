@@ -1,4 +1,5 @@
 pub mod CommandLemmas
+pub mod KnownValues
 pub mod NumberLemmas
 pub mod Parts
 pub mod PathLemmas

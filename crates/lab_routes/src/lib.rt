@@ -10,6 +10,5 @@ mod refusals;
 mod routes;
 
 pub use commands::{Asked, command_of};
-pub use queries::{Range, range_in};
 pub use refusals::{Allowed, RouteFault, RouteRefusal};
-pub use routes::{Destination, Route, Row, destination_of};
+pub use routes::{Destination, Route, destination_of};
