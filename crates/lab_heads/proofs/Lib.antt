@@ -1,0 +1,5 @@
+pub mod HeadLaws
+pub mod HeadLemmas
+pub mod LineLemmas
+pub mod ReadLemmas
+pub mod RequestLemmas

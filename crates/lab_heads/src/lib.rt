@@ -1,0 +1,19 @@
+//! Requests of HTTP/1.1 (RFC 9110 and RFC 9112) from their bytes: the head and its limits, the fields that are looked at,
+//! the token, and the body.
+#![tactic(auto)]
+
+mod fields;
+mod head_grammar;
+mod heads;
+mod interims;
+mod lengths;
+mod refusals;
+mod requests;
+#[cfg(test)]
+mod tests;
+mod tokens;
+
+pub use head_grammar::grammar_of_heads;
+pub use heads::{RequestHead, read_head};
+pub use refusals::{HeadFault, HeadRefusal};
+pub use requests::{RequestParts, request_parts};

@@ -1,0 +1,3 @@
+pub mod DateLemmas
+pub mod KnownValues
+pub mod MessageLemmas
