@@ -3,6 +3,8 @@
 #![tactic(auto)]
 
 #[cfg(test)]
+mod keeper_tests;
+#[cfg(test)]
 mod sameness;
 #[cfg(test)]
 mod tests;

@@ -12,34 +12,34 @@ use lab_names::{Rule, Text};
 use std::fmt::Debug;
 use std::process::Abort;
 
-fn same<T: PartialEq + Debug>(rt: &impl Abort, found: &T, expected: &T) {
+pub fn same<T: PartialEq + Debug>(rt: &impl Abort, found: &T, expected: &T) {
     assert_eq!(rt; found, expected);
 }
 
 // A code, key, name, note or unit.
-fn text<R: Rule>(rt: &(impl Abort + AllocGlobal), text: &str) -> Text<R> {
+pub fn text<R: Rule>(rt: &(impl Abort + AllocGlobal), text: &str) -> Text<R> {
     Text::parse(rt.alloc(), text).expect(rt, "a text that its rule admits")
 }
 
-fn moment(rt: &impl Abort, seconds: i64) -> Moment {
+pub fn moment(rt: &impl Abort, seconds: i64) -> Moment {
     Moment::from_seconds(seconds).expect(rt, "a moment")
 }
 
-fn ordinal(rt: &impl Abort, number: u32) -> Ordinal {
+pub fn ordinal(rt: &impl Abort, number: u32) -> Ordinal {
     Ordinal::new(number).expect(rt, "a number")
 }
 
-fn pushed<T: Drop>(rt: &impl Abort, series: &mut Series<T>, value: T) {
+pub fn pushed<T: Drop>(rt: &impl Abort, series: &mut Series<T>, value: T) {
     series.push(value).expect(rt, "memory");
 }
 
-fn alone<T: Drop>(rt: &(impl Abort + AllocGlobal), value: T) -> Series<T> {
+pub fn alone<T: Drop>(rt: &(impl Abort + AllocGlobal), value: T) -> Series<T> {
     let mut series = Series::new(rt.alloc());
     pushed(rt, &mut series, value);
     series
 }
 
-fn person(rt: &(impl Abort + AllocGlobal), code: &str) -> Person {
+pub fn person(rt: &(impl Abort + AllocGlobal), code: &str) -> Person {
     Person {
         roles: Roles::none(),
         retired: false,
@@ -52,7 +52,7 @@ fn person(rt: &(impl Abort + AllocGlobal), code: &str) -> Person {
     }
 }
 
-fn session(rt: &(impl Abort + AllocGlobal), number: u32, code: &str) -> Session {
+pub fn session(rt: &(impl Abort + AllocGlobal), number: u32, code: &str) -> Session {
     Session {
         number: ordinal(rt, number),
         token: Digest::from_bytes([9; 32]),
@@ -86,7 +86,7 @@ fn form(rt: &(impl Abort + AllocGlobal)) -> Form {
     Form::make(fields, false).expect(rt, "a form")
 }
 
-fn water(rt: &(impl Abort + AllocGlobal)) -> FormVersion {
+pub fn water(rt: &(impl Abort + AllocGlobal)) -> FormVersion {
     FormVersion {
         version: Ordinal::FIRST,
         code: text(rt, "water"),
@@ -94,7 +94,7 @@ fn water(rt: &(impl Abort + AllocGlobal)) -> FormVersion {
     }
 }
 
-fn row(rt: &(impl Abort + AllocGlobal), value: &str, seconds: i64) -> EntryRow {
+pub fn row(rt: &(impl Abort + AllocGlobal), value: &str, seconds: i64) -> EntryRow {
     EntryRow {
         moment: moment(rt, seconds),
         reason: None,
@@ -109,7 +109,7 @@ fn rows(rt: &(impl Abort + AllocGlobal)) -> EntryRows {
     EntryRows::new(alone(rt, row(rt, "7.50", 1100)).into_vec())
 }
 
-fn version(rt: &(impl Abort + AllocGlobal)) -> Version {
+pub fn version(rt: &(impl Abort + AllocGlobal)) -> Version {
     Version {
         format: Format::Two { approval: false },
         opened: moment(rt, 1000),
@@ -120,7 +120,7 @@ fn version(rt: &(impl Abort + AllocGlobal)) -> Version {
     }
 }
 
-fn record(rt: &(impl Abort + AllocGlobal)) -> Record {
+pub fn record(rt: &(impl Abort + AllocGlobal)) -> Record {
     Record {
         number: Ordinal::FIRST,
         sample: text(rt, "S1"),
@@ -129,7 +129,7 @@ fn record(rt: &(impl Abort + AllocGlobal)) -> Record {
     }
 }
 
-fn trail_row(rt: &(impl Abort + AllocGlobal), number: u32) -> TrailRow {
+pub fn trail_row(rt: &(impl Abort + AllocGlobal), number: u32) -> TrailRow {
     let subject = String::from_str(rt.alloc(), "aqua").expect(rt, "memory");
     TrailRow {
         number: ordinal(rt, number),
@@ -160,13 +160,13 @@ enum Case {
     TrailAdded,
 }
 
-fn pair<T: Drop>(rt: &(impl Abort + AllocGlobal), one: T, other: T) -> Series<T> {
+pub fn pair<T: Drop>(rt: &(impl Abort + AllocGlobal), one: T, other: T) -> Series<T> {
     let mut series = alone(rt, one);
     pushed(rt, &mut series, other);
     series
 }
 
-fn retired(rt: &(impl Abort + AllocGlobal)) -> Person {
+pub fn retired(rt: &(impl Abort + AllocGlobal)) -> Person {
     let mut dan = person(rt, "dan");
     dan.retired = true;
     dan
@@ -181,7 +181,7 @@ fn persons(rt: &(impl Abort + AllocGlobal), case: Case) -> Series<Person> {
     }
 }
 
-fn signed(rt: &(impl Abort + AllocGlobal)) -> Session {
+pub fn signed(rt: &(impl Abort + AllocGlobal)) -> Session {
     let mut one = session(rt, 1, "dan");
     one.signed = true;
     one
@@ -209,14 +209,14 @@ fn forms(rt: &(impl Abort + AllocGlobal), case: Case) -> Series<FormVersion> {
     }
 }
 
-fn with_two_rows(rt: &(impl Abort + AllocGlobal)) -> Version {
+pub fn with_two_rows(rt: &(impl Abort + AllocGlobal)) -> Version {
     let rows = pair(rt, row(rt, "7.50", 1100), row(rt, "7.5", 1200));
     let mut one = version(rt);
     one.rows = EntryRows::new(rows.into_vec());
     one
 }
 
-fn signature(rt: &(impl Abort + AllocGlobal)) -> Signature {
+pub fn signature(rt: &(impl Abort + AllocGlobal)) -> Signature {
     Signature::sealed(SealParts {
         version: Digest::from_bytes([7; 32]),
         meaning: Meaning::Authorship,
@@ -279,27 +279,27 @@ fn aqua(rt: &(impl Abort + AllocGlobal), case: Case) -> Lab {
     }
 }
 
-fn closing(rt: &(impl Abort + AllocGlobal), closing: Closing) -> Change {
+pub fn closing(rt: &(impl Abort + AllocGlobal), closing: Closing) -> Change {
     let person = text(rt, "dan");
     Change::SessionsClosed { person, closing }
 }
 
 // A row in the record of a number.
-fn entered(rt: &(impl Abort + AllocGlobal), number: u32) -> Change {
+pub fn entered(rt: &(impl Abort + AllocGlobal), number: u32) -> Change {
     Change::RowAdded {
         record: ordinal(rt, number),
         row: row(rt, "7.5", 1200),
     }
 }
 
-fn opened(rt: &(impl Abort + AllocGlobal)) -> Change {
+pub fn opened(rt: &(impl Abort + AllocGlobal)) -> Change {
     Change::VersionOpened {
         record: Ordinal::FIRST,
         version: version(rt),
     }
 }
 
-fn signing(rt: &(impl Abort + AllocGlobal)) -> Change {
+pub fn signing(rt: &(impl Abort + AllocGlobal)) -> Change {
     Change::SignatureAdded {
         record: Ordinal::FIRST,
         version: Ordinal::FIRST,
@@ -390,17 +390,41 @@ fn a_record_is_changed(rt: HostRuntime) {
 // The digest of record 1, version 1, of aqua.
 const DIGITS: &str = "79610b0b80020b06ccc32eb56d5e2930ad6cea239d32569de11013459ebf2b0c";
 
-#[test]
-fn a_version_has_the_digest_of_its_text(rt: HostRuntime) {
-    let (lab, kept) = (text(&rt, "aqua"), record(&rt));
-    let version = kept.current().expect(&rt, "a version");
+// The record's version as it is now has the digest, in the laboratory aqua.
+fn has_digest(rt: &(impl Abort + AllocGlobal), kept: &Record, digits: &str) {
+    let lab = text(rt, "aqua");
+    let version = kept.current().expect(rt, "a version");
     let digest = kept
         .digest_of(rt.alloc(), &lab, version)
-        .expect(&rt, "memory");
-    assert!(rt; digest.digits().as_slice() == DIGITS.as_bytes());
-    same(&rt, &kept.state_of(version), &Some(State::Open));
-    assert!(rt; version.has_entered(&text(&rt, "dan")));
-    assert!(rt; !version.has_entered(&text(&rt, "eve")));
+        .expect(rt, "memory");
+    drop(lab);
+    assert!(rt; digest.digits().as_slice() == digits.as_bytes());
+}
+
+fn is_open(rt: &impl Abort, kept: &Record) {
+    let version = kept.current().expect(rt, "a version");
+    same(rt, &kept.state_of(version), &Some(State::Open));
+}
+
+fn has_entered(rt: &(impl Abort + AllocGlobal), kept: &Record, code: &str) -> bool {
+    let person = text(rt, code);
+    let version = kept.current().expect(rt, "a version");
+    let entered = version.has_entered(&person);
+    drop(person);
+    entered
+}
+
+#[test]
+fn a_version_has_the_digest_of_its_text(rt: HostRuntime) {
+    let kept = record(&rt);
+    has_digest(&rt, &kept, DIGITS);
+    is_open(&rt, &kept);
+    let (dan, eve) = (
+        has_entered(&rt, &kept, "dan"),
+        has_entered(&rt, &kept, "eve"),
+    );
+    drop(kept);
+    assert!(rt; dan && !eve);
 }
 
 fn entered_twice(rt: &(impl Abort + AllocGlobal)) -> Record {
@@ -411,14 +435,29 @@ fn entered_twice(rt: &(impl Abort + AllocGlobal)) -> Record {
     kept
 }
 
-// The record's one value at the version is the row.
-fn value_at(rt: &(impl Abort + AllocGlobal), kept: &Record, version: u32, expected: &EntryRow) {
+// The record's one value at the version is the row of this value and moment.
+fn value_at(
+    rt: &(impl Abort + AllocGlobal),
+    kept: &Record,
+    version: u32,
+    value: &str,
+    seconds: i64,
+) {
     let values = kept
         .values_at(rt.alloc(), ordinal(rt, version))
         .expect(rt, "memory");
-    assert!(rt; values.as_slice().len() == 1);
-    let value = values.as_slice().first().expect(rt, "a value");
-    assert!(rt; is_row(value, expected));
+    let expected = row(rt, value, seconds);
+    let is_only = is_only_row(values.as_slice(), &expected);
+    drop(values);
+    drop(expected);
+    assert!(rt; is_only);
+}
+
+fn is_only_row(rows: &[EntryRow], expected: &EntryRow) -> bool {
+    match rows {
+        [one] => is_row(one, expected),
+        _ => false,
+    }
 }
 
 // The version altered the key alone.
@@ -426,25 +465,36 @@ fn altered_lead(rt: &(impl Abort + AllocGlobal), kept: &Record, version: u32) {
     let keys = kept
         .altered_at(rt.alloc(), ordinal(rt, version))
         .expect(rt, "memory");
-    let lead: Key = text(rt, "lead");
-    assert!(rt; keys.as_slice().len() == 1);
-    assert!(rt; keys.as_slice().first() == Some(&lead));
+    let is_only = is_only_key(keys.as_slice(), "lead");
+    drop(keys);
+    assert!(rt; is_only);
+}
+
+fn is_only_key(keys: &[Key], expected: &str) -> bool {
+    match keys {
+        [one] => one.as_str() == expected,
+        _ => false,
+    }
 }
 
 // The last row of a key is its value, and `7.50` is another value than `7.5`.
 #[test]
 fn values_are_the_last_rows(rt: HostRuntime) {
     let kept = entered_twice(&rt);
-    value_at(&rt, &kept, 1, &row(&rt, "7.50", 1100));
-    value_at(&rt, &kept, 2, &row(&rt, "7.5", 1200));
+    value_at(&rt, &kept, 1, "7.50", 1100);
+    value_at(&rt, &kept, 2, "7.5", 1200);
     altered_lead(&rt, &kept, 1);
     altered_lead(&rt, &kept, 2);
+    drop(kept);
 }
 
 fn is_written(rt: &(impl Abort + AllocGlobal), deed: Deed, action: &str, subject: &str) {
-    assert!(rt; deed.action().word() == action);
+    let has_action = deed.action().word() == action;
     let written = deed.subject(rt.alloc()).expect(rt, "memory");
-    assert!(rt; written.as_str() == subject);
+    let has_subject = written.as_str() == subject;
+    drop(deed);
+    drop(written);
+    assert!(rt; has_action && has_subject);
 }
 
 #[test]
@@ -483,7 +533,7 @@ fn deeds_are_written_down(rt: HostRuntime) {
 
 /// What is needed of aqua.
 #[derive(Clone, Copy, PartialEq, Eq)]
-enum Wanted {
+pub enum Wanted {
     Nothing,
     Session,
     OtherSession,
@@ -550,7 +600,7 @@ fn list_wanted(rt: &impl Abort, wanted: Wanted) -> Option<ListWanted> {
     }
 }
 
-fn need(rt: &(impl Abort + AllocGlobal), wanted: Wanted) -> Need {
+pub fn need(rt: &(impl Abort + AllocGlobal), wanted: Wanted) -> Need {
     Need {
         token: token(wanted),
         list: list_wanted(rt, wanted),
@@ -560,11 +610,11 @@ fn need(rt: &(impl Abort + AllocGlobal), wanted: Wanted) -> Need {
     }
 }
 
-fn some_if<T: Drop>(there: bool, value: T) -> Option<T> {
+pub fn some_if<T: Drop>(there: bool, value: T) -> Option<T> {
     if there { Some(value) } else { None }
 }
 
-fn all_if<T: Drop>(rt: &(impl Abort + AllocGlobal), there: bool, value: T) -> Series<T> {
+pub fn all_if<T: Drop>(rt: &(impl Abort + AllocGlobal), there: bool, value: T) -> Series<T> {
     if there {
         alone(rt, value)
     } else {
