@@ -1,6 +1,6 @@
 -- Paths, queries and requests as the documents of the interface write them, so that a wrong rule in the definitions does
 -- not check.
-use Rattle.std.proofs.Common.{◌≡◌, refl, ℕ, List, [], ◌∷◌, codes, Some, None, Ok, Err}
+use Rattle.std.proofs.Common.{◌≡◌, refl, [], ◌∷◌, codes, Some, None, Ok, Err}
 use Rattle.std.specs.Fmt.{digits}
 use Rattle.lab_names.specs.Names.{is_key, is_lab_code}
 use Rattle.lab_machine.specs.declared.commands.Command.TheVariants as command
@@ -10,10 +10,10 @@ use Rattle.lab_routes.specs.declared.refusals.RouteRefusal.TheVariants.{NoRoute,
 use Rattle.lab_routes.specs.declared.refusals.Allowed.TheVariants.{Get as GetAlone, Post as PostAlone, GetOrPost}
 use Rattle.lab_routes.specs.declared.routes.Route.TheVariants.{Card, Persons, Form, Record, Version, Records, Trail, Posted}
 use Rattle.lab_routes.specs.Numbers.{ordinal_in}
-use Rattle.lab_routes.specs.Paths.{path_of, query_of, behind, labs_prefix, segments, segment_at}
+use Rattle.lab_routes.specs.Paths.{path_of, query_of, behind, segments}
 use Rattle.lab_routes.specs.Queries.{range_in}
 use Rattle.lab_routes.specs.Routes.{admits, is_place, row_of, route_of, destination_of}
-use Rattle.lab_routes.specs.Commands.{command_at, destination_in, command_asked}
+use Rattle.lab_routes.specs.Commands.{command_at}
 
 -- a path ends before the first question mark
 pub known_paths : (path_of (codes "/where?q=now") ≡ codes "/where")

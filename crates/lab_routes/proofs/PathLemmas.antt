@@ -1,13 +1,13 @@
 -- The parts of a target and of a place.
-use Rattle.std.proofs.Common.{◌≡◌, refl, ℕ, zero, suc, ◌+◌, ◌-◌, ◌<◌, ◌≤◌, List, [], ◌∷◌, ◌++◌, sym, ap, ◌∙◌, take, drop, get_or, length, Option, Some, None, true, false, cond, Bool, Bor, arith, length-take, take-append-drop, take_all, drop-cons, add-one, nat_lt}
+use Rattle.std.proofs.Common.{◌≡◌, refl, ℕ, zero, suc, ◌-◌, ◌<◌, List, [], ◌∷◌, sym, ap, ◌∙◌, take, drop, get_or, length, Option, Some, None, true, false, Bool, Bor, arith, length-take, take-append-drop, take_all, drop-cons, add-one, nat_lt}
 use Rattle.std.specs.Prelude.{MatchOption, option_map, nat_eq, not}
 use Rattle.std.specs.Str.Pattern.{FindsTextPrefix, StripsPrefix}
-use Rattle.std.specs.List.{starts_with, position_or_len, before_first, after_first, slice_split}
+use Rattle.std.specs.List.{starts_with, position_or_len, after_first, slice_split}
 use Rattle.std.proofs.lemmas.Slice.Eq.{starts_is}
 use Rattle.std.proofs.lemmas.Bool.Decides.{Decides-eqb}
 use Rattle.std.proofs.lemmas.Str.Pattern.{starts_text}
-use Rattle.std.proofs.lemmas.List.Splits.{slice_split_first, slice_split_none, slice_split-cons_yes}
-use Rattle.std.proofs.lemmas.List.Sums.{fails_before_first, passes_at_first, prefix_len-le-length}
+use Rattle.std.proofs.lemmas.List.Splits.{slice_split_first, slice_split-cons_yes}
+use Rattle.std.proofs.lemmas.List.Sums.{passes_at_first, prefix_len-le-length}
 use Rattle.std.proofs.lemmas.Grind.{common_steps}
 use native.Mathlib.Numerals.{unary_clauses}
 use Rattle.lab_routes.proofs.Parts.{one_part}

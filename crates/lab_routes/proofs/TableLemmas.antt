@@ -1,5 +1,5 @@
 -- What the row of a request has admitted of its path.
-use Rattle.std.proofs.Common.{◌≡◌, ◌∙◌, ℕ, List, [], ◌∷◌, Bool, true, false, cond, Option, Some, None, Ok, Err, refl, ap, sym, subst, codes}
+use Rattle.std.proofs.Common.{◌≡◌, ℕ, List, [], ◌∷◌, Bool, true, false, cond, Option, Some, None, Ok, Err, refl, subst, codes}
 use Rattle.std.specs.Prelude.{◌&&◌, find, is_some, IsSome, IsTrue, ⊤, Result, slice_index_or}
 use Rattle.std.proofs.lemmas.Bool.{false≢true}
 use Rattle.lab_names.specs.Names.{is_key, is_lab_code}
@@ -7,9 +7,8 @@ use Rattle.lab_routes.specs.declared.refusals.RouteRefusal.{RouteRefusal}
 use Rattle.lab_routes.specs.declared.refusals.RouteRefusal.TheVariants.{NoRoute}
 use Rattle.lab_routes.specs.declared.refusals.Allowed.{Allowed}
 use Rattle.lab_routes.specs.declared.routes.Route.{Route}
-use Rattle.lab_routes.specs.declared.routes.Route.TheVariants.{Form, Record, Version}
 use Rattle.lab_routes.specs.Numbers.{ordinal_in}
-use Rattle.lab_routes.specs.Paths.{lab_in, place_in, segments, segment_at, behind, labs_prefix, path_of, query_of}
+use Rattle.lab_routes.specs.Paths.{lab_in, place_in, segments, behind, labs_prefix, path_of, query_of}
 use Rattle.lab_routes.specs.Routes.{Row, Destination, routes, all_admitted, admits, is_row, is_place, row_of, allowed, route_of, route_or_allowed, destination_at, destination_in, destination_of}
 use Rattle.lab_routes.specs.Commands.{Admitted}
 

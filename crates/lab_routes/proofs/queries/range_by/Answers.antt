@@ -1,4 +1,4 @@
-use Rattle.std.proofs.Common.{rules, sym, ap, ◌∙◌, lit<}
+use Rattle.std.proofs.Common.{rules, sym, lit<}
 use Rattle.lab_routes.proofs.Parts.{cut_at, not_cut}
 use Rattle.lab_routes.proofs.QueryLemmas.{one_other, too_many}
 use Rattle.lab_routes.proofs.queries.range_by.Goals as goal
