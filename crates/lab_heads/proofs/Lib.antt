@@ -1,5 +1,6 @@
 pub mod HeadLaws
 pub mod HeadLemmas
+pub mod KnownValues
 pub mod LineLemmas
 pub mod ReadLemmas
 pub mod RequestLemmas
