@@ -1,5 +1,5 @@
 -- Real heads, fields, lengths and tokens, so that a wrong rule in the definitions does not check.
-use Rattle.std.proofs.Common.{◌≡◌, refl, ℕ, List, [], ◌∷◌, ◌++◌, length, codes, Option, Some, None, Result, Ok, Err, true, false, encode_utf8_all}
+use Rattle.std.proofs.Common.{◌≡◌, refl, ℕ, List, [], ◌∷◌, ◌++◌, length, codes, Some, None, Ok, Err, true, false, encode_utf8_all}
 use Rattle.std.specs.Str.{is_utf8, all_scalars}
 use Rattle.std.proofs.lemmas.Str.{is_utf8-from_IsUtf8}
 use Rattle.httparse.specs.Ascii.{crlf_bytes}
