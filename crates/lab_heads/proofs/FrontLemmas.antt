@@ -1,11 +1,11 @@
 -- What stands behind a head says nothing of it.
-use Rattle.std.proofs.Common.{◌≡◌, ℕ, suc, ◌+◌, ◌-◌, ◌<◌, ◌≤◌, Bool, true, false, List, [], ◌∷◌, ◌++◌, length, take, drop, map, refl, sym, ap, subst, ◌∙◌, arith, append_assoc, length-append, Option, Some, None, Result, Ok, Err}
+use Rattle.std.proofs.Common.{min, ◌≡◌, ℕ, suc, ◌+◌, ◌-◌, ◌<◌, ◌≤◌, Bool, true, false, List, [], ◌∷◌, ◌++◌, length, take, drop, map, refl, sym, ap, subst, ◌∙◌, arith, append_assoc, length-append, take_all, ⊎_elim, Option, Some, None, Result, Ok, Err}
 use Rattle.std.specs.Prelude.{◌&&◌, ◌||◌, All, not, nat_le, nat_lt, if◌then◌else◌}
 use Rattle.std.specs.List.{list_any}
 use Rattle.std.specs.Str.Lines.{strip_carriage_return}
 use Rattle.std.proofs.lemmas.List.{append-nil}
 use Rattle.std.proofs.Math.Seq.{take-append-add}
-use Rattle.std.proofs.lemmas.Bool.{eqb-true}
+use Rattle.std.proofs.lemmas.Bool.{eqb-true, cases_lt, le-leb}
 use Rattle.std.proofs.lemmas.List.{take-append-drop, length-take}
 use Rattle.std.proofs.lemmas.List.Elements.{All-append, All-cons, All-nil}
 use Rattle.std.proofs.lemmas.List.Splits.{slice_split_none}
@@ -227,6 +227,33 @@ by_front bytes ends =
           ∙ (λ i. answer_of (nat_lt (1 + field_limit) (length (head.lines i))) (count i + head.size i) (head_of_same (ended.front ++ left) text head ends i))
           ∙ sym (good_by bytes text refl ends);
     }
+
+-- what is read of a head stands within the limit
+near_limit : (count : ℕ) → nat_le head_limit (min head_limit count) ≡ nat_le head_limit count
+near_limit count =
+    ⊎_elim
+    (λ (below : count < head_limit). let same : min head_limit count ≡ count = omega arith in ap (nat_le head_limit) same)
+    (λ (reached : head_limit ≤ count).
+    le-leb head_limit (min head_limit count) (omega arith) ∙ sym (le-leb head_limit count reached))
+    (cases_lt count head_limit)
+
+over_near : (bytes text : List ℕ)
+    → is_over_limits (length (take head_limit bytes)) text ≡ is_over_limits (length bytes) text
+unfolding is_over_limits
+over_near bytes text =
+    ap (λ b. (b && not (has_end text)) || nat_lt (1 + field_limit) (length (head_lines text)))
+    (ap (nat_le head_limit) (length-take head_limit bytes) ∙ near_limit (length bytes))
+
+near_twice : (bytes : List ℕ) → take head_limit (take head_limit bytes) ≡ take head_limit bytes
+near_twice bytes = take_all head_limit (take head_limit bytes) (omega (arith, length-take head_limit bytes))
+
+pub by_near : (bytes : List ℕ) → good_head (take head_limit bytes) ≡ good_head bytes
+unfolding good_head
+by_near bytes =
+    (λ i. answer_of (is_over_limits (length (take head_limit bytes)) (without_front (near_twice bytes i)))
+    (front_length (near_twice bytes i) + head_length (without_front (near_twice bytes i)))
+    (head_of (without_front (near_twice bytes i))))
+    ∙ ap (λ b. answer_of b (head_end bytes) (head_of (head_text bytes))) (over_near bytes (head_text bytes))
 
 -- ---- a good head
 

@@ -1,16 +1,17 @@
 -- A request is by its own bytes: what stands behind them says nothing of it.
-use Rattle.std.proofs.Common.{◌≡◌, ℕ, ◌+◌, ◌-◌, ◌≤◌, Bool, true, false, List, ◌++◌, length, take, drop, refl, sym, ap, ◌∙◌, arith, append_assoc, length-append, take_all, Option, Some, None, Result, Ok, Err}
+use Rattle.std.proofs.Common.{◌≡◌, ℕ, ◌+◌, ◌-◌, ◌≤◌, Bool, true, false, List, [], min, ◌++◌, length, take, drop, refl, sym, ap, ◌∙◌, arith, append_assoc, length-append, take_all, Option, Some, None, Result, Ok, Err}
 use Rattle.std.specs.Prelude.{nat_le, if◌then◌else◌, IsOk, is_ok}
-use Rattle.std.proofs.Math.Seq.{take-append-add}
+use Rattle.std.proofs.Math.Seq.{take-append-add, take-append_seam}
 use Rattle.std.proofs.lemmas.Bool.{leb-true, le-leb}
-use Rattle.std.proofs.lemmas.List.{drop-append-le, take-append-le, drop-take, length-drop, length-take, length-take-le}
+use Rattle.std.proofs.lemmas.List.{drop-append-le, take-append-le, drop-take, length-drop, length-take, length-take-le, append-nil}
 use Rattle.lab_heads.specs.declared.refusals.HeadRefusal.{HeadRefusal}
 use Rattle.lab_heads.specs.declared.refusals.HeadRefusal.TheVariants.{ShortBody}
-use Rattle.lab_heads.specs.Heads.{GoodHead, good_head}
+use Rattle.lab_heads.specs.Heads.{GoodHead, head_limit, head_text, has_end, head_end, good_head}
 use Rattle.lab_heads.specs.Lengths.{body_length, head_refusal}
 use Rattle.lab_heads.specs.Requests.{unless_refused, head_accepted, accepted_head, body_end, body_in, request_by, request_after, request_in}
-use Rattle.lab_heads.specs.Receptions.{end_after, request_length, RequestIsByFront, RequestIsItsBytes}
-use Rattle.lab_heads.proofs.FrontLemmas.{IsByFront, by_front, good_parts}
+use Rattle.lab_heads.specs.Receptions.{end_after, request_length, head_stop, HeadIsByFront, RequestIsByFront, RequestIsItsBytes}
+use Rattle.lab_heads.proofs.FrontLemmas.{IsByFront, by_front, by_near, good_parts}
+use Rattle.lab_heads.proofs.ReadLemmas.{take_within}
 
 -- ---- what a request is made of
 
@@ -121,3 +122,22 @@ its_bytes_law bytes ok =
     (le-leb end (length (take end bytes)) (omega (arith, size)))
     (ap (take count) (drop-take good.end count bytes)
     ∙ take_all count body (omega (arith, length-take count (drop good.end bytes))))
+
+pub head_law : HeadIsByFront
+unfolding accepted_head head_stop
+head_law bytes = ap head_accepted (by (has_end (head_text bytes)) refl)
+  where
+    stop : (t : Bool) → has_end (head_text bytes) ≡ t
+        → take (head_stop bytes) bytes ≡ take (if t then head_end bytes else min (length bytes) head_limit) bytes
+    stop t is = ap (λ b. take (if b then head_end bytes else min (length bytes) head_limit) bytes) is
+
+    by : (t : Bool) → has_end (head_text bytes) ≡ t → good_head (take (head_stop bytes) bytes) ≡ good_head bytes
+    by true is =
+        let front = by_front bytes is in
+        ap good_head
+        (stop true is
+        ∙ (λ i. take (sym front.size i) (front.parts i))
+        ∙ take-append_seam front.whole front.rest
+        ∙ sym (append-nil front.whole))
+        ∙ front.same []
+    by false is = ap good_head (stop false is ∙ take_within bytes head_limit) ∙ by_near bytes

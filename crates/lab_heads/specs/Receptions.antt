@@ -1,9 +1,19 @@
--- How many bytes a request takes, and that what stands behind them says nothing of it: the division
--- into reads doesn't matter.
-use Rattle.std.specs.Prelude.{◌≡◌, ℕ, List, ◌++◌, take, IsOk, Result, Ok, Err}
+-- How many bytes a head and a request take, and that what stands behind them says nothing of either:
+-- the division into reads doesn't matter.
+use Rattle.std.specs.Prelude.{◌≡◌, ℕ, min, List, ◌++◌, length, take, if◌then◌else◌, IsOk, Result, Ok, Err}
 use Rattle.lab_heads.specs.declared.refusals.HeadRefusal.{HeadRefusal}
-use Rattle.lab_heads.specs.Heads.{GoodHead}
+use Rattle.lab_heads.specs.Heads.{GoodHead, head_limit, head_text, has_end, head_end}
 use Rattle.lab_heads.specs.Requests.{accepted_head, body_end, request_in}
+
+-- how far a reader is read for a head: to its end, or else to the limit, or to the last byte
+unfoldable pub head_stop : List ℕ → ℕ
+head_stop bytes =
+    if has_end (head_text bytes) then head_end bytes else min (length bytes) head_limit
+
+-- what stands behind that place says nothing of the head
+abbrev pub HeadIsByFront : Type 0
+HeadIsByFront = (bytes : List ℕ) →
+    accepted_head (take (head_stop bytes) bytes) ≡ accepted_head bytes
 
 -- how many bytes an accepted request takes, its body included
 abbrev pub end_after : Result GoodHead HeadRefusal → ℕ

@@ -16,6 +16,6 @@ mod tokens;
 
 pub use head_grammar::grammar_of_heads;
 pub use heads::{RequestHead, read_head};
-pub use receptions::{request_is_by_front, request_is_its_bytes};
+pub use receptions::{head_is_by_front, request_is_by_front, request_is_its_bytes};
 pub use refusals::{HeadFault, HeadRefusal};
 pub use requests::{RequestParts, request_parts};
