@@ -158,6 +158,8 @@ pub record IsByFront (bytes : List ℕ) : Type 0 where
   pub rest : List ℕ
   pub parts : bytes ≡ whole ++ rest
   pub size : length whole ≡ head_end bytes
+  pub ends : (post : List ℕ) → has_end (head_text (whole ++ post)) ≡ true
+  pub place : (post : List ℕ) → head_end (whole ++ post) ≡ head_end bytes
   pub same : (post : List ℕ) → good_head (whole ++ post) ≡ good_head bytes
 
 -- where the head has ended, it isn't over the limits by how many bytes came
@@ -190,6 +192,31 @@ good_by bytes text is ends =
     (λ i. answer_of (is_over_limits (length bytes) (sym is i)) (front_length (take head_limit bytes) + head_length (sym is i)) (head_of (sym is i)))
     ∙ ap (λ b. answer_of b (front_length (take head_limit bytes) + head_length text) (head_of text)) (over_by_lines (length bytes) text ends)
 
+-- the bytes up to the head's end, behind which other bytes stand
+record IsCut (bytes whole post : List ℕ) : Type 0 where
+  text : List ℕ
+  text_is : text ≡ head_text (whole ++ post)
+  count : front_length (take head_limit (whole ++ post)) ≡ front_length (take head_limit bytes)
+  head : IsSameHead text (head_text bytes)
+
+cut_at : (bytes : List ℕ) (ended : IsEnded (head_text bytes)) (back : IsBehind (take head_limit bytes) ended.front ended.rest)
+    → front_length (take head_limit bytes) ≡ length back.skipped → length (back.skipped ++ ended.front) ≤ head_limit
+    → (post : List ℕ) → IsCut bytes (back.skipped ++ ended.front) post
+cut_at bytes ended back skipped fits post =
+    let whole : List ℕ = back.skipped ++ ended.front in
+    let left : List ℕ = take (head_limit - length whole) post in
+    let reach : length whole + (head_limit - length whole) ≡ head_limit = omega (arith, fits) in
+    let taken : take head_limit (whole ++ post) ≡ back.skipped ++ (ended.front ++ left) =
+    ap (λ n. take n (whole ++ post)) (sym reach)
+    ∙ take-append-add whole post (head_limit - length whole)
+    ∙ append_assoc back.skipped ended.front left in
+    record {
+      text = ended.front ++ left;
+      text_is = sym (ap without_front taken ∙ back.text left);
+      count = ap front_length taken ∙ back.count left ∙ sym skipped;
+      head = ended.same left;
+    }
+
 pub by_front : (bytes : List ℕ) → has_end (head_text bytes) ≡ true → IsByFront bytes
 by_front bytes ends =
     let text : List ℕ = head_text bytes in
@@ -211,20 +238,17 @@ by_front bytes ends =
           ∙ ap (λ t. t ++ drop head_limit bytes) near_is
           ∙ append_assoc whole ended.rest (drop head_limit bytes);
       size = size;
+      ends = λ post.
+          let cut = cut_at bytes ended back skipped fits post in
+          ap has_end (sym cut.text_is) ∙ cut.head.ends;
+      place = λ post.
+          let cut = cut_at bytes ended back skipped fits post in
+          (λ i. cut.count i + head_length (sym cut.text_is i)) ∙ ap (λ n. front_length near + n) cut.head.size;
       same = λ post.
-          let left : List ℕ = take (head_limit - length whole) post in
-          let reach : length whole + (head_limit - length whole) ≡ head_limit = omega arith in
-          let taken : take head_limit (whole ++ post) ≡ back.skipped ++ (ended.front ++ left) =
-          ap (λ n. take n (whole ++ post)) (sym reach)
-          ∙ take-append-add whole post (head_limit - length whole)
-          ∙ append_assoc back.skipped ended.front left in
-          let text_is : ended.front ++ left ≡ head_text (whole ++ post) =
-          sym (ap without_front taken ∙ back.text left) in
-          let head = ended.same left in
-          let count : front_length (take head_limit (whole ++ post)) ≡ front_length near =
-          ap front_length taken ∙ back.count left ∙ sym skipped in
-          good_by (whole ++ post) (ended.front ++ left) text_is head.ends
-          ∙ (λ i. answer_of (nat_lt (1 + field_limit) (length (head.lines i))) (count i + head.size i) (head_of_same (ended.front ++ left) text head ends i))
+          let cut = cut_at bytes ended back skipped fits post in
+          let head = cut.head in
+          good_by (whole ++ post) cut.text cut.text_is head.ends
+          ∙ (λ i. answer_of (nat_lt (1 + field_limit) (length (head.lines i))) (cut.count i + head.size i) (head_of_same cut.text text head ends i))
           ∙ sym (good_by bytes text refl ends);
     }
 
