@@ -6,3 +6,4 @@ pub mod LineLemmas
 pub mod ReadLemmas
 pub mod RequestLaws
 pub mod RequestLemmas
+pub mod StopLemmas
