@@ -3,6 +3,7 @@ pub mod HeadGrammar
 pub mod Heads
 pub mod Interims
 pub mod Lengths
+pub mod Receptions
 pub mod Refusals
 pub mod Requests
 pub mod Tokens

@@ -106,6 +106,13 @@ fn head_size(text: &[u8]) -> HeadSize
     }
 }
 
+/// Whether the empty line of a head has come within the limit.
+pub(crate) fn has_head_end(bytes: &[u8]) -> bool
+    ensures { result ≡ has_end (head_text bytes.now) }
+{
+    head_size(head_text(bytes).text).has_end
+}
+
 #[tactic(auto, unfolding(crate::specs::Heads::is_over_limits))]
 fn is_over_limits(came: usize, text: &[u8]) -> bool
     ensures { result ≡ is_over_limits came text.now }

@@ -7,6 +7,7 @@ mod head_grammar;
 mod heads;
 mod interims;
 mod lengths;
+mod receptions;
 mod refusals;
 mod requests;
 #[cfg(test)]
@@ -15,5 +16,6 @@ mod tokens;
 
 pub use head_grammar::grammar_of_heads;
 pub use heads::{RequestHead, read_head};
+pub use receptions::{head_is_by_front, request_is_by_front, request_is_its_bytes};
 pub use refusals::{HeadFault, HeadRefusal};
 pub use requests::{RequestParts, request_parts};

@@ -1,6 +1,7 @@
 //! Requests as a person reads RFC 9112, heads at their limits, lengths and tokens in all spellings.
 use super::{HeadRefusal, RequestParts, request_parts};
 use crate::interims::is_interim_due;
+use crate::receptions::head_bytes;
 use crate::requests::accept;
 use lab_secrets::Token;
 use std::process::Abort;
@@ -350,4 +351,30 @@ fn an_interim_answer_is_due_where_a_client_waits(rt: HostRuntime) {
     }
     let old = b"GET / HTTP/1.0\r\nExpect: 100-continue\r\nContent-Length: 1\r\n\r\n";
     is_due(&rt, old, false);
+}
+
+// A reader of these bytes is read for a head up to so many of them, and has the rest left.
+fn stops_at(rt: &impl Abort, bytes: &[u8], wanted: usize) {
+    let mut room = [0; 8192];
+    let mut reader = bytes;
+    match head_bytes(&mut reader, &mut room) {
+        Ok(count) => assert!(rt; count == wanted && count <= bytes.len() && count <= room.len()),
+        Err(_) => panic!(rt; "a slice fails"),
+    }
+    let end = wanted.min(bytes.len());
+    assert_bytes(
+        rt,
+        &room[..end.min(room.len())],
+        &bytes[..end.min(room.len())],
+    );
+    assert_bytes(rt, reader, &bytes[end..]);
+}
+
+#[test]
+fn a_reader_is_read_to_the_end_of_a_head(rt: HostRuntime) {
+    stops_at(&rt, WHOLE, WHOLE.len().saturating_sub(2));
+    stops_at(&rt, b"\r\n\nGET\n\n\n", 8);
+    stops_at(&rt, b"GET / HTTP/1.1\r\nHost: d", 23);
+    stops_at(&rt, b"", 0);
+    stops_at(&rt, &long(&rt, b"", (b"\r", 8200), HEAD), 8192);
 }
