@@ -6,11 +6,10 @@ root=$(cd "$(dirname "${BASH_SOURCE[0]}")/.." && pwd)
 room=$(mktemp -d)
 trap 'rm -rf "$room"' EXIT
 
-# Two foundings, and so many calls for the cards of the two laboratories in turn.
+# The two foundings of the stored run, and so many calls for the cards of the two laboratories in turn.
 stream() {
+    sed 's/call 100 .*//; /^GET /,$d' "$root/examples/two-laboratories.events" | head -c -1
     LC_ALL=C awk -v calls="$1" 'BEGIN {
-        printf "found aqua 0 1 19\n{\"name\":\"Aqua Lab\"}"
-        printf "found brick 0 1 20\n{\"name\":\"Brick Lab\"}"
         for (call = 0; call < calls; call++) {
             request = "GET /labs/" (call % 2 ? "brick" : "aqua") " HTTP/1.1\r\nHost: d\r\n\r\n"
             printf "call 100 %d %d\n%s", 9 + 8 * call, length(request), request

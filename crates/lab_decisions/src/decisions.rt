@@ -34,8 +34,8 @@ pub fn decide(
     outcome
 }
 
-// The form that a command makes is one, as every form is.
-fn formed(command: &Command)
+/// The form that a command makes is one, as every form of the code is. A law: the command is left as it is.
+pub fn formed(command: &Command)
     ensures { IsCommandFormed command.now }
 {
     if let Command::MakeForm { form, .. } = command {

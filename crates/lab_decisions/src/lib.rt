@@ -7,6 +7,6 @@ mod drafts;
 mod laws;
 mod outcome;
 
-pub use decisions::decide;
+pub use decisions::{decide, formed};
 pub use laws::what_is_decided;
 pub use outcome::Outcome;

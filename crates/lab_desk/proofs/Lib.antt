@@ -1,3 +1,5 @@
 mod KnownValues
-mod Listing
+pub mod Bearing
+pub mod Deciding
+pub mod Staying
 pub mod Running

@@ -11,20 +11,20 @@ use Rattle.std.proofs.lemmas.Slice.Eq.{bytes_eq-Decides}
 use Rattle.std.specs.Io.KnownBytes.{Appends}
 use Rattle.std.proofs.KnownBytes.{Appends-nil, Appends-trans}
 use Rattle.std.proofs.lemmas.List.{map-append}
-use Rattle.lab_names.specs.declared.Tick.{Tick}
-use Rattle.lab_records.specs.declared.lab.Lab.{Lab}
-use Rattle.lab_records.specs.Machine.{step}
-use Rattle.lab_records.specs.Worlds.{World, Meaning, Tells, Leaves}
-use Rattle.lab_wire.specs.declared.sending.WriteFault.{WriteFault}
-use Rattle.lab_wire.specs.declared.asked.Asked.{Asked}
+use Rattle.lab_names.specs.declared.tick.Tick.{Tick}
+use Rattle.lab_messages.specs.declared.sending.WriteFault.{WriteFault}
+use Rattle.lab_kept.specs.declared.labs.Lab.{Lab}
+use Rattle.lab_kept.specs.Worlds.{World, Meaning, Tells, Leaves}
+use Rattle.lab_machine.specs.Machine.{step}
+use Rattle.lab_routes.specs.declared.commands.Asked.{Asked}
 use Rattle.lab_wire.specs.declared.replies.Answer.TheVariants.{Replied, Storage}
 use Rattle.lab_wire.specs.Asked.{asked}
-use Rattle.lab_wire.specs.Bodies.{founding_named}
 use Rattle.lab_wire.specs.Replies.{reply_text, memory_text}
 use Rattle.lab_desk.specs.declared.events.Event.{Event}
 use Rattle.lab_desk.specs.declared.events.Event.TheVariants.{Found, Call}
 use Rattle.lab_desk.specs.Requests.{Asks, TakesRequest, RefusesRequest}
-use Rattle.lab_desk.specs.Foundings.{Body, born_of, after_birth, line_of, TakesFounding, RefusesFounding, memory_line, storage_line}
+use Rattle.lab_desk.specs.Foundings.{Body, Bears, founding_in, born_of, after_birth, line_of, TakesFounding, RefusesFounding, memory_line, storage_line}
+use Rattle.lab_desk.proofs.Bearing.{born_seen}
 use Rattle.lab_desk.specs.Alone.{Own, Founds, Obeys, own_call, after_own, answer_own, alone_after, alone_answers}
 use Rattle.lab_desk.specs.Runs.{Handled, IsRun, IsTold, IsAnswer, IsAnswerBy, IsAnswerToNobody, AreAlone, own_in, own_events, own_answers, after_run, answers_of, Sends, Runs, RunsCut}
 
@@ -83,7 +83,7 @@ answer_by_wider : (narrow wide : Type 0) → (narrow → wide) →
 answer_by_wider narrow wide wider true event answer is = is
 answer_by_wider narrow wide wider false (Found lab tick body) answer is =
     refusal_wider narrow wide wider (answer ≡ memory_line) (answer ≡ storage_line)
-    (IsOk (founding_named body)) is
+    (Bears lab tick (founding_in body)) is
 answer_by_wider narrow wide wider false (Call tick bytes) answer is =
     refusal_wider narrow wide wider (answer ≡ memory_text) (answer ≡ reply_text tick Storage)
     (IsOk (asked bytes)) is
@@ -169,43 +169,36 @@ left_alone old new start back tells left live code = left live code ∙ tells (b
 
 -- ---- a founding
 
--- a body that says nothing is refused whatever laboratory there is
-born_seen : (body : Body) (seen start : Option Lab) (code : List ℕ) (tick : Tick) →
-    (IsOk body → seen ≡ start) → born_of seen code tick body ≡ born_of start code tick body
-born_seen (Err refusal) seen start code tick same = refl
-born_seen (Ok founding) seen start code tick same =
-    ap (λ (lab : Option Lab). born_of lab code tick (Ok founding)) (same refl)
-
 founding_told : (old new : World) (start : Meaning) (lab code : List ℕ) (tick : Tick)
     (body answer : List ℕ) (b : Bool) → bytes_eq lab code ≡ b → Tells old start →
-    TakesFounding old new lab tick (founding_named body) answer →
+    TakesFounding old new lab tick (founding_in body) answer →
     Told code (start code) (cond b (Some (Founds tick body)) None) answer
 founding_told old new start lab code tick body answer true names tells takes =
     let same : lab ≡ code = (bytes_eq-Decides lab code).0 names in
     subst (λ (named : List ℕ). answer
-    ≡ line_of named (born_of (start named) named tick (founding_named body))) same
+    ≡ line_of named (born_of (start named) named tick (founding_in body))) same
     (takes.answered ∙ ap (line_of lab)
-    (born_seen (founding_named body) (old.meaning lab) (start lab) lab tick
+    (born_seen (founding_in body) (old.meaning lab) (start lab) lab tick
     (λ reads. tells (takes.lives reads).0 lab)))
 founding_told old new start lab code tick body answer false names tells takes = tt
 
 founding_after : (old new : World) (start : Meaning) (lab code : List ℕ) (tick : Tick)
     (body answer : List ℕ) (b : Bool) → bytes_eq lab code ≡ b → old.is_live → Tells old start →
-    TakesFounding old new lab tick (founding_named body) answer →
+    TakesFounding old new lab tick (founding_in body) answer →
     new.meaning code ≡ after_one code (start code) (cond b (Some (Founds tick body)) None)
 founding_after old new start lab code tick body answer true names live tells takes =
     let same : lab ≡ code = (bytes_eq-Decides lab code).0 names in
     subst (λ (named : List ℕ). new.meaning named
-    ≡ after_birth (start named) (born_of (start named) named tick (founding_named body))) same
+    ≡ after_birth (start named) (born_of (start named) named tick (founding_in body))) same
     (takes.after.here ∙ ap (λ (seen : Option Lab).
-    after_birth seen (born_of seen lab tick (founding_named body))) (tells live lab))
+    after_birth seen (born_of seen lab tick (founding_in body))) (tells live lab))
 founding_after old new start lab code tick body answer false names live tells takes =
     takes.after.others code (other_code lab code names) ∙ tells live code
 
 founding_is : (old new : World) (lab : List ℕ) (tick : Tick) (body : List ℕ) (taken : Bool)
     (answer : List ℕ) → (new.is_live → old.is_live) →
-    (taken ≡ true → TakesFounding old new lab tick (founding_named body) answer) →
-    (taken ≡ false → RefusesFounding old new (founding_named body) answer) →
+    (taken ≡ true → TakesFounding old new lab tick (founding_in body) answer) →
+    (taken ≡ false → RefusesFounding old new lab tick (founding_in body) answer) →
     IsOne old new (record { event = Found lab tick body; taken = taken; answer = answer })
 founding_is old new lab tick body true answer back takes refuses = record {
   each = tt;
@@ -226,8 +219,8 @@ founding_is old new lab tick body false answer back takes refuses = record {
 pub one_founding : (old new : World) (event : Event) (lab : List ℕ) (tick : Tick)
     (body read : List ℕ) (taken : Bool) (answer line : List ℕ) →
     event ≡ Found lab tick body → read ≡ body → answer ≡ line → (new.is_live → old.is_live) →
-    (taken ≡ true → TakesFounding old new lab tick (founding_named read) line) →
-    (taken ≡ false → RefusesFounding old new (founding_named read) line) →
+    (taken ≡ true → TakesFounding old new lab tick (founding_in read) line) →
+    (taken ≡ false → RefusesFounding old new lab tick (founding_in read) line) →
     IsRun old new (record { event = event; taken = taken; answer = answer } ∷ [])
 one_founding old new event lab tick body read taken answer line is reads lines back takes refuses =
     rw (is, lines, ← reads) (one_run old new

@@ -1,18 +1,17 @@
 -- One laboratory's run by itself: its own events, and what its machine makes of them. No other
 -- event enters.
 use Rattle.std.specs.Prelude.{ℕ, List, [], ◌∷◌, Option, Some, None, Ok, Err, bytes_eq, if◌then◌else◌}
-use Rattle.lab_names.specs.declared.Tick.{Tick}
-use Rattle.lab_records.specs.declared.lab.Lab.{Lab}
-use Rattle.lab_records.specs.declared.command.Instruction.{Instruction}
-use Rattle.lab_records.specs.Machine.{step}
+use Rattle.lab_names.specs.declared.tick.Tick.{Tick}
+use Rattle.lab_kept.specs.declared.labs.Lab.{Lab}
+use Rattle.lab_machine.specs.declared.commands.Instruction.{Instruction}
+use Rattle.lab_machine.specs.Machine.{step}
 use Rattle.lab_wire.specs.declared.replies.Answer.TheVariants.{Replied}
 use Rattle.lab_wire.specs.Asked.{asked}
-use Rattle.lab_wire.specs.Bodies.{founding_named}
 use Rattle.lab_wire.specs.Replies.{reply_text}
 use Rattle.lab_desk.specs.declared.events.Event.{Event}
 use Rattle.lab_desk.specs.declared.events.Event.TheVariants.{Found, Call}
 use Rattle.lab_desk.specs.Requests.{Asks}
-use Rattle.lab_desk.specs.Foundings.{born_of, after_birth, line_of}
+use Rattle.lab_desk.specs.Foundings.{founding_in, born_of, after_birth, line_of}
 
 -- an event of one laboratory: it is founded from a body, or it is given an instruction
 pub data Own : Type 0 where
@@ -33,12 +32,12 @@ own_of code (Call tick bytes) = own_call code tick (asked bytes)
 -- the laboratory after one of its own events
 abbrev pub after_own : List ℕ → Option Lab → Own → Option Lab
 after_own code lab (Founds tick body) = after_birth lab
-    (born_of lab code tick (founding_named body))
+    (born_of lab code tick (founding_in body))
 after_own code lab (Obeys tick instruction) = (step lab tick instruction).after
 
 -- what it answers to one of its own events
 abbrev pub answer_own : List ℕ → Option Lab → Own → List ℕ
-answer_own code lab (Founds tick body) = line_of code (born_of lab code tick (founding_named body))
+answer_own code lab (Founds tick body) = line_of code (born_of lab code tick (founding_in body))
 answer_own code lab (Obeys tick instruction) = reply_text tick
     (Replied (step lab tick instruction).reply)
 

@@ -2,19 +2,41 @@
 -- it (docs/FORMATS.md has the lines).
 use Rattle.std.specs.Prelude.{◌≡◌, ◌⊎◌, ℕ, List, ◌++◌, Option, Some, None, Result, Ok, Err, IsOk, codes, decimal}
 use Rattle.lab_names.specs.Faults.{Entry, memory_entry}
-use Rattle.lab_names.specs.declared.Tick.{Tick}
-use Rattle.lab_records.specs.declared.lab.Lab.{Lab}
-use Rattle.lab_records.specs.declared.command.Founding.{Founding}
-use Rattle.lab_records.specs.declared.refusal.BirthRefusal.{BirthRefusal}
-use Rattle.lab_records.specs.Machine.{born, newborn}
-use Rattle.lab_records.specs.Refusals.{birth_entry, storage_entry}
-use Rattle.lab_records.specs.Worlds.{World, Meaning, SetsOne, Places, Lives, Leaves}
-use Rattle.lab_wire.specs.declared.refusals.BodyRefusal.{BodyRefusal}
-use Rattle.lab_wire.specs.Refusals.{body_entry}
+use Rattle.lab_names.specs.declared.tick.Tick.{Tick}
+use Rattle.lab_members.specs.declared.refusals.BodyRefusal.{BodyRefusal}
+use Rattle.lab_members.specs.Refusals.{body_entry}
+use Rattle.lab_bodies.specs.Bodies.{body_named}
+use Rattle.lab_bodies.specs.Foundings.{founding_named}
+use Rattle.lab_kept.specs.declared.labs.Lab.{Lab}
+use Rattle.lab_kept.specs.Faults.{storage_entry}
+use Rattle.lab_kept.specs.Worlds.{World, Meaning, SetsOne, Places, Lives, Leaves}
+use Rattle.lab_machine.specs.declared.births.Founding.{Founding}
+use Rattle.lab_machine.specs.declared.births.BirthRefusal.{BirthRefusal}
+use Rattle.lab_machine.specs.Births.{birth_entry, born, newborn}
 
 -- what a founding's body says, or why it says nothing
 abbrev pub Body : Type 0
 Body = Result Founding BodyRefusal
+
+-- what the bytes of a founding's body say
+abbrev pub founding_in : List ℕ → Body
+founding_in body = body_named founding_named body
+
+-- a body that reads, from which a laboratory is born where there is none of the code
+abbrev pub Bears : List ℕ → Tick → Body → Type 0
+Bears code tick (Err refusal) = ⊥
+Bears code tick (Ok founding) = IsOk (born None code tick founding)
+
+-- a body that reads, from which none is born, and why
+abbrev pub BearsNone : List ℕ → Tick → Body → BirthRefusal → Type 0
+BearsNone code tick (Err refusal) reason = ⊥
+BearsNone code tick (Ok founding) reason = born None code tick founding ≡ Err reason
+
+-- the laboratory that is born from a body that reads, where there is none of the code
+pub record IsNewborn (code : List ℕ) (tick : Tick) (body : Body) (lab : Lab) : Type 0 where
+  pub founding : Founding
+  pub read : body ≡ Ok founding
+  pub bears : born None code tick founding ≡ Ok lab
 
 -- the laboratory that is born, or the row of the table of refusals that tells why none is
 abbrev pub birth : Result Lab BirthRefusal → Result Lab Entry
@@ -43,6 +65,7 @@ pub record Founds (old new : World) (places : Lab → Type 0) (code : List ℕ) 
     (body : Body) : Type 0 where
   pub founding : Founding
   pub read : body ≡ Ok founding
+  pub bears : born None code tick founding ≡ Ok (newborn code tick founding)
   pub placed : Places (newborn code tick founding) old.meaning new.meaning
   pub rows : places (newborn code tick founding)
 
@@ -73,19 +96,20 @@ shown None = memory_line
 shown (Some line) = line
 
 -- a founding that was taken: its line is that of the laboratory's birth, or of the refusal that
--- comes first; and the keeper was there, where the body reads
+-- comes first; and the keeper was there, where a laboratory is born from the body
 pub record TakesFounding (old new : World) (code : List ℕ) (tick : Tick) (body : Body)
     (line : List ℕ) : Type 0 where
   pub answered : line ≡ line_of code (born_of (old.meaning code) code tick body)
   pub after : Births code tick body old.meaning new.meaning
-  pub lives : IsOk body → Lives old new
+  pub lives : Bears code tick body → Lives old new
 
 -- a line tells that memory ran out, or that the store refused, where this may be
 abbrev pub IsRefusedLine : Type 0 → List ℕ → Type 0
 IsRefusedLine may_refuse line = (line ≡ memory_line) ⊎ (may_refuse × (line ≡ storage_line))
 
--- a founding that was refused: for memory, or by a store that may refuse, which was handed a body
--- that reads; every laboratory means what it meant
-pub record RefusesFounding (old new : World) (body : Body) (line : List ℕ) : Type 0 where
-  pub answered : IsRefusedLine (old.may_refuse × IsOk body) line
+-- a founding that was refused: for memory, or by a store that may refuse, which was handed a
+-- newborn; every laboratory means what it meant
+pub record RefusesFounding (old new : World) (code : List ℕ) (tick : Tick) (body : Body)
+    (line : List ℕ) : Type 0 where
+  pub answered : IsRefusedLine (old.may_refuse × Bears code tick body) line
   pub same : Leaves old new

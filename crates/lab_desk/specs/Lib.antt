@@ -1,5 +1,4 @@
-pub mod Lists
-pub mod ListLaws
+pub mod Keeping
 pub mod Requests
 pub mod Foundings
 pub mod Desk

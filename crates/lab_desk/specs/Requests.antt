@@ -1,15 +1,20 @@
 -- What the desk does of a request: its reply, and what every laboratory is afterwards.
-use Rattle.std.specs.Prelude.{◌≡◌, ◌⊎◌, ◌↔◌, Bool, true, ℕ, List, [], Option, Result, Ok, Err, IsOk, IsTrue}
-use Rattle.lab_names.specs.declared.Tick.{Tick}
-use Rattle.lab_records.specs.declared.command.Change.{Change}
-use Rattle.lab_records.specs.declared.command.Instruction.{Instruction}
-use Rattle.lab_records.specs.declared.lab.Lab.{Lab}
-use Rattle.lab_records.specs.declared.fault.KeeperFault.{KeeperFault}
-use Rattle.lab_records.specs.declared.fault.KeeperFault.TheVariants.{Storage as StoreRefused, Memory}
-use Rattle.lab_records.specs.Machine.{step, is_idle}
-use Rattle.lab_records.specs.Changes.{ChangesFit, changed_in}
-use Rattle.lab_records.specs.Worlds.{World, Meaning, SameMeaning, SetsOne, Lives, Leaves}
-use Rattle.lab_wire.specs.declared.asked.Asked.{Asked}
+use Rattle.std.specs.Prelude.{◌≡◌, ◌⊎◌, ◌↔◌, Bool, true, false, ℕ, List, [], ◌∷◌, Option, Some, None, Result, Ok, Err, IsOk, IsTrue}
+use Rattle.lab_names.specs.declared.tick.Tick.{Tick}
+use Rattle.lab_kept.specs.declared.changes.Change.{Change}
+use Rattle.lab_kept.specs.declared.labs.Lab.{Lab}
+use Rattle.lab_kept.specs.declared.faults.KeeperFault.{KeeperFault}
+use Rattle.lab_kept.specs.declared.faults.KeeperFault.TheVariants.{Storage as StoreRefused, Memory}
+use Rattle.lab_kept.specs.Changes.{ChangesFit, changed_in}
+use Rattle.lab_kept.specs.Limits.{IsWithin}
+use Rattle.lab_kept.specs.Parts.{part}
+use Rattle.lab_kept.specs.Worlds.{World, Meaning, SameMeaning, SetsOne, Lives, Leaves}
+use Rattle.lab_machine.specs.declared.commands.Instruction.{Instruction}
+use Rattle.lab_machine.specs.Machine.{step}
+use Rattle.lab_machine.specs.Needs.{need_of}
+use Rattle.lab_decisions.specs.Deciding.{decided}
+use Rattle.lab_laws.specs.Stepping.{WhereThere}
+use Rattle.lab_routes.specs.declared.commands.Asked.{Asked}
 use Rattle.lab_wire.specs.declared.refusals.RequestRefusal.{RequestRefusal}
 use Rattle.lab_wire.specs.declared.replies.Answer.{Answer}
 use Rattle.lab_wire.specs.declared.replies.Answer.TheVariants.{Replied, Refused, Storage}
@@ -24,6 +29,20 @@ abbrev pub answer_to : Meaning → Tick → Asks → Answer
 answer_to meaning tick (Err refusal) = Refused refusal
 answer_to meaning tick (Ok asked) = Replied (step (meaning asked.lab) tick asked.instruction).reply
 
+-- the changes that an instruction makes of a laboratory: those decided on the part that it needs
+unfoldable pub changes_for : Option Lab → Tick → Instruction → List Change
+changes_for None tick instruction = []
+changes_for (Some lab) tick instruction =
+    (decided (part (need_of tick instruction) lab) tick instruction.command).changes
+
+abbrev pub is_none : List Change → Bool
+is_none [] = true
+is_none (one ∷ others) = false
+
+-- whether an instruction writes nothing: it makes no change
+abbrev pub is_idle : Option Lab → Tick → Instruction → Bool
+is_idle lab tick instruction = is_none (changes_for lab tick instruction)
+
 -- whether what bytes ask writes nothing
 abbrev pub is_idle_request : Meaning → Tick → Asks → Bool
 is_idle_request meaning tick (Err refusal) = true
@@ -35,12 +54,12 @@ Steps tick (Err refusal) old new = SameMeaning old new
 Steps tick (Ok asked) old new =
     SetsOne asked.lab (step (old asked.lab) tick asked.instruction).after old new
 
--- a reply that is built, and changes, make the step of a laboratory: the changes fit it, and there
--- are none where the step writes nothing, and there alone
+-- a reply that is built, and changes, make the step of a laboratory: the changes fit it, where it is
+-- within its limits, and there are none where the step writes nothing, and there alone
 pub record Builds (lab : Option Lab) (tick : Tick) (instruction : Instruction) (reply : List ℕ)
     (changes : List Change) : Type 0 where
   pub replied : reply ≡ reply_text tick (Replied (step lab tick instruction).reply)
-  pub fit : ChangesFit lab changes
+  pub fit : WhereThere IsWithin lab → ChangesFit lab changes
   pub after : changed_in lab changes ≡ (step lab tick instruction).after
   pub idle : IsTrue (is_idle lab tick instruction) ↔ (changes ≡ [])
 

@@ -3,17 +3,16 @@
 use Rattle.std.specs.Prelude.{◌≡◌, ◌<◌, ◌++◌, ℕ, List, [], ◌∷◌, Bool, true, false, All, Option, None, Result, Ok, Err, IsOk, IfErr, filter_map, if◌then◌else◌, length, map, option_map, take}
 use Rattle.std.specs.Io.KnownBytes.{Appends}
 use Rattle.std.specs.List.{concat}
-use Rattle.lab_names.specs.declared.Tick.{Tick}
-use Rattle.lab_records.specs.Worlds.{World, Meaning, Tells}
-use Rattle.lab_wire.specs.declared.sending.WriteFault.{WriteFault}
+use Rattle.lab_names.specs.declared.tick.Tick.{Tick}
+use Rattle.lab_messages.specs.declared.sending.WriteFault.{WriteFault}
+use Rattle.lab_kept.specs.Worlds.{World, Meaning, Tells}
 use Rattle.lab_wire.specs.declared.replies.Answer.TheVariants.{Refused}
 use Rattle.lab_wire.specs.Asked.{asked}
-use Rattle.lab_wire.specs.Bodies.{founding_named}
 use Rattle.lab_wire.specs.Replies.{reply_text}
 use Rattle.lab_desk.specs.declared.events.Event.{Event}
 use Rattle.lab_desk.specs.declared.events.Event.TheVariants.{Found, Call}
 use Rattle.lab_desk.specs.Requests.{Asks, IsRefusedReply}
-use Rattle.lab_desk.specs.Foundings.{IsRefusedLine}
+use Rattle.lab_desk.specs.Foundings.{founding_in, Bears, IsRefusedLine}
 use Rattle.lab_desk.specs.Alone.{Own, own_of, alone_after, alone_answers}
 
 -- an event, whether it was taken, and what was answered to it: it is taken unless memory ran out or
@@ -39,7 +38,7 @@ IsNobodys (Call tick bytes) answer = IsAnswerToNobody tick (asked bytes) answer
 -- asked something
 abbrev pub IsRefusal : Type 0 → Event → List ℕ → Type 0
 IsRefusal may_refuse (Found lab tick body) answer = IsRefusedLine
-    (may_refuse × IsOk (founding_named body)) answer
+    (may_refuse × Bears lab tick (founding_in body)) answer
 IsRefusal may_refuse (Call tick bytes) answer = IsRefusedReply
     (may_refuse × IsOk (asked bytes)) tick answer
 

@@ -1,23 +1,24 @@
 //! The desk: one body for every keeper.
 
 ghost use Rattle.std.specs.Prelude.{◌≡◌, ◌⊎◌, ◌≤◌, length, vec_capacity, [], true, false, Ok, Err, IsTrue, IsFalse, IfOk, IfErr, OnOk, OnErr, option_map};
-ghost use Rattle.lab_records.specs.Worlds.{Passes, Given, Leaves, Lives, Quiet, CommitsAs, IsSettled};
+ghost use Rattle.lab_kept.specs.Worlds.{Passes, Given, Leaves, Lives, Quiet, CommitsAs, IsSettled, StaysSafe};
 ghost use Rattle.lab_wire.specs.declared.refusals.RequestRefusal.{RequestRefusal as OneRefusal};
 ghost use Rattle.lab_wire.specs.declared.replies.Answer.TheVariants.{Refused as RefusedAnswer};
 ghost use Rattle.lab_wire.specs.Asked.{asked};
-ghost use Rattle.lab_wire.specs.Bodies.{founding_named};
 ghost use Rattle.lab_wire.specs.Replies.{reply_text, memory_text};
 ghost use Rattle.lab_desk.specs.Requests.{TakesRequest, RefusesRequest, TellsFault, MovesFor, Steps, is_idle_request};
-ghost use Rattle.lab_desk.specs.Foundings.{Founds, Births, TakesFounding, RefusesFounding, shown};
+ghost use Rattle.lab_desk.specs.Keeping.{AreWithin, AreReleasing};
+ghost use Rattle.lab_desk.specs.Foundings.{founding_in, Founds, Births, TakesFounding, RefusesFounding, shown};
 ghost use Rattle.lab_desk.specs.Faults.{FoundFaultFits, OnBody, OnKept, OnUncommitted};
 ghost use Rattle.std.specs.Prelude.{IsSome};
 
 use crate::events::Event;
 use crate::faults::FoundFault;
-use crate::foundings::{Line, founded, unfounded};
+use crate::foundings::{Line, founded, newborn_of, unfounded};
 use crate::requests::answer_asked;
-use lab_records::{Keeper, KeeperFault, LabCode, OutOfMemory, Tick};
-use lab_wire::{Answer, RequestFault, ask, founding_of, memory_reply, reply_bytes};
+use lab_kept::{Keeper, KeeperFault};
+use lab_names::{LabCode, OutOfMemory, Tick};
+use lab_wire::{Answer, RequestFault, ask, memory_reply, reply_bytes};
 use std::alloc::Global;
 use std::marker::Model;
 
@@ -67,7 +68,8 @@ impl<S: Keeper + Drop> Desk<S> {
     /// Answers whether the request was taken: it was, unless memory ran out or the store refused;
     /// then the reply says so and nothing is changed.
     pub fn handle(&mut self, tick: &Tick, bytes: &[u8]) -> bool
-        ensures taken { Given (S.world self.old.keeper) (S.world self.new.keeper) (result ≡ true →
+        ensures taken { AreWithin (S.world self.old.keeper) →
+            Given (S.world self.old.keeper) (S.world self.new.keeper) (result ≡ true →
             TakesRequest (S.world self.old.keeper) (S.world self.new.keeper) tick.now
             (asked bytes.now) self.new.reply) }
         ensures refused { Given (S.world self.old.keeper) (S.world self.new.keeper)
@@ -76,7 +78,8 @@ impl<S: Keeper + Drop> Desk<S> {
             (asked bytes.now) self.new.reply) }
 
         // The rows:
-        ensures rows { Given (S.world self.old.keeper) (S.world self.new.keeper) (result ≡ true →
+        ensures rows { AreWithin (S.world self.old.keeper) →
+            Given (S.world self.old.keeper) (S.world self.new.keeper) (result ≡ true →
             MovesFor (S.world self.old.keeper).meaning tick.now (asked bytes.now)
             (S.rests self.old.keeper self.new.keeper) (S.moves self.old.keeper self.new.keeper)) }
         ensures rows_refused { Given (S.world self.old.keeper) (S.world self.new.keeper)
@@ -91,19 +94,33 @@ impl<S: Keeper + Drop> Desk<S> {
             (self.new.reply ≡ memory_text) }
 
         // What a crash may leave:
-        ensures crash { Given (S.world self.old.keeper) (S.world self.new.keeper)
+        ensures crash { AreWithin (S.world self.old.keeper) →
+            Given (S.world self.old.keeper) (S.world self.new.keeper)
             (CommitsAs (Steps tick.now (asked bytes.now)) (S.world self.old.keeper)
             (S.world self.new.keeper)) }
         ensures quiet { IsTrue (is_idle_request (S.world self.old.keeper).meaning tick.now
             (asked bytes.now)) →
             Given (S.world self.old.keeper) (S.world self.new.keeper)
             (Quiet (S.world self.old.keeper) (S.world self.new.keeper)) }
-        ensures settled { IsFalse (is_idle_request (S.world self.old.keeper).meaning tick.now
+        ensures settled { AreWithin (S.world self.old.keeper) →
+            IsFalse (is_idle_request (S.world self.old.keeper).meaning tick.now
             (asked bytes.now)) →
             Given (S.world self.old.keeper) (S.world self.new.keeper)
             (result ≡ true → IsSettled (S.world self.new.keeper)) }
+        ensures safe { AreWithin (S.world self.old.keeper) →
+            Given (S.world self.old.keeper) (S.world self.new.keeper)
+            (StaysSafe (S.world self.old.keeper) (S.world self.new.keeper)) }
 
-        ensures reached { Given (S.world self.old.keeper) (S.world self.new.keeper)
+        // What stays true:
+        ensures within { AreWithin (S.world self.old.keeper) →
+            Given (S.world self.old.keeper) (S.world self.new.keeper)
+            (AreWithin (S.world self.new.keeper)) }
+        ensures releasing { AreWithin (S.world self.old.keeper) →
+            AreReleasing (S.world self.old.keeper) →
+            Given (S.world self.old.keeper) (S.world self.new.keeper)
+            (AreReleasing (S.world self.new.keeper)) }
+        ensures reached { AreWithin (S.world self.old.keeper) →
+            Given (S.world self.old.keeper) (S.world self.new.keeper)
             (S.world self.new.keeper).is_reached }
         ensures passes { Passes (S.world self.old.keeper) (S.world self.new.keeper) }
     {
@@ -161,13 +178,13 @@ impl<S: Keeper + Drop> Desk<S> {
     /// Founds a laboratory from its body.
     ///
     /// # Errors
-    /// The body's refusals, that the laboratory is there, the store's refusal, and that memory ran
-    /// out. After each of them every laboratory means what it meant.
+    /// The body's refusals, why none is born from it, that the laboratory is there, the store's
+    /// refusal, and that memory ran out. After each of them every laboratory means what it meant.
     pub fn found(&mut self, lab: &LabCode, tick: &Tick, body: &[u8]) -> Result<(), FoundFault>
         ensures founded { Given (S.world self.old.keeper) (S.world self.new.keeper) (OnOk result
             (Founds (S.world self.old.keeper) (S.world self.new.keeper)
             (S.places self.old.keeper self.new.keeper)
-            lab.now tick.now (founding_named body.now))) }
+            lab.now tick.now (founding_in body.now))) }
         ensures err { Given (S.world self.old.keeper) (S.world self.new.keeper)
             (OnErr result (Leaves (S.world self.old.keeper) (S.world self.new.keeper))) }
         ensures rows_err { Given (S.world self.old.keeper) (S.world self.new.keeper)
@@ -176,7 +193,7 @@ impl<S: Keeper + Drop> Desk<S> {
         ensures fault { IfErr result (FoundFaultFits (S.world self.old.keeper).may_refuse
             (Given (S.world self.old.keeper) (S.world self.new.keeper)
             (IsSome ((S.world self.old.keeper).meaning lab.now)))
-            (founding_named body.now)) }
+            lab.now tick.now (founding_in body.now)) }
         ensures lives { Given (S.world self.old.keeper) (S.world self.new.keeper)
             (OnKept result (Lives (S.world self.old.keeper) (S.world self.new.keeper))) }
         ensures untouched { OnBody result (self.new.keeper ≡ self.old.keeper) }
@@ -184,19 +201,28 @@ impl<S: Keeper + Drop> Desk<S> {
 
         // What a crash may leave:
         ensures crash { Given (S.world self.old.keeper) (S.world self.new.keeper)
-            (CommitsAs (Births lab.now tick.now (founding_named body.now))
+            (CommitsAs (Births lab.now tick.now (founding_in body.now))
             (S.world self.old.keeper) (S.world self.new.keeper)) }
         ensures quiet { Given (S.world self.old.keeper) (S.world self.new.keeper)
             (OnUncommitted result (Quiet (S.world self.old.keeper) (S.world self.new.keeper))) }
         ensures settled { Given (S.world self.old.keeper) (S.world self.new.keeper)
             (OnOk result (IsSettled (S.world self.new.keeper))) }
+        ensures safe { Given (S.world self.old.keeper) (S.world self.new.keeper)
+            (StaysSafe (S.world self.old.keeper) (S.world self.new.keeper)) }
 
+        // What stays true:
+        ensures within { AreWithin (S.world self.old.keeper) →
+            Given (S.world self.old.keeper) (S.world self.new.keeper)
+            (AreWithin (S.world self.new.keeper)) }
+        ensures releasing { AreReleasing (S.world self.old.keeper) →
+            Given (S.world self.old.keeper) (S.world self.new.keeper)
+            (AreReleasing (S.world self.new.keeper)) }
         ensures reached { Given (S.world self.old.keeper) (S.world self.new.keeper)
             (S.world self.new.keeper).is_reached }
         ensures passes { Passes (S.world self.old.keeper) (S.world self.new.keeper) }
     {
-        let founding = founding_of(self.alloc, body)?;
-        self.keeper.found(lab, &founding, tick)?;
+        let newborn = newborn_of(self.alloc, lab, tick, body)?;
+        self.keeper.found(newborn)?;
         Ok(())
     }
 
@@ -205,11 +231,17 @@ impl<S: Keeper + Drop> Desk<S> {
         ensures taken { Given (S.world self.old.keeper) (S.world self.new.keeper)
             (result.taken ≡ true →
             TakesFounding (S.world self.old.keeper) (S.world self.new.keeper) lab.now tick.now
-            (founding_named body.now) (shown (option_map (λ line. line.items) result.text))) }
+            (founding_in body.now) (shown (option_map (λ line. line.items) result.text))) }
         ensures refused { Given (S.world self.old.keeper) (S.world self.new.keeper)
             (result.taken ≡ false →
-            RefusesFounding (S.world self.old.keeper) (S.world self.new.keeper)
-            (founding_named body.now) (shown (option_map (λ line. line.items) result.text))) }
+            RefusesFounding (S.world self.old.keeper) (S.world self.new.keeper) lab.now tick.now
+            (founding_in body.now) (shown (option_map (λ line. line.items) result.text))) }
+        ensures within { AreWithin (S.world self.old.keeper) →
+            Given (S.world self.old.keeper) (S.world self.new.keeper)
+            (AreWithin (S.world self.new.keeper)) }
+        ensures releasing { AreReleasing (S.world self.old.keeper) →
+            Given (S.world self.old.keeper) (S.world self.new.keeper)
+            (AreReleasing (S.world self.new.keeper)) }
         ensures reached { Given (S.world self.old.keeper) (S.world self.new.keeper)
             (S.world self.new.keeper).is_reached }
         ensures passes { Passes (S.world self.old.keeper) (S.world self.new.keeper) }

@@ -2,7 +2,7 @@
 
 ghost use Rattle.std.specs.Prelude.{◌≡◌, IfOk};
 
-use lab_records::{LabCode, OutOfMemory, Series, Tick};
+use lab_names::{LabCode, OutOfMemory, Series, Tick};
 
 /// One event of an installation.
 #[derive(Clone, Debug, Drop)]

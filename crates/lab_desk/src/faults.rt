@@ -3,8 +3,10 @@
 ghost use Rattle.std.specs.Prelude.{◌≡◌, Some};
 ghost use Rattle.lab_desk.specs.Faults.{found_fault_entry, is_taken, run_fault_number, run_fault_word};
 
-use lab_records::{OutOfMemory, PlacingFault};
-use lab_wire::{BodyFault, BodyRefusal};
+use lab_kept::PlacingFault;
+use lab_machine::BirthRefusal;
+use lab_members::{BodyFault, BodyRefusal};
+use lab_names::OutOfMemory;
 use std::fmt;
 use thiserror::Error;
 
@@ -13,6 +15,8 @@ use thiserror::Error;
 pub enum FoundFault {
     /// The body is none of a founding.
     Body(BodyRefusal),
+    /// No laboratory is born from it.
+    Birth(BirthRefusal),
     /// The keeper founded nothing, or memory ran out before.
     Placing(PlacingFault),
 }
@@ -24,7 +28,9 @@ impl FoundFault {
         ensures { result ≡ is_taken self.now }
     {
         match self {
-            FoundFault::Body(_) | FoundFault::Placing(PlacingFault::LabExists) => true,
+            FoundFault::Body(_)
+            | FoundFault::Birth(_)
+            | FoundFault::Placing(PlacingFault::LabExists) => true,
             FoundFault::Placing(PlacingFault::Storage | PlacingFault::Memory) => false,
         }
     }
@@ -35,6 +41,7 @@ impl FoundFault {
     {
         match self {
             FoundFault::Body(refusal) => (refusal.number(), refusal.word()),
+            FoundFault::Birth(refusal) => (refusal.number(), refusal.word()),
             FoundFault::Placing(fault) => (fault.number(), fault.word()),
         }
     }
@@ -65,6 +72,29 @@ impl From<BodyFault> for FoundFault {
             BodyFault::Refused(refusal) => FoundFault::Body(refusal),
             BodyFault::Memory => FoundFault::Placing(PlacingFault::Memory),
         }
+    }
+}
+
+/// No laboratory is born.
+impl From<BirthRefusal> for FoundFault {
+    ghost use Rattle.lab_desk.specs.declared.faults.FoundFault.TheVariants.{Birth};
+
+    ghost from_gives = { λ refusal gives. gives ≡ Birth refusal };
+
+    fn from(refusal: BirthRefusal) -> FoundFault {
+        FoundFault::Birth(refusal)
+    }
+}
+
+/// Memory ran out.
+impl From<OutOfMemory> for FoundFault {
+    ghost use Rattle.lab_kept.specs.declared.faults.PlacingFault.TheVariants.{Memory};
+    ghost use Rattle.lab_desk.specs.declared.faults.FoundFault.TheVariants.{Placing};
+
+    ghost from_gives = { λ _ gives. gives ≡ Placing Memory };
+
+    fn from(_error: OutOfMemory) -> FoundFault {
+        FoundFault::Placing(PlacingFault::Memory)
     }
 }
 

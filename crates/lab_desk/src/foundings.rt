@@ -1,12 +1,35 @@
-//! The line that answers a founding.
+//! What a founding's body bears, and the line that answers a founding.
 
-ghost use Rattle.std.specs.Prelude.{◌≡◌, ◌⊎◌, IfOk, None, true, false, option_map};
-ghost use Rattle.lab_desk.specs.Faults.{found_fault_entry, is_taken};
-ghost use Rattle.lab_desk.specs.Foundings.{founded_line, refused_line, memory_line, shown};
+ghost use Rattle.std.specs.Prelude.{◌≡◌, ◌⊎◌, IfOk, IfErr, None, Ok, true, false, option_map};
+ghost use Rattle.lab_kept.specs.Births.{newborn_lab};
+ghost use Rattle.lab_desk.specs.Faults.{found_fault_entry, is_taken, FoundFaultFits};
+ghost use Rattle.lab_desk.specs.Foundings.{IsNewborn, founding_in, founded_line, refused_line, memory_line, shown};
 
 use crate::faults::FoundFault;
-use lab_records::{LabCode, OutOfMemory, PlacingFault};
+use lab_bodies::founding_of;
+use lab_kept::Newborn;
+use lab_machine::bear;
+use lab_names::{LabCode, OutOfMemory, Tick};
 use std::alloc::Global;
+
+/// What a keeper founds the laboratory of the code from, by its body.
+pub(crate) fn newborn_of(
+    alloc: Global,
+    lab: &LabCode,
+    tick: &Tick,
+    body: &[u8],
+) -> Result<Newborn, FoundFault>
+    ensures born { IfOk result (λ newborn.
+        IsNewborn lab.now tick.now (founding_in body.now) (newborn_lab newborn)) }
+    // The keeper wasn't asked, so neither that the laboratory exists nor the store is a fault:
+    ensures fault { IfErr result (FoundFaultFits ⊥ ⊥ lab.now tick.now (founding_in body.now)) }
+{
+    let code = lab.copy()?;
+    match founding_of(alloc, body) {
+        Ok(founding) => Ok(bear(code, founding, tick)?),
+        Err(fault) => Err(FoundFault::from(fault)),
+    }
+}
 
 /// The line that tells of a founding.
 pub(crate) fn founded(alloc: Global, lab: &LabCode) -> Result<Vec<u8>, OutOfMemory>

@@ -6,15 +6,13 @@ mod desk;
 mod events;
 mod faults;
 mod foundings;
-mod lists;
 mod requests;
 mod runs;
-#[cfg(test)]
-mod tests;
 
 pub use crate::desk::Desk;
 pub use crate::events::Event;
 pub use crate::faults::{FoundFault, RunFault};
-pub use crate::lists::Lists;
-pub use lab_records::{Keeper, LabCode, OutOfMemory, PlacingFault, Refusal, Series, Tick};
-pub use lab_wire::BodyRefusal;
+pub use lab_kept::{Keeper, PlacingFault};
+pub use lab_machine::BirthRefusal;
+pub use lab_members::BodyRefusal;
+pub use lab_names::{LabCode, OutOfMemory, Series, Tick};

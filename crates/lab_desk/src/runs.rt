@@ -3,15 +3,16 @@
 
 ghost use Rattle.std.specs.Prelude.{◌≡◌, ℕ, List, [], ◌∷◌, IfOk, IfErr};
 ghost use Rattle.std.specs.Io.KnownBytes.{Keeps};
-ghost use Rattle.lab_records.specs.Worlds.{Passes, Given};
+ghost use Rattle.lab_kept.specs.Worlds.{Passes, Given};
+ghost use Rattle.lab_desk.specs.Keeping.{AreWithin, AreReleasing};
 ghost use Rattle.lab_desk.specs.Runs.{IsRun, Runs, RunsCut, Sends};
 ghost use Rattle.lab_desk.specs.Faults.{IfWrite, IfMemory};
 
 use crate::desk::Desk;
 use crate::events::Event;
 use crate::faults::RunFault;
-use lab_records::Keeper;
-use lab_wire::{WriteFault, write_reply};
+use lab_kept::Keeper;
+use lab_messages::{WriteFault, write_reply};
 use std::io::Write;
 
 /// How one event was answered.
@@ -34,17 +35,27 @@ impl<S: Keeper + Drop> Desk<S> {
     /// write fault: the events up to it stand, their answers went out, the last of them cut to its
     /// first bytes.
     pub fn run<W: Write>(&mut self, events: &[Event], writer: &mut W) -> Result<Vec<bool>, RunFault>
-        ensures alone { Given (S.world self.old.keeper) (S.world self.new.keeper)
+        ensures alone { AreWithin (S.world self.old.keeper) →
+            Given (S.world self.old.keeper) (S.world self.new.keeper)
             (IfOk result (λ taken.
             Runs (S.world self.old.keeper) (S.world self.new.keeper) events.now taken.items
             (W.contents writer.old) (W.contents writer.new))) }
-        ensures cut { Given (S.world self.old.keeper) (S.world self.new.keeper)
+        ensures cut { AreWithin (S.world self.old.keeper) →
+            Given (S.world self.old.keeper) (S.world self.new.keeper)
             (IfErr result (IfWrite (λ taken sent.
             RunsCut (S.world self.old.keeper) (S.world self.new.keeper) events.now taken sent
             (W.contents writer.old) (W.contents writer.new)))) }
         ensures memory { IfErr result (IfMemory
             ((self.new ≡ self.old) × Keeps (W.contents writer.old) (W.contents writer.new))) }
-        ensures reached { Given (S.world self.old.keeper) (S.world self.new.keeper)
+        ensures within { AreWithin (S.world self.old.keeper) →
+            Given (S.world self.old.keeper) (S.world self.new.keeper)
+            (AreWithin (S.world self.new.keeper)) }
+        ensures releasing { AreWithin (S.world self.old.keeper) →
+            AreReleasing (S.world self.old.keeper) →
+            Given (S.world self.old.keeper) (S.world self.new.keeper)
+            (AreReleasing (S.world self.new.keeper)) }
+        ensures reached { AreWithin (S.world self.old.keeper) →
+            Given (S.world self.old.keeper) (S.world self.new.keeper)
             (S.world self.new.keeper).is_reached }
         ensures passes { Passes (S.world self.old.keeper) (S.world self.new.keeper) }
     {
@@ -66,12 +77,21 @@ impl<S: Keeper + Drop> Desk<S> {
 
     /// Handles one event, and writes its answer.
     fn answer<W: Write>(&mut self, event: &Event, writer: &mut W) -> Answered
-        ensures answered { Given (S.world self.old.keeper) (S.world self.new.keeper)
+        ensures answered { AreWithin (S.world self.old.keeper) →
+            Given (S.world self.old.keeper) (S.world self.new.keeper)
             ((answer : List ℕ)
             × IsRun (S.world self.old.keeper) (S.world self.new.keeper)
             (record { event = event.now; taken = result.taken; answer = answer } ∷ [])
             × Sends answer result.sent (W.contents writer.old) (W.contents writer.new)) }
-        ensures reached { Given (S.world self.old.keeper) (S.world self.new.keeper)
+        ensures within { AreWithin (S.world self.old.keeper) →
+            Given (S.world self.old.keeper) (S.world self.new.keeper)
+            (AreWithin (S.world self.new.keeper)) }
+        ensures releasing { AreWithin (S.world self.old.keeper) →
+            AreReleasing (S.world self.old.keeper) →
+            Given (S.world self.old.keeper) (S.world self.new.keeper)
+            (AreReleasing (S.world self.new.keeper)) }
+        ensures reached { AreWithin (S.world self.old.keeper) →
+            Given (S.world self.old.keeper) (S.world self.new.keeper)
             (S.world self.new.keeper).is_reached }
         ensures passes { Passes (S.world self.old.keeper) (S.world self.new.keeper) }
     {

@@ -6,15 +6,16 @@ use Rattle.std.specs.List.{concat}
 use Rattle.std.specs.Io.KnownBytes.{Appends, Keeps, prepend_known}
 use Rattle.std.proofs.KnownBytes.{Appends-nil, Appends-trans, Appends-kept, Keeps-refl}
 use Rattle.std.proofs.lemmas.List.Folds.{concat-append}
-use Rattle.lab_records.specs.declared.lab.Lab.{Lab}
+use Rattle.lab_messages.specs.declared.sending.WriteFault.{WriteFault as Untold}
+use Rattle.lab_kept.specs.declared.labs.Lab.{Lab}
+use Rattle.lab_kept.specs.Worlds.{World}
+use Rattle.lab_lists.specs.Lists.{world_of}
 use Rattle.lab_desk.specs.declared.events.Event.{Event}
 use Rattle.lab_desk.specs.declared.faults.RunFault.{RunFault}
 use Rattle.lab_desk.specs.declared.faults.RunFault.TheVariants.{Memory as RunMemory, Write}
 use Rattle.std.proofs.lemmas.List.{map-append}
-use Rattle.lab_records.specs.Worlds.{World}
 use Rattle.lab_desk.specs.Runs.{Handled, IsRun, Runs, RunsCut, answers_of}
-use Rattle.lab_desk.specs.Lists.{world_of}
-use Rattle.lab_wire.specs.declared.sending.WriteFault.{WriteFault as Untold}
+use Rattle.lab_desk.specs.Keeping.{AreWithin}
 use Rattle.std.specs.Io.Buffered.{reader_remaining, reader_inner, reader_buffer, reader_capacity}
 use Rattle.std.specs.declared.io.BufReader.{BufReader}
 use Rattle.lab_desk.specs.Faults.{IfWrite, IfMemory}
@@ -304,6 +305,11 @@ replays_none fault old input before after h kept = record {
   answered = nothing_written fault h;
   wrote = Appends-kept before before after [] (Appends-nil before) kept;
 }
+
+-- of no laboratories each is within its limits
+pub none_beyond : (labs : List Lab) → labs ≡ [] → AreWithin (world_of labs)
+none_beyond labs none = subst (λ (k : List Lab). AreWithin (world_of k)) (sym none)
+    (λ live code. tt)
 
 -- a desk without laboratories, over a fresh reader
 pub from_nothing : (labs kept : List Lab) (input now before after : Option (List ℕ))

@@ -2,12 +2,12 @@
 -- and in order, and stops at the end of the input, at what is no event, or at a fault.
 use Rattle.std.specs.Prelude.{◌≡◌, ◌<◌, ℕ, List, [], ◌∷◌, ◌++◌, length, take, map, Option, Ok, Err, Result, IfSome, IfOk}
 use Rattle.std.specs.Io.KnownBytes.{Keeps, Appends}
-use Rattle.lab_records.specs.declared.lab.Lab.{Lab}
+use Rattle.lab_messages.specs.declared.sending.WriteFault.{WriteFault as Untold}
+use Rattle.lab_kept.specs.declared.labs.Lab.{Lab}
+use Rattle.lab_kept.specs.Worlds.{World}
+use Rattle.lab_lists.specs.Lists.{world_of}
 use Rattle.lab_desk.specs.declared.events.Event.{Event as EventRead}
-use Rattle.lab_records.specs.Worlds.{World}
-use Rattle.lab_desk.specs.Lists.{world_of}
 use Rattle.lab_desk.specs.Runs.{Handled, IsRun, answers_of}
-use Rattle.lab_wire.specs.declared.sending.WriteFault.{WriteFault as Untold}
 use Rattle.lab_events.specs.declared.fault.ReplayFault.{ReplayFault}
 use Rattle.lab_events.specs.declared.fault.ReplayFault.TheVariants.{BadEvent, ReadFault, WriteFault, Memory}
 use Rattle.lab_events.specs.Event.{Next, End, Bad, Taken, next_event}

@@ -13,4 +13,4 @@ pub use crate::fault::ReplayFault;
 pub use crate::limited::LimitedReader;
 pub use crate::replays::{replay, tell};
 pub use lab_desk::Event;
-pub use lab_wire::WriteFault;
+pub use lab_messages::WriteFault;

@@ -1,16 +1,18 @@
 //! `labdesk replay`: the events of an input, run one after the other.
 ghost use Rattle.std.specs.Prelude.{List, []};
-ghost use Rattle.lab_records.specs.declared.lab.Lab.{Lab as WholeLab};
-ghost use Rattle.lab_records.specs.Worlds.{Given};
-ghost use Rattle.lab_desk.specs.Lists.{world_of};
+ghost use Rattle.lab_kept.specs.declared.labs.Lab.{Lab as WholeLab};
+ghost use Rattle.lab_kept.specs.Worlds.{Given};
+ghost use Rattle.lab_lists.specs.Lists.{world_of};
+ghost use Rattle.lab_desk.specs.Keeping.{AreWithin};
 ghost use Rattle.lab_events.specs.Replay.{IsReplay, IsTold, Replays};
 
 use crate::event::next_event;
 use crate::fault::ReplayFault;
 use crate::limited::LimitedReader;
-use lab_desk::{Desk, Lists};
-use lab_records::Keeper;
-use lab_wire::{WriteFault, write_reply};
+use lab_desk::Desk;
+use lab_kept::Keeper;
+use lab_lists::Lists;
+use lab_messages::{WriteFault, write_reply};
 use std::alloc::Global;
 use std::io::{BufRead, BufReader, Read, Write};
 
@@ -28,7 +30,8 @@ fn run_events<S: Keeper + Drop, B: BufRead, W: Write>(
     reader: &mut B,
     output: &mut W,
 ) -> Result<(), ReplayFault>
-    ensures replayed { Given (S.world desk.old.keeper) (S.world desk.new.keeper)
+    ensures replayed { AreWithin (S.world desk.old.keeper) →
+        Given (S.world desk.old.keeper) (S.world desk.new.keeper)
         (Replays (S.world desk.old.keeper) (S.world desk.new.keeper)
         (B.remaining reader.old) (W.contents output.old) (W.contents output.new) result) }
 {

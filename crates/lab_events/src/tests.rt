@@ -1,13 +1,27 @@
 use crate::{Event, LimitedReader, ReplayFault, WriteFault, next_event, replay};
-use lab_desk::{Desk, Lists};
+use lab_desk::Desk;
+use lab_lists::Lists;
 use std::alloc::Global;
 use std::io::{BufReader, ErrorKind, Read, Write};
 use std::process::Abort;
 use std::{fmt, io};
 
-const AQUA: &str = "found aqua 0 1 19\n{\"name\":\"Aqua Lab\"}";
+/// The line of a founding, whose body follows it.
+const AQUA: &str = "found aqua 0 1 218\n";
 
-const BRICK: &str = "found brick 0 1 20\n{\"name\":\"Brick Lab\"}";
+const AQUA_BODY: &str = "{\"founders\":[\
+    {\"code\":\"ann\",\"name\":\"Ann Ames\",\"password\":\"correct horse 1\"},\
+    {\"code\":\"bob\",\"name\":\"Bob Bell\",\"password\":\"correct horse 2\"},\
+    {\"code\":\"cid\",\"name\":\"Cid Cole\",\"password\":\"correct horse 3\"}],\
+    \"name\":\"Aqua Lab\"}";
+
+const BRICK: &str = "found brick 0 1 219\n";
+
+const BRICK_BODY: &str = "{\"founders\":[\
+    {\"code\":\"ann\",\"name\":\"Ann Ames\",\"password\":\"correct horse 1\"},\
+    {\"code\":\"bob\",\"name\":\"Bob Bell\",\"password\":\"correct horse 2\"},\
+    {\"code\":\"cid\",\"name\":\"Cid Cole\",\"password\":\"correct horse 3\"}],\
+    \"name\":\"Brick Lab\"}";
 
 const AQUA_CARD: &str = "call 100 9 36\nGET /labs/aqua HTTP/1.1\r\nHost: d\r\n\r\n";
 
@@ -102,14 +116,51 @@ fn check<R: Abort + AllocGlobal>(rt: &R, input: &[&str], answers: &[&str], told:
 fn one_card_and_one_missing_laboratory(rt: HostRuntime) {
     let founded = "founded aqua\nfounded brick\n";
     let answers = [founded, AQUA_REPLY, ZINC_REPLY];
-    check(&rt, &[AQUA, BRICK, AQUA_CARD, ZINC_CARD], &answers, "", 0);
+    let events = [AQUA, AQUA_BODY, BRICK, BRICK_BODY, AQUA_CARD, ZINC_CARD];
+    check(&rt, &events, &answers, "", 0);
 }
 
 #[test]
 fn a_second_founding_is_refused(rt: HostRuntime) {
     let further = "refused 64 lab_exists\n";
     let answers = ["founded aqua\n", further, AQUA_REPLY];
-    check(&rt, &[AQUA, AQUA, AQUA_CARD], &answers, "", 0);
+    let events = [AQUA, AQUA_BODY, AQUA, AQUA_BODY, AQUA_CARD];
+    check(&rt, &events, &answers, "", 0);
+}
+
+#[test]
+fn what_a_founding_is_refused_for(rt: HostRuntime) {
+    let bodies = [
+        "found aqua 0 1 19\n{\"name\":\"Aqua Lab\"}",
+        "found aqua 0 1 33\n{\"founders\":[],\"name\":\"Aqua Lab\"}",
+    ];
+    let refused = "refused 88 bad_body\n";
+    check(&rt, &bodies, &[refused, refused], "", 0);
+}
+
+/// A session is asked for in each of two laboratories, at one moment and by the same words.
+const AQUA_OPEN: &str = "call 100 1 105\nPOST /labs/aqua/open HTTP/1.1\r\nHost: d\r\n\
+    Content-Length: 43\r\n\r\n{\"code\":\"ann\",\"password\":\"correct horse 1\"}";
+
+const BRICK_OPEN: &str = "call 100 1 106\nPOST /labs/brick/open HTTP/1.1\r\nHost: d\r\n\
+    Content-Length: 43\r\n\r\n{\"code\":\"ann\",\"password\":\"correct horse 1\"}";
+
+const OPENED: &str = "HTTP/1.1 200 OK\r\nDate: Thu, 01 Jan 1970 00:01:40 GMT\r\n\
+    Content-Type: application/json\r\nContent-Length: 100\r\nConnection: close\r\n\r\n\
+    {\"due\":false,\"session\":1,\"token\":\"\
+    0000000000000001000000000000000200000000000000030000000000000004\"}";
+
+const REPEATED: &str = "HTTP/1.1 503 Service Unavailable\r\nDate: Thu, 01 Jan 1970 00:01:40 GMT\r\n\
+    Content-Type: application/json\r\nContent-Length: 39\r\nConnection: close\r\n\r\n\
+    {\"error\":\"random_repeated\",\"number\":21}";
+
+#[test]
+fn sessions_of_two_laboratories(rt: HostRuntime) {
+    let foundings = [AQUA, AQUA_BODY, BRICK, BRICK_BODY];
+    let foundings = joined(&rt, &foundings);
+    let events = [foundings.as_str(), AQUA_OPEN, BRICK_OPEN, AQUA_OPEN];
+    let founded = "founded aqua\nfounded brick\n";
+    check(&rt, &events, &[founded, OPENED, OPENED, REPEATED], "", 0);
 }
 
 #[test]
@@ -139,16 +190,17 @@ fn taken<R: Abort + AllocGlobal>(rt: &R, events: &[Event]) -> Vec<bool> {
 
 #[test]
 fn each_event_of_the_first_run_is_taken(rt: HostRuntime) {
-    let input = joined(&rt, &[AQUA, BRICK, AQUA_CARD, ZINC_CARD]);
+    let parts = [AQUA, AQUA_BODY, BRICK, BRICK_BODY, AQUA_CARD, ZINC_CARD];
+    let input = joined(&rt, &parts);
     let taken = taken(&rt, &events_of(&rt, input.as_str()));
     assert_eq!(rt; taken.as_slice(), [true; 4].as_slice());
 }
 
 #[test]
 fn a_clock_that_is_behind(rt: HostRuntime) {
-    let later = "found aqua 101 1 19\n{\"name\":\"Aqua Lab\"}";
+    let later = "found aqua 101 1 218\n";
     let answers = ["founded aqua\n", CLOCK_BEHIND_REPLY];
-    check(&rt, &[later, AQUA_CARD], &answers, "", 0);
+    check(&rt, &[later, AQUA_BODY, AQUA_CARD], &answers, "", 0);
 }
 
 #[test]
@@ -174,15 +226,15 @@ fn what_is_no_event(rt: HostRuntime) {
         "call 100 18446744073709551609 0\n",
         "call 100 9 1000001\n",
         "call 100 9 3\nab",
-        "found 0 1 19\n{\"name\":\"Aqua Lab\"}",
-        "found Aqua 0 1 19\n{\"name\":\"Aqua Lab\"}",
-        "found aquamarine-12 0 1 19\n{\"name\":\"Aqua Lab\"}",
-        "found \u{e9}gide 0 1 19\n{\"name\":\"Aqua Lab\"}",
-        "found  0 1 19\n{\"name\":\"Aqua Lab\"}",
+        "found 0 1 0\n",
+        "found Aqua 0 1 0\n",
+        "found aquamarine-12 0 1 0\n",
+        "found \u{e9}gide 0 1 0\n",
+        "found  0 1 0\n",
     ];
     for event in bad {
-        let input = [AQUA, event, BRICK];
-        let last = [AQUA, event];
+        let input = [AQUA, AQUA_BODY, event, BRICK, BRICK_BODY];
+        let last = [AQUA, AQUA_BODY, event];
         let told = "labdesk: bad_event\n";
         if !event.ends_with("ab") {
             check(&rt, &input, &["founded aqua\n"], told, 1);
@@ -194,22 +246,20 @@ fn what_is_no_event(rt: HostRuntime) {
 #[test]
 fn numbers_at_their_limits(rt: HostRuntime) {
     let founded = ["founded aqua\n", "founded brick\n"];
-    let zeros = "found aqua 00000000000000000000000000 000000000000000000000001 019\n\
-        {\"name\":\"Aqua Lab\"}";
-    let last = "found brick 253402300799 18446744073709551608 00000000000020\n\
-        {\"name\":\"Brick Lab\"}";
-    check(&rt, &[zeros, last], &founded, "", 0);
+    let zeros = "found aqua 00000000000000000000000000 000000000000000000000001 0218\n";
+    let last = "found brick 253402300799 18446744073709551608 00000000000219\n";
+    check(&rt, &[zeros, AQUA_BODY, last, BRICK_BODY], &founded, "", 0);
 }
 
 #[test]
 fn an_event_of_the_greatest_length(rt: HostRuntime) {
-    let long = "found aqua 0 1 1000000\n{\"name\":\"Aqua Lab\"}";
-    let long = padded(&rt, long, ' ', 1_000_000 - 19);
+    let long = padded(&rt, AQUA_BODY, ' ', 1_000_000 - 218);
     let answers = ["founded aqua\n", "founded brick\n"];
-    check(&rt, &[long.as_str(), BRICK], &answers, "", 0);
+    let events = ["found aqua 0 1 1000000\n", long.as_str(), BRICK, BRICK_BODY];
+    check(&rt, &events, &answers, "", 0);
 }
 
-/// A reader that gives a few bytes at a time, is interrupted at each other call, and fails after so
+/// A reader that gives 190 bytes at a time, is interrupted at each other call, and fails after so
 /// many calls.
 #[derive(Drop)]
 struct Halting<'a> {
@@ -226,14 +276,14 @@ impl Read for Halting<'_> {
         if self.calls_left % 2 == 0 {
             return Err(io::Error::new(ErrorKind::Interrupted, "again"));
         }
-        let most = buffer.len().min(30);
+        let most = buffer.len().min(190);
         self.bytes.read(&mut buffer[..most])
     }
 }
 
 #[test]
 fn an_input_that_fails(rt: HostRuntime) {
-    let input = joined(&rt, &[AQUA, BRICK]);
+    let input = joined(&rt, &[AQUA, AQUA_BODY, BRICK, BRICK_BODY]);
     let both = "founded aqua\nfounded brick\n";
     for (calls_left, answers, told, status) in [
         (0, "", "labdesk: read_fault\n", 1),
@@ -265,22 +315,23 @@ fn a_reader_is_asked_no_more_than_it_may_be(rt: HostRuntime) {
 /// The line of a founding that has so many bytes before its line feed, most of them leading zeros,
 /// and the founding's body.
 fn long_founding<R: Abort + AllocGlobal>(rt: &R, bytes: usize) -> String {
-    let line = padded(rt, "found aqua 0 1 ", '0', bytes.saturating_sub(17));
-    joined(rt, &[line.as_str(), "19\n{\"name\":\"Aqua Lab\"}"])
+    let line = padded(rt, "found aqua 0 1 ", '0', bytes.saturating_sub(18));
+    joined(rt, &[line.as_str(), "218\n", AQUA_BODY])
 }
 
 #[test]
 fn a_line_of_the_greatest_length(rt: HostRuntime) {
     let line = long_founding(&rt, 1_000);
     let answers = ["founded aqua\n", "founded brick\n"];
-    check(&rt, &[line.as_str(), BRICK], &answers, "", 0);
+    check(&rt, &[line.as_str(), BRICK, BRICK_BODY], &answers, "", 0);
 }
 
 #[test]
 fn a_line_that_is_too_long(rt: HostRuntime) {
     let line = long_founding(&rt, 1_001);
     let told = "labdesk: bad_event\n";
-    check(&rt, &[BRICK, line.as_str()], &["founded brick\n"], told, 1);
+    let events = [BRICK, BRICK_BODY, line.as_str()];
+    check(&rt, &events, &["founded brick\n"], told, 1);
 }
 
 /// What comes without end is no line, and is found to be none by the first bytes: the reader is
@@ -295,7 +346,8 @@ fn a_line_without_end(rt: HostRuntime) {
 
 #[test]
 fn an_input_without_end(rt: HostRuntime) {
-    let input = AQUA.as_bytes().chain(io::repeat(b'0'));
+    let founding = joined(&rt, &[AQUA, AQUA_BODY]);
+    let input = founding.as_bytes().chain(io::repeat(b'0'));
     let told = "labdesk: bad_event\n";
     assert_replay(&rt, (&"zeros", input), "founded aqua\n", told, 1);
 }
@@ -344,7 +396,7 @@ struct CutShort {
 
 /// Replays two foundings at a writer for the answers and one for what is told, each with its room.
 fn cut<R: Abort + AllocGlobal>(rt: &R, (room, told_room, fails): (usize, usize, bool)) -> CutShort {
-    let input = joined(rt, &[AQUA, BRICK]);
+    let input = joined(rt, &[AQUA, AQUA_BODY, BRICK, BRICK_BODY]);
     let mut answers = Narrow::new(rt.alloc(), room, fails);
     let mut told = Narrow::new(rt.alloc(), told_room, fails);
     let status = replay(rt.alloc(), input.as_bytes(), &mut answers, &mut told);

@@ -4,7 +4,7 @@ use Rattle.std.specs.Prelude.{Result}
 use Rattle.clap.specs.Words.{IsAmong, Kinds}
 use Rattle.clap.specs.declared.error.kind.ErrorKind.{ErrorKind}
 use Rattle.clap.specs.declared.error.kind.ErrorKind.TheVariants as kind
-use Rattle.lab_wire.specs.declared.sending.WriteFault.{WriteFault as Untold}
+use Rattle.lab_messages.specs.declared.sending.WriteFault.{WriteFault as Untold}
 use Rattle.lab_program.specs.CommandLine.{Explains, IsExplained}
 
 module _ (before after told_before told_after : Option (List ℕ)) (status : Result ℕ Untold) where

@@ -4,7 +4,11 @@ use std::io::{ErrorKind, Write};
 use std::process::Abort;
 use std::{fmt, io};
 
-const AQUA: &str = "found aqua 0 1 19\n{\"name\":\"Aqua Lab\"}";
+const AQUA: &str = "found aqua 0 1 218\n{\"founders\":[\
+    {\"code\":\"ann\",\"name\":\"Ann Ames\",\"password\":\"correct horse 1\"},\
+    {\"code\":\"bob\",\"name\":\"Bob Bell\",\"password\":\"correct horse 2\"},\
+    {\"code\":\"cid\",\"name\":\"Cid Cole\",\"password\":\"correct horse 3\"}],\
+    \"name\":\"Aqua Lab\"}";
 
 fn joined<R: Abort + AllocGlobal>(rt: &R, parts: &[&str]) -> String {
     let mut text = String::new(rt.alloc());

@@ -1,11 +1,3 @@
 pub mod AskLemmas
-pub mod BodyLemmas
-pub mod DateLemmas
-pub mod HeadLaws
-pub mod HeadLemmas
 pub mod KnownValues
-pub mod LineLemmas
-pub mod MessageLemmas
-pub mod ReadLemmas
 pub mod ReplyLemmas
-pub mod RouteLemmas

@@ -1,17 +1,26 @@
--- No answer has a number with a point, so that each has one text.
-use Rattle.std.proofs.Common.{◌≡◌, false, refl}
+-- No refusal of the wire has a number with a point, so that each has one text; and an answer's message is put together
+-- of its parts.
+use Rattle.std.proofs.Common.{◌≡◌, ℕ, List, [], Some, false, refl}
 use Rattle.serde_json.specs.Written.{has_float}
 use Rattle.lab_names.specs.Faults.{Entry}
-use Rattle.lab_records.specs.declared.command.Reply.TheVariants as reply
+use Rattle.lab_names.specs.declared.tick.Tick.{Tick}
+use Rattle.lab_messages.specs.Messages.{message_text}
+use Rattle.lab_replies.specs.Refusals.{refused_data}
 use Rattle.lab_wire.specs.declared.replies.Answer.{Answer}
-use Rattle.lab_wire.specs.declared.replies.Answer.TheVariants.{Replied, Refused, Storage}
-use Rattle.lab_wire.specs.Replies.{refusal_data, answer_data}
+use Rattle.lab_wire.specs.Statuses.{answer_status}
+use Rattle.lab_wire.specs.Replies.{json_type, answer_text, further_fields, reply_text}
 
-pub refusal_floats : (entry : Entry) → has_float (refusal_data entry) ≡ false
-refusal_floats entry = refl
+pub entry_floats : (entry : Entry) → has_float (refused_data entry []) ≡ false
+entry_floats entry = refl
 
-pub answer_floats : (answer : Answer) → has_float (answer_data answer) ≡ false
-answer_floats (Replied (reply.Card lab name)) = refl
-answer_floats (Replied (reply.Refused refusal)) = refl
-answer_floats (Refused refusal) = refl
-answer_floats Storage = refl
+pub reply_is : (tick : Tick) (answer : Answer) (status : ℕ) (further body : List ℕ) → status ≡ answer_status answer
+    → further ≡ further_fields answer → body ≡ answer_text answer
+    → message_text (record {
+      status = status;
+      moment = Some tick.moment;
+      media_type = json_type;
+      further = further;
+      body = body;
+    }) ≡ reply_text tick answer
+unfolding reply_text
+reply_is tick answer status further body s f b = rw (s, f, b) refl

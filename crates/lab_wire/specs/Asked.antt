@@ -1,42 +1,54 @@
--- What the bytes of a request ask of which laboratory, or why they are refused (RFC 9112, sections
--- 2 to 5). The checks stand here in their order: the head, the route, the laboratory's code.
-use Rattle.std.specs.Prelude.{◌≡◌, ℕ, List, if◌then◌else◌, Option, Some, None, Result, Ok, Err, IsOk}
-use Rattle.lab_names.specs.Names.{is_lab_code}
-use Rattle.lab_records.specs.declared.command.Command.TheVariants as command
-use Rattle.lab_records.specs.declared.command.Instruction.{Instruction}
+-- What the bytes of a request ask of which laboratory, or why they are refused. The checks are
+-- those of the definitions named here, in this order, and the first that fails is the refusal (RFC
+-- 9112, sections 2 to 6; docs/HTTP.md has the same list):
+--
+--   head_too_long     is_over_limits                 lab_heads: Heads
+--   bad_head          head_of, keeps_host_rule       lab_heads: Heads
+--   bad_head          is_repeated, of two fields     lab_heads: Lengths, head_checks
+--   transfer_coding   has_field                      the same
+--   bad_head          is_length_good                 the same
+--   length_wanted     is_post                        the same
+--   body_too_long     body_length                    the same
+--   short_body        body_end                       lab_heads: Requests
+--   no_route          behind, is_lab_code, is_place  lab_routes: Routes
+--   method            row_of                         lab_routes: Routes
+--   bad_body          range_in                       lab_routes: Queries
+--   bad_body, bad_name, and what is wrong with a form or with keys
+--                     body_named                     lab_bodies: Bodies
+use Rattle.std.specs.Prelude.{◌≡◌, ℕ, List, IsOk, Result, Ok, Err}
+use Rattle.lab_heads.specs.declared.refusals.HeadRefusal.{HeadRefusal}
+use Rattle.lab_heads.specs.Requests.{RequestParts, request_in}
+use Rattle.lab_routes.specs.declared.refusals.RouteRefusal.{RouteRefusal}
+use Rattle.lab_routes.specs.declared.commands.Asked.{Asked}
+use Rattle.lab_routes.specs.Routes.{Destination}
+use Rattle.lab_routes.specs.Commands.{destination_in, command_asked}
 use Rattle.lab_wire.specs.declared.refusals.RequestRefusal.{RequestRefusal}
-use Rattle.lab_wire.specs.declared.refusals.RequestRefusal.TheVariants.{NoRoute}
+use Rattle.lab_wire.specs.declared.refusals.RequestRefusal.TheVariants.{Head, Route}
 use Rattle.lab_wire.specs.declared.refusals.RequestFault.{RequestFault}
 use Rattle.lab_wire.specs.declared.refusals.RequestFault.TheVariants.{Refused, Memory}
-use Rattle.lab_wire.specs.declared.routes.Route.{Route}
-use Rattle.lab_wire.specs.declared.routes.Route.TheVariants.{Card}
-use Rattle.lab_wire.specs.declared.asked.Asked.{Asked}
-use Rattle.lab_wire.specs.Heads.{GoodHead, good_head}
-use Rattle.lab_wire.specs.Routes.{Destination, destination_of}
 
--- the instruction of a route
-abbrev pub instruction_of : Route → Instruction
-instruction_of Card = record { token = None; command = command.Card }
+-- what comes of a request's route, its refusal as the wire's
+abbrev pub of_route : {A : Type 0} → Result A RouteRefusal → Result A RequestRefusal
+of_route (Ok found) = Ok found
+of_route (Err refusal) = Err (Route refusal)
 
--- what is asked where a request goes
-unfoldable pub asked_at : Option Destination → Result Asked RequestRefusal
-asked_at None = Err NoRoute
-asked_at (Some to) =
-    if is_lab_code to.lab
-    then Ok (record { lab = to.lab; instruction = instruction_of to.route })
-    else Err NoRoute
-
--- what a head asks
-abbrev pub asked_by : Result GoodHead RequestRefusal → Result Asked RequestRefusal
-asked_by (Ok good) = asked_at (destination_of good.head.method good.head.target)
-asked_by (Err refusal) = Err refusal
+-- what comes of reading a request: of one that is refused, that
+abbrev pub of_request : {A : Type 0} → (RequestParts → Result A RouteRefusal) →
+    Result RequestParts HeadRefusal → Result A RequestRefusal
+of_request says (Ok request) = of_route (says request)
+of_request says (Err refusal) = Err (Head refusal)
 
 -- what the bytes ask
 unfoldable pub asked : List ℕ → Result Asked RequestRefusal
-asked bytes = asked_by (good_head bytes)
+asked bytes = of_request command_asked (request_in bytes)
 
--- the faults of reading what is asked: the refusal that comes of it, or out of memory where
--- something is asked
-abbrev pub RequestFaultFits : Result Asked RequestRefusal → RequestFault → Type 0
-RequestFaultFits asks (Refused refusal) = asks ≡ Err refusal
-RequestFaultFits asks Memory = IsOk asks
+-- where they go
+unfoldable pub destination_asked : List ℕ → Result Destination RequestRefusal
+destination_asked bytes = of_request destination_in (request_in bytes)
+
+-- The faults of reading what is asked: the refusal that comes of it; out of memory only where the
+-- bytes are a whole request that goes somewhere, so that it never hides what is wrong with a head,
+-- a length, a path or a method.
+abbrev pub RequestFaultFits : List ℕ → RequestFault → Type 0
+RequestFaultFits bytes (Refused refusal) = asked bytes ≡ Err refusal
+RequestFaultFits bytes Memory = IsOk (destination_asked bytes)

@@ -1,11 +1,4 @@
-pub mod Asked
-pub mod Bodies
-pub mod Dates
-pub mod HeadGrammar
-pub mod Heads
-pub mod Messages
 pub mod Refusals
-pub mod Replies
-pub mod Routes
-pub mod Sending
 pub mod Statuses
+pub mod Replies
+pub mod Asked

@@ -1,56 +1,82 @@
--- What each answer says, as JSON (RFC 8259), and its bytes.
-use Rattle.std.specs.Prelude.{ℕ, List, [], ◌∷◌, codes, Some, None}
-use Rattle.serde_json.specs.Data.{Data, object, string, number, unsigned, Members, no_members, put}
+-- What is answered, and its bytes: the body is JSON (RFC 8259), and the status may ask for a field
+-- (RFC 9110, sections 8.3, 10.2.1 and 11.6.1).
+use Rattle.std.specs.Prelude.{ℕ, List, [], ◌++◌, ◌==◌, codes, if◌then◌else◌, Some, None}
 use Rattle.serde_json.specs.Written.{compact_text}
 use Rattle.lab_names.specs.declared.tick.Tick.{Tick}
 use Rattle.lab_names.specs.Faults.{Entry, memory_entry}
-use Rattle.lab_records.specs.declared.command.Reply.{Reply}
-use Rattle.lab_records.specs.declared.command.Reply.TheVariants as reply
-use Rattle.lab_records.specs.Refusals.{refusal_entry, storage_entry}
+use Rattle.lab_kept.specs.Faults.{storage_entry}
+use Rattle.lab_replies.specs.Refusals.{refused_data}
+use Rattle.lab_replies.specs.Replies.{reply_text as body_text}
+use Rattle.lab_messages.specs.Messages.{line, message_text}
+use Rattle.lab_routes.specs.declared.refusals.RouteRefusal.{RouteRefusal}
+use Rattle.lab_routes.specs.declared.refusals.RouteRefusal.TheVariants.{NoRoute, Method, Body}
+use Rattle.lab_routes.specs.Refusals.{allowed_text}
+use Rattle.lab_wire.specs.declared.refusals.RequestRefusal.{RequestRefusal}
+use Rattle.lab_wire.specs.declared.refusals.RequestRefusal.TheVariants.{Head, Route}
 use Rattle.lab_wire.specs.declared.replies.Answer.{Answer}
 use Rattle.lab_wire.specs.declared.replies.Answer.TheVariants.{Replied, Refused, Storage}
 use Rattle.lab_wire.specs.Refusals.{request_entry}
 use Rattle.lab_wire.specs.Statuses.{answer_status, memory_status}
-use Rattle.lab_wire.specs.Messages.{message_text}
 
--- an object, whose members stand in ascending order of the bytes of their names
-abbrev pub members_from : List (List ℕ × Data) → Members
-members_from [] = no_members
-members_from (one ∷ more) = put one.0 one.1 (members_from more)
+-- ---- the body
 
-abbrev pub object_from : List (List ℕ × Data) → Data
-object_from members = object (members_from members)
+-- the type of every body
+abbrev pub json_type : List ℕ
+json_type = codes "application/json"
 
--- a laboratory's card
-abbrev pub card_data : List ℕ → List ℕ → Data
-card_data lab name =
-    object_from ((codes "lab", string lab) ∷ (codes "name", string name) ∷ [])
+-- a refusal that tells its word and its number alone
+abbrev pub entry_text : Entry → List ℕ
+entry_text entry = compact_text (refused_data entry [])
 
--- a refusal
-abbrev pub refusal_data : Entry → Data
-refusal_data entry =
-    object_from (
-    (codes "error", string entry.word)
-    ∷ (codes "number", number (unsigned entry.number))
-    ∷ []
-    )
+-- the body of an answer
+abbrev pub answer_text : Answer → List ℕ
+answer_text (Replied told) = body_text told
+answer_text (Refused refusal) = entry_text (request_entry refusal)
+answer_text Storage = entry_text storage_entry
 
--- a laboratory's reply
-abbrev pub reply_data : Reply → Data
-reply_data (reply.Card lab name) = card_data lab name
-reply_data (reply.Refused refusal) = refusal_data (refusal_entry refusal)
+-- ---- the fields that a status asks for
 
--- all that is answered
-abbrev pub answer_data : Answer → Data
-answer_data (Replied told) = reply_data told
-answer_data (Refused refusal) = refusal_data (request_entry refusal)
-answer_data Storage = refusal_data storage_entry
+-- for 401: by what a client shows who it is
+abbrev pub challenge_field : ℕ → List ℕ
+challenge_field status =
+    if status == 401 then line (codes "WWW-Authenticate: LabSession") else []
 
--- the bytes of an answer at a tick, its body without blanks
+-- for 405: which methods the place has
+abbrev pub allow_by_route : RouteRefusal → List ℕ
+allow_by_route NoRoute = []
+allow_by_route (Method allowed) = line (codes "Allow: " ++ allowed_text allowed)
+allow_by_route (Body refusal) = []
+
+abbrev pub allow_by_request : RequestRefusal → List ℕ
+allow_by_request (Head refusal) = []
+allow_by_request (Route refusal) = allow_by_route refusal
+
+abbrev pub allow_field : Answer → List ℕ
+allow_field (Replied told) = []
+allow_field (Refused refusal) = allow_by_request refusal
+allow_field Storage = []
+
+abbrev pub further_fields : Answer → List ℕ
+further_fields answer = challenge_field (answer_status answer) ++ allow_field answer
+
+-- ---- the message
+
+-- the bytes of an answer at a tick
 unfoldable pub reply_text : Tick → Answer → List ℕ
-reply_text tick answer =
-    message_text (answer_status answer) (Some tick.moment) (compact_text (answer_data answer))
+reply_text tick answer = message_text (record {
+  status = answer_status answer;
+  moment = Some tick.moment;
+  media_type = json_type;
+  further = further_fields answer;
+  body = answer_text answer;
+})
 
 -- the reply where memory ran out, which is made beforehand and bears no date
 unfoldable pub memory_text : List ℕ
-memory_text = message_text memory_status None (compact_text (refusal_data memory_entry))
+memory_text = message_text (record {
+  status = memory_status;
+  moment = None;
+  media_type = json_type;
+  further = [];
+  body = entry_text memory_entry;
+})

@@ -1,27 +1,23 @@
-//! The wire of Koghdise: what the bytes of an HTTP/1.1 request ask, the bytes of each reply and how
-//! they are sent (RFC 9110 and RFC 9112), and what the body of a founding says (RFC 8259).
+//! The wire of Koghdise: what the bytes of an HTTP/1.1 request ask of which laboratory, and the bytes of each answer
+//! (RFC 9110 and RFC 9112). What the layers above name of the crates below is passed on.
 #![tactic(auto)]
 
 mod asked;
-mod bodies;
-mod dates;
-mod head_grammar;
-mod heads;
-mod messages;
 mod refusals;
 mod replies;
-mod routes;
-mod sending;
 mod statuses;
 #[cfg(test)]
 mod tests;
 
-pub use asked::{Asked, ask};
-pub use bodies::founding_of;
-pub use head_grammar::grammar_of_heads;
-pub use lab_records::{
-    Command, Founding, Instruction, LabCode, Name, OutOfMemory, Refusal, Reply, Tick, Token,
-};
-pub use refusals::{BodyFault, BodyRefusal, RequestFault, RequestRefusal};
+pub use asked::ask;
+pub use lab_bodies::founding_of;
+pub use lab_heads::{HeadRefusal, RequestParts, grammar_of_heads, request_parts};
+pub use lab_machine::{Command, Founder, Founding, Instruction, Reply};
+pub use lab_members::{BodyFault, BodyRefusal};
+pub use lab_messages::{WriteFault, write_reply};
+pub use lab_names::{LabCode, Name, OutOfMemory, Tick};
+pub use lab_routes::{Allowed, Asked, RouteRefusal};
+pub use lab_rules::Refusal;
+pub use lab_secrets::Token;
+pub use refusals::{RequestFault, RequestRefusal};
 pub use replies::{Answer, memory_reply, reply_bytes};
-pub use sending::{WriteFault, write_reply};

@@ -6,8 +6,9 @@ use Rattle.lab_events.proofs.replays.run_events.Goals as goal
 
 pub loop-init : goal.loop-init
 loop-init g c = record {
-  sofar = λ h r. so_far_none _ _ _;
-  reached = λ h r. r;
+  sofar = λ w h r. so_far_none _ _ _;
+  within = λ w h r. w;
+  reached = λ w h r. r;
   passes = record { honest = λ h. h; live = λ h l. l; refusing = λ m. m };
 }
 
@@ -15,13 +16,19 @@ pub loop-preserved : goal.loop-preserved
 loop-preserved g c =
     let next = rw c.in-Some.is at c.in_ok-event.ensures.taken in
     let ran = c.run.ensures.passes in
-    let before = c.loop.invariant.passes in record {
-      sofar = λ h r.
+    let so = c.loop.invariant in
+    let before = so.passes in record {
+      sofar = λ w h r.
           let kept = ran.honest h in
           so_far_more _ _ c.in-Some.event _ _ _ _ _ _ _ _ before.refusing
-          (c.loop.invariant.sofar kept r) next
-          (c.in_ok-run.ensures.alone h (c.loop.invariant.reached kept r));
-      reached = λ h r. c.run.ensures.reached h (c.loop.invariant.reached (ran.honest h) r);
+          (so.sofar w kept r) next
+          (c.in_ok-run.ensures.alone (so.within w kept r) h (so.reached w kept r));
+      within = λ w h r.
+          let kept = ran.honest h in
+          c.run.ensures.within (so.within w kept r) h (so.reached w kept r);
+      reached = λ w h r.
+          let kept = ran.honest h in
+          c.run.ensures.reached (so.within w kept r) h (so.reached w kept r);
       passes = record {
         honest = λ h. before.honest (ran.honest h);
         live = λ h l. before.live (ran.honest h) (ran.live h l);
@@ -33,14 +40,15 @@ pub returns-in_err-run : goal.returns-in_err-run
 returns-in_err-run g c =
     let p = err_from_is_err_and c.from_residual-in_err-run.result
     c.from_residual-in_err-run.ensures.1 in
-    let next = rw c.in-Some.is at c.in_ok-event.ensures.taken in record {
-      replayed = λ h r.
+    let next = rw c.in-Some.is at c.in_ok-event.ensures.taken in
+    let so = c.loop.invariant in record {
+      replayed = λ w h r.
           let kept = c.run.ensures.passes.honest h in
           rw (p.1, p.2) (replays_stopped _ _
           (λ served. g.S.Keeper.world served.keeper) c.loop.desk c.run.new.self
-          c.loop.invariant.passes.refusing
+          so.passes.refusing
           c.in-Some.event c.in_err-run.field-0.0 _ _
-          (g.B.Read.remaining c.next_event.new.reader) _ _ (c.loop.invariant.sofar kept r) next
-          (c.in_err-run.ensures.cut h (c.loop.invariant.reached kept r))
+          (g.B.Read.remaining c.next_event.new.reader) _ _ (so.sofar w kept r) next
+          (c.in_err-run.ensures.cut (so.within w kept r) h (so.reached w kept r))
           c.in_err-run.ensures.memory);
     }

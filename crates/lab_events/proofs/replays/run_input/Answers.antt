@@ -1,9 +1,9 @@
 use Rattle.std.proofs.Common.{◌∙◌, ap, []}
 use Rattle.std.proofs.KnownBytes.{Keeps-refl}
 use Rattle.std.proofs.lemmas.Result.{err_from_is_err_and}
-use Rattle.lab_desk.specs.Lists.{world_of}
+use Rattle.lab_lists.specs.Lists.{world_of}
 use Rattle.lab_events.specs.declared.fault.ReplayFault.TheVariants.{Memory}
-use Rattle.lab_events.proofs.ReplayLemmas.{replays_none, from_nothing, fresh_reader}
+use Rattle.lab_events.proofs.ReplayLemmas.{replays_none, none_beyond, from_nothing, fresh_reader}
 use Rattle.lab_events.proofs.replays.run_input.Goals as goal
 
 pub returns-in_err-desk : goal.returns-in_err-desk
@@ -34,6 +34,6 @@ returns g c =
       replayed = (
         c.run_events.new.desk.keeper,
         from_nothing _ c.in_ok-desk.desk.keeper _ _ _ _ _ none (fresh ∙ input)
-            (c.run_events.ensures.replayed tt tt),
+            (c.run_events.ensures.replayed (none_beyond _ none) tt tt),
       );
     }

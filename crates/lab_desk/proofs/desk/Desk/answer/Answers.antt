@@ -3,7 +3,7 @@ use Rattle.lab_desk.proofs.Running.{one_founding, one_call, sent_as}
 use Rattle.lab_desk.proofs.desk.Desk.answer.Goals as goal
 
 pub returns-in-Found-clause-answered : goal.returns-in-Found-clause-answered
-returns-in-Found-clause-answered g c = λ honest reached. (
+returns-in-Found-clause-answered g c = λ within honest reached. (
   c.bytes.result.now,
   one_founding _ _ c.args.event.now c.in-Found.lab c.in-Found.tick c.in-Found.body
       c.as_slice.result.now c.answer_founding-line.result.taken c.bytes.result.now _
@@ -15,12 +15,12 @@ returns-in-Found-clause-answered g c = λ honest reached. (
 )
 
 pub returns-in-Call-clause-answered : goal.returns-in-Call-clause-answered
-returns-in-Call-clause-answered g c = λ honest reached. (
+returns-in-Call-clause-answered g c = λ within honest reached. (
   c.reply.result.now,
   one_call _ _ c.args.event.now c.in-Call.tick c.in-Call.bytes c.as_slice-in-Call.result.now
       c.handle.result c.reply.result.now _
       c.in-Call.is c.as_slice-in-Call.ensures c.reply.ensures (c.handle.ensures.passes.live honest)
-      (c.handle.ensures.taken honest reached) (c.handle.ensures.refused honest reached),
+      (c.handle.ensures.taken within honest reached) (c.handle.ensures.refused honest reached),
   sent_as _ _ _ _ c.write_reply-in-Call.ensures.whole c.write_reply-in-Call.ensures.cut
       c.write_reply-in-Call.ensures.short,
 )

@@ -1,15 +1,19 @@
 -- The run goes on by each event; a write fault ends it within the answer of its last event.
-use Rattle.std.proofs.Common.{rules, ◌≡◌, ◌+◌, [], ◌∷◌, ◌++◌, length}
+use Rattle.std.proofs.Common.{rules, ◌≡◌, ◌+◌, [], ◌∷◌, ◌++◌, length, subst, arith}
+use Rattle.std.proofs.lemmas.List.{take_all}
+use Rattle.lab_desk.specs.Runs.{Runs}
 use Rattle.lab_desk.proofs.Running.{run_more, run_cut, runs_none}
 use Rattle.lab_desk.proofs.desk.Desk.run.Goals as goal
 
 pub loop-event-init : goal.loop-event-init
 loop-event-init g c = record {
   passes = search rules;
+  within = search rules;
+  releasing = search rules;
   reached = search rules;
   counted = search rules;
   room = search rules;
-  run = λ honest reached.
+  run = λ within honest reached.
       rw c.in-Ok.ensures.empty (runs_none
       (g.S.Keeper.world c.args.self.now.keeper) c.args.events.now
       (g.W.Write.contents c.args.writer.now));
@@ -18,13 +22,27 @@ loop-event-init g c = record {
 pub loop-event-preserved : goal.loop-event-preserved
 loop-event-preserved g c = record {
   passes = search rules;
-  reached = search rules;
+  within = λ within honest reached.
+      let earlier = c.answer-answered.ensures.passes.honest honest in
+      c.answer-answered.ensures.within (c.loop-event.invariant.within within earlier reached) honest
+      (c.loop-event.invariant.reached within earlier reached);
+  releasing = λ within releasing honest reached.
+      let earlier = c.answer-answered.ensures.passes.honest honest in
+      c.answer-answered.ensures.releasing
+      (c.loop-event.invariant.within within earlier reached)
+      (c.loop-event.invariant.releasing within releasing earlier reached) honest
+      (c.loop-event.invariant.reached within earlier reached);
+  reached = λ within honest reached.
+      let earlier = c.answer-answered.ensures.passes.honest honest in
+      c.answer-answered.ensures.reached (c.loop-event.invariant.within within earlier reached)
+      honest (c.loop-event.invariant.reached within earlier reached);
   counted = search rules;
   room = search rules;
-  run = λ honest reached.
+  run = λ within honest reached.
       let earlier = c.answer-answered.ensures.passes.honest honest in
-      let middle = c.loop-event.invariant.reached earlier reached in
-      let here = c.answer-answered.ensures.answered honest middle in
+      let middle = c.loop-event.invariant.reached within earlier reached in
+      let here = c.answer-answered.ensures.answered
+      (c.loop-event.invariant.within within earlier reached) honest middle in
       let pushed : c.push.new.self.items
       ≡ c.loop-event.taken.items ++ c.answer-answered.result.taken ∷ [] = search rules in
       rw pushed (run_more _ _ _ c.args.events.now c.loop-event.event-index c.loop-event.taken.items
@@ -35,7 +53,7 @@ loop-event-preserved g c = record {
         answer = here.0;
       })
       (record {
-        so_far = c.loop-event.invariant.run earlier reached;
+        so_far = c.loop-event.invariant.run within earlier reached;
         passes = c.loop-event.invariant.passes.refusing;
         next = here.1;
         is = c.event-item.is;
@@ -44,10 +62,11 @@ loop-event-preserved g c = record {
 }
 
 pub returns-in-Err-clause-cut : goal.returns-in-Err-clause-cut
-returns-in-Err-clause-cut g c = λ honest reached.
+returns-in-Err-clause-cut g c = λ within honest reached.
     let earlier = c.answer-answered.ensures.passes.honest honest in
-    let middle = c.loop-event.invariant.reached earlier reached in
-    let here = c.answer-answered.ensures.answered honest middle in
+    let middle = c.loop-event.invariant.reached within earlier reached in
+    let here = c.answer-answered.ensures.answered
+    (c.loop-event.invariant.within within earlier reached) honest middle in
     let pushed : c.push.new.self.items
     ≡ c.loop-event.taken.items ++ c.answer-answered.result.taken ∷ [] = search rules in
     let counted : length c.push.new.self.items ≡ c.loop-event.event-index + 1 = search rules in
@@ -59,9 +78,37 @@ returns-in-Err-clause-cut g c = λ honest reached.
       answer = here.0;
     }) _
     (record {
-      so_far = c.loop-event.invariant.run earlier reached;
+      so_far = c.loop-event.invariant.run within earlier reached;
       passes = c.loop-event.invariant.passes.refusing;
       next = here.1;
       is = c.event-item.is;
       within = c.loop-event-test.true;
     }) pushed counted (rw c.in-Err.is at here.2)
+
+pub returns-in-Err-clause-within : goal.returns-in-Err-clause-within
+returns-in-Err-clause-within g c = λ within honest reached.
+    let earlier = c.answer-answered.ensures.passes.honest honest in
+    c.answer-answered.ensures.within (c.loop-event.invariant.within within earlier reached) honest
+    (c.loop-event.invariant.reached within earlier reached)
+
+pub returns-in-Err-clause-releasing : goal.returns-in-Err-clause-releasing
+returns-in-Err-clause-releasing g c = λ within releasing honest reached.
+    let earlier = c.answer-answered.ensures.passes.honest honest in
+    c.answer-answered.ensures.releasing (c.loop-event.invariant.within within earlier reached)
+    (c.loop-event.invariant.releasing within releasing earlier reached) honest
+    (c.loop-event.invariant.reached within earlier reached)
+
+pub returns-in-Err-clause-reached : goal.returns-in-Err-clause-reached
+returns-in-Err-clause-reached g c = λ within honest reached.
+    let earlier = c.answer-answered.ensures.passes.honest honest in
+    c.answer-answered.ensures.reached (c.loop-event.invariant.within within earlier reached) honest
+    (c.loop-event.invariant.reached within earlier reached)
+
+pub returns-clause-alone : goal.returns-clause-alone
+returns-clause-alone g c = λ within honest reached.
+    let done = c.loop-event-test.false in
+    subst (λ events. Runs (g.S.Keeper.world c.args.self.now.keeper)
+    (g.S.Keeper.world c.loop-event.self.keeper) events c.loop-event.taken.items
+    (g.W.Write.contents c.args.writer.now) (g.W.Write.contents c.loop-event.writer))
+    (take_all c.loop-event.event-index c.args.events.now (omega arith))
+    (c.loop-event.invariant.run within honest reached)

@@ -1,5 +1,6 @@
 use Rattle.std.proofs.Common.{◌≡◌, ◌≤◌, take, length, vec_capacity}
-use Rattle.lab_records.specs.Worlds.{Passes, Given}
+use Rattle.lab_kept.specs.Worlds.{Passes, Given}
+use Rattle.lab_desk.specs.Keeping.{AreWithin, AreReleasing}
 use Rattle.lab_desk.specs.Runs.{Runs}
 use Rattle.lab_desk.proofs.desk.Desk.run.Given as goal
 
@@ -7,11 +8,20 @@ use Rattle.lab_desk.proofs.desk.Desk.run.Given as goal
 abbrev pub invariant-loop-event : goal.invariant-loop-event
 invariant-loop-event g l = record {
   passes : Passes (g.S.Keeper.world l.fn.self.keeper) (g.S.Keeper.world l.self.keeper);
-  reached : Given (g.S.Keeper.world l.fn.self.keeper) (g.S.Keeper.world l.self.keeper)
+  within : AreWithin (g.S.Keeper.world l.fn.self.keeper) →
+      Given (g.S.Keeper.world l.fn.self.keeper) (g.S.Keeper.world l.self.keeper)
+      (AreWithin (g.S.Keeper.world l.self.keeper));
+  releasing : AreWithin (g.S.Keeper.world l.fn.self.keeper) →
+      AreReleasing (g.S.Keeper.world l.fn.self.keeper) →
+      Given (g.S.Keeper.world l.fn.self.keeper) (g.S.Keeper.world l.self.keeper)
+      (AreReleasing (g.S.Keeper.world l.self.keeper));
+  reached : AreWithin (g.S.Keeper.world l.fn.self.keeper) →
+      Given (g.S.Keeper.world l.fn.self.keeper) (g.S.Keeper.world l.self.keeper)
       (g.S.Keeper.world l.self.keeper).is_reached;
   counted : length l.taken.items ≡ l.event-index;
   room : length l.events ≤ vec_capacity l.taken;
-  run : Given (g.S.Keeper.world l.fn.self.keeper) (g.S.Keeper.world l.self.keeper)
+  run : AreWithin (g.S.Keeper.world l.fn.self.keeper) →
+      Given (g.S.Keeper.world l.fn.self.keeper) (g.S.Keeper.world l.self.keeper)
       (Runs (g.S.Keeper.world l.fn.self.keeper) (g.S.Keeper.world l.self.keeper)
       (take l.event-index l.events) l.taken.items
       (g.W.Write.contents l.fn.writer) (g.W.Write.contents l.writer));

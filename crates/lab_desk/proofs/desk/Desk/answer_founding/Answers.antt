@@ -1,0 +1,21 @@
+-- A founding was taken where a laboratory was founded, and where its refusal is told.
+use Rattle.lab_desk.specs.Foundings.{founding_in}
+use Rattle.lab_desk.proofs.Bearing.{takes_founded, takes_refused}
+use Rattle.lab_desk.proofs.desk.Desk.answer_founding.Goals as goal
+use Rattle.lab_desk.proofs.desk.Desk.answer_founding.Goals.{in-Ok-found, in-Err}
+
+pub returns-clause-taken : goal.returns-clause-taken
+returns-clause-taken g c = λ honest reached taken. elim c.match-found.branch [
+  | in-Ok-found w ↦ rw w.result-is (takes_founded (g.S.Keeper.world c.args.self.now.keeper)
+      (g.S.Keeper.world c.found.new.self.keeper)
+      (g.S.Keeper.places c.args.self.now.keeper c.found.new.self.keeper)
+      c.args.lab.now c.args.tick.now (founding_in c.args.body.now) _ c.found.result _
+      w.in-Ok-found.is (c.found.ensures.founded honest reached)
+      (c.found.ensures.lives honest reached) c.in-Ok.ensures)
+  | in-Err w ↦ rw w.result-is (takes_refused g.S.Keeper.world c.args.self.now.keeper
+      c.found.new.self.keeper
+      c.args.lab.now c.args.tick.now (founding_in c.args.body.now) _ c.found.result _
+      honest reached w.in-Err.is (w.unfounded.ensures.taken (rw w.result-is at taken))
+      c.found.ensures.fault c.found.ensures.untouched (c.found.ensures.lives honest reached)
+      (c.found.ensures.err honest reached))
+]

@@ -1,0 +1,26 @@
+-- What was founded from the newborn was founded from its body, and is right as it is born.
+use Rattle.lab_kept.specs.Births.{newborn_lab}
+use Rattle.lab_desk.proofs.Bearing.{founds_as}
+use Rattle.lab_desk.proofs.Staying.{placed_within, placed_releasing}
+use Rattle.lab_desk.proofs.desk.Desk.found.Goals as goal
+
+pub returns-clause-founded : goal.returns-clause-founded
+returns-clause-founded g c = rw (← c.self.view_is) (λ honest reached.
+    founds_as (g.S.Keeper.world c.self.inside.keeper) (g.S.Keeper.world c.found.new.self)
+    (g.S.Keeper.places c.self.inside.keeper c.found.new.self) _ _ _
+    (newborn_lab c.in_ok-newborn.newborn) c.in_ok-newborn.ensures.born
+    (c.in_ok-found.ensures.founded honest reached) (c.in_ok-found.ensures.rows honest reached))
+
+pub returns-clause-within : goal.returns-clause-within
+returns-clause-within g c = rw (← c.self.view_is) (λ within honest reached.
+    let newly = c.in_ok-newborn.ensures.born in
+    placed_within (g.S.Keeper.world c.self.inside.keeper) (g.S.Keeper.world c.found.new.self)
+    c.args.lab.now c.args.tick.now newly.founding (newborn_lab c.in_ok-newborn.newborn) newly.bears
+    (c.found.ensures.passes.live honest) (c.in_ok-found.ensures.founded honest reached) within)
+
+pub returns-clause-releasing : goal.returns-clause-releasing
+returns-clause-releasing g c = rw (← c.self.view_is) (λ releasing honest reached.
+    let newly = c.in_ok-newborn.ensures.born in
+    placed_releasing (g.S.Keeper.world c.self.inside.keeper) (g.S.Keeper.world c.found.new.self)
+    c.args.lab.now c.args.tick.now newly.founding (newborn_lab c.in_ok-newborn.newborn) newly.bears
+    (c.found.ensures.passes.live honest) (c.in_ok-found.ensures.founded honest reached) releasing)

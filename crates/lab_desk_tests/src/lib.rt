@@ -1,0 +1,21 @@
+//! Tests of `lab_desk`, on foundings, requests and runs, over laboratories in a list and over a
+//! keeper that refuses every second call. They stand apart, so that the crate isn't proved once more
+//! with them.
+#![tactic(auto)]
+
+#[cfg(test)]
+mod asserts;
+#[cfg(test)]
+mod founding_tests;
+#[cfg(test)]
+mod made;
+#[cfg(test)]
+mod moody;
+#[cfg(test)]
+mod narrow;
+#[cfg(test)]
+mod request_tests;
+#[cfg(test)]
+mod run_tests;
+#[cfg(test)]
+mod texts;
