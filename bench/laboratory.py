@@ -276,7 +276,7 @@ def read_value(form, key, value, unit):
         rest = rf"(\.[0-9]{{1,{decimals}}})?" if decimals else ""
         good = re.fullmatch(rf"[<>]?[+-]?[0-9]{{1,15}}{rest}", value)
     elif kind == "text":
-        good = 1 <= len(value.encode()) <= field["size"]
+        good = 1 <= len(value.encode()) <= field["size"] and not re.search("[\0-\x09\x0b-\x1f\x7f]", value)
     elif kind == "choice":
         good = value in field["choices"]
     elif kind == "yesno":

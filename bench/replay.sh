@@ -1,6 +1,8 @@
 #!/usr/bin/env bash
-# Times `labdesk replay` on 1,000 and on 100,000 card calls over two laboratories, each beside the time that `cat` takes
-# for the same bytes. Prints for each the seconds and the microseconds a call; the best of five runs counts.
+# Makes the tables of `labdesk replay` in docs/PERFORMANCE.md, in some minutes. It times 1,000 and 100,000 card calls over two
+# laboratories and the day of examples/, each beside the time that `cat` takes for the same bytes, and prints for each the
+# seconds and the microseconds an event; the best of five runs counts. bench/entries.py prints the rest: a request of each kind,
+# and entries beside a small and a large other laboratory.
 set -euo pipefail
 root=$(cd "$(dirname "${BASH_SOURCE[0]}")/.." && pwd)
 room=$(mktemp -d)
@@ -26,14 +28,24 @@ least() {
     done | sort -n | head -n 1
 }
 
+# The lines of a file of so many events: of the program, and of `cat`.
+beside_cat() {
+    local file=$1 events=$2 command seconds
+    for command in "$program replay" cat; do
+        # shellcheck disable=SC2086
+        seconds=$(least "$file" $command)
+        awk -v name="${command##*/}" -v events="$events" -v seconds="$seconds" -v bytes="$(wc -c <"$file")" 'BEGIN {
+            printf "%-16s %6d events %9d bytes in %8.3f s %9.3f us an event\n", name, events, bytes, seconds, seconds * 1e6 / events
+        }'
+    done
+}
+
 program=$("$root/bench/program" lab_program)
 for calls in 1000 100000; do
     stream "$calls" >"$room/in"
-    for command in "$program replay" cat; do
-        # shellcheck disable=SC2086
-        seconds=$(least "$room/in" $command)
-        awk -v name="${command##*/}" -v calls="$calls" -v seconds="$seconds" -v bytes="$(wc -c <"$room/in")" 'BEGIN {
-            printf "%-16s %6d calls %9d bytes in %8.3f s %9.3f us a call\n", name, calls, bytes, seconds, seconds * 1e6 / calls
-        }'
-    done
+    beside_cat "$room/in" "$calls"
 done
+told=$("$root/examples/day.py" --check)
+beside_cat "$root/examples/day.events" "${told% events}"
+echo
+"$root/bench/entries.py" "$program"

@@ -318,8 +318,8 @@ def accounts(day):
     day.ask("08:08", "aqua", "dan", "records", 1, 10, refused=22)
 
 
-def whole_day():
-    day = Day()
+def whole_day(day=None):
+    day = day or Day()
     for part in (founding, enrolment, forms, first_record, amendment, third_signature, reading, accounts):
         part(day)
     return day

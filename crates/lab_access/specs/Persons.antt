@@ -1,9 +1,14 @@
--- A person's account: by whose code it is found, when it is locked, and what an administrator asked
--- for that still stands (21 CFR 11.300(d), "transaction safeguards to prevent unauthorized use of
--- passwords"; the spans of time are this system's own).
+-- A person's account: how many a laboratory has at the most, by whose code one is found, when it is
+-- locked, and what an administrator asked for that still stands (21 CFR 11.300(d), "transaction
+-- safeguards to prevent unauthorized use of passwords"; the number and the spans of time are this
+-- system's own).
 use Rattle.std.specs.Prelude.{ℕ, ◌-◌, Bool, false, nat_lt, nat_le, List, [], ◌∷◌, Option, Some, None, is_some, bytes_eq, if◌then◌else◌}
 use Rattle.lab_access.specs.declared.persons.Person.{Person}
 use Rattle.lab_access.specs.declared.persons.Ask.{Ask}
+
+-- the most persons of a laboratory, retired ones too
+abbrev pub person_limit : ℕ
+person_limit = 500
 
 -- who has the code, or had it, among the persons of a laboratory
 abbrev pub person_of : List Person → List ℕ → Option Person

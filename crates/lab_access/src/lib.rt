@@ -7,8 +7,6 @@ mod openings;
 mod passwords;
 mod persons;
 mod policy;
-#[cfg(test)]
-mod policy_tests;
 mod refusals;
 mod roles;
 mod sessions;

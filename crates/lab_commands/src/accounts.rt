@@ -2,7 +2,7 @@
 ghost use Rattle.std.specs.Prelude.{◌≡◌, [], ◌∷◌, Ok, IfOk};
 ghost use Rattle.lab_people.specs.Accounts.{changing, enrolling, setting_roles, retiring, unlocking};
 ghost use Rattle.lab_people.specs.Issues.{asking, confirming};
-ghost use Rattle.lab_commands.specs.Doing.{then_person_done, changed_done, enrolled_done, person_changes, asked_done, confirmed_done, roles_done, retired_done, unlocked_done};
+ghost use Rattle.lab_commands.specs.Done.{then_person_done, changed_done, enrolled_done, person_changes, asked_done, confirmed_done, roles_done, retired_done, unlocked_done};
 
 use crate::counts::enrol_counted;
 use crate::done::Done;

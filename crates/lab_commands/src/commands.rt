@@ -1,6 +1,6 @@
 //! What each command comes to in a session.
 ghost use Rattle.std.specs.Prelude.{◌≡◌, false, IfOk};
-ghost use Rattle.lab_commands.specs.Doing.{done_of};
+ghost use Rattle.lab_commands.specs.Done.{done_of};
 ghost use Rattle.lab_commands.specs.Groups.{is_on_accounts, is_on_records};
 
 use crate::accounts::{
@@ -25,7 +25,7 @@ use std::mem;
 
 /// What a command comes to in the session of the caller, on the part of the laboratory that it needs. The only error is out
 /// of memory. What is left of the part isn't said.
-#[tactic(auto, unfolding(crate::specs::Doing::done_of))]
+#[tactic(auto, unfolding(crate::specs::Done::done_of))]
 pub fn done_of(
     alloc: Global,
     slice: &mut Slice,
@@ -66,7 +66,7 @@ pub fn done_of(
 }
 
 // The same of a command that makes something of forms and records, or reads.
-#[tactic(auto, unfolding(crate::specs::Doing::done_of))]
+#[tactic(auto, unfolding(crate::specs::Done::done_of))]
 fn done_on_records(
     alloc: Global,
     slice: &mut Slice,
@@ -117,7 +117,7 @@ fn done_on_records(
 }
 
 // The same of a command that reads. One that asks for no session is none in a session.
-#[tactic(auto, unfolding(crate::specs::Doing::done_of))]
+#[tactic(auto, unfolding(crate::specs::Done::done_of))]
 fn done_reading(
     alloc: Global,
     slice: &mut Slice,

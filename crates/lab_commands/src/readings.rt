@@ -1,7 +1,7 @@
 //! What commands come to that read.
 ghost use Rattle.std.specs.Prelude.{◌≡◌, IfOk, map};
 ghost use Rattle.lab_rules.specs.Reading.{reading_form, reading_record, reading_version, record_line, person_line};
-ghost use Rattle.lab_commands.specs.Doing.{then_read_done};
+ghost use Rattle.lab_commands.specs.Done.{then_read_done};
 
 use crate::done::Done;
 use lab_access::Person;

@@ -5,7 +5,7 @@ ghost use Rattle.lab_access.specs.Sessions.{signed_session};
 ghost use Rattle.lab_rules.specs.Making.{making, opening_record};
 ghost use Rattle.lab_rules.specs.Entering.{entering, amending};
 ghost use Rattle.lab_rules.specs.Signing.{is_code_wanted};
-ghost use Rattle.lab_commands.specs.Doing.{then_done, form_done, record_done, entry_done, amendment_done, signature_done, signing_done};
+ghost use Rattle.lab_commands.specs.Done.{then_done, form_done, record_done, entry_done, amendment_done, signature_done, signing_done};
 
 use crate::done::Done;
 use crate::lists::{single, triple};

@@ -1,7 +1,7 @@
 //! What the opening and the closing of a session come to.
 ghost use Rattle.std.specs.Prelude.{◌≡◌, Ok, IfOk};
 ghost use Rattle.lab_access.specs.Openings.{opening};
-ghost use Rattle.lab_commands.specs.Doing.{opened_done, closed_done};
+ghost use Rattle.lab_commands.specs.Done.{opened_done, closed_done};
 
 use crate::counts::open_counted;
 use crate::done::Done;

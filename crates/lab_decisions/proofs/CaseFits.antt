@@ -15,7 +15,7 @@ use Rattle.lab_machine.specs.declared.replies.Reply.{Reply}
 use Rattle.lab_laws.proofs.FitAttempts.{FitsAttempt}
 use Rattle.lab_commands.specs.declared.done.Done.{Done}
 use Rattle.lab_commands.specs.declared.done.Done.TheVariants.{Refused, Failed, Read, Made}
-use Rattle.lab_commands.specs.Doing.{then_done, then_person_done, then_read_done, person_changes}
+use Rattle.lab_commands.specs.Done.{then_done, then_person_done, then_read_done, person_changes}
 
 -- the changes fit, none is to the trail, and the person is known
 pub record Adds (Premise : Type 0) (lab : Lab) (person : List ℕ) (changes : List Change)

@@ -29,7 +29,7 @@ use Rattle.lab_machine.specs.Machine.{passage}
 use Rattle.lab_commands.specs.declared.done.Done.{Done}
 use Rattle.lab_commands.specs.declared.done.Done.TheVariants.{Refused, Failed, Read, Made}
 use Rattle.lab_decisions.specs.declared.outcome.Outcome.{Outcome}
-use Rattle.lab_commands.specs.Doing.{opened_done, done_of}
+use Rattle.lab_commands.specs.Done.{opened_done, done_of}
 
 -- ---- the rows that the trail is given, where it has so many
 

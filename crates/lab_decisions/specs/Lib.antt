@@ -1,2 +1,2 @@
-pub mod Coming
+pub mod TakenSteps
 pub mod Deciding

@@ -3,7 +3,7 @@ ghost use Rattle.std.specs.Prelude.{◌≡◌, ◌++◌, ◌∷◌, [], Some, If
 ghost use Rattle.lab_kept.specs.Trails.{row_of};
 ghost use Rattle.lab_machine.specs.Machine.{passage};
 ghost use Rattle.lab_laws.specs.Asking.{IsCommandFormed};
-ghost use Rattle.lab_commands.specs.Doing.{done_of};
+ghost use Rattle.lab_commands.specs.Done.{done_of};
 ghost use Rattle.lab_decisions.specs.Deciding.{failing, outcome, ended_made, ended_by, ended_done, touching, opening_ended, decided_without, decided_by, decided};
 
 use crate::drafts::{fail, next_number, row_of};

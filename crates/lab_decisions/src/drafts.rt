@@ -6,12 +6,9 @@ ghost use Rattle.lab_machine.specs.Cases.{more_strays};
 ghost use Rattle.lab_decisions.specs.Deciding.{noted_rows, two_rows, failing};
 
 use lab_access::{Closing, Failure, Person};
-use lab_kept::{Change, Deed, Occasion, TrailRow};
+use lab_kept::{COUNT_LIMIT, Change, Deed, Occasion, TrailRow};
 use lab_names::{Moment, Ordinal, OutOfMemory, PersonCode, Series};
 use std::alloc::Global;
-
-/// The most rows of a trail.
-const ROWS_LIMIT: u64 = 1_000_000_000;
 
 /// The count at which passwords that were given for nobody's account are counted no further.
 const STRAYS_LIMIT: u64 = 9_223_372_036_854_775_807;
@@ -21,7 +18,7 @@ pub fn next_number(rows: u64) -> Option<Ordinal>
     ensures { MatchOption result (nat_le count_limit rows ≡ true)
         (λ number. (nat_le count_limit rows ≡ false) × (number ≡ rows + 1)) }
 {
-    if rows >= ROWS_LIMIT {
+    if rows >= COUNT_LIMIT {
         return None;
     }
     Ordinal::after(rows as u32)

@@ -1,6 +1,6 @@
 -- Births: a founding that bears none bears none whatever laboratory there is, what is born is the
 -- newborn, and what is said of a founding that was taken.
-use Rattle.std.proofs.Common.{◌≡◌, ◌≢◌, ℕ, Bool, true, false, cond, not, List, Option, Some, None, Result, Ok, Err, refl, sym, ◌∙◌, ap, subst, IsOk}
+use Rattle.std.proofs.Common.{◌≡◌, ℕ, Bool, true, false, cond, not, List, Option, Some, None, Result, Ok, Err, refl, sym, ◌∙◌, ap, subst, IsOk}
 use Rattle.std.specs.Prelude.{IfErr, IsSome, OnErr, OnOk, is_ok}
 use Rattle.std.proofs.lemmas.Bool.{false≢true}
 use Rattle.lab_names.specs.Faults.{Entry}

@@ -1,6 +1,6 @@
 -- What is decided on the part of a laboratory is its step, and what is made of what was loaded is
 -- made of what was there.
-use Rattle.std.proofs.Common.{◌≡◌, ◌≢◌, ℕ, Bool, true, false, List, [], ◌∷◌, Option, Some, None, Result, Ok, Err, refl, sym, ◌∙◌, ap, subst, inl, inr}
+use Rattle.std.proofs.Common.{◌≡◌, ◌≢◌, ℕ, true, List, [], ◌∷◌, Option, Some, None, Result, Ok, Err, refl, sym, ◌∙◌, ap, subst, inl, inr}
 use Rattle.std.specs.Prelude.{◌⊎◌, IsTrue, IsFalse, OnOk}
 use Rattle.lab_names.specs.declared.tick.Tick.{Tick}
 use Rattle.lab_kept.specs.declared.labs.Lab.{Lab}
@@ -10,7 +10,6 @@ use Rattle.lab_kept.specs.Changes.{ChangesFit, changed_in}
 use Rattle.lab_kept.specs.Parts.{part, part_of}
 use Rattle.lab_kept.specs.Worlds.{Meaning, SetsOne, Changes}
 use Rattle.lab_machine.specs.declared.commands.Instruction.{Instruction}
-use Rattle.lab_machine.specs.Machine.{step}
 use Rattle.lab_machine.specs.Needs.{need_of}
 use Rattle.lab_laws.specs.Asking.{IsCommandFormed}
 use Rattle.lab_decisions.specs.Deciding.{decided}

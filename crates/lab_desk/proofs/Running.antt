@@ -1,4 +1,5 @@
--- Runs join: a run, and a run from where it ended, are one run; and one event is a run.
+-- Runs join: a run, and a run from where it ended, are one run; one event is a run; and what a run
+-- leaves true of every laboratory.
 use Rattle.std.proofs.Common.{◌≡◌, ◌≢◌, ℕ, Bool, true, false, cond, List, [], ◌∷◌, ◌++◌, Option, Some, None, Result, Ok, Err, refl, sym, ◌∙◌, ap, subst, append-nil, inl, inr, ◌+◌, ◌<◌, length, take, map, get_or, option_map, All, IsOk}
 use Rattle.std.specs.Prelude.{bytes_eq, ◌⊎◌, OnOk, IfErr}
 use Rattle.std.proofs.lemmas.Bool.{false≢true}
@@ -14,7 +15,11 @@ use Rattle.std.proofs.lemmas.List.{map-append}
 use Rattle.lab_names.specs.declared.tick.Tick.{Tick}
 use Rattle.lab_messages.specs.declared.sending.WriteFault.{WriteFault}
 use Rattle.lab_kept.specs.declared.labs.Lab.{Lab}
-use Rattle.lab_kept.specs.Worlds.{World, Meaning, Tells, Leaves}
+use Rattle.lab_kept.specs.Keeping.{Keeps}
+use Rattle.lab_kept.specs.Limits.{IsWithin}
+use Rattle.lab_kept.specs.Worlds.{World, Meaning, SameMeaning, Tells, Leaves}
+use Rattle.lab_laws.specs.Runs.{IsReleasing}
+use Rattle.lab_laws.specs.Stepping.{WhereThere}
 use Rattle.lab_machine.specs.Machine.{step}
 use Rattle.lab_routes.specs.declared.commands.Asked.{Asked}
 use Rattle.lab_wire.specs.declared.replies.Answer.TheVariants.{Replied, Storage}
@@ -23,10 +28,13 @@ use Rattle.lab_wire.specs.Replies.{reply_text, memory_text}
 use Rattle.lab_desk.specs.declared.events.Event.{Event}
 use Rattle.lab_desk.specs.declared.events.Event.TheVariants.{Found, Call}
 use Rattle.lab_desk.specs.Requests.{Asks, TakesRequest, RefusesRequest}
-use Rattle.lab_desk.specs.Foundings.{Body, Bears, founding_in, born_of, after_birth, line_of, TakesFounding, RefusesFounding, memory_line, storage_line}
+use Rattle.lab_desk.specs.Foundings.{Bears, founding_in, born_of, after_birth, line_of, TakesFounding, RefusesFounding, memory_line, storage_line}
+use Rattle.lab_desk.specs.Keeping.{AreWithin, AreReleasing, Follows}
 use Rattle.lab_desk.proofs.Bearing.{born_seen}
+use Rattle.lab_desk.proofs.Keeping.{follows_itself, step_follows, birth_follows}
+use Rattle.lab_desk.proofs.Staying.{step_there, step_releasing, birth_releasing}
 use Rattle.lab_desk.specs.Alone.{Own, Founds, Obeys, own_call, after_own, answer_own, alone_after, alone_answers}
-use Rattle.lab_desk.specs.Runs.{Handled, IsRun, IsTold, IsAnswer, IsAnswerBy, IsAnswerToNobody, AreAlone, own_in, own_events, own_answers, after_run, answers_of, Sends, Runs, RunsCut}
+use Rattle.lab_desk.specs.Runs.{Handled, IsRun, IsTold, IsAnswer, IsAnswerBy, IsAnswerToNobody, AreAlone, KeepsAlong, own_in, own_events, own_answers, after_run, answers_of, Sends, Runs, RunsCut}
 
 -- ---- runs join
 
@@ -68,6 +76,37 @@ alone_then start first next here there code =
     ∙ ap (λ (owns : List Own). alone_answers code (start code) owns)
     (sym (owns_then code first next))
 
+-- ---- what is kept at each event
+
+-- from laboratories that are the same
+along_same : (one other : Meaning) (handled : List Handled) → SameMeaning one other →
+    KeepsAlong one handled → KeepsAlong other handled
+along_same one other [] same along = tt
+along_same one other (event ∷ events) same along = (
+  λ code. subst
+      (λ (lab : Option Lab). Follows Keeps lab
+      (alone_after code lab (own_events code (event ∷ []))))
+      (sym (same code)) (along.0 code),
+  along_same (after_run one (event ∷ [])) (after_run other (event ∷ [])) events
+      (λ code. ap (λ (lab : Option Lab). alone_after code lab (own_events code (event ∷ [])))
+      (same code)) along.1,
+)
+
+-- over two runs
+along_then : (start : Meaning) (first next : List Handled) → KeepsAlong start first →
+    KeepsAlong (after_run start first) next → KeepsAlong start (first ++ next)
+along_then start [] next here there =
+    along_same (after_run start []) start next (λ code. refl) there
+along_then start (one ∷ others) next here there = (
+  here.0,
+  along_then (after_run start (one ∷ [])) others next here.1
+      (along_same (after_run start (one ∷ others))
+      (after_run (after_run start (one ∷ [])) others) next
+      (λ code. sym (after_then start (one ∷ []) others code)) there),
+)
+
+-- ---- what is answered
+
 -- a refusal stays one where the store may refuse as well
 refusal_wider : (narrow wide : Type 0) → (narrow → wide) → (P Q R : Type 0) →
     P ⊎ ((narrow × R) × Q) → P ⊎ ((wide × R) × Q)
@@ -103,6 +142,8 @@ run_then old mid new first next wider here there = record {
       (answers_wider mid.may_refuse old.may_refuse wider next there.each);
   alone = λ start tells. alone_then start first next (here.alone start tells)
       (there.alone (after_run start first) (here.after start tells));
+  keeps = λ start tells. along_then start first next (here.keeps start tells)
+      (there.keeps (after_run start first) (here.after start tells));
   after = λ start tells live code.
       there.after (after_run start first) (here.after start tells) live code
       ∙ sym (after_then start first next code);
@@ -113,6 +154,7 @@ pub no_run : (world : World) → IsRun world world []
 no_run world = record {
   each = All-nil (IsAnswer world.may_refuse);
   alone = λ start tells code. refl;
+  keeps = λ start tells. tt;
   after = λ start tells. tells;
 }
 
@@ -145,6 +187,8 @@ record IsOne (old new : World) (one : Handled) : Type 0 where
   each : IsAnswer old.may_refuse one
   told : (start : Meaning) → Tells old start → (code : List ℕ) →
       Told code (start code) (own_in code one) one.answer
+  keeps : (start : Meaning) → Tells old start → (code : List ℕ) →
+      Follows Keeps (start code) (after_one code (start code) (own_in code one))
   after : (start : Meaning) → Tells old start → new.is_live → (code : List ℕ) →
       new.meaning code ≡ after_one code (start code) (own_in code one)
 
@@ -153,6 +197,11 @@ one_run old new one is = record {
   each = All-cons (IsAnswer old.may_refuse) one [] is.each (All-nil (IsAnswer old.may_refuse));
   alone = λ start tells code. told_one code (start code) (own_in code one) one.answer
       (is.told start tells code);
+  keeps = λ start tells. (
+    λ code. subst (Follows Keeps (start code))
+        (after_own_one code (start code) (own_in code one)) (is.keeps start tells code),
+    tt,
+  );
   after = λ start tells live code. is.after start tells live code
       ∙ after_own_one code (start code) (own_in code one);
 }
@@ -195,6 +244,12 @@ founding_after old new start lab code tick body answer true names live tells tak
 founding_after old new start lab code tick body answer false names live tells takes =
     takes.after.others code (other_code lab code names) ∙ tells live code
 
+founding_keeps : (start : Meaning) (code : List ℕ) (tick : Tick) (body : List ℕ) (b : Bool) →
+    Follows Keeps (start code) (after_one code (start code) (cond b (Some (Founds tick body)) None))
+founding_keeps start code tick body true =
+    birth_follows (start code) code tick (founding_in body)
+founding_keeps start code tick body false = follows_itself (start code)
+
 founding_is : (old new : World) (lab : List ℕ) (tick : Tick) (body : List ℕ) (taken : Bool)
     (answer : List ℕ) → (new.is_live → old.is_live) →
     (taken ≡ true → TakesFounding old new lab tick (founding_in body) answer) →
@@ -204,6 +259,7 @@ founding_is old new lab tick body true answer back takes refuses = record {
   each = tt;
   told = λ start tells code. founding_told old new start lab code tick body answer
       (bytes_eq lab code) refl tells (takes refl);
+  keeps = λ start tells code. founding_keeps start code tick body (bytes_eq lab code);
   after = λ start tells live code.
       founding_after old new start lab code tick body answer (bytes_eq lab code) refl
       (back live) tells (takes refl);
@@ -211,6 +267,7 @@ founding_is old new lab tick body true answer back takes refuses = record {
 founding_is old new lab tick body false answer back takes refuses = record {
   each = (refuses refl).answered;
   told = λ start tells code. tt;
+  keeps = λ start tells code. follows_itself (start code);
   after = λ start tells live code.
       left_alone old new start back tells (refuses refl).same live code;
 }
@@ -271,6 +328,26 @@ asks_after old new start (Err refusal) code tick answer live tells takes =
 asks_after old new start (Ok asks) code tick answer live tells takes =
     call_after old new start asks code tick answer (bytes_eq asks.lab code) refl live tells takes
 
+call_keeps : (old new : World) (start : Meaning) (asked_here : Asked) (code : List ℕ) (tick : Tick)
+    (answer : List ℕ) (b : Bool) → AreWithin old → Tells old start →
+    TakesRequest old new tick (Ok asked_here) answer →
+    Follows Keeps (start code)
+    (after_one code (start code) (cond b (Some (Obeys tick asked_here.instruction)) None))
+call_keeps old new start asks code tick answer true within tells takes =
+    let live : old.is_live = (takes.lives refl).0 in
+    step_follows (start code) tick asks.instruction
+    (subst (WhereThere IsWithin) (tells live code) (within live code))
+call_keeps old new start asks code tick answer false within tells takes =
+    follows_itself (start code)
+
+asks_keeps : (old new : World) (start : Meaning) (asks : Asks) (code : List ℕ) (tick : Tick)
+    (answer : List ℕ) → AreWithin old → Tells old start → TakesRequest old new tick asks answer →
+    Follows Keeps (start code) (after_one code (start code) (own_call code tick asks))
+asks_keeps old new start (Err refusal) code tick answer within tells takes =
+    follows_itself (start code)
+asks_keeps old new start (Ok asks) code tick answer within tells takes =
+    call_keeps old new start asks code tick answer (bytes_eq asks.lab code) within tells takes
+
 -- bytes that ask nothing are answered from themselves and the tick alone
 nobodys : (old new : World) (tick : Tick) (asks : Asks) (answer : List ℕ) →
     TakesRequest old new tick asks answer → IsAnswerToNobody tick asks answer
@@ -278,20 +355,23 @@ nobodys old new tick (Err refusal) answer takes = takes.replied
 nobodys old new tick (Ok asks) answer takes = tt
 
 call_is : (old new : World) (tick : Tick) (bytes : List ℕ) (taken : Bool) (answer : List ℕ) →
-    (new.is_live → old.is_live) →
+    (new.is_live → old.is_live) → AreWithin old →
     (taken ≡ true → TakesRequest old new tick (asked bytes) answer) →
     (taken ≡ false → RefusesRequest old new tick (asked bytes) answer) →
     IsOne old new (record { event = Call tick bytes; taken = taken; answer = answer })
-call_is old new tick bytes true answer back takes refuses = record {
+call_is old new tick bytes true answer back within takes refuses = record {
   each = nobodys old new tick (asked bytes) answer (takes refl);
   told = λ start tells code. asks_told old new start (asked bytes) code tick answer tells
+      (takes refl);
+  keeps = λ start tells code. asks_keeps old new start (asked bytes) code tick answer within tells
       (takes refl);
   after = λ start tells live code.
       asks_after old new start (asked bytes) code tick answer (back live) tells (takes refl);
 }
-call_is old new tick bytes false answer back takes refuses = record {
+call_is old new tick bytes false answer back within takes refuses = record {
   each = (refuses refl).replied;
   told = λ start tells code. tt;
+  keeps = λ start tells code. follows_itself (start code);
   after = λ start tells live code.
       left_alone old new start back tells (refuses refl).same live code;
 }
@@ -300,13 +380,38 @@ call_is old new tick bytes false answer back takes refuses = record {
 pub one_call : (old new : World) (event : Event) (tick : Tick) (bytes read : List ℕ) (taken : Bool)
     (answer reply : List ℕ) →
     event ≡ Call tick bytes → read ≡ bytes → answer ≡ reply → (new.is_live → old.is_live) →
+    AreWithin old →
     (taken ≡ true → TakesRequest old new tick (asked read) reply) →
     (taken ≡ false → RefusesRequest old new tick (asked read) reply) →
     IsRun old new (record { event = event; taken = taken; answer = answer } ∷ [])
-one_call old new event tick bytes read taken answer reply is reads replies back takes refuses =
+one_call old new event tick bytes read taken answer reply is reads replies back within takes
+    refuses =
     rw (is, replies, ← reads) (one_run old new
     (record { event = Call tick read; taken = taken; answer = reply })
-    (call_is old new tick read taken reply back takes refuses))
+    (call_is old new tick read taken reply back within takes refuses))
+
+-- ---- what a run leaves true
+
+own_releasing : (code : List ℕ) (lab : Option Lab) (own : Own) → WhereThere IsReleasing lab →
+    WhereThere IsReleasing (after_own code lab own)
+own_releasing code lab (Founds tick body) is = birth_releasing lab code tick (founding_in body) is
+own_releasing code lab (Obeys tick instruction) is =
+    step_there IsReleasing lab tick instruction (step_releasing tick instruction) is
+
+alone_releasing : (code : List ℕ) (lab : Option Lab) (owns : List Own) →
+    WhereThere IsReleasing lab → WhereThere IsReleasing (alone_after code lab owns)
+alone_releasing code lab [] is = is
+alone_releasing code lab (own ∷ owns) is =
+    alone_releasing code (after_own code lab own) owns (own_releasing code lab own is)
+
+-- every laboratory is bound and under dual control at the end of a run
+pub run_releasing : (old new : World) (handled : List Handled) → (new.is_live → old.is_live) →
+    IsRun old new handled → AreReleasing old → AreReleasing new
+run_releasing old new handled back is holds = λ live code.
+    let same : new.meaning code ≡ after_run old.meaning handled code =
+    is.after old.meaning (λ there one. refl) live code in
+    subst (WhereThere IsReleasing) (sym same)
+    (alone_releasing code (old.meaning code) (own_events code handled) (holds (back live) code))
 
 -- ---- what is told and written
 

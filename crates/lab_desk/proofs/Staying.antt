@@ -1,6 +1,6 @@
 -- What a step and a birth leave true of a laboratory, a request and a founding leave true of every
 -- laboratory that is kept.
-use Rattle.std.proofs.Common.{◌≡◌, ◌≢◌, ℕ, Bool, true, false, List, Option, Some, None, Result, Ok, Err, refl, sym, ◌∙◌, ap, subst}
+use Rattle.std.proofs.Common.{◌≡◌, ◌≢◌, ℕ, Bool, true, false, List, Option, Some, None, Result, Ok, Err, refl, sym, ◌∙◌, subst}
 use Rattle.std.specs.Prelude.{OnOk, OnErr, bytes_eq}
 use Rattle.std.proofs.lemmas.Bool.{false≢true}
 use Rattle.std.proofs.lemmas.Slice.Eq.{bytes_eq-Decides}
@@ -11,6 +11,7 @@ use Rattle.lab_kept.specs.Dual.{IsDual, IsDualRecord}
 use Rattle.lab_kept.specs.Limits.{IsWithin}
 use Rattle.lab_kept.specs.Worlds.{World, Meaning, SetsOne, Places, Leaves}
 use Rattle.lab_kept.proofs.ReleaseLemmas.{all_released}
+use Rattle.lab_machine.specs.declared.births.BirthRefusal.{BirthRefusal}
 use Rattle.lab_machine.specs.declared.births.Founding.{Founding}
 use Rattle.lab_machine.specs.declared.commands.Instruction.{Instruction}
 use Rattle.lab_machine.specs.Births.{born}
@@ -18,13 +19,14 @@ use Rattle.lab_machine.specs.Machine.{step}
 use Rattle.lab_laws.specs.Asking.{IsCommandFormed}
 use Rattle.lab_laws.specs.Runs.{IsReleasing}
 use Rattle.lab_laws.specs.Stepping.{WhereThere}
-use Rattle.lab_laws.proofs.BirthLemmas.{born_right}
+use Rattle.lab_laws.proofs.BirthLemmas.{born_right, not_again}
 use Rattle.lab_laws.proofs.BoundLemmas.{bound_stays}
 use Rattle.lab_laws.proofs.DualLemmas.{dual_stays}
 use Rattle.lab_laws.proofs.FormedLemmas.{formed_is_right}
 use Rattle.lab_laws.proofs.LimitSteps.{step_within}
 use Rattle.lab_laws.proofs.SigningStep.{step_keeps}
 use Rattle.lab_routes.specs.declared.commands.Asked.{Asked}
+use Rattle.lab_desk.specs.Foundings.{Body, after_birth, birth, born_of}
 use Rattle.lab_desk.specs.Keeping.{OfAll, HoldsIn}
 use Rattle.lab_desk.specs.Requests.{Steps}
 
@@ -59,7 +61,7 @@ abbrev pub Stays : (Lab → Type 0) → Tick → Instruction → Type 0
 Stays Holds tick instruction =
     (lab : Lab) → Holds lab → WhereThere Holds (step (Some lab) tick instruction).after
 
-step_there : (Holds : Lab → Type 0) (lab : Option Lab) (tick : Tick) (instruction : Instruction) →
+pub step_there : (Holds : Lab → Type 0) (lab : Option Lab) (tick : Tick) (instruction : Instruction) →
     Stays Holds tick instruction → WhereThere Holds lab →
     WhereThere Holds (step lab tick instruction).after
 step_there Holds None tick instruction stays holds = tt
@@ -96,7 +98,7 @@ releasing_of (Some lab) bound dual = record {
   released = all_released lab bound dual;
 }
 
-step_releasing : (tick : Tick) (instruction : Instruction) → Stays IsReleasing tick instruction
+pub step_releasing : (tick : Tick) (instruction : Instruction) → Stays IsReleasing tick instruction
 step_releasing tick instruction lab is =
     releasing_of (step (Some lab) tick instruction).after
     (step_keeps IsBoundRecord bound_stays lab tick instruction is.bound)
@@ -132,3 +134,27 @@ placed_releasing old new code tick founding lab birth back placed holds =
     let right = born_right code tick founding lab birth in
     placed_by IsReleasing old new lab back placed
     (releasing_of (Some lab) right.1 right.2) holds
+
+born_releasing : (code : List ℕ) (tick : Tick) (founding : Founding)
+    (result : Result Lab BirthRefusal) → born None code tick founding ≡ result →
+    WhereThere IsReleasing (after_birth None (birth result))
+born_releasing code tick founding (Ok lab) is =
+    let right = born_right code tick founding lab is in releasing_of (Some lab) right.1 right.2
+born_releasing code tick founding (Err refusal) is = tt
+
+not_born_releasing : (lab : Lab) (result : Result Lab BirthRefusal) →
+    ((other : Lab) → result ≢ Ok other) → IsReleasing lab →
+    WhereThere IsReleasing (after_birth (Some lab) (birth result))
+not_born_releasing lab (Ok other) never is = absurd (never other refl)
+not_born_releasing lab (Err refusal) never is = is
+
+-- a laboratory after a founding of its code
+pub birth_releasing : (lab : Option Lab) (code : List ℕ) (tick : Tick) (body : Body) →
+    WhereThere IsReleasing lab → WhereThere IsReleasing (after_birth lab (born_of lab code tick body))
+birth_releasing None code tick (Err refusal) is = tt
+birth_releasing None code tick (Ok founding) is =
+    born_releasing code tick founding (born None code tick founding) refl
+birth_releasing (Some lab) code tick (Err refusal) is = is
+birth_releasing (Some lab) code tick (Ok founding) is =
+    not_born_releasing lab (born (Some lab) code tick founding)
+    (λ other. not_again lab other code tick founding) is

@@ -1,5 +1,5 @@
 -- Why a founding founded nothing, and why a run ended before its last event.
-use Rattle.std.specs.Prelude.{◌≡◌, ℕ, List, Bool, true, false, Option, Some, None, Result, Ok, Err, IsOk, codes}
+use Rattle.std.specs.Prelude.{◌≡◌, ℕ, List, Bool, true, false, Option, Some, None, Result, Ok, Err, codes}
 use Rattle.lab_names.specs.Faults.{Entry, memory_entry}
 use Rattle.lab_names.specs.declared.tick.Tick.{Tick}
 use Rattle.lab_members.specs.declared.refusals.BodyFault.{BodyFault}

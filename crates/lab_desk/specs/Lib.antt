@@ -4,4 +4,5 @@ pub mod Foundings
 pub mod Desk
 pub mod Alone
 pub mod Runs
+pub mod Serving
 pub mod Faults

@@ -1,10 +1,11 @@
--- A run of an installation: which events were taken, what was answered, and that each laboratory's
--- answers and what it means are those of its run alone.
+-- A run of an installation: which events were taken, what was answered, that each laboratory's
+-- answers and what it means are those of its run alone, and that it keeps what was at each event.
 use Rattle.std.specs.Prelude.{◌≡◌, ◌<◌, ◌++◌, ℕ, List, [], ◌∷◌, Bool, true, false, All, Option, None, Result, Ok, Err, IsOk, IfErr, filter_map, if◌then◌else◌, length, map, option_map, take}
 use Rattle.std.specs.Io.KnownBytes.{Appends}
 use Rattle.std.specs.List.{concat}
 use Rattle.lab_names.specs.declared.tick.Tick.{Tick}
 use Rattle.lab_messages.specs.declared.sending.WriteFault.{WriteFault}
+use Rattle.lab_kept.specs.Keeping.{Keeps}
 use Rattle.lab_kept.specs.Worlds.{World, Meaning, Tells}
 use Rattle.lab_wire.specs.declared.replies.Answer.TheVariants.{Refused}
 use Rattle.lab_wire.specs.Asked.{asked}
@@ -13,6 +14,7 @@ use Rattle.lab_desk.specs.declared.events.Event.{Event}
 use Rattle.lab_desk.specs.declared.events.Event.TheVariants.{Found, Call}
 use Rattle.lab_desk.specs.Requests.{Asks, IsRefusedReply}
 use Rattle.lab_desk.specs.Foundings.{founding_in, Bears, IsRefusedLine}
+use Rattle.lab_desk.specs.Keeping.{EachFollows}
 use Rattle.lab_desk.specs.Alone.{Own, own_of, alone_after, alone_answers}
 
 -- an event, whether it was taken, and what was answered to it: it is taken unless memory ran out or
@@ -72,12 +74,21 @@ abbrev pub AreAlone : Meaning → List Handled → Type 0
 AreAlone start handled = (code : List ℕ) →
     own_answers code handled ≡ alone_answers code (start code) (own_events code handled)
 
+-- at each event every laboratory that there is, is there after it and keeps what was, also one that
+-- an earlier event founded (21 CFR 11.10(e); ISO/IEC 17025:2017, 7.5.2)
+abbrev pub KeepsAlong : Meaning → List Handled → Type 0
+KeepsAlong start [] = Unit {0}
+KeepsAlong start (one ∷ others) =
+    EachFollows Keeps start (after_run start (one ∷ []))
+    × KeepsAlong (after_run start (one ∷ [])) others
+
 -- a run: each event is answered as it may be; and from what the keeper told at its start, as from
 -- what it kept, each laboratory's answers, and what the keeper tells of it at its end, are those of
--- its run alone
+-- its run alone, in which it keeps what was at each event
 pub record IsRun (old new : World) (handled : List Handled) : Type 0 where
   pub each : All (IsAnswer old.may_refuse) handled
   pub alone : (start : Meaning) → Tells old start → AreAlone start handled
+  pub keeps : (start : Meaning) → Tells old start → KeepsAlong start handled
   pub after : (start : Meaning) → Tells old start → Tells new (after_run start handled)
 
 -- ---- what is told and written

@@ -1,13 +1,13 @@
 //! The desk: one body for every keeper.
 
 ghost use Rattle.std.specs.Prelude.{◌≡◌, ◌⊎◌, ◌≤◌, length, vec_capacity, [], true, false, Ok, Err, IsTrue, IsFalse, IfOk, IfErr, OnOk, OnErr, option_map};
-ghost use Rattle.lab_kept.specs.Worlds.{Passes, Given, Leaves, Lives, Quiet, CommitsAs, IsSettled, StaysSafe};
+ghost use Rattle.lab_kept.specs.Worlds.{Passes, Given, Leaves, Lives, Quiet, CommitsAs, IsDurable, StaysSafe};
 ghost use Rattle.lab_wire.specs.declared.refusals.RequestRefusal.{RequestRefusal as OneRefusal};
 ghost use Rattle.lab_wire.specs.declared.replies.Answer.TheVariants.{Refused as RefusedAnswer};
 ghost use Rattle.lab_wire.specs.Asked.{asked};
 ghost use Rattle.lab_wire.specs.Replies.{reply_text, memory_text};
 ghost use Rattle.lab_desk.specs.Requests.{TakesRequest, RefusesRequest, TellsFault, MovesFor, Steps, is_idle_request};
-ghost use Rattle.lab_desk.specs.Keeping.{AreWithin, AreReleasing};
+ghost use Rattle.lab_desk.specs.Keeping.{AreWithin, AreReleasing, KeptFrom};
 ghost use Rattle.lab_desk.specs.Foundings.{founding_in, Founds, Births, TakesFounding, RefusesFounding, shown};
 ghost use Rattle.lab_desk.specs.Faults.{FoundFaultFits, OnBody, OnKept, OnUncommitted};
 ghost use Rattle.std.specs.Prelude.{IsSome};
@@ -18,7 +18,7 @@ use crate::foundings::{Line, founded, newborn_of, unfounded};
 use crate::requests::answer_asked;
 use lab_kept::{Keeper, KeeperFault};
 use lab_names::{LabCode, OutOfMemory, Tick};
-use lab_wire::{Answer, RequestFault, ask, memory_reply, reply_bytes};
+use lab_wire::{Answer, RequestFault, RequestRefusal, ask, memory_reply, reply_bytes};
 use std::alloc::Global;
 use std::marker::Model;
 
@@ -66,7 +66,7 @@ impl<S: Keeper + Drop> Desk<S> {
 
     /// Handles a request: `reply` has its reply, and the keeper what became of its laboratory.
     /// Answers whether the request was taken: it was, unless memory ran out or the store refused;
-    /// then the reply says so and nothing is changed.
+    /// then the reply says so and nothing is changed. Every laboratory keeps what was.
     pub fn handle(&mut self, tick: &Tick, bytes: &[u8]) -> bool
         ensures taken { AreWithin (S.world self.old.keeper) →
             Given (S.world self.old.keeper) (S.world self.new.keeper) (result ≡ true →
@@ -102,11 +102,11 @@ impl<S: Keeper + Drop> Desk<S> {
             (asked bytes.now)) →
             Given (S.world self.old.keeper) (S.world self.new.keeper)
             (Quiet (S.world self.old.keeper) (S.world self.new.keeper)) }
-        ensures settled { AreWithin (S.world self.old.keeper) →
+        ensures durable { AreWithin (S.world self.old.keeper) →
             IsFalse (is_idle_request (S.world self.old.keeper).meaning tick.now
             (asked bytes.now)) →
             Given (S.world self.old.keeper) (S.world self.new.keeper)
-            (result ≡ true → IsSettled (S.world self.new.keeper)) }
+            (result ≡ true → IsDurable (S.world self.new.keeper)) }
         ensures safe { AreWithin (S.world self.old.keeper) →
             Given (S.world self.old.keeper) (S.world self.new.keeper)
             (StaysSafe (S.world self.old.keeper) (S.world self.new.keeper)) }
@@ -119,6 +119,9 @@ impl<S: Keeper + Drop> Desk<S> {
             AreReleasing (S.world self.old.keeper) →
             Given (S.world self.old.keeper) (S.world self.new.keeper)
             (AreReleasing (S.world self.new.keeper)) }
+        ensures keeps { AreWithin (S.world self.old.keeper) →
+            Given (S.world self.old.keeper) (S.world self.new.keeper)
+            (KeptFrom (S.world self.old.keeper) (S.world self.new.keeper)) }
         ensures reached { AreWithin (S.world self.old.keeper) →
             Given (S.world self.old.keeper) (S.world self.new.keeper)
             (S.world self.new.keeper).is_reached }
@@ -129,15 +132,30 @@ impl<S: Keeper + Drop> Desk<S> {
                 let answered = answer_asked(self.alloc, &mut self.keeper, tick, asked);
                 self.keep(tick, answered)
             }
-            Err(RequestFault::Refused(refusal)) => {
-                self.last = reply_bytes(self.alloc, tick, &Answer::Refused(refusal)).ok();
-                self.last.is_some()
-            }
-            Err(RequestFault::Memory) => {
-                self.last = None;
-                false
-            }
+            Err(RequestFault::Refused(refusal)) => self.refuse(tick, refusal),
+            Err(RequestFault::Memory) => self.exhaust(),
         }
+    }
+
+    /// Keeps the reply to bytes that ask nothing. Answers whether there was memory for it.
+    pub(crate) fn refuse(&mut self, tick: &Tick, refusal: RequestRefusal) -> bool
+        ensures replied { result ≡ true →
+            self.new.reply ≡ reply_text tick.now (RefusedAnswer refusal) }
+        ensures memory { result ≡ false → self.new.reply ≡ memory_text }
+        ensures keeper { self.new.keeper ≡ self.old.keeper }
+    {
+        self.last = reply_bytes(self.alloc, tick, &Answer::Refused(refusal)).ok();
+        self.last.is_some()
+    }
+
+    /// Keeps the reply that tells that memory ran out. Answers that no request was taken.
+    pub(crate) fn exhaust(&mut self) -> bool
+        ensures refused { result ≡ false }
+        ensures reply { self.new.reply ≡ memory_text }
+        ensures keeper { self.new.keeper ≡ self.old.keeper }
+    {
+        self.last = None;
+        false
     }
 
     /// Keeps the reply of a laboratory that was asked, or one that tells of the keeper's fault.
@@ -158,10 +176,7 @@ impl<S: Keeper + Drop> Desk<S> {
                 self.last = reply_bytes(self.alloc, tick, &Answer::Storage).ok();
                 false
             }
-            Err(KeeperFault::Memory) => {
-                self.last = None;
-                false
-            }
+            Err(KeeperFault::Memory) => self.exhaust(),
         }
     }
 
@@ -175,7 +190,7 @@ impl<S: Keeper + Drop> Desk<S> {
         }
     }
 
-    /// Founds a laboratory from its body.
+    /// Founds a laboratory from its body. Every other keeps what was.
     ///
     /// # Errors
     /// The body's refusals, why none is born from it, that the laboratory is there, the store's
@@ -205,8 +220,8 @@ impl<S: Keeper + Drop> Desk<S> {
             (S.world self.old.keeper) (S.world self.new.keeper)) }
         ensures quiet { Given (S.world self.old.keeper) (S.world self.new.keeper)
             (OnUncommitted result (Quiet (S.world self.old.keeper) (S.world self.new.keeper))) }
-        ensures settled { Given (S.world self.old.keeper) (S.world self.new.keeper)
-            (OnOk result (IsSettled (S.world self.new.keeper))) }
+        ensures durable { Given (S.world self.old.keeper) (S.world self.new.keeper)
+            (OnOk result (IsDurable (S.world self.new.keeper))) }
         ensures safe { Given (S.world self.old.keeper) (S.world self.new.keeper)
             (StaysSafe (S.world self.old.keeper) (S.world self.new.keeper)) }
 
@@ -217,6 +232,8 @@ impl<S: Keeper + Drop> Desk<S> {
         ensures releasing { AreReleasing (S.world self.old.keeper) →
             Given (S.world self.old.keeper) (S.world self.new.keeper)
             (AreReleasing (S.world self.new.keeper)) }
+        ensures keeps { Given (S.world self.old.keeper) (S.world self.new.keeper)
+            (KeptFrom (S.world self.old.keeper) (S.world self.new.keeper)) }
         ensures reached { Given (S.world self.old.keeper) (S.world self.new.keeper)
             (S.world self.new.keeper).is_reached }
         ensures passes { Passes (S.world self.old.keeper) (S.world self.new.keeper) }
@@ -242,6 +259,8 @@ impl<S: Keeper + Drop> Desk<S> {
         ensures releasing { AreReleasing (S.world self.old.keeper) →
             Given (S.world self.old.keeper) (S.world self.new.keeper)
             (AreReleasing (S.world self.new.keeper)) }
+        ensures keeps { Given (S.world self.old.keeper) (S.world self.new.keeper)
+            (KeptFrom (S.world self.old.keeper) (S.world self.new.keeper)) }
         ensures reached { Given (S.world self.old.keeper) (S.world self.new.keeper)
             (S.world self.new.keeper).is_reached }
         ensures passes { Passes (S.world self.old.keeper) (S.world self.new.keeper) }
@@ -256,6 +275,11 @@ impl<S: Keeper + Drop> Desk<S> {
             },
             Err(fault) => unfounded(self.alloc, &fault),
         }
+    }
+
+    /// Where the desk takes its memory.
+    pub(crate) fn alloc(&self) -> Global {
+        self.alloc
     }
 
     /// Room for one word an event.

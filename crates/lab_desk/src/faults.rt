@@ -1,7 +1,9 @@
-//! Why a founding founded nothing, and why a run ended before its last event.
+//! Why a founding founded nothing, why a run ended before its last event, and why a request was not
+//! served whole.
 
-ghost use Rattle.std.specs.Prelude.{◌≡◌, Some};
+ghost use Rattle.std.specs.Prelude.{◌≡◌, Some, None};
 ghost use Rattle.lab_desk.specs.Faults.{found_fault_entry, is_taken, run_fault_number, run_fault_word};
+ghost use Rattle.lab_desk.specs.Serving.{serve_fault_word};
 
 use lab_kept::PlacingFault;
 use lab_machine::BirthRefusal;
@@ -162,6 +164,54 @@ impl fmt::Display for RunFault {
     ghost use Rattle.lab_desk.specs.Faults.{run_fault_word};
 
     ghost output = { λ fault. Some (run_fault_word fault) };
+
+    fn fmt<W: fmt::Write>(&self, f: &mut fmt::Formatter<W>) -> fmt::Result {
+        f.write_str(self.word())
+    }
+}
+
+/// Why a request was not served whole. Its text is its word.
+#[derive(Clone, Copy, Debug, PartialEq, Eq, Error)]
+pub enum ServeFault {
+    /// The reader failed before the request had come whole. It was not answered, and nothing was
+    /// changed.
+    Read,
+    /// A write of the interim answer failed, or took no byte. Nothing was changed.
+    Interim {
+        /// How many of its bytes went out before.
+        sent: usize,
+    },
+    /// A write of the reply failed, or took no byte. The request stands.
+    Reply {
+        /// How many of the reply's bytes went out before.
+        sent: usize,
+    },
+}
+
+impl ServeFault {
+    /// The number by which the fault is known: none, since no reply can tell of it.
+    pub fn number(&self) -> Option<u32>
+        ensures { result ≡ None }
+    {
+        None
+    }
+
+    /// The word by which the fault is known.
+    pub fn word(&self) -> &'static str
+        ensures { result.now ≡ serve_fault_word self.now }
+    {
+        match self {
+            ServeFault::Read => "read_fault",
+            ServeFault::Interim { .. } | ServeFault::Reply { .. } => "write_fault",
+        }
+    }
+}
+
+impl fmt::Display for ServeFault {
+    ghost use Rattle.std.specs.Prelude.{Some};
+    ghost use Rattle.lab_desk.specs.Serving.{serve_fault_word};
+
+    ghost output = { λ fault. Some (serve_fault_word fault) };
 
     fn fmt<W: fmt::Write>(&self, f: &mut fmt::Formatter<W>) -> fmt::Result {
         f.write_str(self.word())

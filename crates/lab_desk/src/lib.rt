@@ -8,10 +8,11 @@ mod faults;
 mod foundings;
 mod requests;
 mod runs;
+mod serving;
 
 pub use crate::desk::Desk;
 pub use crate::events::Event;
-pub use crate::faults::{FoundFault, RunFault};
+pub use crate::faults::{FoundFault, RunFault, ServeFault};
 pub use lab_kept::{Keeper, PlacingFault};
 pub use lab_machine::BirthRefusal;
 pub use lab_members::BodyRefusal;

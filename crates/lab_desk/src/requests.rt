@@ -4,7 +4,7 @@
 ghost use Rattle.std.specs.Prelude.{◌≡◌, ◌≢◌, [], Some, Ok, IsTrue, IsFalse, IfOk, IfErr, OnOk, OnErr};
 ghost use Rattle.lab_kept.specs.Changes.{ChangesFit};
 ghost use Rattle.lab_kept.specs.Parts.{part_of};
-ghost use Rattle.lab_kept.specs.Worlds.{Changes as MadeOf, Passes, Given, Lives, Leaves, Quiet, CommitsAs, IsSettled, StaysSafe, KeeperFaultFits};
+ghost use Rattle.lab_kept.specs.Worlds.{Changes as MadeOf, Passes, Given, Lives, Leaves, Quiet, CommitsAs, IsDurable, StaysSafe, KeeperFaultFits};
 ghost use Rattle.lab_laws.specs.Asking.{IsCommandFormed};
 ghost use Rattle.lab_machine.specs.Needs.{need_of};
 ghost use Rattle.lab_decisions.specs.Deciding.{decided};
@@ -60,11 +60,11 @@ pub(crate) fn answer_asked<S: Keeper>(
     ensures safe { AreWithin (S.world keeper.old) →
         Given (S.world keeper.old) (S.world keeper.new)
         (StaysSafe (S.world keeper.old) (S.world keeper.new)) }
-    ensures settled { AreWithin (S.world keeper.old) →
+    ensures durable { AreWithin (S.world keeper.old) →
         IsFalse (is_idle ((S.world keeper.old).meaning asked.lab) tick.now
         asked.instruction) →
         Given (S.world keeper.old) (S.world keeper.new)
-        (OnOk result (IsSettled (S.world keeper.new))) }
+        (OnOk result (IsDurable (S.world keeper.new))) }
     ensures reached { AreWithin (S.world keeper.old) →
         Given (S.world keeper.old) (S.world keeper.new)
         (S.world keeper.new).is_reached }
@@ -158,11 +158,11 @@ fn answer_on<S: Keeper>(
         (decided slice tick.now asked.instruction.command).changes →
         Given (S.world keeper.old) (S.world keeper.new)
         (StaysSafe (S.world keeper.old) (S.world keeper.new)) }
-    ensures settled { ChangesFit ((S.world keeper.old).meaning asked.lab)
+    ensures durable { ChangesFit ((S.world keeper.old).meaning asked.lab)
         (decided slice tick.now asked.instruction.command).changes →
         (decided slice tick.now asked.instruction.command).changes ≢ [] →
         Given (S.world keeper.old) (S.world keeper.new)
-        (OnOk result (IsSettled (S.world keeper.new))) }
+        (OnOk result (IsDurable (S.world keeper.new))) }
     ensures reached { ChangesFit ((S.world keeper.old).meaning asked.lab)
         (decided slice tick.now asked.instruction.command).changes →
         Given (S.world keeper.old) (S.world keeper.new) (S.world keeper.new).is_reached }

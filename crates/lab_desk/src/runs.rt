@@ -4,7 +4,7 @@
 ghost use Rattle.std.specs.Prelude.{◌≡◌, ℕ, List, [], ◌∷◌, IfOk, IfErr};
 ghost use Rattle.std.specs.Io.KnownBytes.{Keeps};
 ghost use Rattle.lab_kept.specs.Worlds.{Passes, Given};
-ghost use Rattle.lab_desk.specs.Keeping.{AreWithin, AreReleasing};
+ghost use Rattle.lab_desk.specs.Keeping.{AreWithin, AreReleasing, KeptFrom, RetainedFrom, ReleasedFrom};
 ghost use Rattle.lab_desk.specs.Runs.{IsRun, Runs, RunsCut, Sends};
 ghost use Rattle.lab_desk.specs.Faults.{IfWrite, IfMemory};
 
@@ -28,7 +28,8 @@ impl<S: Keeper + Drop> Desk<S> {
     /// Each laboratory's answers, byte for byte, and what the keeper means by it in the end are
     /// those of its own small machine, run over its own taken events alone; every event has one
     /// answer, in order, and nothing else is written. The answers are so also where a fault shut
-    /// the store.
+    /// the store. Each laboratory keeps what was at each event, and has in the end all that was
+    /// recorded at the start.
     ///
     /// # Errors
     /// That memory ran out for the list that is told, made first: nothing is handled or written. A
@@ -54,6 +55,13 @@ impl<S: Keeper + Drop> Desk<S> {
             AreReleasing (S.world self.old.keeper) →
             Given (S.world self.old.keeper) (S.world self.new.keeper)
             (AreReleasing (S.world self.new.keeper)) }
+        ensures retains { AreWithin (S.world self.old.keeper) →
+            Given (S.world self.old.keeper) (S.world self.new.keeper)
+            (RetainedFrom (S.world self.old.keeper) (S.world self.new.keeper)) }
+        ensures released { AreWithin (S.world self.old.keeper) →
+            AreReleasing (S.world self.old.keeper) →
+            Given (S.world self.old.keeper) (S.world self.new.keeper)
+            (ReleasedFrom (S.world self.old.keeper) (S.world self.new.keeper)) }
         ensures reached { AreWithin (S.world self.old.keeper) →
             Given (S.world self.old.keeper) (S.world self.new.keeper)
             (S.world self.new.keeper).is_reached }
@@ -90,6 +98,9 @@ impl<S: Keeper + Drop> Desk<S> {
             AreReleasing (S.world self.old.keeper) →
             Given (S.world self.old.keeper) (S.world self.new.keeper)
             (AreReleasing (S.world self.new.keeper)) }
+        ensures keeps { AreWithin (S.world self.old.keeper) →
+            Given (S.world self.old.keeper) (S.world self.new.keeper)
+            (KeptFrom (S.world self.old.keeper) (S.world self.new.keeper)) }
         ensures reached { AreWithin (S.world self.old.keeper) →
             Given (S.world self.old.keeper) (S.world self.new.keeper)
             (S.world self.new.keeper).is_reached }

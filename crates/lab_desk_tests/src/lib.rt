@@ -18,4 +18,12 @@ mod request_tests;
 #[cfg(test)]
 mod run_tests;
 #[cfg(test)]
+mod served;
+#[cfg(test)]
+mod serving_tests;
+#[cfg(test)]
+mod streams;
+#[cfg(test)]
 mod texts;
+#[cfg(test)]
+mod writer_tests;

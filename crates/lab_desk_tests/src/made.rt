@@ -60,8 +60,8 @@ pub(crate) fn empty_desk<R: Abort + AllocGlobal>(rt: &R) -> Desk<Lists> {
     Desk::new(rt.alloc(), Lists::new(rt.alloc())).expect(rt, "a desk")
 }
 
-/// A desk with no laboratory, over a keeper that refuses every second call.
-pub(crate) fn moody_desk<R: Abort + AllocGlobal>(rt: &R) -> Desk<Moody> {
+/// A desk with no laboratory, over a keeper that refuses every second call, and has had so many.
+pub(crate) fn moody_desk<R: Abort + AllocGlobal>(rt: &R, calls: u64) -> Desk<Moody> {
     let lists = Lists::new(rt.alloc());
-    Desk::new(rt.alloc(), Moody { lists, calls: 0 }).expect(rt, "a desk")
+    Desk::new(rt.alloc(), Moody { lists, calls }).expect(rt, "a desk")
 }

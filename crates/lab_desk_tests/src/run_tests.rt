@@ -63,7 +63,7 @@ fn foundings_that_are_refused_found_nothing(rt: HostRuntime) {
     let written: &[u8] = b"founded aqua\nrefused 90 memory\nrefused 64 lab_exists\n\
         refused 63 storage\nfounded brick\n";
     let events = events(&rt, &EVENTS);
-    assert_run(&rt, moody_desk(&rt), events, &taken, &[written]);
+    assert_run(&rt, moody_desk(&rt, 0), events, &taken, &[written]);
 }
 
 /// How many events were handled of a run whose writer failed, and how many bytes of the last one's

@@ -9,7 +9,6 @@ use Rattle.lab_events.specs.declared.fault.ReplayFault.TheVariants.{BadEvent, Re
 use Rattle.lab_events.specs.Event.{cut_at, most_line, line_at, short_line, ◌>>=◌, heading_of, next_event, next_of, with_bytes, Event, End, Bad, Taken}
 use Rattle.lab_events.specs.Reading.{IsRefused, TakesByte, TakesLine, TakesBytes, TakesNext, heading_said, event_said}
 use Rattle.lab_events.proofs.ReadLemmas.{HasRead, after, cut_feed, cut_end}
-use Rattle.lab_events.specs.Fault.{IsInputFault}
 
 short_test : (b : Bool) (parts : List ℕ × List ℕ) → b ≡ true → cond b (Some parts) None ≡ Some parts
 short_test true parts e = refl

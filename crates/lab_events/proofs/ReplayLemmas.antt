@@ -15,7 +15,7 @@ use Rattle.lab_desk.specs.declared.faults.RunFault.{RunFault}
 use Rattle.lab_desk.specs.declared.faults.RunFault.TheVariants.{Memory as RunMemory, Write}
 use Rattle.std.proofs.lemmas.List.{map-append}
 use Rattle.lab_desk.specs.Runs.{Handled, IsRun, Runs, RunsCut, answers_of}
-use Rattle.lab_desk.specs.Keeping.{AreWithin}
+use Rattle.lab_desk.specs.Keeping.{AreWithin, AreReleasing}
 use Rattle.std.specs.Io.Buffered.{reader_remaining, reader_inner, reader_buffer, reader_capacity}
 use Rattle.std.specs.declared.io.BufReader.{BufReader}
 use Rattle.lab_desk.specs.Faults.{IfWrite, IfMemory}
@@ -25,7 +25,7 @@ use Rattle.lab_events.specs.Event.{next_event}
 use Rattle.lab_events.specs.Fault.{IsInputFault, IsReaderFault, fault_of_run, fault_line}
 use Rattle.lab_events.specs.Reading.{TakesNext}
 use Rattle.lab_events.specs.Replay.{BeginsWith, Stops, IsTold, IsWritten, IsReplay, Replays, events_of}
-use Rattle.lab_desk.proofs.Running.{run_then, no_run}
+use Rattle.lab_desk.proofs.Running.{run_then, no_run, run_releasing}
 
 -- the events so far were run, and the rest of the input is left
 pub record SoFar (old new : World) (input now before after : Option (List ℕ)) : Type 0 where
@@ -311,6 +311,18 @@ pub none_beyond : (labs : List Lab) → labs ≡ [] → AreWithin (world_of labs
 none_beyond labs none = subst (λ (k : List Lab). AreWithin (world_of k)) (sym none)
     (λ live code. tt)
 
+-- and bound and under dual control
+pub none_releasing : AreReleasing (world_of [])
+none_releasing = λ live code. tt
+
+-- so is each after a replay
+pub replay_releasing : (labs : List Lab) (input before after : Option (List ℕ))
+    (ending : Result (Unit {0}) ReplayFault) →
+    Replays (world_of []) (world_of labs) input before after ending → AreReleasing (world_of labs)
+replay_releasing labs input before after ending replays =
+    run_releasing (world_of []) (world_of labs) replays.handled (λ live. tt) replays.run
+    none_releasing
+
 -- a desk without laboratories, over a fresh reader
 pub from_nothing : (labs kept : List Lab) (input now before after : Option (List ℕ))
     (ending : Result (Unit {0}) ReplayFault)
@@ -355,5 +367,6 @@ no_replay input before after told_before told_after status failed kept tells = r
   ending = Err Memory;
   labs = [];
   replays = replays_none Memory (world_of []) input before after tt kept;
+  releasing = none_releasing;
   tells = (failed, tells);
 }

@@ -7,6 +7,7 @@ use Rattle.lab_kept.specs.declared.labs.Lab.{Lab}
 use Rattle.lab_kept.specs.Worlds.{World}
 use Rattle.lab_lists.specs.Lists.{world_of}
 use Rattle.lab_desk.specs.declared.events.Event.{Event as EventRead}
+use Rattle.lab_desk.specs.Keeping.{AreReleasing}
 use Rattle.lab_desk.specs.Runs.{Handled, IsRun, answers_of}
 use Rattle.lab_events.specs.declared.fault.ReplayFault.{ReplayFault}
 use Rattle.lab_events.specs.declared.fault.ReplayFault.TheVariants.{BadEvent, ReadFault, WriteFault, Memory}
@@ -73,10 +74,12 @@ Tells (Ok _) status before after = (status ≡ Ok 0) × Keeps before after
 Tells (Err fault) status before after = IfOk status (λ number. number ≡ 1)
     × IsTold fault status before after
 
--- a replay over no laboratories, by its status
+-- a replay over no laboratories, by its status: it leaves laboratories that are bound and under
+-- dual control, each of which kept what was at each event from its founding on (`keeps` of `IsRun`)
 pub record IsReplay (input before after told_before told_after : Option (List ℕ))
     (status : Result ℕ Untold) : Type 0 where
   pub ending : Result (Unit {0}) ReplayFault
   pub labs : List Lab
   pub replays : Replays (world_of []) (world_of labs) input before after ending
+  pub releasing : AreReleasing (world_of labs)
   pub tells : Tells ending status told_before told_after

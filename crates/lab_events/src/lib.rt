@@ -5,8 +5,6 @@ mod event;
 mod fault;
 mod limited;
 mod replays;
-#[cfg(test)]
-mod tests;
 
 pub use crate::event::next_event;
 pub use crate::fault::ReplayFault;

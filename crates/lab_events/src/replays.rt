@@ -3,7 +3,7 @@ ghost use Rattle.std.specs.Prelude.{List, []};
 ghost use Rattle.lab_kept.specs.declared.labs.Lab.{Lab as WholeLab};
 ghost use Rattle.lab_kept.specs.Worlds.{Given};
 ghost use Rattle.lab_lists.specs.Lists.{world_of};
-ghost use Rattle.lab_desk.specs.Keeping.{AreWithin};
+ghost use Rattle.lab_desk.specs.Keeping.{AreWithin, AreReleasing};
 ghost use Rattle.lab_events.specs.Replay.{IsReplay, IsTold, Replays};
 
 use crate::event::next_event;
@@ -54,7 +54,8 @@ fn run_input<R: Read + Drop, W: Write>(
     output: &mut W,
 ) -> Result<(), ReplayFault>
     ensures replayed { (labs : List WholeLab) × Replays (world_of []) (world_of labs)
-        (R.remaining input) (W.contents output.old) (W.contents output.new) result }
+        (R.remaining input) (W.contents output.old) (W.contents output.new) result
+        × AreReleasing (world_of labs) }
 {
     let mut desk = Desk::new(alloc, Lists::new(alloc))?;
     let mut reader = BufReader::new(alloc, LimitedReader::new(input, MOST_ASKS))?;

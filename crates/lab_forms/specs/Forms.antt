@@ -21,18 +21,22 @@ key_of field = field.key
 abbrev pub is_field : Field → Bool
 is_field field = is_kind field.kind
 
--- 1 to 60 fields that a form may have, no two with one key
+-- the most fields of a form
+abbrev pub field_limit : ℕ
+field_limit = 60
+
+-- at least one field, and no more than the limit, each one that a form may have, no two with one key
 unfoldable pub is_form : List Field → Bool
 is_form fields =
     nat_le 1 (length fields) && not (has_text_twice (map key_of fields))
-    && nat_le (length fields) 60 && list_all is_field fields
+    && nat_le (length fields) field_limit && list_all is_field fields
 
 -- the first thing that is wrong with a list of fields, if it makes no form
 unfoldable pub form_refusal : List Field → Option FormRefusal
 form_refusal fields =
     if length fields == 0 then Some NoFields
     else (if has_text_twice (map key_of fields) then Some KeyTwice
-    else (if not (nat_le (length fields) 60) then Some TooManyFields
+    else (if not (nat_le (length fields) field_limit) then Some TooManyFields
     else (if not (list_all is_field fields) then Some BadField
     else None)))
 

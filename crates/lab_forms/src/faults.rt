@@ -12,7 +12,7 @@ pub enum FormRefusal {
     NoFields,
     /// Two fields of a form have one key.
     KeyTwice,
-    /// A form of more than 60 fields.
+    /// A form of more fields than it may have.
     TooManyFields,
     /// A field that no form may have: its decimals, its bounds, its size or its choices.
     BadField,

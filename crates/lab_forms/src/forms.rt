@@ -70,8 +70,8 @@ impl Worded for Field {
     }
 }
 
-/// A form: 1 to 60 fields, no two of one key, and whether what it records wants a third person's approval before it is
-/// released.
+/// A form: one field or more within the limit, no two of one key, and whether what it records wants a third person's
+/// approval before it is released.
 ///
 /// A contract sees it as a sheet of the list of its fields and of that wish.
 #[derive(Debug, Drop)]

@@ -6,8 +6,6 @@ mod faults;
 mod forms;
 mod kinds;
 mod numbers;
-#[cfg(test)]
-mod tests;
 mod values;
 mod words;
 

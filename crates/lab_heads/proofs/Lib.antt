@@ -6,4 +6,3 @@ pub mod LineLemmas
 pub mod ReadLemmas
 pub mod RequestLaws
 pub mod RequestLemmas
-pub mod StopLemmas

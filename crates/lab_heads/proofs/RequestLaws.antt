@@ -15,7 +15,7 @@ use Rattle.lab_heads.proofs.ReadLemmas.{take_within}
 
 -- ---- what a request is made of
 
-abbrev Found : Type 0
+abbrev pub Found : Type 0
 Found = Result GoodHead HeadRefusal
 
 unless_from : (head good : GoodHead) (refusal : Option HeadRefusal) → unless_refused head refusal ≡ Ok good
@@ -23,7 +23,7 @@ unless_from : (head good : GoodHead) (refusal : Option HeadRefusal) → unless_r
 unless_from head good None same = same
 unless_from head good (Some refusal) same = absurd (cc)
 
-accepted_from : (found : Found) (good : GoodHead) → head_accepted found ≡ Ok good → found ≡ Ok good
+pub accepted_from : (found : Found) (good : GoodHead) → head_accepted found ≡ Ok good → found ≡ Ok good
 accepted_from (Err refusal) good is = absurd (cc)
 accepted_from (Ok head) good is = unless_from head good (head_refusal head.head) is
 
@@ -48,7 +48,7 @@ whole_of bytes ok = by (accepted_head bytes) refl ok
     by (Err refusal) is e = absurd (cc)
 
 -- the request of an accepted head whose body has come
-request_whole : (bytes : List ℕ) (good : GoodHead) → accepted_head bytes ≡ Ok good
+pub request_whole : (bytes : List ℕ) (good : GoodHead) → accepted_head bytes ≡ Ok good
     → nat_le (body_end good) (length bytes) ≡ true → request_in bytes ≡ Ok (request_by good (body_in bytes good))
 unfolding request_in
 request_whole bytes good accepted came =
@@ -77,6 +77,17 @@ front_of bytes good accepted =
     let front = by_front bytes parts.ends in
     record { front = front; size = front.size ∙ sym parts.place }
 
+-- what stands behind an accepted head says nothing of it
+pub accepted_behind : (bytes more : List ℕ) (good : GoodHead) → accepted_head bytes ≡ Ok good
+    → accepted_head (bytes ++ more) ≡ Ok good
+unfolding accepted_head
+accepted_behind bytes more good accepted =
+    let front = (front_of bytes good accepted).front in
+    ap head_accepted
+    (ap good_head (ap (λ t. t ++ more) front.parts ∙ append_assoc front.whole front.rest more)
+    ∙ front.same (front.rest ++ more))
+    ∙ accepted
+
 -- ---- the laws
 
 pub by_front_law : RequestIsByFront
@@ -96,7 +107,7 @@ by_front_law bytes more ok =
     (ap (take count) (drop-append-le good.end bytes more (omega (arith, fits)))
     ∙ take-append-le count (drop good.end bytes) more (omega (arith, fits, left)))
 
-length_is : (bytes : List ℕ) (good : GoodHead) → accepted_head bytes ≡ Ok good → request_length bytes ≡ body_end good
+pub length_is : (bytes : List ℕ) (good : GoodHead) → accepted_head bytes ≡ Ok good → request_length bytes ≡ body_end good
 unfolding request_length
 length_is bytes good accepted = ap end_after accepted
 

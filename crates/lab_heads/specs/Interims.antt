@@ -5,6 +5,7 @@ use Rattle.std.specs.List.{list_any}
 use Rattle.std.specs.Str.{str_eq_ignore_ascii_case}
 use Rattle.httparse.specs.Ascii.{crlf_bytes}
 use Rattle.lab_heads.specs.declared.refusals.HeadRefusal.{HeadRefusal}
+use Rattle.lab_heads.specs.declared.expected.ExpectedBody.{ExpectedBody}
 use Rattle.lab_heads.specs.Heads.{Field, Head, GoodHead, is_version_1_1}
 use Rattle.lab_heads.specs.Fields.{expect, is_named}
 use Rattle.lab_heads.specs.Lengths.{body_length}
@@ -20,6 +21,18 @@ abbrev pub is_interim_due : Head → Bool
 is_interim_due head =
     is_version_1_1 head.version && list_any is_expectation head.fields
     && nat_lt 0 (body_length head.fields)
+
+-- what is to come behind a good head
+abbrev pub expected_of : GoodHead → ExpectedBody
+expected_of good = record {
+  length = body_length good.head.fields;
+  is_interim_due = is_interim_due good.head;
+}
+
+-- or behind no head
+abbrev pub expected_after : Result GoodHead HeadRefusal → Result ExpectedBody HeadRefusal
+expected_after (Ok good) = Ok (expected_of good)
+expected_after (Err refusal) = Err refusal
 
 -- the status line and an empty line: 25 bytes
 abbrev pub interim_lines : List ℕ

@@ -1,14 +1,9 @@
 -- How many bytes a head and a request take, and that what stands behind them says nothing of either:
 -- the division into reads doesn't matter.
-use Rattle.std.specs.Prelude.{◌≡◌, ℕ, min, List, ◌++◌, length, take, ⊤, if◌then◌else◌, IsOk, Option, Some, None, Result, Ok, Err}
+use Rattle.std.specs.Prelude.{◌≡◌, ℕ, min, List, ◌++◌, length, take, if◌then◌else◌, IsOk, Result, Ok, Err}
 use Rattle.lab_heads.specs.declared.refusals.HeadRefusal.{HeadRefusal}
 use Rattle.lab_heads.specs.Heads.{GoodHead, head_limit, head_text, has_end, head_end}
 use Rattle.lab_heads.specs.Requests.{accepted_head, body_end, request_in}
-
--- a fact on the bytes that a reader has left, where they are known
-abbrev pub OfKnown : Option (List ℕ) → (List ℕ → Type 0) → Type 0
-OfKnown None P = ⊤
-OfKnown (Some bytes) P = P bytes
 
 -- how far a reader is read for a head: to its end, or else to the limit, or to the last byte
 unfoldable pub head_stop : List ℕ → ℕ

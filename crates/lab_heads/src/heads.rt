@@ -9,7 +9,7 @@ use httparse::Status;
 use httparse::spans::{EMPTY_HEADER_SPAN, HeaderSpan, RequestSpans, parse_request};
 
 /// How many bytes may come before the end of a head, those in front of it counted.
-const HEAD_LIMIT: usize = 8192;
+pub const HEAD_LIMIT: usize = 8192;
 
 /// How many field lines a head may have.
 const FIELD_LIMIT: usize = 64;
@@ -106,13 +106,6 @@ fn head_size(text: &[u8]) -> HeadSize
     }
 }
 
-/// Whether the empty line of a head has come within the limit.
-pub(crate) fn has_head_end(bytes: &[u8]) -> bool
-    ensures { result ≡ has_end (head_text bytes.now) }
-{
-    head_size(head_text(bytes).text).has_end
-}
-
 #[tactic(auto, unfolding(crate::specs::Heads::is_over_limits))]
 fn is_over_limits(came: usize, text: &[u8]) -> bool
     ensures { result ≡ is_over_limits came text.now }
@@ -190,49 +183,4 @@ pub fn read_head(bytes: &[u8]) -> Result<RequestHead<'_>, HeadRefusal>
         field_count: head.headers,
         end: front + head.len,
     })
-}
-
-#[cfg(test)]
-mod tests {
-    use super::*;
-    use crate::tests::assert_bytes;
-    use httparse::spans::Span;
-    use std::process::Abort;
-
-    const TEXT: &[u8] = b"\r\n\nPOST /labs/aqua/open?x HTTP/1.1\r\nHost: d\r\n\
-        Authorization:\t LabSession \t a\t \r\nExpect:\nContent-Length:\t2 \r\n\r\n{}more";
-
-    #[test]
-    fn a_head_gives_its_request_line_and_its_end(rt: HostRuntime) {
-        let head = read_head(TEXT).expect(&rt, "a head");
-        assert_eq!(rt; head.minor_version, 1);
-        assert_bytes(&rt, head.method, b"POST");
-        assert_bytes(&rt, head.target.as_bytes(), b"/labs/aqua/open?x");
-        assert_bytes(&rt, &TEXT[head.end.min(TEXT.len())..], b"{}more");
-    }
-
-    #[test]
-    fn values_have_no_blanks_at_their_ends(rt: HostRuntime) {
-        let head = read_head(TEXT).expect(&rt, "a head");
-        assert_eq!(rt; head.field_count, 4);
-        has_field(&rt, &head, 0, b"Host", b"d");
-        has_field(&rt, &head, 1, b"Authorization", b"LabSession \t a");
-        has_field(&rt, &head, 2, b"Expect", b"");
-        has_field(&rt, &head, 3, b"Content-Length", b"2");
-    }
-
-    // The field at a place has this name and value.
-    fn has_field(rt: &impl Abort, head: &RequestHead<'_>, at: usize, name: &[u8], value: &[u8]) {
-        let field = head.fields.get(at).expect(rt, "a place");
-        stands(rt, head.text, field.name, name);
-        stands(rt, head.text, field.value, value);
-    }
-
-    // The span of the text has these bytes.
-    fn stands(rt: &impl Abort, text: &[u8], span: Span, bytes: &[u8]) {
-        let found = text
-            .get(span.start..span.end)
-            .expect(rt, "a span of the text");
-        assert_bytes(rt, found, bytes);
-    }
 }

@@ -2,6 +2,7 @@
 //! the token, and the body.
 #![tactic(auto)]
 
+mod expected;
 mod fields;
 mod head_grammar;
 mod heads;
@@ -10,12 +11,11 @@ mod lengths;
 mod receptions;
 mod refusals;
 mod requests;
-#[cfg(test)]
-mod tests;
 mod tokens;
 
+pub use expected::{ExpectedBody, expected_body};
 pub use head_grammar::grammar_of_heads;
-pub use heads::{RequestHead, read_head};
+pub use heads::{HEAD_LIMIT, RequestHead, read_head};
 pub use receptions::{head_is_by_front, request_is_by_front, request_is_its_bytes};
 pub use refusals::{HeadFault, HeadRefusal};
 pub use requests::{RequestParts, request_parts};

@@ -3,7 +3,9 @@
 ghost use Rattle.std.specs.Prelude.{◌≡◌, Some};
 ghost use Rattle.lab_heads.specs.Refusals.{head_entry, head_fault_number, head_fault_word};
 
+use lab_messages::WriteFault;
 use lab_names::OutOfMemory;
+use std::alloc::AllocError;
 use std::fmt;
 use thiserror::Error;
 
@@ -95,6 +97,36 @@ impl HeadFault {
     }
 }
 
+impl From<HeadRefusal> for HeadFault {
+    ghost use Rattle.lab_heads.specs.declared.refusals.HeadFault.TheVariants.{Refused};
+
+    ghost from_gives = { λ refusal fault. fault ≡ Refused refusal };
+
+    fn from(refusal: HeadRefusal) -> HeadFault {
+        HeadFault::Refused(refusal)
+    }
+}
+
+impl From<WriteFault> for HeadFault {
+    ghost use Rattle.lab_heads.specs.declared.refusals.HeadFault.TheVariants.{Write};
+
+    ghost from_gives = { λ write fault. fault ≡ Write write.sent };
+
+    fn from(fault: WriteFault) -> HeadFault {
+        HeadFault::Write { sent: fault.sent }
+    }
+}
+
+impl From<AllocError> for HeadFault {
+    ghost use Rattle.lab_heads.specs.declared.refusals.HeadFault.TheVariants.{Memory};
+
+    ghost from_gives = { λ _ fault. fault ≡ Memory };
+
+    fn from(_error: AllocError) -> HeadFault {
+        HeadFault::Memory
+    }
+}
+
 impl fmt::Display for HeadFault {
     ghost use Rattle.std.specs.Prelude.{Some};
     ghost use Rattle.lab_heads.specs.Refusals.{head_fault_word};
@@ -103,42 +135,5 @@ impl fmt::Display for HeadFault {
 
     fn fmt<W: fmt::Write>(&self, f: &mut fmt::Formatter<W>) -> fmt::Result {
         f.write_str(self.word())
-    }
-}
-
-#[cfg(test)]
-mod tests {
-    use super::*;
-
-    #[test]
-    fn refusals_have_their_numbers_and_words(rt: HostRuntime) {
-        for (refusal, number, word) in [
-            (HeadRefusal::BadHead, 80, "bad_head"),
-            (HeadRefusal::HeadTooLong, 81, "head_too_long"),
-            (HeadRefusal::TransferCoding, 82, "transfer_coding"),
-            (HeadRefusal::LengthWanted, 83, "length_wanted"),
-            (HeadRefusal::BodyTooLong, 84, "body_too_long"),
-            (HeadRefusal::ShortBody, 85, "short_body"),
-        ] {
-            let fault = HeadFault::Refused(refusal);
-            assert!(rt;
-                fault.number() == Some(number) && fault.word() == word,
-                "at {word}"
-            );
-        }
-    }
-
-    #[test]
-    fn faults_of_streams_have_words_alone(rt: HostRuntime) {
-        for (fault, number, word) in [
-            (HeadFault::Read, None, "read_fault"),
-            (HeadFault::Write { sent: 3 }, None, "write_fault"),
-            (HeadFault::Memory, Some(90), "memory"),
-        ] {
-            assert!(rt;
-                fault.number() == number && fault.word() == word,
-                "at {word}"
-            );
-        }
     }
 }

@@ -1,22 +1,17 @@
--- How much a laboratory holds at the most, in one list; and that what is numbered in it is numbered
--- from 1 on without gaps. lab_people and lab_forms define theirs once more, and code that refuses
--- by a limit has a constant of its own. The numbers are this system's own.
+-- How much a laboratory holds at the most; and that what is numbered in it is numbered from 1 on
+-- without gaps. How many persons it has is said in lab_access, and how many fields a form has in
+-- lab_forms; every other limit stands here, and src/limits.rt has its constant. The numbers are this
+-- system's own.
 use Rattle.std.specs.Prelude.{◌≡◌, ◌≤◌, ℕ, ◌+◌, IsTrue, false, List, [], ◌∷◌, ◌++◌, length, Some, All}
 use Rattle.lab_names.specs.Ordinals.{last_ordinal}
 use Rattle.lab_kept.specs.declared.records.FormVersion.{FormVersion}
 use Rattle.lab_kept.specs.declared.records.Record.{Record}
 use Rattle.lab_kept.specs.declared.records.Version.{Version}
 use Rattle.lab_access.specs.declared.persons.Person.{Person}
+use Rattle.lab_access.specs.Persons.{person_limit}
+use Rattle.lab_forms.specs.Forms.{field_limit}
 use Rattle.lab_kept.specs.declared.labs.Lab.{Lab}
 use Rattle.lab_kept.specs.Lookups.{last_form, exact_form, next_form_version, comes_before}
-
--- the most persons, retired ones too; by the same number lab_people refuses an enrolment
-abbrev pub person_limit : ℕ
-person_limit = 500
-
--- the most fields of a form, which every form keeps (`is_form` of lab_forms)
-abbrev pub field_limit : ℕ
-field_limit = 60
 
 -- the most versions of a form
 abbrev pub form_version_limit : ℕ

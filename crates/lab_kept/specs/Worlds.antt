@@ -92,8 +92,8 @@ CommitsAs Makes old new =
     → old.may_leave held ⊎ Makes old.meaning held
 
 -- only what is kept, in tables that are well kept
-abbrev pub IsSettled : World → Type 0
-IsSettled world =
+abbrev pub IsDurable : World → Type 0
+IsDurable world =
     ((held : Meaning) → world.may_leave held → SameMeaning world.meaning held) × world.is_safe
 
 -- tables that are well kept, where before the call it was such alone

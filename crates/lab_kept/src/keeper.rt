@@ -10,7 +10,7 @@ ghost use Rattle.lab_kept.specs.declared.faults.PlacingFault.TheVariants.{LabExi
 ghost use Rattle.lab_kept.specs.Births.{newborn_lab};
 ghost use Rattle.lab_kept.specs.Parts.{part_of};
 ghost use Rattle.lab_kept.specs.Changes.{ChangesFit};
-ghost use Rattle.lab_kept.specs.Worlds.{World, Meaning as AnyMeaning, Changes, Places, Passes, Given, Lives, Leaves, Quiet, CommitsAs, IsSettled, StaysSafe, KeeperFaultFits, PlacingFaultFits, OnPlaced};
+ghost use Rattle.lab_kept.specs.Worlds.{World, Meaning as AnyMeaning, Changes, Places, Passes, Given, Lives, Leaves, Quiet, CommitsAs, IsDurable, StaysSafe, KeeperFaultFits, PlacingFaultFits, OnPlaced};
 
 use crate::births::Newborn;
 use crate::changes::Change;
@@ -67,9 +67,9 @@ pub trait Keeper {
         ensures safe { ChangesFit ((world self.old).meaning code.now) changes →
             Given (world self.old) (world self.new)
             (StaysSafe (world self.old) (world self.new)) }
-        ensures settled { ChangesFit ((world self.old).meaning code.now) changes →
+        ensures durable { ChangesFit ((world self.old).meaning code.now) changes →
             changes ≢ [] →
-            Given (world self.old) (world self.new) (OnOk result (IsSettled (world self.new))) }
+            Given (world self.old) (world self.new) (OnOk result (IsDurable (world self.new))) }
         ensures reached { ChangesFit ((world self.old).meaning code.now) changes →
             Given (world self.old) (world self.new) (world self.new).is_reached }
 
@@ -108,8 +108,8 @@ pub trait Keeper {
             (world self.new)) }
         ensures safe { Given (world self.old) (world self.new)
             (StaysSafe (world self.old) (world self.new)) }
-        ensures settled { Given (world self.old) (world self.new)
-            (OnOk result (IsSettled (world self.new))) }
+        ensures durable { Given (world self.old) (world self.new)
+            (OnOk result (IsDurable (world self.new))) }
         ensures quiet { result ≡ Err LabExists →
             Given (world self.old) (world self.new) (Quiet (world self.old) (world self.new)) }
         ensures reached { Given (world self.old) (world self.new) (world self.new).is_reached }

@@ -11,6 +11,7 @@ mod faults;
 mod keeper;
 mod labs;
 mod laws;
+mod limits;
 mod needs;
 mod records;
 mod subjects;
@@ -31,6 +32,7 @@ pub use lab_seal::{
 };
 pub use labs::Lab;
 pub use laws::what_is_released;
+pub use limits::{COUNT_LIMIT, FORM_VERSIONS_LIMIT, RECORDS_LIMIT, ROWS_LIMIT, VERSIONS_LIMIT};
 pub use needs::{Counts, FormWanted, ListWanted, Need, RecordWanted, Slice};
 pub use records::{FormVersion, Record, Signature, Version};
 pub use trails::{Action, Deed, Occasion, Subject, TrailRow};

@@ -15,7 +15,7 @@ use Rattle.lab_people.specs.Accounts.{enrolling, newcomer}
 use Rattle.lab_kept.specs.declared.labs.Lab.{Lab}
 use Rattle.lab_kept.specs.declared.changes.Change.TheVariants.{PersonAdded, SessionAdded, SessionSet}
 use Rattle.lab_kept.specs.Changes.{Fits, IsKnown, SameSession}
-use Rattle.lab_kept.specs.Limits.{person_limit}
+use Rattle.lab_access.specs.Persons.{person_limit}
 use Rattle.lab_kept.specs.Lookups.{person_at, session_at}
 use Rattle.lab_laws.proofs.LimitRules.{not_refused, given}
 

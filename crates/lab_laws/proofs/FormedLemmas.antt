@@ -5,8 +5,7 @@ use Rattle.std.specs.List.{list_all}
 use Rattle.std.proofs.lemmas.Bool.{leb-true}
 use Rattle.lab_forms.specs.declared.forms.Field.{Field}
 use Rattle.lab_forms.specs.Words.{has_text_twice}
-use Rattle.lab_forms.specs.Forms.{is_form, is_field, key_of}
-use Rattle.lab_kept.specs.Limits.{field_limit}
+use Rattle.lab_forms.specs.Forms.{field_limit, is_form, is_field, key_of}
 use Rattle.lab_machine.specs.declared.commands.Command.{Command}
 use Rattle.lab_machine.specs.declared.commands.Command.TheVariants.{Card, Open, Close, ChangePassword, Enrol, ReadPersons, AskIssue, ConfirmIssue, SetRoles, Retire, Unlock, MakeForm, ReadForm, OpenRecord, Enter, Amend, Sign, ReadRecord, ReadVersion, ReadRecords, ReadTrail}
 use Rattle.lab_laws.specs.Asking.{IsCommandRight, IsCommandFormed}

@@ -6,7 +6,7 @@ use Rattle.std.proofs.lemmas.List.{length-map}
 use Rattle.std.proofs.lemmas.List.Elements.{All-push}
 use Rattle.lab_names.specs.declared.tick.Tick.{Tick}
 use Rattle.lab_names.specs.Ordinals.{last_ordinal, is_ordinal, ordinal_of}
-use Rattle.lab_forms.specs.Forms.{FormSheet}
+use Rattle.lab_forms.specs.Forms.{FormSheet, field_limit}
 use Rattle.lab_access.specs.declared.persons.Person.{Person}
 use Rattle.lab_access.specs.declared.roles.Roles.{Roles}
 use Rattle.lab_access.specs.declared.sessions.Session.{Session}
@@ -22,7 +22,8 @@ use Rattle.lab_people.specs.Accounts.{changing_by, with_new_password, newcomer}
 use Rattle.lab_kept.specs.declared.labs.Lab.{Lab}
 use Rattle.lab_kept.specs.declared.records.FormVersion.{FormVersion}
 use Rattle.lab_kept.specs.declared.records.Record.{Record}
-use Rattle.lab_kept.specs.Limits.{IsWithin, IsOrderly, IsByForm, IsSmallForm, field_limit, person_limit, record_limit, row_limit}
+use Rattle.lab_access.specs.Persons.{person_limit}
+use Rattle.lab_kept.specs.Limits.{IsWithin, IsOrderly, IsByForm, IsSmallForm, record_limit, row_limit}
 use Rattle.lab_kept.specs.Lookups.{person_at, last_form, record_of, record_about, next_form_version}
 use Rattle.lab_kept.specs.Changes.{with_person, with_session, added_person, entered_in, opened_in, signed_in}
 use Rattle.lab_rules.specs.declared.items.Item.{Item}

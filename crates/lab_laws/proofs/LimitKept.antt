@@ -16,7 +16,8 @@ use Rattle.lab_kept.specs.declared.trails.Occasion.{Occasion}
 use Rattle.lab_kept.specs.declared.labs.Lab.{Lab}
 use Rattle.lab_kept.specs.Changes.{with_person, with_session, in_record}
 use Rattle.lab_kept.specs.Lookups.{record_of}
-use Rattle.lab_kept.specs.Limits.{IsWithin, IsOrderly, IsByForm, AreInOrder, AreNumbered, person_limit, count_limit, record_limit, stray_limit}
+use Rattle.lab_access.specs.Persons.{person_limit}
+use Rattle.lab_kept.specs.Limits.{IsWithin, IsOrderly, IsByForm, AreInOrder, AreNumbered, count_limit, record_limit, stray_limit}
 use Rattle.lab_kept.specs.Trails.{row_of}
 use Rattle.lab_machine.specs.Cases.{told, noted, failed, more_strays}
 use Rattle.lab_laws.proofs.LimitLists.{numbered_same, numbered_more, same_length, longer}

@@ -12,7 +12,7 @@ fn are_both_unset(one: &Password, other: &Password) -> bool {
 }
 
 // Persons who have no password and of whom nothing was asked for.
-pub fn is_person(one: &Person, other: &Person) -> bool {
+pub(crate) fn is_person(one: &Person, other: &Person) -> bool {
     one.code == other.code
         && one.name == other.name
         && one.roles == other.roles
@@ -24,7 +24,7 @@ pub fn is_person(one: &Person, other: &Person) -> bool {
         && other.ask.is_none()
 }
 
-pub fn is_session(one: &Session, other: &Session) -> bool {
+pub(crate) fn is_session(one: &Session, other: &Session) -> bool {
     one.number == other.number
         && one.person == other.person
         && one.token == other.token
@@ -34,11 +34,11 @@ pub fn is_session(one: &Session, other: &Session) -> bool {
         && one.signed == other.signed
 }
 
-pub fn is_form(one: &FormVersion, other: &FormVersion) -> bool {
+pub(crate) fn is_form(one: &FormVersion, other: &FormVersion) -> bool {
     one.code == other.code && one.version == other.version && one.form == other.form
 }
 
-pub fn is_row(one: &EntryRow, other: &EntryRow) -> bool {
+pub(crate) fn is_row(one: &EntryRow, other: &EntryRow) -> bool {
     one.key == other.key
         && one.value == other.value
         && one.unit == other.unit
@@ -95,7 +95,7 @@ fn are_versions(one: &[Version], other: &[Version]) -> bool {
             .all(|(one, other)| is_version(one, other))
 }
 
-pub fn is_record(one: &Record, other: &Record) -> bool {
+pub(crate) fn is_record(one: &Record, other: &Record) -> bool {
     one.number == other.number
         && is_form(&one.form, &other.form)
         && one.sample == other.sample
@@ -151,7 +151,7 @@ fn is_trail(one: &[TrailRow], other: &[TrailRow]) -> bool {
 }
 
 /// Whether the laboratories hold the same.
-pub fn is_lab(one: &Lab, other: &Lab) -> bool {
+pub(crate) fn is_lab(one: &Lab, other: &Lab) -> bool {
     one.code == other.code
         && one.name == other.name
         && one.last == other.last
@@ -196,7 +196,7 @@ fn is_same_record(one: &Option<Record>, other: &Option<Record>) -> bool {
 }
 
 /// Whether the parts hold the same.
-pub fn is_slice(one: &Slice, other: &Slice) -> bool {
+pub(crate) fn is_slice(one: &Slice, other: &Slice) -> bool {
     one.code == other.code
         && one.name == other.name
         && one.last == other.last

@@ -2,14 +2,10 @@
 //! what each command makes of it (ISO/IEC 17025:2017, 7.5 and 8.4; 21 CFR Part 11). It knows no bytes of a request and no tables.
 #![tactic(auto)]
 
-#[cfg(test)]
-mod birth_tests;
 mod births;
 mod commands;
 mod passages;
 mod replies;
-#[cfg(test)]
-mod tests;
 mod wanted;
 
 pub use births::{BirthRefusal, Founder, Founding, bear};

@@ -4,8 +4,6 @@
 mod dates;
 mod messages;
 mod sending;
-#[cfg(test)]
-mod tests;
 
 pub use dates::http_date;
 pub use messages::message;

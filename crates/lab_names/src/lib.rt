@@ -6,8 +6,6 @@ mod moment;
 mod names;
 mod ordinals;
 mod series;
-#[cfg(test)]
-mod tests;
 mod text;
 mod tick;
 

@@ -15,7 +15,7 @@ use Rattle.lab_access.specs.declared.refusals.PeopleRefusal.{PeopleRefusal}
 use Rattle.lab_access.specs.declared.refusals.PeopleRefusal.TheVariants.{BadPassword, SamePassword, CodeTaken, LabFull, OwnIssue, NoSuchPerson}
 use Rattle.lab_access.specs.Attempts.{attempt_of}
 use Rattle.lab_access.specs.Passwords.{is_password, chosen_password}
-use Rattle.lab_access.specs.Persons.{unlocked_person}
+use Rattle.lab_access.specs.Persons.{person_limit, unlocked_person}
 use Rattle.lab_people.specs.declared.accounts.PasswordChanged.{PasswordChanged}
 use Rattle.lab_people.specs.declared.accounts.Effect.{Effect}
 
@@ -46,10 +46,6 @@ changing person session old new tick =
     changing_by (attempt_of (Some person) old tick.moment) session old new tick
 
 -- Enrolment.
-
--- the most persons of a laboratory
-abbrev pub person_limit : ℕ
-person_limit = 500
 
 -- a person as enrolled, with no password yet
 abbrev pub newcomer : List ℕ → List ℕ → Roles → Person

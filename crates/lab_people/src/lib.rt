@@ -4,17 +4,9 @@
 #![tactic(auto)]
 
 mod account_laws;
-#[cfg(test)]
-mod account_tests;
 mod accounts;
-#[cfg(test)]
-mod attempt_tests;
 mod issues;
 mod password_laws;
-#[cfg(test)]
-mod session_tests;
-#[cfg(test)]
-mod tests;
 
 pub use account_laws::{
     a_code_is_given_once, a_one_time_word_takes_two, a_token_is_given_once,

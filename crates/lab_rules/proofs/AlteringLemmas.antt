@@ -1,5 +1,5 @@
 -- The first refusal of altered values, as far as they were walked.
-use Rattle.std.proofs.Common.{◌≡◌, ℕ, ◌+◌, ◌<◌, ◌≤◌, false, arith, List, [], ◌∷◌, ◌++◌, length, get_or, take, drop, refl, sym, ap, ◌∙◌, Option, Some, None}
+use Rattle.std.proofs.Common.{◌≡◌, ℕ, ◌+◌, ◌<◌, ◌≤◌, Bool, true, false, arith, List, [], ◌∷◌, ◌++◌, length, get_or, take, drop, refl, sym, ap, ◌∙◌, Option, Some, None}
 use Rattle.std.specs.Prelude.{Ok, Err, nat_le, nat_lt}
 use Rattle.std.proofs.lemmas.Bool.Decides.{nat_tests}
 use Rattle.lab_kept.specs.declared.records.Version.{Version}
@@ -11,7 +11,7 @@ use Rattle.lab_rules.specs.declared.items.Item.{Item}
 use Rattle.lab_rules.specs.declared.refusals.Refusal.{Refusal}
 use Rattle.lab_rules.specs.declared.faults.CommandFault.{CommandFault}
 use Rattle.lab_rules.specs.declared.faults.CommandFault.TheVariants.{Refused, Memory}
-use Rattle.lab_rules.specs.Following.{IsRead}
+use Rattle.lab_rules.specs.Following.{IsReadWhere}
 use Rattle.lab_rules.specs.Entering.{altered_refusal, first_altered_refusal, amending_by, amendment_made, next_version}
 
 or_next : (one other next : Option Refusal)
@@ -62,21 +62,21 @@ refusal_at kept items i item refusal within here nothing is =
     (refusal_of_more kept items i item within here nothing ∙ is)
 
 -- one item more is read
-pub read_more : (kept : Record) (items : List Item) (i : ℕ) (item : Item) (read : List ℕ) → i < length items
+pub read_more : (kept : Record) (items : List Item) (i : ℕ) (item : Item) (made : Bool) (read : List ℕ) → i < length items
     → item ≡ get_or items i item → first_altered_refusal kept (take i items) ≡ None
-    → IsRead (altered_refusal kept item) item.value (Ok read)
+    → IsReadWhere made (altered_refusal kept item) item.value (Ok read)
     → first_altered_refusal kept (take (i + 1) items) ≡ None
-read_more kept items i item read within here nothing (is, same) =
+read_more kept items i item made read within here nothing (is, same) =
     refusal_of_more kept items i item within here nothing ∙ is
 
 -- what an item is refused for, or that memory ran out, is told of them all
-pub fault_at : (kept : Record) (items : List Item) (i : ℕ) (item : Item) (rows : List EntryRow) (fault : CommandFault)
+pub fault_at : (kept : Record) (items : List Item) (i : ℕ) (item : Item) (made : Bool) (rows : List EntryRow) (fault : CommandFault)
     → i < length items → item ≡ get_or items i item → first_altered_refusal kept (take i items) ≡ None
-    → IsRead {A = List ℕ} (altered_refusal kept item) item.value (Err fault)
-    → IsRead (first_altered_refusal kept items) rows (Err fault)
-fault_at kept items i item rows (Refused refusal) within here nothing is =
+    → IsReadWhere {A = List ℕ} made (altered_refusal kept item) item.value (Err fault)
+    → IsReadWhere true (first_altered_refusal kept items) rows (Err fault)
+fault_at kept items i item made rows (Refused refusal) within here nothing is =
     refusal_at kept items i item refusal within here nothing is
-fault_at kept items i item rows Memory within here nothing is = tt
+fault_at kept items i item made rows Memory within here nothing is = refl
 
 -- what is made where nothing is refused
 pub amended : (lab : List ℕ) (kept : Record) (last : Version) (reason : List ℕ) (altered : List Item) (caller : List ℕ) (moment : ℕ)

@@ -1,6 +1,6 @@
 -- Values that are entered, and records that are amended (ISO/IEC 17025:2017, 7.5.1 and 7.5.2): over
 -- the record that was looked up, the first refusal in order, or what is added.
-use Rattle.std.specs.Prelude.{ℕ, ◌+◌, Bool, true, false, not, ◌&&◌, ◌||◌, nat_le, nat_lt, List, [], ◌∷◌, length, map, Option, Some, None, is_some, is_none, Result, Ok, Err, bytes_eq, if◌then◌else◌}
+use Rattle.std.specs.Prelude.{ℕ, ◌+◌, Bool, true, false, not, ◌&&◌, ◌||◌, ◌==◌, nat_le, nat_lt, List, [], ◌∷◌, length, map, Option, Some, None, is_some, is_none, Result, Ok, Err, bytes_eq, if◌then◌else◌}
 use Rattle.std.specs.Option.{option_map_or}
 use Rattle.lab_forms.specs.Forms.{value_refusal}
 use Rattle.lab_access.specs.declared.refusals.PeopleRefusal.TheVariants.{LabFull}
@@ -168,6 +168,14 @@ amending_of lab kept None reason altered caller moment = Err AmendmentOpen
 amending_of lab kept (Some last) reason altered caller moment =
     if not (has_settled (version_state kept last)) then Err AmendmentOpen
     else amending_by lab kept last reason altered caller moment
+
+-- the values are held against a table of the rows that stand: it is made once there are a last
+-- version that is released or rejected, a reason, and some value
+abbrev pub is_table_made : Option Record → Option (List ℕ) → List Item → Bool
+is_table_made None reason altered = false
+is_table_made (Some kept) reason altered =
+    option_map_or (λ last. has_settled (version_state kept last)) (last_of kept.versions) false
+    && is_some reason && not (length altered == 0)
 
 -- a record is amended
 abbrev pub amending : List ℕ → Option Record → Option (List ℕ) → List Item → List ℕ → ℕ

@@ -1,6 +1,6 @@
 -- Signatures (21 CFR 11.50, 11.70 and 11.200(a)): over the record that was looked up and the person
 -- whose password was accepted, the first refusal in order, or the signature.
-use Rattle.std.specs.Prelude.{ℕ, Bool, false, not, ◌&&◌, ◌||◌, ◌==◌, List, [], ◌∷◌, length, Option, Some, None, is_none, Result, Ok, Err, bytes_eq, if◌then◌else◌}
+use Rattle.std.specs.Prelude.{ℕ, Bool, true, false, not, ◌&&◌, ◌||◌, ◌==◌, List, [], ◌∷◌, length, Option, Some, None, is_none, Result, Ok, Err, bytes_eq, if◌then◌else◌}
 use Rattle.std.specs.Option.{option_map_or}
 use Rattle.std.specs.List.{list_any}
 use Rattle.lab_forms.specs.declared.forms.Field.{Field}
@@ -110,6 +110,25 @@ version_refusal lab kept version digest signing person =
     (or_else (signer_refusal signing version person)
     (or_else (content_refusal signing kept version.origin.number)
     (reason_refusal signing)))))
+
+-- ---- where something is made for them
+
+-- the version's text, for its digest: once the form wants the signature, and the state allows it
+abbrev pub is_digest_made : Record → Version → Signing → Bool
+is_digest_made kept version signing =
+    is_none (or_else (approval_refusal signing kept.form.form.approval)
+    (state_refusal signing (version_state kept version)))
+
+abbrev pub is_digest_made_at : Option Record → ℕ → Signing → Bool
+is_digest_made_at None number signing = false
+is_digest_made_at (Some kept) number signing =
+    option_map_or (λ version. is_digest_made kept version signing)
+    (version_of kept.versions number) false
+
+-- a table of the values, for an authorship alone
+abbrev pub is_table_made : Signing → Bool
+is_table_made Authorship = true
+is_table_made signing = false
 
 -- ---- the signature
 

@@ -1,27 +1,25 @@
 //! Records that are amended.
-ghost use Rattle.std.specs.Prelude.{◌≡◌, ◌+◌, ◌<◌, ℕ, List, Some, Ok, map, IfOk, IfSome, IsSome, option_copied};
+ghost use Rattle.std.specs.Prelude.{◌≡◌, ◌+◌, ◌<◌, ◌==◌, ℕ, List, length, not, true, Some, Ok, map, is_none, IfOk, IfSome, IsSome, option_copied};
 ghost use Rattle.lab_kept.specs.Latest.{noted};
+ghost use Rattle.lab_kept.specs.Limits.{version_limit};
 ghost use Rattle.lab_kept.specs.Values.{all_rows, value_of};
-ghost use Rattle.lab_rules.specs.Following.{Follows, IsRead};
-ghost use Rattle.lab_rules.specs.Entering.{has_settled, is_same_value, altered_refusal, first_altered_refusal, entered_row, next_origin, opened_version, amendment_made, amending_by, amending};
+ghost use Rattle.lab_rules.specs.Following.{Follows, FollowsWhere, IsReadWhere};
+ghost use Rattle.lab_rules.specs.Entering.{has_settled, is_same_value, item_refusal, altered_refusal, first_altered_refusal, entered_row, next_origin, opened_version, amendment_made, amending_by, is_table_made, amending};
 
-use crate::entering::{ROWS_LIMIT, read_item};
+use crate::entering::read_item;
 use crate::faults::CommandFault;
 use crate::items::{Altered, Item};
 use crate::outcomes::AmendmentMade;
 use crate::refusals::Refusal;
 use lab_access::PeopleRefusal;
-use lab_kept::{Record, Version, latest, noted};
+use lab_kept::{ROWS_LIMIT, Record, VERSIONS_LIMIT, Version, latest, noted};
 use lab_names::{LabCode, Moment, Note, Ordinal, OutOfMemory, PersonCode, Series};
 use lab_seal::{Amendment, EntryRow, EntryRows, Format, Origin, State};
 use std::alloc::Global;
 use std::collections::BTreeMap;
 
-/// The most versions of a record.
-const VERSIONS_LIMIT: u32 = 99;
-
 /// The next version of the record that was looked up, once its last one is released or rejected: with a reason, and with
-/// values that differ from those that stand. The only fault beside the refusals is out of memory.
+/// values that differ from those that stand. Memory may run out once these are held against a table of the rows.
 pub fn amend(
     alloc: Global,
     lab: &LabCode,
@@ -31,8 +29,8 @@ pub fn amend(
     caller: PersonCode,
     moment: Moment,
 ) -> Result<AmendmentMade, CommandFault>
-    ensures { Follows (amending lab.now (option_copied kept.entry) reason altered.now caller moment)
-        result }
+    ensures { FollowsWhere (is_table_made (option_copied kept.entry) reason altered.now)
+        (amending lab.now (option_copied kept.entry) reason altered.now caller moment) result }
 {
     let Some(kept) = kept else {
         return Err(CommandFault::Refused(Refusal::NoSuchRecord));
@@ -61,7 +59,7 @@ fn amend_by(
     caller: PersonCode,
     moment: Moment,
 ) -> Result<AmendmentMade, CommandFault>
-    ensures { Follows
+    ensures { FollowsWhere (not (length altered.now == 0))
         (amending_by lab.now kept.now last.now (Some reason) altered.now caller moment) result }
 {
     if altered.as_slice().is_empty() {
@@ -84,7 +82,7 @@ fn next_origin(
     last: &Version,
     reason: Note,
 ) -> Result<Origin, CommandFault>
-    requires { last.now.origin.number < 99 }
+    requires { last.now.origin.number < version_limit }
     ensures { Follows (Ok (next_origin lab.now kept.now last.now reason)) result }
 {
     let previous = kept.digest_of(alloc, lab, last)?;
@@ -98,7 +96,7 @@ fn next_origin(
 fn origin_after(number: Ordinal, amendment: Amendment) -> Option<Origin>
     ensures next { IfSome result (λ origin. origin
         ≡ record { number = number + 1; amendment = Some amendment }) }
-    ensures there { number < 99 → IsSome result }
+    ensures there { number < version_limit → IsSome result }
 {
     Origin::amending(number.next()?, amendment)
 }
@@ -160,7 +158,7 @@ fn altered_rows(
     caller: &PersonCode,
     moment: Moment,
 ) -> Result<EntryRows, CommandFault>
-    ensures { IsRead (first_altered_refusal kept.now items.now)
+    ensures { IsReadWhere true (first_altered_refusal kept.now items.now)
         (map (λ item. entered_row item (Some reason.now) caller.now moment) items.now) result }
 {
     let table = latest(alloc, kept.versions.as_slice())?;
@@ -183,7 +181,8 @@ fn altered_value<'a>(
     item: &Item,
 ) -> Result<Note, CommandFault>
     requires { (key : List ℕ) → noted table.now key ≡ value_of (all_rows kept.now.versions) key }
-    ensures { IsRead (altered_refusal kept.now item.now) item.now.value result }
+    ensures { IsReadWhere (is_none (item_refusal kept.now item.now))
+        (altered_refusal kept.now item.now) item.now.value result }
 {
     let value = read_item(alloc, kept, item)?;
     if is_same_value(noted(table, &item.key), item.value.as_str()) {

@@ -1,8 +1,11 @@
 //! Values that are entered.
-ghost use Rattle.std.specs.Prelude.{◌≡◌, ◌&&◌, IfOk, is_none, option_copied};
+ghost use Rattle.std.specs.Prelude.{◌≡◌, IfOk, Err, is_none, option_copied};
+ghost use Rattle.std.specs.List.{list_any};
+ghost use Rattle.std.specs.Option.{option_map_or};
 ghost use Rattle.lab_kept.specs.Changes.{with_row};
 ghost use Rattle.lab_kept.specs.Digests.{digest_of};
-ghost use Rattle.lab_rules.specs.Following.{Follows, IsRead};
+ghost use Rattle.lab_kept.specs.Values.{has_key};
+ghost use Rattle.lab_rules.specs.Following.{Follows, IsReadWhere};
 ghost use Rattle.lab_rules.specs.Entering.{is_open, has_value, item_refusal, entry_made, entering_last, entering};
 
 use crate::faults::{CommandFault, fail};
@@ -11,16 +14,13 @@ use crate::outcomes::EntryMade;
 use crate::refusals::Refusal;
 use lab_access::PeopleRefusal;
 use lab_forms::FormFault;
-use lab_kept::{Record, Version, latest, noted};
+use lab_kept::{ROWS_LIMIT, Record, Version};
 use lab_names::{Key, LabCode, Moment, Note, OutOfMemory, PersonCode};
 use lab_seal::{Digest, EntryRow, EntryRows, State};
 use std::alloc::Global;
 
-/// The most rows of a version.
-pub(crate) const ROWS_LIMIT: usize = 200;
-
 /// A value as it is entered into the last version of the record that was looked up, while that is open; a key that has a
-/// value wants a reason. The only fault beside the refusals is out of memory.
+/// value wants a reason. Memory may run out only for what is entered.
 pub fn enter(
     alloc: Global,
     lab: &LabCode,
@@ -51,46 +51,54 @@ pub fn enter(
             (item, reason, caller),
         );
     }
-    match read_item(alloc, kept, &item) {
-        Ok(value) => {
-            let row = EntryRow {
-                key: item.key,
-                value,
-                unit: item.unit,
-                person: caller,
-                moment,
-                reason,
-            };
-            enter_row(alloc, lab, kept, version, row)
-        }
-        Err(fault) => fail(fault, (item, reason, caller)),
-    }
+    enter_item(alloc, lab, kept, version, item, reason, caller, moment)
 }
 
-// A row whose value the form has read, into a version that is open.
-fn enter_row(
+// An item into a version that is open. What refuses it is told, also where there was no memory for its value.
+fn enter_item(
     alloc: Global,
     lab: &LabCode,
     kept: &Record,
     version: &Version,
-    row: EntryRow,
+    item: Item,
+    reason: Option<Note>,
+    caller: PersonCode,
+    moment: Moment,
 ) -> Result<EntryMade, CommandFault>
     ensures { Follows
-        (entering_last lab.now kept.now version.now
-        (record { key = row.key; value = row.value; unit = row.unit }) row.reason row.person
-        row.moment) result }
+        (option_map_or Err (item_refusal kept.now item)
+        (entering_last lab.now kept.now version.now item reason caller moment)) result }
 {
-    match lacks_reason(alloc, kept, &row) {
-        Ok(false) => {}
-        Ok(true) => return fail(CommandFault::Refused(Refusal::ReasonWanted), row),
-        Err(_) => return fail(CommandFault::Memory, row),
+    let value = match read_item(alloc, kept, &item) {
+        Ok(value) => Some(value),
+        Err(CommandFault::Memory) => None,
+        Err(CommandFault::Refused(refusal)) => {
+            return fail(CommandFault::Refused(refusal), (item, reason, caller));
+        }
+    };
+    if reason.is_none() && has_value(kept, &item.key) {
+        return fail(
+            CommandFault::Refused(Refusal::ReasonWanted),
+            (item, reason, caller, value),
+        );
     }
     if version.rows.rows().len() >= ROWS_LIMIT {
         return fail(
             CommandFault::Refused(Refusal::People(PeopleRefusal::LabFull)),
-            row,
+            (item, reason, caller, value),
         );
     }
+    let Some(value) = value else {
+        return fail(CommandFault::Memory, (item, reason, caller, value));
+    };
+    let row = EntryRow {
+        key: item.key,
+        value,
+        unit: item.unit,
+        person: caller,
+        moment,
+        reason,
+    };
     Ok(entry_made(alloc, lab, kept, version, row)?)
 }
 
@@ -103,10 +111,11 @@ fn is_open(state: Option<State>) -> bool
     }
 }
 
-/// The value of an item, as the form of the record reads it.
+/// The value of an item, as the form of the record reads it. Memory may run out only for a value that the form takes.
 #[tactic(auto, using(crate::proofs::ValueLemmas::no_refusal))]
 pub(crate) fn read_item(alloc: Global, kept: &Record, item: &Item) -> Result<Note, CommandFault>
-    ensures { IsRead (item_refusal kept.now item.now) item.now.value result }
+    ensures { IsReadWhere (is_none (item_refusal kept.now item.now)) (item_refusal kept.now item.now)
+        item.now.value result }
 {
     match kept
         .form
@@ -119,20 +128,22 @@ pub(crate) fn read_item(alloc: Global, kept: &Record, item: &Item) -> Result<Not
     }
 }
 
-// Whether the row bears no reason, and its key has a value in the record already.
-fn lacks_reason(alloc: Global, kept: &Record, row: &EntryRow) -> Result<bool, OutOfMemory>
-    ensures { IfOk result
-        (λ lacks. lacks ≡ (has_value kept.now row.now.key && is_none row.now.reason)) }
+// Whether the key has a value in the record already: one walk over the rows, which takes no memory.
+fn has_value(kept: &Record, key: &Key) -> bool
+    ensures { result ≡ has_value kept.now key.now }
 {
-    Ok(row.reason.is_none() && has_value(alloc, kept, &row.key)?)
+    for version in kept.versions.as_slice() {
+        if is_entered(version.rows.rows(), key) {
+            return true;
+        }
+    }
+    false
 }
 
-// Whether the key has a value in the record already.
-fn has_value(alloc: Global, kept: &Record, key: &Key) -> Result<bool, OutOfMemory>
-    ensures { IfOk result (λ has. has ≡ has_value kept.now key.now) }
+fn is_entered(rows: &[EntryRow], key: &Key) -> bool
+    ensures { result ≡ list_any (has_key key.now) rows.now }
 {
-    let table = latest(alloc, kept.versions.as_slice())?;
-    Ok(noted(&table, key).is_some())
+    rows.iter().any(|row| row.key.as_str() == key.as_str())
 }
 
 // A row that is entered, and its version with it.

@@ -7,13 +7,10 @@ use crate::faults::{CommandFault, fail};
 use crate::refusals::Refusal;
 use lab_access::PeopleRefusal;
 use lab_forms::Form;
-use lab_kept::{FormVersion, Record, Version};
+use lab_kept::{FORM_VERSIONS_LIMIT, FormVersion, RECORDS_LIMIT, Record, Version};
 use lab_names::{Key, Moment, Name, Ordinal, OutOfMemory, PersonCode, Series};
 use lab_seal::{EntryRows, Format, Origin};
 use std::alloc::Global;
-
-/// The most versions of a form.
-const FORM_VERSIONS_LIMIT: u32 = 99;
 
 /// The first version of a form, or its next one, which differs from the present one.
 pub fn make_form(code: Key, form: Form, last: Option<FormVersion>) -> Result<FormVersion, Refusal>
@@ -46,11 +43,8 @@ pub fn make_form(code: Key, form: Form, last: Option<FormVersion>) -> Result<For
     }
 }
 
-/// The most records of a laboratory.
-const RECORDS_LIMIT: u64 = 1_000_000;
-
 /// A record as it is opened by the last version of its form, once for a form and a sample; `records` is how many the
-/// laboratory has. The only fault beside the refusals is out of memory.
+/// laboratory has. Memory may run out only for a record that is opened.
 pub fn open_record(
     alloc: Global,
     form: Option<FormVersion>,

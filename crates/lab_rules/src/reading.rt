@@ -25,8 +25,7 @@ pub fn read_form(form: Option<FormVersion>) -> Result<FormVersion, Refusal>
     }
 }
 
-/// The record that was looked up, with the states and the digests of its versions. The only fault beside the refusal is
-/// out of memory.
+/// The record that was looked up, with its versions' states and digests. Memory may run out only for what is read.
 pub fn read_record(
     alloc: Global,
     lab: &LabCode,
@@ -77,8 +76,7 @@ fn version_line(
     })
 }
 
-/// The version of the number of the record that was looked up, with the record's values at it. The only fault beside the
-/// refusals is out of memory.
+/// The version of the number of the record, with the record's values at it. Memory may run out only for what is read.
 pub fn read_version(
     alloc: Global,
     lab: &LabCode,

@@ -1,11 +1,11 @@
 //! Signatures that are given (21 CFR 11.50, 11.70 and 11.200(a)).
-ghost use Rattle.std.specs.Prelude.{◌≡◌, ◌++◌, ◌∷◌, [], None, is_none, ◌&&◌, map, IfOk, option_copied};
+ghost use Rattle.std.specs.Prelude.{◌≡◌, ◌++◌, ◌∷◌, [], None, is_none, ◌&&◌, map, IfOk, IfErr, IsTrue, option_copied};
 ghost use Rattle.std.specs.List.{list_any};
 ghost use Rattle.lab_kept.specs.Digests.{signature_of};
 ghost use Rattle.lab_kept.specs.Latest.{noted};
 ghost use Rattle.lab_kept.specs.Values.{meaning_of, rows_to};
-ghost use Rattle.lab_rules.specs.Following.{Follows};
-ghost use Rattle.lab_rules.specs.Signing.{is_missing, content_refusal, reason_refusal, version_refusal, signed_meaning, signed_parts, signature_made, signing_record};
+ghost use Rattle.lab_rules.specs.Following.{FollowsWhere};
+ghost use Rattle.lab_rules.specs.Signing.{is_missing, content_refusal, reason_refusal, version_refusal, is_digest_made, is_digest_made_at, is_table_made, signed_meaning, signed_parts, signature_made, signing_record};
 
 use crate::faults::{CommandFault, fail};
 use crate::outcomes::{SignatureMade, Signing};
@@ -22,7 +22,7 @@ use std::alloc::Global;
 use std::collections::BTreeMap;
 
 /// The signature of a person whose password was accepted, under the version of the number of the record that was looked up;
-/// `digest` is the one that the person saw. The only fault beside the refusals is out of memory.
+/// `digest` is the one that the person saw. Memory may run out once the version's own is made, to compare them.
 pub fn sign(
     alloc: Global,
     lab: &LabCode,
@@ -33,7 +33,7 @@ pub fn sign(
     person: &Person,
     moment: Moment,
 ) -> Result<SignatureMade, CommandFault>
-    ensures { Follows
+    ensures { FollowsWhere (is_digest_made_at (option_copied kept.entry) number signing)
         (signing_record lab.now (option_copied kept.entry) number digest signing person.now moment)
         result }
 {
@@ -58,7 +58,7 @@ pub fn sign(
     }
 }
 
-/// What refuses a signature of a version, the first refusal in order. The only error is out of memory.
+/// The first refusal of a signature of a version. The only error is out of memory, once the version's digest is made.
 pub fn version_refusal(
     alloc: Global,
     lab: &LabCode,
@@ -68,8 +68,9 @@ pub fn version_refusal(
     signing: &Signing,
     person: &PersonCode,
 ) -> Result<Option<Refusal>, OutOfMemory>
-    ensures { IfOk result (λ refusal. refusal
+    ensures refusal { IfOk result (λ refusal. refusal
         ≡ version_refusal lab.now kept.now version.now digest signing.now person.now) }
+    ensures memory { IfErr result (λ _. IsTrue (is_digest_made kept.now version.now signing.now)) }
 {
     if let Some(refusal) = approval_refusal(signing, kept.form.form.approval()) {
         return Ok(Some(refusal));
@@ -90,15 +91,15 @@ pub fn version_refusal(
     Ok(reason_refusal(signing))
 }
 
-/// The refusal of an authorship of a version that lacks what its form requires, or that alters nothing. The only error is
-/// out of memory.
+/// The refusal of an authorship of a version that lacks what its form requires, or alters nothing; it alone wants memory.
 pub fn content_refusal(
     alloc: Global,
     signing: &Signing,
     kept: &Record,
     number: Ordinal,
 ) -> Result<Option<Refusal>, OutOfMemory>
-    ensures { IfOk result (λ refusal. refusal ≡ content_refusal signing.now kept.now number) }
+    ensures refusal { IfOk result (λ refusal. refusal ≡ content_refusal signing.now kept.now number) }
+    ensures memory { IfErr result (λ _. IsTrue (is_table_made signing.now)) }
 {
     match signing {
         Signing::Authorship => {}

@@ -5,10 +5,6 @@
 mod sealing;
 mod seals;
 mod states;
-#[cfg(test)]
-mod tests;
-#[cfg(test)]
-mod version_tests;
 
 pub use lab_versions::{
     Amendment, Digest, EntryRow, EntryRows, Format, Half, Key, LabCode, Moment, Name, NameFault,

@@ -8,8 +8,6 @@ mod hashing;
 mod hexadecimal;
 mod keyed;
 mod stretching;
-#[cfg(test)]
-mod tests;
 mod verifiers;
 mod words;
 

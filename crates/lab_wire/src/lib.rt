@@ -6,8 +6,6 @@ mod asked;
 mod refusals;
 mod replies;
 mod statuses;
-#[cfg(test)]
-mod tests;
 
 pub use asked::ask;
 pub use lab_bodies::founding_of;

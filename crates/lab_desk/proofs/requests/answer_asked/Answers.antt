@@ -109,8 +109,8 @@ returns-in-Ok-Some-clause-safe g c = λ within honest reached live safe.
     c.answer_on.ensures.safe fits honest middle lives.1
     (c.part_for.ensures.safe earlier reached live safe)
 
-pub returns-in-Ok-Some-clause-settled : goal.returns-in-Ok-Some-clause-settled
-returns-in-Ok-Some-clause-settled g c = λ within busy honest reached.
+pub returns-in-Ok-Some-clause-durable : goal.returns-in-Ok-Some-clause-durable
+returns-in-Ok-Some-clause-durable g c = λ within busy honest reached.
     let earlier = c.answer_on.ensures.passes.honest honest in
     let lives = c.in-Ok-Some.ensures.lives earlier reached in
     let middle = c.part_for.ensures.reached earlier reached in
@@ -122,7 +122,7 @@ returns-in-Ok-Some-clause-settled g c = λ within busy honest reached.
     (g.S.Keeper.world c.args.keeper.now).meaning
     (g.S.Keeper.world c.part_for.new.keeper).meaning (same c.args.asked.lab)
     (built.fit (within lives.0 c.args.asked.lab)) in
-    c.answer_on.ensures.settled fits
+    c.answer_on.ensures.durable fits
     (λ none. false≢true (sym busy ∙ built.idle.1 none)) honest middle
 
 pub returns-in-Ok-Some-clause-reached : goal.returns-in-Ok-Some-clause-reached
@@ -140,8 +140,8 @@ returns-in-Ok-Some-clause-reached g c = λ within honest reached.
     (built.fit (within lives.0 c.args.asked.lab)) in
     c.answer_on.ensures.reached fits honest middle
 
-pub returns-in-Ok-None-clause-settled : goal.returns-in-Ok-None-clause-settled
-returns-in-Ok-None-clause-settled g c = λ within busy honest reached.
+pub returns-in-Ok-None-clause-durable : goal.returns-in-Ok-None-clause-durable
+returns-in-Ok-None-clause-durable g c = λ within busy honest reached.
     let none = none_there _ c.args.tick.now c.args.asked.instruction
     (sym c.in-Ok-None.field-0-is ∙ c.in-Ok-None.ensures.part honest reached) in
     absurd (false≢true (sym busy ∙ idle_none _ c.args.tick.now c.args.asked.instruction none))

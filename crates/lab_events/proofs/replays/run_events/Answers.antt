@@ -1,5 +1,4 @@
 -- The replay goes on by each event; a run that stops ends it.
-use Rattle.std.proofs.Common.{rules}
 use Rattle.std.proofs.lemmas.Result.{err_from_is_err_and}
 use Rattle.lab_events.proofs.ReplayLemmas.{so_far_none, so_far_more, replays_stopped}
 use Rattle.lab_events.proofs.replays.run_events.Goals as goal

@@ -20,6 +20,7 @@ returns-in-Call-clause-answered g c = λ within honest reached. (
   one_call _ _ c.args.event.now c.in-Call.tick c.in-Call.bytes c.as_slice-in-Call.result.now
       c.handle.result c.reply.result.now _
       c.in-Call.is c.as_slice-in-Call.ensures c.reply.ensures (c.handle.ensures.passes.live honest)
+      within
       (c.handle.ensures.taken within honest reached) (c.handle.ensures.refused honest reached),
   sent_as _ _ _ _ c.write_reply-in-Call.ensures.whole c.write_reply-in-Call.ensures.cut
       c.write_reply-in-Call.ensures.short,

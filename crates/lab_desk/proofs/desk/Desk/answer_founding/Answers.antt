@@ -1,6 +1,7 @@
 -- A founding was taken where a laboratory was founded, and where its refusal is told.
 use Rattle.lab_desk.specs.Foundings.{founding_in}
 use Rattle.lab_desk.proofs.Bearing.{takes_founded, takes_refused}
+use Rattle.lab_desk.proofs.Keeping.{still_keeps}
 use Rattle.lab_desk.proofs.desk.Desk.answer_founding.Goals as goal
 use Rattle.lab_desk.proofs.desk.Desk.answer_founding.Goals.{in-Ok-found, in-Err}
 
@@ -19,3 +20,7 @@ returns-clause-taken g c = λ honest reached taken. elim c.match-found.branch [
       c.found.ensures.fault c.found.ensures.untouched (c.found.ensures.lives honest reached)
       (c.found.ensures.err honest reached))
 ]
+
+pub returns-in_default-clause-keeps : goal.returns-in_default-clause-keeps
+returns-in_default-clause-keeps g c = λ honest reached.
+    still_keeps (g.S.Keeper.world c.args.self.now.keeper)

@@ -2,6 +2,8 @@
 use Rattle.std.proofs.Common.{rules, ◌≡◌, ◌+◌, [], ◌∷◌, ◌++◌, length, subst, arith}
 use Rattle.std.proofs.lemmas.List.{take_all}
 use Rattle.lab_desk.specs.Runs.{Runs}
+use Rattle.lab_desk.proofs.Releasing.{released_stay}
+use Rattle.lab_desk.proofs.Retaining.{retained_on, still_retained}
 use Rattle.lab_desk.proofs.Running.{run_more, run_cut, runs_none}
 use Rattle.lab_desk.proofs.desk.Desk.run.Goals as goal
 
@@ -10,6 +12,8 @@ loop-event-init g c = record {
   passes = search rules;
   within = search rules;
   releasing = search rules;
+  retains = λ within honest reached.
+      still_retained (g.S.Keeper.world c.args.self.now.keeper);
   reached = search rules;
   counted = search rules;
   room = search rules;
@@ -18,6 +22,15 @@ loop-event-init g c = record {
       (g.S.Keeper.world c.args.self.now.keeper) c.args.events.now
       (g.W.Write.contents c.args.writer.now));
 }
+
+pub returns-in_default-clause-retains : goal.returns-in_default-clause-retains
+returns-in_default-clause-retains g c = λ within honest reached.
+    still_retained (g.S.Keeper.world c.args.self.now.keeper)
+
+pub returns-in_default-clause-released : goal.returns-in_default-clause-released
+returns-in_default-clause-released g c = λ within releasing honest reached.
+    let world = g.S.Keeper.world c.args.self.now.keeper in
+    released_stay world world (still_retained world) releasing
 
 pub loop-event-preserved : goal.loop-event-preserved
 loop-event-preserved g c = record {
@@ -32,6 +45,16 @@ loop-event-preserved g c = record {
       (c.loop-event.invariant.within within earlier reached)
       (c.loop-event.invariant.releasing within releasing earlier reached) honest
       (c.loop-event.invariant.reached within earlier reached);
+  retains = λ within honest reached.
+      let earlier = c.answer-answered.ensures.passes.honest honest in
+      retained_on (g.S.Keeper.world c.args.self.now.keeper)
+      (g.S.Keeper.world c.loop-event.self.keeper)
+      (g.S.Keeper.world c.answer-answered.new.self.keeper)
+      (c.answer-answered.ensures.passes.live honest)
+      (c.loop-event.invariant.retains within earlier reached)
+      (c.answer-answered.ensures.keeps
+      (c.loop-event.invariant.within within earlier reached) honest
+      (c.loop-event.invariant.reached within earlier reached));
   reached = λ within honest reached.
       let earlier = c.answer-answered.ensures.passes.honest honest in
       c.answer-answered.ensures.reached (c.loop-event.invariant.within within earlier reached)
@@ -98,6 +121,33 @@ returns-in-Err-clause-releasing g c = λ within releasing honest reached.
     (c.loop-event.invariant.releasing within releasing earlier reached) honest
     (c.loop-event.invariant.reached within earlier reached)
 
+pub returns-in-Err-clause-retains : goal.returns-in-Err-clause-retains
+returns-in-Err-clause-retains g c = λ within honest reached.
+    let earlier = c.answer-answered.ensures.passes.honest honest in
+    retained_on (g.S.Keeper.world c.args.self.now.keeper)
+    (g.S.Keeper.world c.loop-event.self.keeper)
+    (g.S.Keeper.world c.answer-answered.new.self.keeper)
+    (c.answer-answered.ensures.passes.live honest)
+    (c.loop-event.invariant.retains within earlier reached)
+    (c.answer-answered.ensures.keeps (c.loop-event.invariant.within within earlier reached) honest
+    (c.loop-event.invariant.reached within earlier reached))
+
+pub returns-in-Err-clause-released : goal.returns-in-Err-clause-released
+returns-in-Err-clause-released g c = λ within releasing honest reached.
+    let earlier = c.answer-answered.ensures.passes.honest honest in
+    let middle = c.loop-event.invariant.reached within earlier reached in
+    let between = c.loop-event.invariant.within within earlier reached in
+    released_stay (g.S.Keeper.world c.args.self.now.keeper)
+    (g.S.Keeper.world c.answer-answered.new.self.keeper)
+    (retained_on (g.S.Keeper.world c.args.self.now.keeper)
+    (g.S.Keeper.world c.loop-event.self.keeper)
+    (g.S.Keeper.world c.answer-answered.new.self.keeper)
+    (c.answer-answered.ensures.passes.live honest)
+    (c.loop-event.invariant.retains within earlier reached)
+    (c.answer-answered.ensures.keeps between honest middle))
+    (c.answer-answered.ensures.releasing between
+    (c.loop-event.invariant.releasing within releasing earlier reached) honest middle)
+
 pub returns-in-Err-clause-reached : goal.returns-in-Err-clause-reached
 returns-in-Err-clause-reached g c = λ within honest reached.
     let earlier = c.answer-answered.ensures.passes.honest honest in
@@ -112,3 +162,10 @@ returns-clause-alone g c = λ within honest reached.
     (g.W.Write.contents c.args.writer.now) (g.W.Write.contents c.loop-event.writer))
     (take_all c.loop-event.event-index c.args.events.now (omega arith))
     (c.loop-event.invariant.run within honest reached)
+
+pub returns-clause-released : goal.returns-clause-released
+returns-clause-released g c = λ within releasing honest reached.
+    released_stay (g.S.Keeper.world c.args.self.now.keeper)
+    (g.S.Keeper.world c.loop-event.self.keeper)
+    (c.loop-event.invariant.retains within honest reached)
+    (c.loop-event.invariant.releasing within releasing honest reached)

@@ -1,6 +1,6 @@
 use Rattle.std.proofs.Common.{◌≡◌, ◌≤◌, take, length, vec_capacity}
 use Rattle.lab_kept.specs.Worlds.{Passes, Given}
-use Rattle.lab_desk.specs.Keeping.{AreWithin, AreReleasing}
+use Rattle.lab_desk.specs.Keeping.{AreWithin, AreReleasing, RetainedFrom}
 use Rattle.lab_desk.specs.Runs.{Runs}
 use Rattle.lab_desk.proofs.desk.Desk.run.Given as goal
 
@@ -15,6 +15,9 @@ invariant-loop-event g l = record {
       AreReleasing (g.S.Keeper.world l.fn.self.keeper) →
       Given (g.S.Keeper.world l.fn.self.keeper) (g.S.Keeper.world l.self.keeper)
       (AreReleasing (g.S.Keeper.world l.self.keeper));
+  retains : AreWithin (g.S.Keeper.world l.fn.self.keeper) →
+      Given (g.S.Keeper.world l.fn.self.keeper) (g.S.Keeper.world l.self.keeper)
+      (RetainedFrom (g.S.Keeper.world l.fn.self.keeper) (g.S.Keeper.world l.self.keeper));
   reached : AreWithin (g.S.Keeper.world l.fn.self.keeper) →
       Given (g.S.Keeper.world l.fn.self.keeper) (g.S.Keeper.world l.self.keeper)
       (g.S.Keeper.world l.self.keeper).is_reached;

@@ -1,0 +1,5 @@
+pub mod CheckLemmas
+pub mod KeptLemmas
+pub mod ListLemmas
+pub mod ReadLemmas
+pub mod RowLemmas

@@ -1,0 +1,126 @@
+//! Serving one request: it is read from any reader, piece by piece, and handled, and its reply goes
+//! to any writer.
+
+ghost use Rattle.std.specs.Prelude.{◌≡◌, IfSome, OnErr};
+ghost use Rattle.lab_heads.specs.Interims.{interim_text};
+ghost use Rattle.lab_kept.specs.Worlds.{Passes, Given, StaysSafe};
+ghost use Rattle.lab_desk.specs.Keeping.{AreWithin, AreReleasing, KeptFrom};
+ghost use Rattle.lab_desk.specs.Serving.{HandlesRequest, OnHandled, OnUnhandled, GreetsBy, Writes};
+
+use crate::desk::Desk;
+use crate::faults::ServeFault;
+use lab_heads::HeadFault;
+use lab_kept::Keeper;
+use lab_messages::write_reply;
+use lab_names::Tick;
+use lab_receptions::read_request;
+use lab_wire::RequestRefusal;
+use std::io::{Read, Write};
+
+impl<S: Keeper + Drop> Desk<S> {
+    /// Serves one request: reads it, handles it, and writes its reply, which [`Desk::reply`] has
+    /// afterwards. The interim answer goes out before its body is read, where the request waits for
+    /// it. What follows the request is left unread. A request that is refused as it is read is
+    /// answered by its refusal.
+    ///
+    /// # Errors
+    /// That the reader failed, or was asked too often: nothing is answered. That the writer failed:
+    /// within the interim answer nothing is changed; within the reply the request stands.
+    pub fn serve_one<R: Read, W: Write>(
+        &mut self,
+        reader: &mut R,
+        writer: &mut W,
+        tick: &Tick,
+    ) -> Result<(), ServeFault>
+        ensures handled { AreWithin (S.world self.old.keeper) →
+            Given (S.world self.old.keeper) (S.world self.new.keeper)
+            (OnHandled result (HandlesRequest (R.remaining reader.old)
+            (S.world self.old.keeper) (S.world self.new.keeper) tick.now
+            (S.rests self.old.keeper self.new.keeper) (S.moves self.old.keeper self.new.keeper)
+            self.new.reply)) }
+        ensures written { IfSome (R.remaining reader.old) (λ bytes.
+            Writes (interim_text bytes) self.new.reply result
+            (W.contents writer.old) (W.contents writer.new)) }
+        ensures untouched { OnUnhandled result (self.new ≡ self.old) }
+
+        // What stays true, whatever came:
+        ensures within { AreWithin (S.world self.old.keeper) →
+            Given (S.world self.old.keeper) (S.world self.new.keeper)
+            (AreWithin (S.world self.new.keeper)) }
+        ensures releasing { AreWithin (S.world self.old.keeper) →
+            AreReleasing (S.world self.old.keeper) →
+            Given (S.world self.old.keeper) (S.world self.new.keeper)
+            (AreReleasing (S.world self.new.keeper)) }
+        ensures keeps { AreWithin (S.world self.old.keeper) →
+            Given (S.world self.old.keeper) (S.world self.new.keeper)
+            (KeptFrom (S.world self.old.keeper) (S.world self.new.keeper)) }
+        ensures reached { AreWithin (S.world self.old.keeper) →
+            Given (S.world self.old.keeper) (S.world self.new.keeper)
+            (S.world self.new.keeper).is_reached }
+        ensures safe { AreWithin (S.world self.old.keeper) →
+            Given (S.world self.old.keeper) (S.world self.new.keeper)
+            (StaysSafe (S.world self.old.keeper) (S.world self.new.keeper)) }
+        ensures passes { Passes (S.world self.old.keeper) (S.world self.new.keeper) }
+    {
+        self.receive(reader, writer, tick)?;
+        match write_reply(writer, self.reply()) {
+            Ok(()) => Ok(()),
+            Err(fault) => Err(ServeFault::Reply { sent: fault.sent }),
+        }
+    }
+
+    // Reads a request and handles it: its reply is kept, and not yet written.
+    fn receive<R: Read, W: Write>(
+        &mut self,
+        reader: &mut R,
+        writer: &mut W,
+        tick: &Tick,
+    ) -> Result<(), ServeFault>
+        ensures handled { AreWithin (S.world self.old.keeper) →
+            Given (S.world self.old.keeper) (S.world self.new.keeper)
+            (OnHandled result (HandlesRequest (R.remaining reader.old)
+            (S.world self.old.keeper) (S.world self.new.keeper) tick.now
+            (S.rests self.old.keeper self.new.keeper) (S.moves self.old.keeper self.new.keeper)
+            self.new.reply)) }
+        ensures interim { IfSome (R.remaining reader.old) (λ bytes.
+            GreetsBy (interim_text bytes) result (W.contents writer.old) (W.contents writer.new)) }
+        ensures untouched { OnErr result (self.new ≡ self.old) }
+
+        // What stays true, whatever came:
+        ensures within { AreWithin (S.world self.old.keeper) →
+            Given (S.world self.old.keeper) (S.world self.new.keeper)
+            (AreWithin (S.world self.new.keeper)) }
+        ensures releasing { AreWithin (S.world self.old.keeper) →
+            AreReleasing (S.world self.old.keeper) →
+            Given (S.world self.old.keeper) (S.world self.new.keeper)
+            (AreReleasing (S.world self.new.keeper)) }
+        ensures keeps { AreWithin (S.world self.old.keeper) →
+            Given (S.world self.old.keeper) (S.world self.new.keeper)
+            (KeptFrom (S.world self.old.keeper) (S.world self.new.keeper)) }
+        ensures reached { AreWithin (S.world self.old.keeper) →
+            Given (S.world self.old.keeper) (S.world self.new.keeper)
+            (S.world self.new.keeper).is_reached }
+        ensures safe { AreWithin (S.world self.old.keeper) →
+            Given (S.world self.old.keeper) (S.world self.new.keeper)
+            (StaysSafe (S.world self.old.keeper) (S.world self.new.keeper)) }
+        ensures passes { Passes (S.world self.old.keeper) (S.world self.new.keeper) }
+    {
+        match read_request(self.alloc(), reader, writer) {
+            Ok(request) => {
+                self.handle(tick, request.as_slice());
+                drop(request);
+                Ok(())
+            }
+            Err(HeadFault::Refused(refusal)) => {
+                self.refuse(tick, RequestRefusal::Head(refusal));
+                Ok(())
+            }
+            Err(HeadFault::Memory) => {
+                self.exhaust();
+                Ok(())
+            }
+            Err(HeadFault::Read) => Err(ServeFault::Read),
+            Err(HeadFault::Write { sent }) => Err(ServeFault::Interim { sent }),
+        }
+    }
+}

@@ -1,0 +1,5 @@
+pub mod KnownValues
+pub mod ReadLemmas
+pub mod ReceptionLemmas
+pub mod StageLemmas
+pub mod StopLemmas

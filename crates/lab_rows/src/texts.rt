@@ -1,0 +1,66 @@
+//! What the fields of a row say of formats, moments, digests, and of what may be left out.
+ghost use Rattle.std.specs.Prelude.{◌≡◌, IsUtf8};
+ghost use Rattle.hex.specs.Hex.{encode_lower};
+ghost use Rattle.lab_names.specs.Moment.{moment_text};
+ghost use Rattle.lab_rows.specs.Rows.{approval_name, format_key, optional_text};
+
+use lab_names::{Rule, Text};
+use lab_seal::{Format, Moment};
+
+/// The format of a version's text.
+pub(crate) fn format_key(format: Format) -> &'static str
+    ensures { result.now ≡ format_key format }
+{
+    match format {
+        Format::One => "1",
+        Format::Two { .. } => "2",
+    }
+}
+
+/// Whether the form wants an approval.
+pub(crate) fn approval_name(format: Format) -> &'static str
+    ensures { result.now ≡ approval_name format }
+{
+    match format {
+        Format::Two { approval: true } => "approval",
+        Format::One | Format::Two { approval: false } => "",
+    }
+}
+
+/// A text, or nothing.
+pub(crate) fn optional_text<R: Rule>(text: &Option<Text<R>>) -> &str
+    ensures { result.now ≡ optional_text text.now }
+{
+    match text {
+        Some(text) => text.as_str(),
+        None => "",
+    }
+}
+
+/// A moment as it is printed.
+#[tactic(auto, using(crate::proofs::TextLemmas::moment_is_text))]
+pub(crate) fn moment_text(moment: Moment, printed: &mut [u8; 20]) -> &str
+    ensures { result.now ≡ moment_text moment }
+{
+    moment.print(printed);
+    text_of(printed)
+}
+
+/// The text of digits.
+#[tactic(auto, using(crate::proofs::TextLemmas::digits_are_text))]
+pub(crate) fn digits_text(digits: &[u8; 64]) -> &str
+    requires { IsUtf8 digits.now }
+    ensures { result.now ≡ digits.now }
+{
+    text_of(digits)
+}
+
+fn text_of(bytes: &[u8]) -> &str
+    requires { IsUtf8 bytes.now }
+    ensures { result.now ≡ bytes.now }
+{
+    match str::from_utf8(bytes) {
+        Ok(text) => text,
+        Err(_) => unreachable!(),
+    }
+}

@@ -1,0 +1,11 @@
+pub mod SchemaValues
+pub mod Tests
+pub mod KnownFile
+pub mod KnownRows
+pub mod KnownDatabase
+pub mod KnownValues
+pub mod KnownFaults
+pub mod KnownChanges
+pub mod KnownPlacing
+pub mod KnownKept
+pub mod KnownRefusals

@@ -1,0 +1,10 @@
+pub mod Schema
+pub mod Rows
+pub mod Columns
+pub mod Meaning
+pub mod Held
+pub mod WellKept
+pub mod Ready
+pub mod Changes
+pub mod Placing
+pub mod Agree
