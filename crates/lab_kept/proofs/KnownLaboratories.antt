@@ -4,6 +4,7 @@
 use Rattle.std.proofs.Common.{◌≡◌, ◌≢◌, ◌⊎◌, ℕ, Bool, true, false, cond, List, [], ◌∷◌, ◌++◌, length, length-append, replicate, flat_map, Option, Some, None, refl, sym, ap, subst, inl, inr, unwrap_or, arith, true≢false}
 use Rattle.std.specs.Prelude.{codes, MatchOption}
 use Rattle.std.specs.Fmt.{digits}
+use Rattle.std.specs.Str.{bytes_eq}
 use Rattle.std.proofs.lemmas.Bool.{false≢true}
 use Rattle.std.proofs.lemmas.List.Elements.{All-from_recursion}
 use Rattle.lab_access.specs.declared.roles.Role.{Role}
@@ -295,7 +296,7 @@ known_dual_by_two =
     )
 
 gus_is_not_eve : codes "gus" ≢ codes "eve"
-gus_is_not_eve same = absurd (cc)
+gus_is_not_eve same = true≢false (ap (bytes_eq (codes "gus")) same)
 
 pub known_dual_by_three : IsDual (with_record released_by_three)
 known_dual_by_three =

@@ -24,14 +24,14 @@ are_rising id (one ∷ others) =
     list_all (λ other. is_less (int_cmp (id one) (id other))) others && are_rising id others
 
 less_is : (order : Ordering) → is_less order ≡ true → order ≡ Less
-less_is Less yes = refl
-less_is Equal yes = absurd cc
-less_is Greater yes = absurd cc
+less_is Less holds = refl
+less_is Equal holds = absurd cc
+less_is Greater holds = absurd cc
 
 pub keyed_from_test : {X : Type 0} (id : X → ℤ) (rows : List X) → are_rising id rows ≡ true → IsKeyedBy id rows
-keyed_from_test id [] yes = tt
-keyed_from_test id (one ∷ others) yes =
-    let both = and_parts (list_all (λ other. is_less (int_cmp (id one) (id other))) others) (are_rising id others) yes in (
+keyed_from_test id [] holds = tt
+keyed_from_test id (one ∷ others) holds =
+    let both = and_parts (list_all (λ other. is_less (int_cmp (id one) (id other))) others) (are_rising id others) holds in (
       all_weaker (λ other. is_less (int_cmp (id one) (id other)) ≡ true) (λ other. id one <ℤ id other) (λ other h. lt_from_Less (id one) (id other) (less_is (int_cmp (id one) (id other)) h))
           others (all_from_test (λ other. is_less (int_cmp (id one) (id other))) others both.0),
       keyed_from_test id others both.1,

@@ -1,5 +1,0 @@
-pub mod CheckLemmas
-pub mod KeptLemmas
-pub mod ListLemmas
-pub mod ReadLemmas
-pub mod RowLemmas

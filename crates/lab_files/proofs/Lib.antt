@@ -1,6 +1,0 @@
-mod Statements
-mod Making
-mod Transactions
-mod Asking
-mod FaultLemmas
-mod RowLemmas

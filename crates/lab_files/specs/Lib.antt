@@ -1,5 +1,0 @@
-pub mod Faults
-pub mod Tables
-pub mod Schemas
-pub mod Verdicts
-pub mod NewFiles

@@ -1,4 +1,0 @@
-pub mod TextLemmas
-pub mod ReadLemmas
-pub mod SoundLemmas
-pub mod KnownValues
