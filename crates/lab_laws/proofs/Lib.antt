@@ -30,3 +30,4 @@ pub mod KeepMade
 pub mod KeepSteps
 pub mod RunLemmas
 pub mod StayLemmas
+pub mod KnownValues

@@ -1,3 +1,4 @@
 pub mod Finds
 pub mod Replacing
 pub mod Listing
+pub mod KnownValues

@@ -1,8 +1,6 @@
 //! `labdesk`: signed laboratory records, run from events on standard input.
 #![tactic(auto)]
 
-mod command_line;
-
 use std::io;
 use std::process::ExitCode;
 
@@ -12,9 +10,6 @@ const UNTOLD: u8 = 1;
 fn main(rt: HostRuntime) -> io::Result<ExitCode> {
     let words: Vec<String> = std::env::args(&rt)?.collect(rt.alloc())?;
     let (mut output, mut errors) = (rt.stdout(), rt.stderr());
-    let status = command_line::labdesk(rt.alloc(), &words, rt.stdin(), &mut output, &mut errors);
+    let status = lab_tasks::labdesk(rt.alloc(), &words, rt.stdin(), &mut output, &mut errors);
     Ok(ExitCode::from(status.unwrap_or(UNTOLD)))
 }
-
-#[cfg(test)]
-mod tests;

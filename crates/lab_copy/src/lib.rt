@@ -1,0 +1,12 @@
+//! Writing inspection copies: rows as CSV, sent whole or row by row.
+#![tactic(auto)]
+
+mod faults;
+mod outs;
+mod sending;
+#[cfg(test)]
+mod tests;
+
+pub use faults::CopyOutFault;
+pub use lab_rows::{CopyLine, CopyRow, Counts, OutOfMemory};
+pub use outs::{CopyOut, write_copy};

@@ -1,0 +1,56 @@
+//! Sending rows: each is made into bytes in memory, and every byte goes out.
+ghost use Rattle.std.specs.Prelude.{◌≡◌, ◌≤◌, IfOk, length, take};
+ghost use Rattle.std.specs.Io.KnownBytes.{Appends};
+ghost use Rattle.lab_rows.specs.Csv.{csv_row};
+ghost use Rattle.lab_copy.specs.Outs.{Sends};
+
+use crate::CopyOutFault;
+use csv::{Error, WriterBuilder};
+use lab_rows::{CopyRow, OutOfMemory};
+use std::alloc::Global;
+use std::io::Write;
+
+/// Writes a row as CSV.
+#[tactic(auto, using(crate::proofs::SendLemmas::taken_went, crate::proofs::SendLemmas::all_went, crate::proofs::SendLemmas::none_went))]
+pub(crate) fn send_row<W: Write>(
+    alloc: Global,
+    writer: &mut W,
+    row: &CopyRow,
+) -> Result<(), CopyOutFault>
+    ensures { Sends (W.contents writer.old) (W.contents writer.new) (csv_row row.now) result }
+{
+    let Ok(bytes) = row_bytes(alloc, row) else {
+        return Err(CopyOutFault::Memory(OutOfMemory));
+    };
+    if send(writer, &bytes) < bytes.len() {
+        return Err(CopyOutFault::Write);
+    }
+    Ok(())
+}
+
+// The text of a row. The writer writes to memory, so its only error is out of memory.
+fn row_bytes(alloc: Global, row: &CopyRow) -> Result<Vec<u8>, Error>
+    ensures { IfOk result (λ bytes. bytes.items ≡ csv_row row.now) }
+{
+    let mut writer = WriterBuilder::new().from_writer(Vec::new(alloc));
+    writer.write_byte_record(row.fields().as_byte_record())?;
+    match writer.into_inner() {
+        Ok(bytes) => Ok(bytes),
+        Err(error) => Err(error.into_error()),
+    }
+}
+
+// Writes the bytes until a write fails or takes none, and answers how many went out.
+fn send<W: Write>(writer: &mut W, bytes: &[u8]) -> usize
+    ensures within { result ≤ length bytes.now }
+    ensures sent { Appends (W.contents writer.old) (W.contents writer.new) (take result bytes.now) }
+{
+    let mut sent = 0;
+    while sent < bytes.len() {
+        match writer.write(&bytes[sent..]) {
+            Ok(0) | Err(_) => return sent,
+            Ok(taken) => sent += taken,
+        }
+    }
+    sent
+}

@@ -1,0 +1,195 @@
+//! What rows stand for.
+ghost use Rattle.std.specs.Prelude.{◌≡◌, IfOk};
+ghost use Rattle.csv.specs.Records.{fields_of};
+ghost use Rattle.lab_rows.specs.Copies.{is_approval, is_of_edition, is_older};
+ghost use Rattle.lab_rows.specs.Reading.{copy_line, record_line, version_line, entry_line, signature_line, end_line, line_of};
+ghost use Rattle.lab_lines.specs.Fields.{HasReasonUnlessFirst, IsRead, IsReasoned, columns_in, line_at};
+
+use crate::columns::{RowFields, row_fields};
+use crate::faults::RowFault;
+use crate::fields;
+use crate::parts::{
+    copy_parts, end_parts, entry_parts, record_parts, signature_parts, version_parts,
+};
+use csv::ByteRecord;
+use lab_names::{Keys, LabCodes, Names, Notes, PersonCodes, Units};
+use lab_rows::{
+    CopyLine, Edition, EndLine, EntryLine, EntryRow, Format, Line, Meaning, RecordLine, SealParts,
+    SignatureLine, State, VersionLine,
+};
+use std::alloc::Global;
+
+/// What a row stands for in a copy of the edition. `BadRow` where it stands for nothing.
+pub fn read_line(alloc: Global, edition: Edition, row: &ByteRecord) -> Result<Line, RowFault>
+    ensures value { IsRead (line_at edition (fields_of row.now)) result }
+    ensures reasoned { IfOk result IsReasoned }
+{
+    let Some(columns) = row_fields(row) else {
+        return Err(RowFault::BadRow);
+    };
+    let line = line_of(alloc, &columns)?;
+    if is_of_edition(edition, &line) {
+        Ok(line)
+    } else {
+        Err(RowFault::BadRow)
+    }
+}
+
+// Whether a copy of the edition may have the line.
+fn is_of_edition(edition: Edition, line: &Line) -> bool
+    ensures { result ≡ is_of_edition edition line.now }
+{
+    match edition {
+        Edition::Two => true,
+        Edition::One => match line {
+            Line::Version(line) => is_older(line.format, line.state),
+            Line::Signature(line) => !is_approval(&line.parts.meaning),
+            Line::Copy(_) | Line::Record(_) | Line::Entry(_) | Line::End(_) => true,
+        },
+    }
+}
+
+// Whether the older rules know the format and the state.
+fn is_older(format: Format, state: State) -> bool
+    ensures { result ≡ is_older format state }
+{
+    match format {
+        Format::Two { .. } => false,
+        Format::One => !matches!(state, State::Reviewed),
+    }
+}
+
+fn is_approval(meaning: &Meaning) -> bool
+    ensures { result ≡ is_approval meaning.now }
+{
+    matches!(meaning, Meaning::Approval)
+}
+
+// What a row stands for, by its kind.
+#[tactic(auto, unfolding(lab_rows::specs::Reading::line_of))]
+fn line_of(alloc: Global, row: &RowFields<'_>) -> Result<Line, RowFault>
+    ensures value { IsRead (line_of (columns_in row.now)) result }
+    ensures reasoned { IfOk result IsReasoned }
+{
+    if fields::is_word(row.kind, "copy") {
+        Ok(Line::Copy(copy_line(alloc, row)?))
+    } else if fields::is_word(row.kind, "record") {
+        Ok(Line::Record(record_line(alloc, row)?))
+    } else if fields::is_word(row.kind, "version") {
+        Ok(Line::Version(version_line(alloc, row)?))
+    } else if fields::is_word(row.kind, "entry") {
+        Ok(Line::Entry(entry_line(alloc, row)?))
+    } else if fields::is_word(row.kind, "signature") {
+        Ok(Line::Signature(signature_line(alloc, row)?))
+    } else if fields::is_word(row.kind, "end") {
+        Ok(Line::End(end_line(alloc, row)?))
+    } else {
+        Err(RowFault::BadRow)
+    }
+}
+
+fn copy_line(alloc: Global, row: &RowFields<'_>) -> Result<CopyLine, RowFault>
+    ensures { IsRead (copy_line (columns_in row.now)) result }
+{
+    let Some(parts) = copy_parts(row) else {
+        return Err(RowFault::BadRow);
+    };
+    Ok(CopyLine {
+        edition: parts.edition,
+        lab: fields::own::<LabCodes>(alloc, parts.lab)?,
+        from: parts.from,
+        to: parts.to,
+        person: fields::own_person(alloc, parts.person)?,
+        name: fields::own::<Names>(alloc, parts.name)?,
+        moment: parts.moment,
+    })
+}
+
+fn record_line(alloc: Global, row: &RowFields<'_>) -> Result<RecordLine, RowFault>
+    ensures { IsRead (record_line (columns_in row.now)) result }
+{
+    let Some(parts) = record_parts(row) else {
+        return Err(RowFault::BadRow);
+    };
+    Ok(RecordLine {
+        lab: fields::own::<LabCodes>(alloc, parts.lab)?,
+        record_number: parts.record_number,
+        form_version: parts.form_version,
+        form: fields::own::<Keys>(alloc, parts.form)?,
+        sample: fields::own::<Names>(alloc, parts.sample)?,
+    })
+}
+
+fn version_line(alloc: Global, row: &RowFields<'_>) -> Result<VersionLine, RowFault>
+    ensures value { IsRead (version_line (columns_in row.now)) result }
+    ensures reasoned { IfOk result (λ line. HasReasonUnlessFirst line.number line.reason) }
+{
+    let Some(parts) = version_parts(row) else {
+        return Err(RowFault::BadRow);
+    };
+    Ok(VersionLine {
+        lab: fields::own::<LabCodes>(alloc, parts.lab)?,
+        record_number: parts.record_number,
+        number: parts.number,
+        format: parts.format,
+        state: parts.state,
+        opener: fields::own::<PersonCodes>(alloc, parts.opener)?,
+        opened: parts.opened,
+        reason: fields::own_reason(alloc, parts.reason)?,
+        digest: parts.digest,
+    })
+}
+
+fn entry_line(alloc: Global, row: &RowFields<'_>) -> Result<EntryLine, RowFault>
+    ensures { IsRead (entry_line (columns_in row.now)) result }
+{
+    let Some(parts) = entry_parts(row) else {
+        return Err(RowFault::BadRow);
+    };
+    Ok(EntryLine {
+        lab: fields::own::<LabCodes>(alloc, parts.lab)?,
+        record_number: parts.record_number,
+        version: parts.version,
+        row: EntryRow {
+            key: fields::own::<Keys>(alloc, parts.key)?,
+            value: fields::own::<Notes>(alloc, parts.value)?,
+            unit: fields::own::<Units>(alloc, parts.unit)?,
+            person: fields::own::<PersonCodes>(alloc, parts.person)?,
+            moment: parts.moment,
+            reason: fields::own_reason(alloc, parts.reason)?,
+        },
+    })
+}
+
+fn signature_line(alloc: Global, row: &RowFields<'_>) -> Result<SignatureLine, RowFault>
+    ensures { IsRead (signature_line (columns_in row.now)) result }
+{
+    let Some(parts) = signature_parts(row) else {
+        return Err(RowFault::BadRow);
+    };
+    Ok(SignatureLine {
+        record_number: parts.record_number,
+        version: parts.version,
+        parts: SealParts {
+            version: parts.digest,
+            lab: fields::own::<LabCodes>(alloc, parts.lab)?,
+            person: fields::own::<PersonCodes>(alloc, parts.person)?,
+            name: fields::own::<Names>(alloc, parts.name)?,
+            meaning: fields::own_meaning(alloc, parts.meaning)?,
+            moment: parts.moment,
+        },
+        seal: parts.seal,
+    })
+}
+
+fn end_line(alloc: Global, row: &RowFields<'_>) -> Result<EndLine, RowFault>
+    ensures { IsRead (end_line (columns_in row.now)) result }
+{
+    let Some(parts) = end_parts(row) else {
+        return Err(RowFault::BadRow);
+    };
+    Ok(EndLine {
+        lab: fields::own::<LabCodes>(alloc, parts.lab)?,
+        counts: parts.counts,
+    })
+}

@@ -1,0 +1,6 @@
+pub mod Copies
+pub mod Csv
+pub mod Flaws
+pub mod Lines
+pub mod Reading
+pub mod Rows

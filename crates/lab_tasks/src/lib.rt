@@ -1,0 +1,7 @@
+//! What the words of `labdesk` ask for, over streams that are handed in.
+#![tactic(auto)]
+
+mod command_line;
+
+pub use command_line::{Task, labdesk, task_of};
+pub use lab_messages::WriteFault;
