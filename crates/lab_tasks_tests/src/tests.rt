@@ -10,7 +10,7 @@ const AQUA: &str = "found aqua 0 1 218\n{\"founders\":[\
     {\"code\":\"cid\",\"name\":\"Cid Cole\",\"password\":\"correct horse 3\"}],\
     \"name\":\"Aqua Lab\"}";
 
-fn joined<R: Abort + AllocGlobal>(rt: &R, parts: &[&str]) -> String {
+pub(crate) fn joined<R: Abort + AllocGlobal>(rt: &R, parts: &[&str]) -> String {
     let mut text = String::new(rt.alloc());
     for part in parts {
         text.push_str(part).expect(rt, "the text");
@@ -18,20 +18,20 @@ fn joined<R: Abort + AllocGlobal>(rt: &R, parts: &[&str]) -> String {
     text
 }
 
-fn assert_bytes(rt: &impl Abort, bytes: &[u8], wanted: &str, of: &impl fmt::Debug) {
+pub(crate) fn assert_bytes(rt: &impl Abort, bytes: &[u8], wanted: &str, of: &impl fmt::Debug) {
     assert!(rt; bytes == wanted.as_bytes(), "{bytes:?} to {of:?}");
 }
 
 /// A writer with room for so many bytes, that then takes none, or fails.
 #[derive(Drop)]
-struct Narrow {
-    bytes: Vec<u8>,
+pub(crate) struct Narrow {
+    pub(crate) bytes: Vec<u8>,
     room: usize,
     fails: bool,
 }
 
 impl Narrow {
-    fn new(alloc: Global, room: usize, fails: bool) -> Narrow {
+    pub(crate) fn new(alloc: Global, room: usize, fails: bool) -> Narrow {
         Narrow {
             bytes: Vec::new(alloc),
             room,
@@ -56,16 +56,34 @@ impl Write for Narrow {
     }
 }
 
-/// Gives the words to a program, and asserts the status and what is written and told.
-fn check_words<R: Abort + AllocGlobal>(
+/// Gives the words to a program whose input is a founding, and asserts the status and what is written and told.
+pub(crate) fn check_words<R: Abort + AllocGlobal>(
     rt: &R,
     words: &[&str],
     written: &str,
     told: &str,
     status: u8,
 ) {
+    check_input(rt, words, AQUA, written, told, status);
+}
+
+/// Gives the words and the input to a program, and asserts the status and what is written and told.
+pub(crate) fn check_input<R: Abort + AllocGlobal>(
+    rt: &R,
+    words: &[&str],
+    input: &str,
+    written: &str,
+    told: &str,
+    status: u8,
+) {
     let (mut output, mut errors) = (Vec::new(rt.alloc()), Vec::new(rt.alloc()));
-    let answered = labdesk(rt.alloc(), words, AQUA.as_bytes(), &mut output, &mut errors);
+    let answered = labdesk(
+        rt.alloc(),
+        words,
+        input.as_bytes(),
+        &mut output,
+        &mut errors,
+    );
     assert_bytes(rt, &output, written, &words);
     assert_bytes(rt, &errors, told, &words);
     assert_eq!(rt; answered, Ok(status), "to {words:?}");
@@ -79,10 +97,15 @@ fn a_replay_is_asked_for(rt: HostRuntime) {
 
 #[test]
 fn the_version(rt: HostRuntime) {
-    let version = "labdesk 0.2.0\nproved with rattle-kit-13b logic dac8208d650f15bf\n";
+    let version = "labdesk 0.4.0\nproved with rattle-kit-13f logic dac8208d650f15bf\n";
     check_words(&rt, &["out/labdesk", "--version"], version, "", 0);
     check_words(&rt, &["labdesk", "-V"], version, "", 0);
 }
+
+const COMMANDS_HELP: &str = "What goes in and comes out is described in docs/FORMATS.md. An example:
+
+    labdesk replay < examples/two-laboratories.events
+";
 
 const INPUT_HELP: &str =
     "An event is a line, and right after it as many bytes as the line's last number says:
@@ -103,6 +126,7 @@ Usage: labdesk <COMMAND>
 
 Commands:
   replay  Run the events of standard input, and write their answers to standard output
+  check   Check the inspection copy of standard input, and tell what is found
   help    Print this message or the help of the given subcommand(s)
 
 Options:
@@ -110,7 +134,7 @@ Options:
   -V, --version  Print version
 
 ";
-    let help = joined(&rt, &[head, INPUT_HELP]);
+    let help = joined(&rt, &[head, COMMANDS_HELP]);
     check_words(&rt, &["out/labdesk", "--help"], help.as_str(), "", 0);
     check_words(&rt, &["labdesk", "help"], help.as_str(), "", 0);
 }
@@ -135,7 +159,7 @@ Options:
 #[test]
 fn words_that_ask_for_nothing(rt: HostRuntime) {
     let told = "error: 'labdesk' requires a subcommand but one was not provided\n  \
-        [subcommands: replay, help]\n\nUsage: labdesk <COMMAND>\n\n\
+        [subcommands: replay, check, help]\n\nUsage: labdesk <COMMAND>\n\n\
         For more information, try '--help'.\n";
     check_words(&rt, &["out/labdesk"], "", told, 2);
 }

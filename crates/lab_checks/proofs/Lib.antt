@@ -1,0 +1,4 @@
+pub mod CheckLemmas
+pub mod KeptLemmas
+pub mod ListLemmas
+pub mod ReadLemmas

@@ -1,0 +1,4 @@
+pub mod Checks
+pub mod Hands
+pub mod Kept
+pub mod Left

@@ -1,0 +1,184 @@
+//! `labdesk check`, over copies whose digests and seals are those of tests/copies: by sha256sum and Python.
+
+use crate::tests::{Narrow, assert_bytes, check_input, check_words, joined};
+use lab_tasks::{WriteFault, labdesk};
+use std::io;
+use std::io::{ErrorKind, Read};
+
+const WORDS: [&str; 2] = ["labdesk", "check"];
+
+const HEADER: &str =
+    "kind,lab,record,version,key,value,unit,person,name,moment,reason,digest,seal\n";
+
+const COPY: &str = "copy,aqua,1,5,2,,,hal,Aqua Lab,1970-01-01T01:23:20Z,,,\n";
+
+const RECORD: &str = "record,aqua,1,1,water,S1,,,,,,,\n";
+
+const VERSION: &str = "version,aqua,1,1,2,released,,dan,,1970-01-01T00:16:40Z,,\
+    79610b0b80020b06ccc32eb56d5e2930ad6cea239d32569de11013459ebf2b0c,\n";
+
+const ENTRY: &str = "entry,aqua,1,1,lead,7.50,mg/L,dan,,1970-01-01T00:18:20Z,,,\n";
+
+const AUTHORSHIP: &str = "signature,aqua,1,1,,authorship,,dan,Dan Dür,1970-01-01T00:21:40Z,,\
+    79610b0b80020b06ccc32eb56d5e2930ad6cea239d32569de11013459ebf2b0c,\
+    1c8e7fd30b53aa0e5bda156f0022749d864919e7f8f0948876ff97164e2ab74d\n";
+
+const REVIEW: &str = "signature,aqua,1,1,,review,,eve,Eve Eden,1970-01-01T00:23:20Z,,\
+    79610b0b80020b06ccc32eb56d5e2930ad6cea239d32569de11013459ebf2b0c,\
+    26e9a430a37b913129c8ded320b17ea91311925b45f56d1ef105fd44b28d16de\n";
+
+const END: &str = "end,aqua,1,1,1,2,,,,,,,\n";
+
+const EMPTY_END: &str = "end,aqua,0,0,0,0,,,,,,,\n";
+
+/// A reader of a text that fails behind so many bytes.
+#[derive(Drop)]
+struct Torn<'a> {
+    left: &'a [u8],
+    fails_behind: usize,
+}
+
+impl Read for Torn<'_> {
+    fn read(&mut self, buffer: &mut [u8]) -> io::Result<usize> {
+        if self.fails_behind == 0 {
+            return Err(io::Error::new(ErrorKind::Other, "torn"));
+        }
+        let most = buffer.len().min(self.fails_behind);
+        let count = self.left.read(&mut buffer[..most])?;
+        self.fails_behind = self.fails_behind.saturating_sub(count);
+        Ok(count)
+    }
+}
+
+#[test]
+fn a_sound_copy(rt: HostRuntime) {
+    let rows = [
+        HEADER, COPY, RECORD, VERSION, ENTRY, AUTHORSHIP, REVIEW, END,
+    ];
+    let copy = joined(&rt, &rows);
+    check_input(&rt, &WORDS, copy.as_str(), "good 1 1 1 2\n", "", 0);
+}
+
+#[test]
+fn a_copy_of_no_record(rt: HostRuntime) {
+    let copy = joined(&rt, &[HEADER, COPY, EMPTY_END]);
+    check_input(&rt, &WORDS, copy.as_str(), "good 0 0 0 0\n", "", 0);
+}
+
+#[test]
+fn a_copy_with_a_flaw(rt: HostRuntime) {
+    let other = "entry,aqua,1,1,lead,7.51,mg/L,dan,,1970-01-01T00:18:20Z,,,\n";
+    let altered = joined(
+        &rt,
+        &[
+            HEADER, COPY, RECORD, VERSION, other, AUTHORSHIP, REVIEW, END,
+        ],
+    );
+    check_input(&rt, &WORDS, altered.as_str(), "bad digest 4\n", "", 1);
+    let exchanged = joined(
+        &rt,
+        &[
+            HEADER, COPY, RECORD, VERSION, ENTRY, REVIEW, AUTHORSHIP, END,
+        ],
+    );
+    check_input(&rt, &WORDS, exchanged.as_str(), "bad one_person 4\n", "", 1);
+    let shorter = joined(
+        &rt,
+        &[HEADER, COPY, RECORD, VERSION, ENTRY, AUTHORSHIP, END],
+    );
+    check_input(&rt, &WORDS, shorter.as_str(), "bad order 7\n", "", 1);
+}
+
+#[test]
+fn a_copy_whose_end_is_cut(rt: HostRuntime) {
+    let cut = joined(
+        &rt,
+        &[HEADER, COPY, RECORD, VERSION, ENTRY, AUTHORSHIP, REVIEW],
+    );
+    check_input(&rt, &WORDS, cut.as_str(), "bad no_end\n", "", 1);
+    let cut = joined(&rt, &[HEADER, COPY, "end,aqua"]);
+    check_input(&rt, &WORDS, cut.as_str(), "bad bad_row 3\n", "", 1);
+    check_input(&rt, &WORDS, "", "bad no_end\n", "", 1);
+}
+
+#[test]
+fn what_is_no_copy(rt: HostRuntime) {
+    check_words(&rt, &WORDS, "bad bad_row 1\n", "", 1);
+}
+
+#[test]
+fn a_reader_that_fails(rt: HostRuntime) {
+    let copy = joined(&rt, &[HEADER, COPY, EMPTY_END]);
+    for fails_behind in [0, 9, HEADER.len(), copy.len()] {
+        let left = copy.as_bytes();
+        let input = Torn { left, fails_behind };
+        let (mut output, mut errors) = (Vec::new(rt.alloc()), Vec::new(rt.alloc()));
+        let answered = labdesk(rt.alloc(), &WORDS, input, &mut output, &mut errors);
+        assert_bytes(&rt, &output, "", &fails_behind);
+        assert_bytes(&rt, &errors, "labdesk: read_fault\n", &fails_behind);
+        assert_eq!(rt; answered, Ok(1), "behind {fails_behind} bytes");
+    }
+}
+
+#[test]
+fn a_verdict_that_cannot_be_written(rt: HostRuntime) {
+    let copy = joined(&rt, &[HEADER, COPY, EMPTY_END]);
+    for fails in [false, true] {
+        let mut output = Narrow::new(rt.alloc(), 5, fails);
+        let mut errors = Vec::new(rt.alloc());
+        let answered = labdesk(
+            rt.alloc(),
+            &WORDS,
+            copy.as_bytes(),
+            &mut output,
+            &mut errors,
+        );
+        assert_bytes(&rt, &output.bytes, "good ", &WORDS);
+        assert_bytes(&rt, &errors, "labdesk: write_fault\n", &WORDS);
+        assert_eq!(rt; answered, Ok(1));
+    }
+}
+
+#[test]
+fn a_fault_that_cannot_be_told(rt: HostRuntime) {
+    let copy = joined(&rt, &[HEADER, COPY, EMPTY_END]);
+    let mut output = Narrow::new(rt.alloc(), 0, true);
+    let mut errors = Narrow::new(rt.alloc(), 8, true);
+    let answered = labdesk(
+        rt.alloc(),
+        &WORDS,
+        copy.as_bytes(),
+        &mut output,
+        &mut errors,
+    );
+    assert_bytes(&rt, &output.bytes, "", &WORDS);
+    assert_bytes(&rt, &errors.bytes, "labdesk:", &WORDS);
+    assert_eq!(rt; answered, Err(WriteFault { sent: 8 }));
+}
+
+#[test]
+fn help_on_a_check(rt: HostRuntime) {
+    let help = "Check the inspection copy of standard input, and tell what is found
+
+Usage: labdesk check
+
+Options:
+  -h, --help  Print help
+
+It tells `good` and how many records, versions, entries and signatures the copy has, or
+`bad`, what is wrong first, and the row. A copy is described in docs/COPIES.md.
+";
+    check_words(&rt, &["labdesk", "check", "--help"], help, "", 0);
+    check_words(&rt, &["labdesk", "help", "check"], help, "", 0);
+}
+
+#[test]
+fn words_that_are_wrong(rt: HostRuntime) {
+    let told = "error: unexpected argument 'copy.csv' found\n\nUsage: labdesk check\n\n\
+        For more information, try '--help'.\n";
+    check_words(&rt, &["labdesk", "check", "copy.csv"], "", told, 2);
+    let told = "error: unrecognized subcommand 'chek'\n\n  \
+        tip: a similar subcommand exists: 'check'\n\nUsage: labdesk <COMMAND>\n\n\
+        For more information, try '--help'.\n";
+    check_words(&rt, &["labdesk", "chek"], "", told, 2);
+}
