@@ -1,0 +1,79 @@
+#!/usr/bin/env python3
+"""Writes what lab_copies_tests compares: the lines of a short day, and copies of the laboratory after it, which Python's csv writes
+by docs/COPIES.md of the laboratory of bench/laboratory.py, whose hashes are those of hashlib.
+
+    bench/copies.py          prints the day's lines, then the copy of records 1 to 9
+    bench/copies.py 3 5      the copy of records 3 to 5 alone
+"""
+import csv
+import sys
+
+from days import Day, LEAD, NOTE, quick_setup
+from laboratory import digest_of, printed, state_of
+
+HEADER = "kind lab record version key value unit person name moment reason digest seal".split()
+
+
+def row(kind, lab, **fields):
+    fields = {"kind": kind, "lab": lab.code, **fields}
+    return [str(fields.get(name) or "") for name in HEADER]
+
+
+def record_rows(lab, r):
+    yield row("record", lab, record=r.number, version=r.form.version, key=r.form.code, value=r.sample)
+    for n, v in enumerate(r.versions, 1):
+        yield row("version", lab, record=r.number, version=n, key="2", value=state_of(r, v), person=v.opener,
+                  name="approval" if r.form.approval else "", moment=printed(v.opened), reason=v.reason,
+                  digest=digest_of(lab, r, v))
+        for one in v.rows:
+            yield row("entry", lab, record=r.number, version=n, key=one.key, value=one.value, unit=one.unit, person=one.person,
+                      moment=printed(one.moment), reason=one.reason)
+        for one in v.signatures:
+            yield row("signature", lab, record=r.number, version=n, value=one.meaning, person=one.person, name=one.name,
+                      moment=printed(one.moment), reason=one.reason, digest=one.digest, seal=one.seal)
+
+
+def copy_rows(lab, first, last, person, moment):
+    body = [one for r in lab.records if first <= r.number <= last for one in record_rows(lab, r)]
+    counts = [str(sum(one[0] == kind for one in body)) for kind in ("record", "version", "entry", "signature")]
+    yield HEADER
+    yield row("copy", lab, record=first, version=last, key="2", person=person, name=lab.name, moment=printed(moment))
+    yield from body
+    yield ["end", lab.code, *counts, *[""] * 7]
+
+
+def played():
+    """A record released and amended, one rejected, one whose form wants an approval that it doesn't have yet, and one signed."""
+    day = Day()
+    quick_setup(day)
+    day.open(1110, "eve")
+    day.open(1111, "fay")
+    day.sign(1200, "dan", "signed|", 1, 1, "authorship", code="dan")
+    day.sign(1210, "eve", "signed|", 1, 1, "review", code="eve")
+    day.do(1220, "dan", "amended|1|2|", "amend", 1, 'misread: "7,50"', ("lead", "7.5", "mg/L"))
+    day.do(1230, "dan", "record opened|2|1|", "record", "water", "Sample, two")
+    day.do(1240, "dan", "entered|2|1|1|", "entry", 2, "lead", "<0.05", "mg/L", None)
+    day.do(1250, "dan", "entered|2|1|2|", "entry", 2, "note", 'it says "clear"', "", None)
+    day.sign(1260, "dan", "signed|", 2, 1, "authorship")
+    day.sign(1270, "fay", "signed|", 2, 1, "rejection", code="fay", reason="no blank")
+    day.do(1280, "gus", "form made|water|2|", "form", "water", True, LEAD, NOTE)
+    day.do(1290, "dan", "record opened|3|1|", "record", "water", "S3")
+    day.do(1300, "dan", "entered|3|1|1|", "entry", 3, "lead", "8", "mg/L", None)
+    day.sign(1310, "dan", "signed|", 3, 1, "authorship")
+    day.sign(1320, "eve", "signed|", 3, 1, "review")
+    day.do(1330, "dan", "record opened|4|1|", "record", "water", "S4")
+    return day
+
+
+def main():
+    day = played()
+    out = csv.writer(sys.stdout, lineterminator="\n")
+    if len(sys.argv) > 1:
+        first, last = map(int, sys.argv[1:3])
+        out.writerows(copy_rows(day.lab, first, last, None, 6000))
+    else:
+        print("\n".join(day.asked))
+        out.writerows(copy_rows(day.lab, 1, 9, "hal", 5000))
+
+
+main()

@@ -1,0 +1,2 @@
+pub mod CopyLines
+pub mod Soundness

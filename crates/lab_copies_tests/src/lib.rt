@@ -1,0 +1,7 @@
+//! Tests of `lab_copies`: the copies of a laboratory after a short day, compared byte for byte with texts from outside.
+#![tactic(auto)]
+
+#[cfg(test)]
+mod days;
+#[cfg(test)]
+mod tests;
