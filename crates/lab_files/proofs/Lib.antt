@@ -1,0 +1,6 @@
+mod Statements
+mod Making
+mod Transactions
+mod Asking
+mod FaultLemmas
+mod RowLemmas

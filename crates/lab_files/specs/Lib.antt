@@ -1,0 +1,5 @@
+pub mod Faults
+pub mod Tables
+pub mod Schemas
+pub mod Verdicts
+pub mod NewFiles

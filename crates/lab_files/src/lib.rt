@@ -1,0 +1,15 @@
+//! A file in which laboratories are kept, made new or opened: the tables are made by one commit, and a file is taken
+//! only where it says which schema it has and has every table and column of it (21 CFR 11.10(a) and (c); ISO/IEC
+//! 17025:2017, 7.11.3 and 8.4.2).
+#![tactic(auto)]
+
+mod creating;
+mod faults;
+mod opening;
+mod schemas;
+mod tables;
+mod texts;
+
+pub use creating::create;
+pub use faults::FileFault;
+pub use opening::open;

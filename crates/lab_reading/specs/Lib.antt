@@ -1,0 +1,4 @@
+pub mod Faults
+pub mod Heads
+pub mod Shown
+pub mod Leaves

@@ -1,0 +1,79 @@
+//! Rows that persons entered in a version.
+
+ghost use Rattle.std.specs.Prelude.{◌≡◌, map, IfOk, OnOk};
+ghost use Rattle.sqlite.specs.State.{HasCleanDisk, IsUnchanged};
+ghost use Rattle.sqlite.specs.Held.{state};
+ghost use Rattle.lab_tables.specs.Ready.{IsReady, PassesBy, tables_of};
+ghost use Rattle.lab_tables.specs.Meaning.{entries_of};
+ghost use Rattle.lab_reading.specs.Shown.{entries_shown, entry_read};
+
+use crate::asking::rows_by_one;
+use crate::cells::{moment_of, text_if, text_of};
+use crate::faults::ReadFault;
+use lab_versions::EntryRow;
+use sqlite::{Alter, Connection, Error, Row};
+use std::alloc::Global;
+
+/// The entries of the version with the id, in the order of their places.
+fn entry_rows<S: Alter>(conn: &mut Connection<S>, version: i64) -> Result<Vec<Row>, Error>
+    ensures passes { PassesBy (state S.Store conn.old) (state S.Store conn.new) }
+    ensures same { HasCleanDisk (state S.Store conn.new) →
+        OnOk result (IsUnchanged (state S.Store conn.old) (state S.Store conn.new)) }
+    ensures rows { IsReady (state S.Store conn.old) → HasCleanDisk (state S.Store conn.new) →
+        IfOk result
+        (λ rows. rows.items ≡ entries_shown (tables_of (state S.Store conn.old)) version) }
+{
+    rows_by_one(
+        conn,
+        "SELECT entries.key, entries.value, entries.unit, persons.code, entries.moment, entries.reason FROM entries, persons WHERE entries.version = ?1 AND persons.id = entries.person ORDER BY entries.place",
+        version,
+    )
+}
+
+/// The entry that a row shows.
+fn entry_of_row(alloc: Global, row: &Row) -> Result<EntryRow, ReadFault>
+    ensures { IfOk result (λ entry. entry ≡ entry_read row.now) }
+{
+    let key = text_of(alloc, row, 0)?;
+    let value = text_of(alloc, row, 1)?;
+    let unit = text_of(alloc, row, 2)?;
+    let person = text_of(alloc, row, 3)?;
+    let moment = moment_of(row, 4)?;
+    let reason = text_if(alloc, row, 5)?;
+    Ok(EntryRow {
+        key,
+        value,
+        unit,
+        person,
+        moment,
+        reason,
+    })
+}
+
+/// The entries that rows show.
+fn entries_of_rows(alloc: Global, rows: &[Row]) -> Result<Vec<EntryRow>, ReadFault>
+    ensures { IfOk result (λ made. made.items ≡ map entry_read rows.now) }
+{
+    let mut made = Vec::new(alloc);
+    for row in rows {
+        made.push(entry_of_row(alloc, row)?)?;
+    }
+    Ok(made)
+}
+
+/// The entries of the version with the id, in the order of their places.
+pub fn entries_at<S: Alter>(
+    alloc: Global,
+    conn: &mut Connection<S>,
+    version: i64,
+) -> Result<Vec<EntryRow>, ReadFault>
+    ensures passes { PassesBy (state S.Store conn.old) (state S.Store conn.new) }
+    ensures same { HasCleanDisk (state S.Store conn.new) →
+        OnOk result (IsUnchanged (state S.Store conn.old) (state S.Store conn.new)) }
+    ensures entries { IsReady (state S.Store conn.old) → HasCleanDisk (state S.Store conn.new) →
+        IfOk result
+        (λ made. made.items ≡ entries_of (tables_of (state S.Store conn.old)) version) }
+{
+    let rows = entry_rows(conn, version)?;
+    entries_of_rows(alloc, &rows)
+}

@@ -1,0 +1,61 @@
+//! Whole versions, each as its own rows tell it.
+
+ghost use Rattle.std.specs.Prelude.{◌≡◌, IfOk, OnOk};
+ghost use Rattle.sqlite.specs.State.{HasCleanDisk, IsUnchanged};
+ghost use Rattle.sqlite.specs.Held.{state};
+ghost use Rattle.lab_tables.specs.Ready.{IsReady, PassesBy, tables_of};
+ghost use Rattle.lab_reading.specs.Leaves.{leaf_of, leaf_by};
+
+use crate::entries::entries_at;
+use crate::faults::ReadFault;
+use crate::heads::VersionHead;
+use crate::signatures::signatures_at;
+use lab_kept::Signature;
+use lab_names::{Moment, Note, Ordinal, PersonCode, Series};
+use lab_versions::EntryRows;
+use sqlite::{Alter, Connection};
+use std::alloc::Global;
+
+/// A version as its own rows tell it. What it amends they don't tell.
+#[derive(Drop)]
+pub struct VersionLeaf {
+    /// Its number in the record.
+    pub number: Ordinal,
+    /// The number of the format of its text.
+    pub format: u32,
+    /// Who opened it.
+    pub opener: PersonCode,
+    /// When it was opened.
+    pub opened: Moment,
+    /// Why it amends the one before it.
+    pub reason: Option<Note>,
+    /// Its rows in the order in which they were entered.
+    pub rows: EntryRows,
+    /// Its signatures in the order in which they were given.
+    pub signatures: Series<Signature>,
+}
+
+/// The version with the row, with its entries and signatures.
+pub fn leaf_at<S: Alter>(
+    alloc: Global,
+    conn: &mut Connection<S>,
+    head: VersionHead,
+) -> Result<VersionLeaf, ReadFault>
+    ensures passes { PassesBy (state S.Store conn.old) (state S.Store conn.new) }
+    ensures same { HasCleanDisk (state S.Store conn.new) →
+        OnOk result (IsUnchanged (state S.Store conn.old) (state S.Store conn.new)) }
+    ensures leaf { IsReady (state S.Store conn.old) → HasCleanDisk (state S.Store conn.new) →
+        IfOk result (λ leaf. leaf_of leaf ≡ leaf_by (tables_of (state S.Store conn.old)) head) }
+{
+    let rows = entries_at(alloc, conn, head.id)?;
+    let signatures = signatures_at(alloc, conn, head.id)?;
+    Ok(VersionLeaf {
+        number: head.number,
+        format: head.format,
+        opener: head.opener,
+        opened: head.opened,
+        reason: head.reason,
+        rows: EntryRows::new(rows),
+        signatures: Series::from_vec(signatures),
+    })
+}

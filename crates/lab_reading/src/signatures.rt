@@ -1,0 +1,110 @@
+//! Signatures of a version.
+
+ghost use Rattle.std.specs.Prelude.{◌≡◌, map, IfOk, OnOk};
+ghost use Rattle.sqlite.specs.State.{HasCleanDisk, IsUnchanged};
+ghost use Rattle.sqlite.specs.Held.{state};
+ghost use Rattle.lab_tables.specs.Ready.{IsReady, PassesBy, tables_of};
+ghost use Rattle.lab_tables.specs.Columns.{meaning_in};
+ghost use Rattle.lab_tables.specs.Meaning.{signatures_of};
+ghost use Rattle.lab_reading.specs.Shown.{signatures_shown, signature_read};
+ghost use Rattle.sqlite_value.specs.Order.{column, bytes};
+ghost use Rattle.lab_tables.specs.Rows.{optional_in};
+
+use crate::asking::rows_by_one;
+use crate::cells::{digest_of, moment_of, text_if, text_of};
+use crate::faults::ReadFault;
+use lab_kept::Signature;
+use lab_names::{Keys, Note, Text};
+use lab_seal::{Meaning, Seal};
+use sqlite::{Alter, Connection, Error, Row};
+use std::alloc::Global;
+
+/// The signatures of the version with the id, in the order of their places.
+fn signature_rows<S: Alter>(conn: &mut Connection<S>, version: i64) -> Result<Vec<Row>, Error>
+    ensures passes { PassesBy (state S.Store conn.old) (state S.Store conn.new) }
+    ensures same { HasCleanDisk (state S.Store conn.new) →
+        OnOk result (IsUnchanged (state S.Store conn.old) (state S.Store conn.new)) }
+    ensures rows { IsReady (state S.Store conn.old) → HasCleanDisk (state S.Store conn.new) →
+        IfOk result
+        (λ rows. rows.items ≡ signatures_shown (tables_of (state S.Store conn.old)) version) }
+{
+    rows_by_one(
+        conn,
+        "SELECT persons.code, signatures.name, signatures.meaning, signatures.reason, signatures.moment, signatures.digest, signatures.seal FROM signatures, persons WHERE signatures.version = ?1 AND persons.id = signatures.person ORDER BY signatures.place",
+        version,
+    )
+}
+
+/// What a version was signed as, by its word and its reason. A word that none is written as is a fault of the store.
+fn meaning_by(word: &str, reason: Option<Note>) -> Result<Meaning, ReadFault>
+    ensures { IfOk result (λ meaning. meaning ≡ meaning_in word.now reason) }
+{
+    match word {
+        "authorship" => Ok(Meaning::Authorship),
+        "review" => Ok(Meaning::Review),
+        "rejection" => match reason {
+            Some(reason) => Ok(Meaning::Rejection(reason)),
+            None => Err(ReadFault::Storage),
+        },
+        "approval" => Ok(Meaning::Approval),
+        _ => Err(ReadFault::Storage),
+    }
+}
+
+/// What the version was signed as, which stands in two columns of a row.
+fn meaning_of(alloc: Global, row: &Row) -> Result<Meaning, ReadFault>
+    ensures { IfOk result (λ meaning. meaning
+        ≡ meaning_in (bytes (column row.now 2)) (optional_in bytes (column row.now 3))) }
+{
+    let word: Text<Keys> = text_of(alloc, row, 2)?;
+    let reason = text_if(alloc, row, 3)?;
+    meaning_by(word.as_str(), reason)
+}
+
+/// The signature that a row shows.
+fn signature_of_row(alloc: Global, row: &Row) -> Result<Signature, ReadFault>
+    ensures { IfOk result (λ signature. signature ≡ signature_read row.now) }
+{
+    let person = text_of(alloc, row, 0)?;
+    let name = text_of(alloc, row, 1)?;
+    let meaning = meaning_of(alloc, row)?;
+    let moment = moment_of(row, 4)?;
+    let digest = digest_of(row, 5)?;
+    let seal = Seal::from_bytes(digest_of(row, 6)?.bytes());
+    Ok(Signature {
+        person,
+        name,
+        meaning,
+        moment,
+        digest,
+        seal,
+    })
+}
+
+/// The signatures that rows show.
+fn signatures_of_rows(alloc: Global, rows: &[Row]) -> Result<Vec<Signature>, ReadFault>
+    ensures { IfOk result (λ made. made.items ≡ map signature_read rows.now) }
+{
+    let mut made = Vec::new(alloc);
+    for row in rows {
+        made.push(signature_of_row(alloc, row)?)?;
+    }
+    Ok(made)
+}
+
+/// The signatures of the version with the id, in the order of their places.
+pub fn signatures_at<S: Alter>(
+    alloc: Global,
+    conn: &mut Connection<S>,
+    version: i64,
+) -> Result<Vec<Signature>, ReadFault>
+    ensures passes { PassesBy (state S.Store conn.old) (state S.Store conn.new) }
+    ensures same { HasCleanDisk (state S.Store conn.new) →
+        OnOk result (IsUnchanged (state S.Store conn.old) (state S.Store conn.new)) }
+    ensures signatures { IsReady (state S.Store conn.old) → HasCleanDisk (state S.Store conn.new) →
+        IfOk result
+        (λ made. made.items ≡ signatures_of (tables_of (state S.Store conn.old)) version) }
+{
+    let rows = signature_rows(conn, version)?;
+    signatures_of_rows(alloc, &rows)
+}

@@ -1,0 +1,79 @@
+//! Versions of a record, each by its own row.
+
+ghost use Rattle.std.specs.Prelude.{◌≡◌, map, IfOk, OnOk};
+ghost use Rattle.sqlite.specs.State.{HasCleanDisk, IsUnchanged};
+ghost use Rattle.sqlite.specs.Held.{state};
+ghost use Rattle.lab_tables.specs.Ready.{IsReady, PassesBy, tables_of};
+ghost use Rattle.lab_reading.specs.Heads.{versions_of};
+ghost use Rattle.lab_reading.specs.Shown.{versions_shown, version_read};
+
+use crate::asking::rows_by_one;
+use crate::cells::{id_of, moment_of, ordinal_of, small_of, text_if, text_of};
+use crate::faults::ReadFault;
+use crate::heads::VersionHead;
+use sqlite::{Alter, Connection, Error, Row};
+use std::alloc::Global;
+
+/// The versions of the record with the id, in the order of their numbers.
+fn version_rows<S: Alter>(conn: &mut Connection<S>, kept: i64) -> Result<Vec<Row>, Error>
+    ensures passes { PassesBy (state S.Store conn.old) (state S.Store conn.new) }
+    ensures same { HasCleanDisk (state S.Store conn.new) →
+        OnOk result (IsUnchanged (state S.Store conn.old) (state S.Store conn.new)) }
+    ensures rows { IsReady (state S.Store conn.old) → HasCleanDisk (state S.Store conn.new) →
+        IfOk result
+        (λ rows. rows.items ≡ versions_shown (tables_of (state S.Store conn.old)) kept) }
+{
+    rows_by_one(
+        conn,
+        "SELECT versions.id, versions.number, versions.format, persons.code, versions.opened, versions.reason FROM versions, persons WHERE versions.record = ?1 AND persons.id = versions.opener ORDER BY versions.number",
+        kept,
+    )
+}
+
+/// The version that a row shows.
+fn version_of_row(alloc: Global, row: &Row) -> Result<VersionHead, ReadFault>
+    ensures { IfOk result (λ version. version ≡ version_read row.now) }
+{
+    let id = id_of(row, 0)?;
+    let number = ordinal_of(row, 1)?;
+    let format = small_of(row, 2)?;
+    let opener = text_of(alloc, row, 3)?;
+    let opened = moment_of(row, 4)?;
+    let reason = text_if(alloc, row, 5)?;
+    Ok(VersionHead {
+        id,
+        number,
+        format,
+        opener,
+        opened,
+        reason,
+    })
+}
+
+/// The versions that rows show.
+fn versions_of_rows(alloc: Global, rows: &[Row]) -> Result<Vec<VersionHead>, ReadFault>
+    ensures { IfOk result (λ made. made.items ≡ map version_read rows.now) }
+{
+    let mut made = Vec::new(alloc);
+    for row in rows {
+        made.push(version_of_row(alloc, row)?)?;
+    }
+    Ok(made)
+}
+
+/// The versions of the record with the id, in the order of their numbers.
+pub fn versions_at<S: Alter>(
+    alloc: Global,
+    conn: &mut Connection<S>,
+    kept: i64,
+) -> Result<Vec<VersionHead>, ReadFault>
+    ensures passes { PassesBy (state S.Store conn.old) (state S.Store conn.new) }
+    ensures same { HasCleanDisk (state S.Store conn.new) →
+        OnOk result (IsUnchanged (state S.Store conn.old) (state S.Store conn.new)) }
+    ensures versions { IsReady (state S.Store conn.old) → HasCleanDisk (state S.Store conn.new) →
+        IfOk result
+        (λ made. made.items ≡ versions_of (tables_of (state S.Store conn.old)) kept) }
+{
+    let rows = version_rows(conn, kept)?;
+    versions_of_rows(alloc, &rows)
+}

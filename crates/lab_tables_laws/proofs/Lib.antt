@@ -1,0 +1,17 @@
+pub mod Bridges
+pub mod RowsBack
+pub mod ColumnsBack
+pub mod HeldLaws
+pub mod KeptByRules
+pub mod ChainLaws
+pub mod SortLaws
+pub mod LevelLaws
+pub mod NumberLaws
+pub mod FindLaws
+pub mod PassLaws
+pub mod LabLaws
+pub mod TrailLaws
+pub mod SessionLaws
+pub mod ClosingLaws
+pub mod KeptLaws
+pub mod PartLaws
