@@ -6,7 +6,7 @@ ghost use Rattle.csv.specs.declared.parser.State.TheVariants as st;
 ghost use Rattle.csv.specs.declared.reader.Trim.TheVariants as trim;
 ghost use Rattle.lab_rows.specs.Copies.{verdict};
 ghost use Rattle.lab_checks.specs.Checks.{IsAnswer, rows_of};
-ghost use Rattle.lab_checks.specs.Kept.{IsNoFlaw};
+ghost use Rattle.lab_checks.specs.Kept.{IsNoFlaw, kept_none};
 ghost use Rattle.lab_checks.specs.Left.{AnswersRest};
 ghost use Rattle.lab_checks.specs.declared.asks.AskedReader.{AskedReader};
 
@@ -50,7 +50,10 @@ fn check_all<R: Read>(alloc: Global, rows: &mut Reader<R>) -> Result<Counts, Che
     if !is_header(&row) {
         return Err(CheckFault::Flawed(Flaw::BadRow(1)));
     }
-    check_rows(alloc, rows, &mut row)
+    let mut kept = Kept::none();
+    let answer = check_rows(alloc, rows, &mut row, &mut kept);
+    drop(kept);
+    answer
 }
 
 // A reader of rows, that take no header and may have any number of fields, from a reader that isn't asked forever.
@@ -73,13 +76,14 @@ fn check_rows<R: Read>(
     alloc: Global,
     rows: &mut Reader<R>,
     row: &mut ByteRecord,
+    kept: &mut Kept,
 ) -> Result<Counts, CheckFault>
     requires config { reader_config rows.old ≡ default_config }
     requires trim { reader_trim rows.old ≡ trim.None }
     requires ready { Ready rows.old }
+    requires none { kept.old ≡ kept_none }
     ensures { AnswersRest (reader_state rows.old) (source_of R.remaining rows.old) result }
 {
-    let mut kept = Kept::none();
     for number in 2..MOST_ROWS {
         if !read_row(rows, row)? {
             return kept.finish(alloc);

@@ -27,4 +27,4 @@ returns g c = λ known is.
     subst (λ (was : Bool). ReadRecord g.R.Read.remaining c.args.rows.now c.read_row.new.rows was (fields_of c.read_row.new.row))
     c.if-not-branch.false (c.in_ok-read_row.ensures.reads c.requires.trim c.requires.ready) in
     first_good g.R.Read.remaining known c.args.rows.now c.read_row.new.rows (fields_of c.read_row.new.row) c.requires.config
-    c.requires.state is read (sym c.is_header.ensures ∙ c.if-not-is_header.false) c.check_rows.result c.check_rows.ensures
+    c.requires.state is read (sym c.is_header.ensures ∙ c.if-not-is_header.false) c.check_rows-answer.result c.check_rows-answer.ensures
