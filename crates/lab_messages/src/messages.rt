@@ -16,7 +16,7 @@ pub fn message(
     moment: Option<Moment>,
     media_type: &str,
     further: &str,
-    body: &str,
+    body: &[u8],
 ) -> Result<Vec<u8>, OutOfMemory>
     ensures { IfOk result (λ bytes. bytes.items ≡ message_text (record {
       status = status;
@@ -28,11 +28,13 @@ pub fn message(
 {
     let date = date_line(alloc, moment)?;
     let length = body.len();
-    let text = format!(in alloc;
+    let head = format!(in alloc;
         "HTTP/1.1 {status}\r\n{date}Content-Type: {media_type}\r\n\
-        Content-Length: {length}\r\nConnection: close\r\n{further}\r\n{body}"
+        Content-Length: {length}\r\nConnection: close\r\n{further}\r\n"
     )?;
-    Ok(text.into_bytes())
+    let mut bytes = head.into_bytes();
+    bytes.extend_from_slice(body)?;
+    Ok(bytes)
 }
 
 /// The Date field of a moment, where one is given.
