@@ -46,7 +46,7 @@ class Section:
         self.name, self.routes = name, [found.group(1, 2) for found in routes]
         self.who = next((line for line in text.splitlines() if line.startswith("**Who.**")), "")
         self.tables = [table_of(rows) for rows in re.findall(r"(?:^\|.*\n)+", text, re.M)]
-        self.examples = re.findall(r"^```sh\n(.*?)^```\n\n```(json|http)\n(.*?)^```$", text, re.M | re.S)
+        self.examples = re.findall(r"^```sh\n(.*?)^```\n\n```(json|http|csv)\n(.*?)^```$", text, re.M | re.S)
         self.blocks = text.count("```sh\n")
 
     def rows(self, first, last):
@@ -159,6 +159,8 @@ def examples_differ(parts, made):
                 yield f"{part.name}: the day has no such request: {' '.join(command.split())}"
             elif kind == "http" and reply.strip() not in [whole.replace("\r\n", "\n") for _, whole in answers]:
                 yield f"{part.name}: the day has another reply to {' '.join(command.split())}"
+            elif kind == "csv" and reply not in [body for body, _ in answers]:
+                yield f"{part.name}: the day has another copy at {' '.join(command.split())}"
             elif kind == "json" and members_in_order(reply) not in [members_in_order(body) for body, _ in answers]:
                 yield f"{part.name}: the day has another reply to {' '.join(command.split())}"
 
@@ -178,7 +180,9 @@ def members_differ(part):
         there = sorted(part.members("In the body", SENT) or [])
         if there != (sent[place] if method == "POST" else []):
             yield f"{part.name}: the body has {there}, and {sent.get(place)} is sent"
-    for command, _, text in part.examples if part.routes else []:
+    for command, kind, text in part.examples if part.routes else []:
+        if kind == "csv":
+            continue
         reply = json.loads(text)
         if "error" in reply:
             continue

@@ -9,38 +9,7 @@ import csv
 import sys
 
 from days import Day, LEAD, NOTE, quick_setup
-from laboratory import digest_of, printed, state_of
-
-HEADER = "kind lab record version key value unit person name moment reason digest seal".split()
-
-
-def row(kind, lab, **fields):
-    fields = {"kind": kind, "lab": lab.code, **fields}
-    return [str(fields.get(name) or "") for name in HEADER]
-
-
-def record_rows(lab, r):
-    yield row("record", lab, record=r.number, version=r.form.version, key=r.form.code, value=r.sample)
-    for n, v in enumerate(r.versions, 1):
-        yield row("version", lab, record=r.number, version=n, key="2", value=state_of(r, v), person=v.opener,
-                  name="approval" if r.form.approval else "", moment=printed(v.opened), reason=v.reason,
-                  digest=digest_of(lab, r, v))
-        for one in v.rows:
-            yield row("entry", lab, record=r.number, version=n, key=one.key, value=one.value, unit=one.unit, person=one.person,
-                      moment=printed(one.moment), reason=one.reason)
-        for one in v.signatures:
-            yield row("signature", lab, record=r.number, version=n, value=one.meaning, person=one.person, name=one.name,
-                      moment=printed(one.moment), reason=one.reason, digest=one.digest, seal=one.seal)
-
-
-def copy_rows(lab, first, last, person, moment):
-    body = [one for r in lab.records if first <= r.number <= last for one in record_rows(lab, r)]
-    counts = [str(sum(one[0] == kind for one in body)) for kind in ("record", "version", "entry", "signature")]
-    yield HEADER
-    yield row("copy", lab, record=first, version=last, key="2", person=person, name=lab.name, moment=printed(moment))
-    yield from body
-    yield ["end", lab.code, *counts, *[""] * 7]
-
+from laboratory import copy_rows
 
 def played():
     """A record released and amended, one rejected, one whose form wants an approval that it doesn't have yet, and one signed."""

@@ -205,6 +205,32 @@ def release(day):
     assert reply[0].endswith("|signed|")
 
 
+# The copy that an inspector takes of records that aren't there, as it stands in docs/COPIES.md.
+EMPTY_COPY = """kind,lab,record,version,key,value,unit,person,name,moment,reason,digest,seal
+copy,aqua,3,5,2,,,hal,Aqua Lab,1970-01-01T01:23:20Z,,,
+end,aqua,0,0,0,0,,,,,,,
+"""
+
+
+def copied(day):
+    """What inspectors and managers take with them."""
+    day.back("An inspector's copy")
+    day.open(5000, "hal")
+    assert day.do(5000, "hal", "copied|", "copy", 3, 5)[1] == EMPTY_COPY
+    day.back("A copy of a record that is open, by a manager, and nobody else's business")
+    day.open(1200, "gus")
+    assert day.do(1210, "gus", "copied|", "copy", 1, 1)[1].count("\n") == 6
+    assert day.do(1220, "dan", 24, "copy", 1, 1)[0].endswith("|P22|")
+    day.back("A copy of records that are released and signed")
+    release(day)
+    day.open(1400, "hal")
+    assert day.do(1410, "hal", "copied|", "copy", 1, 1)[1].endswith("\nend,aqua,1,1,1,2,,,,,,,\n")
+    assert day.do(1420, "hal", "copied|", "copy", 1, 5)[1].endswith("\nend,aqua,2,2,2,3,,,,,,,\n")
+    assert day.do(1430, "hal", "copied|", "copy", 2, 2)[1].endswith("\nend,aqua,1,1,1,1,,,,,,,\n")
+    day.do(1440, "dan", "amended|1|2|", "amend", 1, 'misread: "7,50"', ("lead", "7.5", "mg/L"))
+    day.do(1450, "hal", "copied|", "copy", 1, 1)
+
+
 def worked(day):
     text = digest_of(day.lab, day.lab.records[0], day.lab.records[0].versions[0])
     assert text == sha(VERSION.encode())
@@ -390,7 +416,7 @@ def commands(day):
         (["record", "water", "S2"], "fay"), (["entry", 1, "note", "clear", "", None], "fay"),
         (["amend", 1, "misread", ("lead", "7.5", "mg/L")], "fay"), (sign("authorship"), "fay"), (sign("review"), "dan"),
         (sign("rejection"), "dan"), (sign("approval"), "eve"), (["read record", 1], "ann"), (["read version", 1, 1], "ann"),
-        (["records", 1, 100], "ann"), (["trail", 1, 100], "eve"),
+        (["records", 1, 100], "ann"), (["trail", 1, 100], "eve"), (["copy", 1, 100], "dan"),
     ]
 
 
@@ -620,10 +646,10 @@ def refusals(day):
     for command, other in commands(day):
         command = more.get(command[0], command)
         who = {"enrol": "ann", "issue": "ann", "confirm": "bob", "roles": "ann", "retire": "ann", "unlock": "ann", "form": "gus",
-               "persons": "ann", "trail": "ann"}.get(command[0], "dan")
+               "persons": "ann", "trail": "ann", "copy": "hal"}.get(command[0], "dan")
         if command[0] in ("amend", "sign") and command[-4:-3] != ["authorship"]:
             continue
-        if command[0] in ("persons", "read form", "read record", "read version", "records", "trail"):
+        if command[0] in ("persons", "read form", "read record", "read version", "records", "trail", "copy"):
             day.do(1204, who, "", *command)
         else:
             day.do(1204, who, 28, *command)
@@ -758,6 +784,7 @@ def growths():
     day.do(41, "dan", "version of|", "read version", 1, 2)
     day.do(42, "dan", "records|", "records", 1, 100)
     day.do(43, "ann", "trail|", "trail", 1, 100)
+    day.do(43, "gus", "copied|", "copy", 1, 100)
     day.do(44, "dan", "password changed|", "password", "dan password 1", "dan password 2")
     day.do(45, "dan", "closed|", "close")
     day.do(46, None, "card|", "card")
@@ -771,14 +798,14 @@ def days():
     day.title("Setup")
     setup(day)
     day.keep()
-    for part in (worked, persons, limits, refusals, repeats):
+    for part in (worked, persons, limits, refusals, repeats, copied):
         part(day)
     return day
 
 
 def write_cases(folder):
     """Each part by itself, quickly set up, with what must be told of it."""
-    for part in (worked, persons, limits, refusals, repeats):
+    for part in (worked, persons, limits, refusals, repeats, copied):
         day = Day()
         quick_setup(day)
         day.keep()

@@ -27,7 +27,7 @@ COMMANDS = [
     ("read form", "water", 1), ("record", "water", "S1"), ("entry", 1, "lead", "7.52", "mg/L", "misread"),
     ("amend", 1, "as the scale has it", ("lead", "7.5", "mg/L"), ("note", "cold", "")),
     ("sign", 1, 1, "5a" * 32, "rejection", "correct horse 1", "ann", "no scale"), ("read record", 1), ("read version", 1, 1),
-    ("records", 1, 100), ("trail", 1, 100), ("close",),
+    ("records", 1, 100), ("trail", 1, 100), ("copy", 1, 100), ("close",),
 ]
 
 
@@ -66,7 +66,8 @@ class Asked:
                 status, text = 200, Machine(labs[self.lab], self.moment, self.words).run(self.token, self.command, *self.args)[1]
             except Refused as fault:
                 status, text = STATUS[fault.number], refusal(fault)[1]
-        return days.reply_of(status, self.moment, text)
+        is_copy = self.command == "copy" and status == 200
+        return days.reply_of(status, self.moment, text, media="text/csv" if is_copy else "application/json")
 
 
 class Raw:
@@ -104,7 +105,8 @@ class Hour:
     def ask(self, who, command, *args, refused=None, lab="aqua"):
         """A command in the session of somebody; `refused` is the number of the refusal that it should come to."""
         told = self.add(Asked(lab, *self.tick(), self.sessions[who], command, *args))
-        assert json.loads(told.partition(b"\r\n\r\n")[2]).get("number") == refused, told
+        is_copy = b"\r\nContent-Type: text/csv\r\n" in told
+        assert (None if is_copy else json.loads(told.partition(b"\r\n\r\n")[2]).get("number")) == refused, told
 
     def open(self, code, password):
         self.sessions[code] = self.tick()[1]
@@ -167,6 +169,7 @@ def records(one):
     one.ask("bob", "read version", 1, 2)
     one.ask("bob", "records", 1, 100)
     one.ask("bob", "trail", 1, 100)
+    one.ask("ann", "copy", 1, 100)
     one.ask("bob", "close")
 
 

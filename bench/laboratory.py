@@ -1,8 +1,10 @@
 """A laboratory as docs/LABORATORY.md, docs/PERSONS.md and docs/RECORDS.md describe it, written apart from the program: what each
 command is answered, and what the laboratory is like afterwards. Hashes are those of Python's hashlib."""
 import copy
+import csv
 import datetime
 import hashlib
+import io
 import json
 import re
 
@@ -26,7 +28,7 @@ RULES = {
     "unlock": ("P9", "A"), "form": ("P10", "M"), "read form": ("P11", "NRMI"), "record": ("P12", "N"),
     "entry": ("P13", "N"), "amend": ("P14", "N"), "authorship": ("P15", "N"), "review": ("P16", "R"),
     "rejection": ("P17", "RM"), "read record": ("P18", "NRMI"), "read version": ("P19", "NRMI"),
-    "records": ("P20", "NRMI"), "trail": ("P21", "AMI"), "approval": ("P23", "M"),
+    "records": ("P20", "NRMI"), "trail": ("P21", "AMI"), "copy": ("P22", "MI"), "approval": ("P23", "M"),
 }
 LETTERS = dict(zip("NRMAI", ROLES))
 KIND_MEMBERS = {"number": ["unit", "decimals", "min", "max"], "text": ["size"], "choice": ["choices"], "date": [], "yesno": []}
@@ -657,6 +659,44 @@ class Machine:
         return told("trail|", trail=[
             {"action": t.action, "moment": printed(t.moment), "number": t.number, "person": t.person or "", "subject": str(t.subject)}
             for t in self.lab.trail if low <= t.number <= high])
+
+    def do_copy(self, p, s, low, high):
+        text = io.StringIO()
+        csv.writer(text, lineterminator="\n").writerows(copy_rows(self.lab, low, high, p.code, self.now))
+        return ["copied|", text.getvalue()]
+
+
+# ---- the rows of a copy, by docs/COPIES.md
+
+HEADER = "kind lab record version key value unit person name moment reason digest seal".split()
+
+
+def copy_row(kind, lab, **fields):
+    fields = {"kind": kind, "lab": lab.code, **fields}
+    return [str(fields.get(name) or "") for name in HEADER]
+
+
+def record_rows(lab, r):
+    yield copy_row("record", lab, record=r.number, version=r.form.version, key=r.form.code, value=r.sample)
+    for n, v in enumerate(r.versions, 1):
+        yield copy_row("version", lab, record=r.number, version=n, key="2", value=state_of(r, v), person=v.opener,
+                       name="approval" if r.form.approval else "", moment=printed(v.opened), reason=v.reason,
+                       digest=digest_of(lab, r, v))
+        for one in v.rows:
+            yield copy_row("entry", lab, record=r.number, version=n, key=one.key, value=one.value, unit=one.unit, person=one.person,
+                           moment=printed(one.moment), reason=one.reason)
+        for one in v.signatures:
+            yield copy_row("signature", lab, record=r.number, version=n, value=one.meaning, person=one.person, name=one.name,
+                           moment=printed(one.moment), reason=one.reason, digest=one.digest, seal=one.seal)
+
+
+def copy_rows(lab, first, last, person, moment):
+    body = [one for r in lab.records if first <= r.number <= last for one in record_rows(lab, r)]
+    counts = [str(sum(one[0] == kind for one in body)) for kind in ("record", "version", "entry", "signature")]
+    yield HEADER
+    yield copy_row("copy", lab, record=first, version=last, key="2", person=person, name=lab.name, moment=printed(moment))
+    yield from body
+    yield ["end", lab.code, *counts, *[""] * 7]
 
 
 def refusal(refused):

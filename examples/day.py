@@ -41,6 +41,7 @@ POSTED = {
 READ = {
     "card": "", "persons": "/persons", "read form": "/forms/{}/{}", "read record": "/records/{}",
     "read version": "/records/{}/versions/{}", "records": "/records?from={}&to={}", "trail": "/trail?from={}&to={}",
+    "copy": "/copy?from={}&to={}",
 }
 
 
@@ -82,11 +83,11 @@ def request_of(lab, command, args, token):
     return head.encode() + (content or b"")
 
 
-def reply_of(status, moment, text, further=None):
+def reply_of(status, moment, text, further=None, media="application/json"):
     """The bytes of a reply (docs/HTTP.md)."""
     content = text.encode()
     head = (f"HTTP/1.1 {status} {http.HTTPStatus(status).phrase}\r\nDate: {email.utils.formatdate(moment, usegmt=True)}\r\n"
-            f"Content-Type: application/json\r\nContent-Length: {len(content)}\r\nConnection: close\r\n")
+            f"Content-Type: {media}\r\nContent-Length: {len(content)}\r\nConnection: close\r\n")
     return (head + (further or FURTHER_FIELDS.get(status, "")) + "\r\n").encode() + content
 
 
@@ -123,8 +124,8 @@ class Day:
         self.call(time, self.words(), request, reply_of(STATUSES[refused], seconds_at(time), text, further))
 
     def ask(self, time, lab, who, command, *args, refused=None):
-        """A command in the session of somebody, who may have none; gives the members of the reply. `refused` is the number of the
-        refusal that it should come to."""
+        """A command in the session of somebody, who may have none; gives the members of the reply, or the text of a copy. `refused`
+        is the number of the refusal that it should come to."""
         moment, words, token = seconds_at(time), self.words(), self.sessions.get((lab, who))
         request = request_of(lab, command, args, None if command == "open" else token)
         after = copy.deepcopy(self.labs[lab])
@@ -137,8 +138,9 @@ class Day:
         self.labs[lab] = after
         if command == "open" and number is None:
             self.sessions[lab, who] = words
-        self.call(time, words, request, reply_of(200 if number is None else STATUSES[number], moment, text))
-        return json.loads(text)
+        status, is_copy = STATUSES[number] if number else 200, command == "copy" and number is None
+        self.call(time, words, request, reply_of(status, moment, text, media="text/csv" if is_copy else "application/json"))
+        return text if is_copy else json.loads(text)
 
     def sign(self, time, lab, who, record, version, meaning, password, code=None, reason=None, digest=None, refused=None):
         """A signature under a version as it is at that moment, unless another digest is given."""
@@ -285,11 +287,15 @@ def reading(day):
     day.ask("07:58", "aqua", "fay", "read version", 2, 1)
     day.ask("07:58", "aqua", "fay", "records", 1, 100)
     day.ask("07:58", "aqua", "fay", "trail", 1, 100, refused=24)
+    day.ask("07:58", "aqua", "fay", "copy", 1, 100, refused=24)
     # The inspector comes in again too.
     day.ask("07:59", "aqua", "hal", "persons", refused=22)
     day.ask("07:59", "aqua", "hal", "open", "hal", password_of("hal"))
     day.ask("07:59", "aqua", "hal", "persons")
     day.ask("07:59", "aqua", "hal", "trail", 1, 100)
+    # What is taken along is a copy, which anybody can check.
+    assert day.ask("07:59", "aqua", "hal", "copy", 1, 100).count("\nversion,") == 4
+    day.ask("07:59", "aqua", "hal", "copy", 2, 2)
 
 
 def accounts(day):

@@ -69,6 +69,10 @@ fn command_on_records(alloc: Global, word: &str, words: &mut Words) -> Result<Co
             from: ordinal(words.next_word())?,
             to: ordinal(words.next_word())?,
         }),
+        "copy" => Ok(Command::TakeCopy {
+            from: ordinal(words.next_word())?,
+            to: ordinal(words.next_word())?,
+        }),
         _ => Err(Halt::BadLine),
     }
 }

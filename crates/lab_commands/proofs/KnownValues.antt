@@ -5,13 +5,16 @@ use Rattle.std.proofs.Common.{◌≡◌, ℕ, Bool, true, false, List, [], ◌�
 use Rattle.std.specs.Prelude.{codes, Ok}
 use Rattle.std.specs.Str.{is_utf8, chars}
 use lib.Utf8.{encode}
+use Rattle.std.specs.Fmt.{digits}
+use Rattle.lab_names.specs.Moment.{moment_text}
+use Rattle.lab_names.specs.Calendar.{year_of, month_of, day_of_month, hour_of, minute_of, second_of, span_of, place_of, place_in_year}
 use Rattle.lab_names.specs.Names.{is_note}
 use Rattle.lab_names.specs.declared.tick.Tick.{Tick}
 use Rattle.lab_secrets.specs.declared.verifiers.VerifierParts.{VerifierParts}
 use Rattle.lab_access.specs.declared.persons.Person.{Person}
 use Rattle.lab_access.specs.declared.passwords.Password.TheVariants.{Unset, Chosen}
 use Rattle.lab_access.specs.declared.roles.Role.{Role}
-use Rattle.lab_access.specs.declared.roles.Role.TheVariants.{Analyst, Reviewer, Manager, Administrator}
+use Rattle.lab_access.specs.declared.roles.Role.TheVariants.{Analyst, Reviewer, Manager, Administrator, Inspector}
 use Rattle.lab_access.specs.declared.sessions.Session.{Session}
 use Rattle.lab_access.specs.declared.sessions.Closing.TheVariants.{Nothing, All, Others}
 use Rattle.lab_access.specs.declared.openings.Opened.{Opened}
@@ -41,7 +44,7 @@ use Rattle.lab_rules.specs.declared.outcomes.Signing.TheVariants.{Authorship, Re
 use Rattle.lab_rules.specs.declared.refusals.Refusal.TheVariants.{People, NoSuchForm, RecordExists, NoSuchRecord, NoSuchVersion, ReasonWanted, NothingAltered, AmendmentOpen, NotSigned, CodeWanted}
 use Rattle.lab_rules.specs.Making.{first_version}
 use Rattle.lab_machine.specs.declared.commands.Command.{Command}
-use Rattle.lab_machine.specs.declared.commands.Command.TheVariants.{Card, Open, Close, ChangePassword, Enrol, ReadPersons, AskIssue, ConfirmIssue, SetRoles, Retire, Unlock, MakeForm, ReadForm, OpenRecord, Enter, Amend, Sign, ReadRecord, ReadVersion, ReadRecords, ReadTrail}
+use Rattle.lab_machine.specs.declared.commands.Command.TheVariants.{Card, Open, Close, ChangePassword, Enrol, ReadPersons, AskIssue, ConfirmIssue, SetRoles, Retire, Unlock, MakeForm, ReadForm, OpenRecord, Enter, Amend, Sign, ReadRecord, ReadVersion, ReadRecords, ReadTrail, TakeCopy}
 use Rattle.lab_machine.specs.declared.replies.Reply.TheVariants as reply
 use Rattle.lab_commands.specs.declared.done.Done.{Done}
 use Rattle.lab_commands.specs.declared.done.Done.TheVariants.{Refused, Failed, Read, Made}
@@ -73,6 +76,9 @@ dan = account (codes "dan") (codes "Dan Day") Analyst
 
 abbrev gus : Person
 gus = account (codes "gus") (codes "Gus Gray") Manager
+
+abbrev hal : Person
+hal = account (codes "hal") (codes "Hal Hill") Inspector
 
 -- dan with a password that was chosen, and so many failed ones
 abbrev failing : VerifierParts → ℕ → Person
@@ -369,6 +375,22 @@ pub known_readings : (tick : Tick)
     × (asked with_record tick 1200 dan (ReadVersion 1 2) ≡ Refused NoSuchVersion)
 unfolding done_of
 known_readings tick = (refl, refl, refl, refl, refl)
+
+-- the copy of docs/COPIES.md that an inspector takes of records that aren't there
+abbrev copy_fields : List ℕ → List (List ℕ) → List (List ℕ)
+copy_fields kind fields = kind ∷ codes "aqua" ∷ fields
+
+pub known_copy : (tick : Tick)
+    → asked (record slice { records = [] }) tick 5000 hal (TakeCopy 3 5)
+    ≡ Read (reply.Copied (
+    (codes "kind" ∷ codes "lab" ∷ codes "record" ∷ codes "version" ∷ codes "key" ∷ codes "value" ∷ codes "unit" ∷ codes "person"
+    ∷ codes "name" ∷ codes "moment" ∷ codes "reason" ∷ codes "digest" ∷ codes "seal" ∷ [])
+    ∷ copy_fields (codes "copy") (codes "3" ∷ codes "5" ∷ codes "2" ∷ [] ∷ [] ∷ codes "hal" ∷ codes "Aqua Lab"
+    ∷ codes "1970-01-01T01:23:20Z" ∷ [] ∷ [] ∷ [] ∷ [])
+    ∷ copy_fields (codes "end") (codes "0" ∷ codes "0" ∷ codes "0" ∷ codes "0" ∷ [] ∷ [] ∷ [] ∷ [] ∷ [] ∷ [] ∷ [] ∷ [])
+    ∷ []))
+unfolding done_of digits moment_text year_of month_of day_of_month hour_of minute_of second_of span_of place_of place_in_year
+known_copy tick = refl
 
 -- ---- groups
 

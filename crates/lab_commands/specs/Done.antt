@@ -20,6 +20,7 @@ use Rattle.lab_people.specs.declared.accounts.Effect.{Effect}
 use Rattle.lab_people.specs.declared.issues.Issued.{Issued}
 use Rattle.lab_people.specs.Accounts.{changing, enrolling, setting_roles, retiring, unlocking}
 use Rattle.lab_people.specs.Issues.{asking, confirming}
+use Rattle.lab_copies.specs.CopyLines.{copy_rows}
 use Rattle.lab_kept.specs.declared.needs.Slice.{Slice}
 use Rattle.lab_kept.specs.declared.changes.Change.{Change}
 use Rattle.lab_kept.specs.declared.changes.Change.TheVariants.{PersonAdded, PersonSet, SessionAdded, SessionSet, SessionsClosed, FormAdded, RecordAdded, RowAdded, VersionOpened, SignatureAdded}
@@ -38,9 +39,10 @@ use Rattle.lab_rules.specs.Entering.{entering, amending}
 use Rattle.lab_rules.specs.Signing.{is_code_wanted, signing_record}
 use Rattle.lab_rules.specs.Reading.{reading_form, reading_record, reading_version, record_line, person_line}
 use Rattle.lab_machine.specs.declared.commands.Command.{Command}
-use Rattle.lab_machine.specs.declared.commands.Command.TheVariants.{Card, Open, Close, ChangePassword, Enrol, ReadPersons, AskIssue, ConfirmIssue, SetRoles, Retire, Unlock, MakeForm, ReadForm, OpenRecord, Enter, Amend, Sign, ReadRecord, ReadVersion, ReadRecords, ReadTrail}
+use Rattle.lab_machine.specs.declared.commands.Command.TheVariants.{Card, Open, Close, ChangePassword, Enrol, ReadPersons, AskIssue, ConfirmIssue, SetRoles, Retire, Unlock, MakeForm, ReadForm, OpenRecord, Enter, Amend, Sign, ReadRecord, ReadVersion, ReadRecords, ReadTrail, TakeCopy}
 use Rattle.lab_machine.specs.declared.replies.Reply.{Reply}
-use Rattle.lab_machine.specs.declared.replies.Reply.TheVariants.{Opened as TellsOpened, Closed, PasswordChanged as TellsChanged, PersonDone, HalfTold, RolesSet, Persons, FormMade, FormRead, RecordOpened, Entered, Amended, Signed as TellsSigned, RecordRead, VersionRead, Records, Trail}
+use Rattle.lab_machine.specs.declared.replies.Reply.TheVariants.{Opened as TellsOpened, Closed, PasswordChanged as TellsChanged, PersonDone, HalfTold, RolesSet, Persons, FormMade, FormRead, RecordOpened, Entered, Amended, Signed as TellsSigned, RecordRead, VersionRead, Records, Trail, Copied}
+use Rattle.lab_machine.specs.Own.{copy_order}
 use Rattle.lab_commands.specs.declared.done.Done.{Done}
 use Rattle.lab_commands.specs.declared.done.Done.TheVariants.{Refused, Failed, Read, Made}
 
@@ -202,3 +204,6 @@ done_of slice tick session caller (ReadVersion number version) =
 done_of slice tick session caller (ReadRecords from to) =
     Read (Records (map record_line slice.records))
 done_of slice tick session caller (ReadTrail from to) = Read (Trail slice.trail)
+done_of slice tick session caller (TakeCopy from to) =
+    Read (Copied (copy_rows slice.code slice.name (copy_order from to caller.code tick.moment)
+    slice.records))

@@ -9,7 +9,7 @@ use crate::accounts::{
 };
 use crate::done::Done;
 use crate::readings::{
-    form_read_done, person_lines, record_lines, record_read_done, version_read_done,
+    copied_rows, form_read_done, person_lines, record_lines, record_read_done, version_read_done,
 };
 use crate::records::{
     Asked, amending_done, asked_signing_done, entering_done, making_done, opening_record_done,
@@ -152,6 +152,10 @@ fn done_reading(
         Command::ReadTrail { .. } => {
             let rows = mem::replace(&mut slice.trail, Series::new(alloc));
             Ok(Done::Read(Reply::Trail(rows)))
+        }
+        Command::TakeCopy { from, to } => {
+            let rows = copied_rows(alloc, slice, (*from, *to), &caller.code, tick.moment)?;
+            Ok(Done::Read(Reply::Copied(rows)))
         }
         _ => Ok(Done::Refused(Refusal::People(PeopleRefusal::NoSession))),
     }

@@ -1,13 +1,16 @@
 //! What commands come to that read.
 ghost use Rattle.std.specs.Prelude.{◌≡◌, IfOk, map};
 ghost use Rattle.lab_rules.specs.Reading.{reading_form, reading_record, reading_version, record_line, person_line};
+ghost use Rattle.lab_copies.specs.CopyLines.{copy_rows};
+ghost use Rattle.lab_machine.specs.Own.{copy_order};
 ghost use Rattle.lab_commands.specs.Done.{then_read_done};
 
 use crate::done::Done;
 use lab_access::Person;
-use lab_kept::{FormVersion, Record};
+use lab_copies::{CopyOrder, CopyRow, copy_rows};
+use lab_kept::{FormVersion, Record, Slice};
 use lab_machine::Reply;
-use lab_names::{LabCode, Moment, Ordinal, OutOfMemory, Series};
+use lab_names::{LabCode, Moment, Ordinal, OutOfMemory, PersonCode, Series};
 use lab_rules::{
     CommandFault, PersonLine, RecordState, person_line, read_form, read_record, read_version,
     record_line,
@@ -85,4 +88,28 @@ pub fn record_lines(alloc: Global, records: &[Record]) -> Result<Series<RecordSt
         lines.push(record_line(kept)?)?;
     }
     Ok(lines)
+}
+
+/// The rows of a copy of the part's records, which are those from a number to a number, made for a person at a moment. The only
+/// error is out of memory.
+pub fn copied_rows(
+    alloc: Global,
+    slice: &Slice,
+    range: (Ordinal, Ordinal),
+    person: &PersonCode,
+    moment: Moment,
+) -> Result<Series<CopyRow>, OutOfMemory>
+    ensures { IfOk result (λ rows. rows ≡ copy_rows slice.now.code slice.now.name
+        (copy_order range.0 range.1 person.now moment) slice.now.records) }
+{
+    let (from, to) = range;
+    let order = CopyOrder {
+        from,
+        to,
+        person: Some(person.copy()?),
+        moment,
+    };
+    let records = slice.records.as_slice();
+    let rows = copy_rows(alloc, &slice.code, &slice.name, order, records)?;
+    Ok(Series::from_vec(rows))
 }

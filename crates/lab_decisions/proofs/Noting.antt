@@ -11,7 +11,7 @@ use Rattle.lab_kept.specs.declared.changes.Change.TheVariants.{Last}
 use Rattle.lab_kept.specs.Limits.{count_limit}
 use Rattle.lab_rules.specs.declared.refusals.Refusal.TheVariants.{People}
 use Rattle.lab_machine.specs.declared.commands.Command.{Command}
-use Rattle.lab_machine.specs.declared.commands.Command.TheVariants.{Card, Open, Close, ChangePassword, Enrol, ReadPersons, AskIssue, ConfirmIssue, SetRoles, Retire, Unlock, MakeForm, ReadForm, OpenRecord, Enter, Amend, Sign, ReadRecord, ReadVersion, ReadRecords, ReadTrail}
+use Rattle.lab_machine.specs.declared.commands.Command.TheVariants.{Card, Open, Close, ChangePassword, Enrol, ReadPersons, AskIssue, ConfirmIssue, SetRoles, Retire, Unlock, MakeForm, ReadForm, OpenRecord, Enter, Amend, Sign, ReadRecord, ReadVersion, ReadRecords, ReadTrail, TakeCopy}
 use Rattle.lab_machine.specs.declared.passages.Passage.{Passage}
 use Rattle.lab_machine.specs.declared.passages.Passage.TheVariants.{Early, NeedsNone, Stranger, Barred, Passes}
 use Rattle.lab_machine.specs.declared.replies.Reply.{Reply}
@@ -78,6 +78,7 @@ without_notes slice tick repeated (ReadRecord number) = tt
 without_notes slice tick repeated (ReadVersion number version) = tt
 without_notes slice tick repeated (ReadRecords from to) = tt
 without_notes slice tick repeated (ReadTrail from to) = tt
+without_notes slice tick repeated (TakeCopy from to) = tt
 
 pub decided_notes : (slice : Slice) (tick : Tick) (command : Command) (reached : Passage)
     → IsNoted tick.moment (decided_by slice tick command reached)

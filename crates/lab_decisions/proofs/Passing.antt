@@ -6,7 +6,7 @@ use Rattle.sha2.specs.Sha256.{sha256}
 use Rattle.lab_names.specs.declared.tick.Tick.{Tick}
 use Rattle.lab_access.specs.declared.persons.Person.{Person}
 use Rattle.lab_access.specs.declared.policy.Rule.{Rule}
-use Rattle.lab_access.specs.declared.policy.Rule.TheVariants.{CloseSession, ChangePassword as ByChangePassword, Enrol as ByEnrol, ReadPersons as ByReadPersons, AskIssue as ByAskIssue, ConfirmIssue as ByConfirmIssue, SetRoles as BySetRoles, Retire as ByRetire, Unlock as ByUnlock, MakeForm as ByMakeForm, ReadForm as ByReadForm, OpenRecord as ByOpenRecord, Enter as ByEnter, Amend as ByAmend, ReadRecord as ByReadRecord, ReadVersion as ByReadVersion, ReadRecords as ByReadRecords, ReadTrail as ByReadTrail}
+use Rattle.lab_access.specs.declared.policy.Rule.TheVariants.{CloseSession, ChangePassword as ByChangePassword, Enrol as ByEnrol, ReadPersons as ByReadPersons, AskIssue as ByAskIssue, ConfirmIssue as ByConfirmIssue, SetRoles as BySetRoles, Retire as ByRetire, Unlock as ByUnlock, MakeForm as ByMakeForm, ReadForm as ByReadForm, OpenRecord as ByOpenRecord, Enter as ByEnter, Amend as ByAmend, ReadRecord as ByReadRecord, ReadVersion as ByReadVersion, ReadRecords as ByReadRecords, ReadTrail as ByReadTrail, TakeCopy as ByTakeCopy}
 use Rattle.lab_access.specs.declared.sessions.Session.{Session}
 use Rattle.lab_access.specs.declared.refusals.PeopleRefusal.{PeopleRefusal}
 use Rattle.lab_access.specs.Openings.{opening, token_digest}
@@ -18,7 +18,7 @@ use Rattle.lab_kept.specs.Limits.{stray_limit}
 use Rattle.lab_kept.specs.Lookups.{session_at, person_at, caller_of}
 use Rattle.lab_rules.specs.Signing.{signing_rule}
 use Rattle.lab_machine.specs.declared.commands.Command.{Command}
-use Rattle.lab_machine.specs.declared.commands.Command.TheVariants.{Card, Open, Close, ChangePassword, Enrol, ReadPersons, AskIssue, ConfirmIssue, SetRoles, Retire, Unlock, MakeForm, ReadForm, OpenRecord, Enter, Amend, Sign, ReadRecord, ReadVersion, ReadRecords, ReadTrail}
+use Rattle.lab_machine.specs.declared.commands.Command.TheVariants.{Card, Open, Close, ChangePassword, Enrol, ReadPersons, AskIssue, ConfirmIssue, SetRoles, Retire, Unlock, MakeForm, ReadForm, OpenRecord, Enter, Amend, Sign, ReadRecord, ReadVersion, ReadRecords, ReadTrail, TakeCopy}
 use Rattle.lab_machine.specs.declared.passages.Passage.{Passage}
 use Rattle.lab_machine.specs.declared.passages.Passage.TheVariants.{Early, NeedsNone, Stranger, Barred, Passes}
 use Rattle.lab_machine.specs.Needs.{token_in}
@@ -240,3 +240,5 @@ decided_is lab tick token (ReadRecords from to) =
     by_token lab tick token (ReadRecords from to) ByReadRecords
 decided_is lab tick token (ReadTrail from to) =
     by_token lab tick token (ReadTrail from to) ByReadTrail
+decided_is lab tick token (TakeCopy from to) =
+    by_token lab tick token (TakeCopy from to) ByTakeCopy

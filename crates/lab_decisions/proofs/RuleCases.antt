@@ -17,7 +17,7 @@ use Rattle.lab_rules.specs.Entering.{entering, amending}
 use Rattle.lab_rules.specs.Reading.{reading_form, reading_record, reading_version}
 use Rattle.lab_rules.specs.Signing.{is_code_wanted, signing_record}
 use Rattle.lab_machine.specs.declared.commands.Command.{Command}
-use Rattle.lab_machine.specs.declared.commands.Command.TheVariants.{Card, Open, Close, ChangePassword, Enrol, ReadPersons, AskIssue, ConfirmIssue, SetRoles, Retire, Unlock, MakeForm, ReadForm, OpenRecord, Enter, Amend, Sign, ReadRecord, ReadVersion, ReadRecords, ReadTrail}
+use Rattle.lab_machine.specs.declared.commands.Command.TheVariants.{Card, Open, Close, ChangePassword, Enrol, ReadPersons, AskIssue, ConfirmIssue, SetRoles, Retire, Unlock, MakeForm, ReadForm, OpenRecord, Enter, Amend, Sign, ReadRecord, ReadVersion, ReadRecords, ReadTrail, TakeCopy}
 use Rattle.lab_machine.specs.declared.replies.Reply.TheVariants.{HalfTold, RolesSet, PersonDone, FormRead, RecordRead, VersionRead}
 use Rattle.lab_machine.specs.Own.{own, enrolled_case, asked_case, confirmed_case, roles_case, retired_case, unlocked_case, form_case, record_case, entry_case, amendment_case, signature_case, signing_by}
 use Rattle.lab_machine.specs.Machine.{touched}
@@ -122,3 +122,4 @@ own_is lab digest old tick session caller (ReadVersion number version) =
     (reading_version lab.code (record_of lab.records number) version) VersionRead
 own_is lab digest old tick session caller (ReadRecords from to) = refl
 own_is lab digest old tick session caller (ReadTrail from to) = refl
+own_is lab digest old tick session caller (TakeCopy from to) = refl

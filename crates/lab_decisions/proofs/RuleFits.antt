@@ -25,7 +25,7 @@ use Rattle.lab_rules.specs.Entering.{entering, amending}
 use Rattle.lab_rules.specs.Reading.{reading_form, reading_record, reading_version}
 use Rattle.lab_rules.specs.Signing.{is_code_wanted, signing_record}
 use Rattle.lab_machine.specs.declared.commands.Command.{Command}
-use Rattle.lab_machine.specs.declared.commands.Command.TheVariants.{Card, Open, Close, ChangePassword, Enrol, ReadPersons, AskIssue, ConfirmIssue, SetRoles, Retire, Unlock, MakeForm, ReadForm, OpenRecord, Enter, Amend, Sign, ReadRecord, ReadVersion, ReadRecords, ReadTrail}
+use Rattle.lab_machine.specs.declared.commands.Command.TheVariants.{Card, Open, Close, ChangePassword, Enrol, ReadPersons, AskIssue, ConfirmIssue, SetRoles, Retire, Unlock, MakeForm, ReadForm, OpenRecord, Enter, Amend, Sign, ReadRecord, ReadVersion, ReadRecords, ReadTrail, TakeCopy}
 use Rattle.lab_machine.specs.declared.replies.Reply.TheVariants.{FormRead, RecordRead, VersionRead}
 use Rattle.lab_machine.specs.Machine.{touched}
 use Rattle.lab_laws.specs.Asking.{IsCommandFormed}
@@ -246,3 +246,4 @@ own_fits Premise lab digest old tick session caller (ReadVersion number version)
     (reading_version lab.code (record_of lab.records number) version) VersionRead
 own_fits Premise lab digest old tick session caller (ReadRecords from to) formed found there = tt
 own_fits Premise lab digest old tick session caller (ReadTrail from to) formed found there = tt
+own_fits Premise lab digest old tick session caller (TakeCopy from to) formed found there = tt

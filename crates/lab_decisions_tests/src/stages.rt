@@ -240,8 +240,13 @@ fn acted(
     let lab = changed(alloc, &stage.lab, outcome.changes.as_slice());
     drop(outcome);
     let (reply, lab) = both(reply, lab)?;
-    let texts = act_texts(alloc, stage, line, reply.as_str(), is_told, &lab);
+    let texts = act_texts(alloc, stage, line, text_of(&reply), is_told, &lab);
     with_texts(lab, texts)
+}
+
+// The text of a reply's body.
+fn text_of(body: &[u8]) -> &str {
+    str::from_utf8(body).unwrap_or("a body that is no text")
 }
 
 // What is decided on the part that the instruction needs.

@@ -7,7 +7,7 @@ use Rattle.lab_forms.specs.declared.forms.Field.{Field}
 use Rattle.lab_forms.specs.Words.{has_text_twice}
 use Rattle.lab_forms.specs.Forms.{field_limit, is_form, is_field, key_of}
 use Rattle.lab_machine.specs.declared.commands.Command.{Command}
-use Rattle.lab_machine.specs.declared.commands.Command.TheVariants.{Card, Open, Close, ChangePassword, Enrol, ReadPersons, AskIssue, ConfirmIssue, SetRoles, Retire, Unlock, MakeForm, ReadForm, OpenRecord, Enter, Amend, Sign, ReadRecord, ReadVersion, ReadRecords, ReadTrail}
+use Rattle.lab_machine.specs.declared.commands.Command.TheVariants.{Card, Open, Close, ChangePassword, Enrol, ReadPersons, AskIssue, ConfirmIssue, SetRoles, Retire, Unlock, MakeForm, ReadForm, OpenRecord, Enter, Amend, Sign, ReadRecord, ReadVersion, ReadRecords, ReadTrail, TakeCopy}
 use Rattle.lab_laws.specs.Asking.{IsCommandRight, IsCommandFormed}
 
 third_test : (a b c d : Bool) → (a && b && c && d) ≡ true → c ≡ true
@@ -42,3 +42,4 @@ formed_is_right (ReadRecord number) formed = formed
 formed_is_right (ReadVersion number version) formed = formed
 formed_is_right (ReadRecords from to) formed = formed
 formed_is_right (ReadTrail from to) formed = formed
+formed_is_right (TakeCopy from to) formed = formed

@@ -30,7 +30,7 @@ use Rattle.lab_rules.specs.Entering.{entering, amending}
 use Rattle.lab_rules.specs.Reading.{reading_form, reading_record, reading_version}
 use Rattle.lab_rules.specs.declared.refusals.Refusal.TheVariants.{People}
 use Rattle.lab_machine.specs.declared.commands.Command.{Command}
-use Rattle.lab_machine.specs.declared.commands.Command.TheVariants.{Card, Open, Close, ChangePassword, Enrol, ReadPersons, AskIssue, ConfirmIssue, SetRoles, Retire, Unlock, MakeForm, ReadForm, OpenRecord, Enter, Amend, Sign, ReadRecord, ReadVersion, ReadRecords, ReadTrail}
+use Rattle.lab_machine.specs.declared.commands.Command.TheVariants.{Card, Open, Close, ChangePassword, Enrol, ReadPersons, AskIssue, ConfirmIssue, SetRoles, Retire, Unlock, MakeForm, ReadForm, OpenRecord, Enter, Amend, Sign, ReadRecord, ReadVersion, ReadRecords, ReadTrail, TakeCopy}
 use Rattle.lab_machine.specs.declared.commands.Instruction.{Instruction}
 use Rattle.lab_machine.specs.declared.passages.Passage.{Passage}
 use Rattle.lab_machine.specs.declared.passages.Passage.TheVariants.{Early, Stranger}
@@ -131,6 +131,7 @@ own_keeps lab tick session caller (ReadVersion number version) there known numbe
     (reading_version lab.code (record_of lab.records number) version) VersionRead
 own_keeps lab tick session caller (ReadRecords from to) there known numbered = tt
 own_keeps lab tick session caller (ReadTrail from to) there known numbered = tt
+own_keeps lab tick session caller (TakeCopy from to) there known numbered = tt
 
 -- ---- laboratories whose records are as they were
 

@@ -24,7 +24,7 @@ use Rattle.lab_rules.specs.Entering.{entering, amending}
 use Rattle.lab_rules.specs.Reading.{reading_form, reading_record, reading_version}
 use Rattle.lab_rules.specs.Signing.{is_code_wanted}
 use Rattle.lab_machine.specs.declared.commands.Command.{Command}
-use Rattle.lab_machine.specs.declared.commands.Command.TheVariants.{Card, Open, Close, ChangePassword, Enrol, ReadPersons, AskIssue, ConfirmIssue, SetRoles, Retire, Unlock, MakeForm, ReadForm, OpenRecord, Enter, Amend, Sign, ReadRecord, ReadVersion, ReadRecords, ReadTrail}
+use Rattle.lab_machine.specs.declared.commands.Command.TheVariants.{Card, Open, Close, ChangePassword, Enrol, ReadPersons, AskIssue, ConfirmIssue, SetRoles, Retire, Unlock, MakeForm, ReadForm, OpenRecord, Enter, Amend, Sign, ReadRecord, ReadVersion, ReadRecords, ReadTrail, TakeCopy}
 use Rattle.lab_machine.specs.declared.commands.Instruction.{Instruction}
 use Rattle.lab_machine.specs.declared.passages.Passage.{Passage}
 use Rattle.lab_machine.specs.declared.passages.Passage.TheVariants.{Early, NeedsNone, Stranger, Barred, Passes}
@@ -108,6 +108,7 @@ own_within lab tick session caller (ReadVersion number version) right found with
     VersionRead
 own_within lab tick session caller (ReadRecords from to) right found within = record {}
 own_within lab tick session caller (ReadTrail from to) right found within = record {}
+own_within lab tick session caller (TakeCopy from to) right found within = record {}
 
 pub opening_case_within : (lab : Lab) (tick : Tick) (code password : List ℕ) → IsWithin lab
     → IsCaseWithin lab (opening_case lab tick code password)
@@ -254,6 +255,7 @@ without_within lab tick (ReadRecord number) within = within
 without_within lab tick (ReadVersion number version) within = within
 without_within lab tick (ReadRecords from to) within = within
 without_within lab tick (ReadTrail from to) within = within
+without_within lab tick (TakeCopy from to) within = within
 
 answered_within : (lab : Lab) (tick : Tick) (command : Command) (passed : Passage)
     → IsCommandRight command → IsPassageOf lab passed → IsWithin lab

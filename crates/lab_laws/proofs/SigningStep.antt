@@ -38,7 +38,7 @@ use Rattle.lab_rules.specs.Entering.{entering, amending, next_version}
 use Rattle.lab_rules.specs.Signing.{is_code_wanted, new_signature, signing_record}
 use Rattle.lab_rules.specs.Reading.{reading_form, reading_record, reading_version}
 use Rattle.lab_machine.specs.declared.commands.Command.{Command}
-use Rattle.lab_machine.specs.declared.commands.Command.TheVariants.{Card, Open, Close, ChangePassword, Enrol, ReadPersons, AskIssue, ConfirmIssue, SetRoles, Retire, Unlock, MakeForm, ReadForm, OpenRecord, Enter, Amend, Sign, ReadRecord, ReadVersion, ReadRecords, ReadTrail}
+use Rattle.lab_machine.specs.declared.commands.Command.TheVariants.{Card, Open, Close, ChangePassword, Enrol, ReadPersons, AskIssue, ConfirmIssue, SetRoles, Retire, Unlock, MakeForm, ReadForm, OpenRecord, Enter, Amend, Sign, ReadRecord, ReadVersion, ReadRecords, ReadTrail, TakeCopy}
 use Rattle.lab_machine.specs.declared.commands.Instruction.{Instruction}
 use Rattle.lab_machine.specs.declared.passages.Passage.{Passage}
 use Rattle.lab_machine.specs.declared.passages.Passage.TheVariants.{Early, NeedsNone, Stranger, Barred, Passes}
@@ -300,6 +300,7 @@ own_keeps Holds true_still lab tick session caller (ReadVersion number version) 
     VersionRead
 own_keeps Holds true_still lab tick session caller (ReadRecords from to) holds = tt
 own_keeps Holds true_still lab tick session caller (ReadTrail from to) holds = tt
+own_keeps Holds true_still lab tick session caller (TakeCopy from to) holds = tt
 
 -- ---- a step
 

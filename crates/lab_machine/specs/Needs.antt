@@ -13,7 +13,7 @@ use Rattle.lab_kept.specs.declared.needs.RecordWanted.TheVariants.{Numbered, Abo
 use Rattle.lab_kept.specs.declared.needs.ListWanted.{ListWanted}
 use Rattle.lab_kept.specs.declared.needs.ListWanted.TheVariants.{Persons, Records, Trail}
 use Rattle.lab_machine.specs.declared.commands.Command.{Command}
-use Rattle.lab_machine.specs.declared.commands.Command.TheVariants.{Card, Open, Enrol, ReadPersons, AskIssue, ConfirmIssue, SetRoles, Retire, Unlock, MakeForm, ReadForm, OpenRecord, Enter, Amend, Sign, ReadRecord, ReadVersion, ReadRecords, ReadTrail}
+use Rattle.lab_machine.specs.declared.commands.Command.TheVariants.{Card, Open, Enrol, ReadPersons, AskIssue, ConfirmIssue, SetRoles, Retire, Unlock, MakeForm, ReadForm, OpenRecord, Enter, Amend, Sign, ReadRecord, ReadVersion, ReadRecords, ReadTrail, TakeCopy}
 use Rattle.lab_machine.specs.declared.commands.Instruction.{Instruction}
 
 -- the digest of the token by whose session the command is given; the card asks for none, and an
@@ -57,6 +57,7 @@ abbrev pub list_in : Command → Option ListWanted
 list_in ReadPersons = Some Persons
 list_in (ReadRecords from to) = Some (Records from to)
 list_in (ReadTrail from to) = Some (Trail from to)
+list_in (TakeCopy from to) = Some (Records from to)
 list_in _ = None
 
 -- all that an instruction needs

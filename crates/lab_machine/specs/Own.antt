@@ -1,7 +1,7 @@
 -- Each command's own case: what its rule says of what was looked up, and what that makes of the
 -- laboratory. The rules of persons are those of lab_access and lab_people; nothing of them is said
 -- here again.
-use Rattle.std.specs.Prelude.{ℕ, List, [], ◌∷◌, ◌++◌, length, map, Result, Ok, Err, if◌then◌else◌}
+use Rattle.std.specs.Prelude.{ℕ, Some, List, [], ◌∷◌, ◌++◌, length, map, Result, Ok, Err, if◌then◌else◌}
 use Rattle.lab_names.specs.declared.tick.Tick.{Tick}
 use Rattle.lab_access.specs.declared.persons.Person.{Person}
 use Rattle.lab_access.specs.declared.sessions.Session.{Session}
@@ -26,14 +26,16 @@ use Rattle.lab_kept.specs.declared.records.Record.{Record}
 use Rattle.lab_kept.specs.declared.trails.Deed.TheVariants.{Open as OpenDeed, Close as CloseDeed, Password as PasswordDeed, Enrol as EnrolDeed, Issue as IssueDeed, Confirm as ConfirmDeed, Roles as RolesDeed, Retire as RetireDeed, Unlock as UnlockDeed, Form as FormDeed, Record as RecordDeed, Entry as EntryDeed, Amend as AmendDeed, Sign as SignDeed}
 use Rattle.lab_kept.specs.declared.trails.Occasion.TheVariants.{Opening, Changing, Signing as AtSigning}
 use Rattle.lab_kept.specs.Lookups.{person_at, session_at, last_form, exact_form, record_of, record_about, records_within, rows_within}
+use Rattle.lab_copies.specs.declared.orders.CopyOrder.{CopyOrder}
+use Rattle.lab_copies.specs.CopyLines.{copy_of}
 use Rattle.lab_kept.specs.Changes.{with_person, with_session, added_person, added_form, in_record, entered_in, opened_in, signed_in}
 use Rattle.lab_rules.specs.declared.outcomes.Signing.{Signing}
 use Rattle.lab_machine.specs.declared.commands.Command.{Command}
-use Rattle.lab_machine.specs.declared.commands.Command.TheVariants.{Card, Open, Close, ChangePassword, Enrol, ReadPersons, AskIssue, ConfirmIssue, SetRoles, Retire, Unlock, MakeForm, ReadForm, OpenRecord, Enter, Amend, Sign, ReadRecord, ReadVersion, ReadRecords, ReadTrail}
+use Rattle.lab_machine.specs.declared.commands.Command.TheVariants.{Card, Open, Close, ChangePassword, Enrol, ReadPersons, AskIssue, ConfirmIssue, SetRoles, Retire, Unlock, MakeForm, ReadForm, OpenRecord, Enter, Amend, Sign, ReadRecord, ReadVersion, ReadRecords, ReadTrail, TakeCopy}
 use Rattle.lab_rules.specs.declared.refusals.Refusal.{Refusal}
 use Rattle.lab_rules.specs.declared.refusals.Refusal.TheVariants.{People, CodeWanted}
 use Rattle.lab_machine.specs.declared.replies.Reply.{Reply}
-use Rattle.lab_machine.specs.declared.replies.Reply.TheVariants.{Opened as TellsOpened, Closed, PasswordChanged as TellsChanged, PersonDone, HalfTold, RolesSet, Persons, FormMade, FormRead, RecordRead, VersionRead, RecordOpened, Entered, Amended, Signed as TellsSigned, Records, Trail}
+use Rattle.lab_machine.specs.declared.replies.Reply.TheVariants.{Opened as TellsOpened, Closed, PasswordChanged as TellsChanged, PersonDone, HalfTold, RolesSet, Persons, FormMade, FormRead, RecordRead, VersionRead, RecordOpened, Entered, Amended, Signed as TellsSigned, Records, Trail, Copied}
 use Rattle.lab_rules.specs.declared.outcomes.EntryMade.{EntryMade}
 use Rattle.lab_rules.specs.declared.outcomes.AmendmentMade.{AmendmentMade}
 use Rattle.lab_rules.specs.declared.outcomes.SignatureMade.{SignatureMade}
@@ -188,6 +190,13 @@ signing_by lab moment session number version digest signing (Ok person) =
     then_case (signing_record lab.code (record_of lab.records number) version digest signing person
     moment) (signature_case lab session person)
 
+-- ---- copies
+
+-- of which records the copy is asked for, by whom and when
+abbrev pub copy_order : ℕ → ℕ → List ℕ → ℕ → CopyOrder
+copy_order from to person moment =
+    record { from = from; to = to; person = Some person; moment = moment }
+
 -- ---- each command
 
 -- The card and an opening come without a session, and are no command of one.
@@ -236,3 +245,5 @@ own lab tick session caller (ReadVersion number version) =
 own lab tick session caller (ReadRecords from to) =
     Reads (Records (map record_line (records_within from to lab.records)))
 own lab tick session caller (ReadTrail from to) = Reads (Trail (rows_within from to lab.trail))
+own lab tick session caller (TakeCopy from to) =
+    Reads (Copied (copy_of lab (copy_order from to caller.code tick.moment)))

@@ -109,6 +109,11 @@ pub enum Command {
         from: Ordinal,
         to: Ordinal,
     },
+    /// A copy, for inspection, of the records from a number to a number (21 CFR 11.10(b)).
+    TakeCopy {
+        from: Ordinal,
+        to: Ordinal,
+    },
 }
 
 /// A command, and the token of the session in which it is given, if one is named.
@@ -146,6 +151,7 @@ impl Command {
             Command::ReadVersion { .. } => Some(Rule::ReadVersion),
             Command::ReadRecords { .. } => Some(Rule::ReadRecords),
             Command::ReadTrail { .. } => Some(Rule::ReadTrail),
+            Command::TakeCopy { .. } => Some(Rule::TakeCopy),
         }
     }
 }

@@ -1,4 +1,4 @@
-//! What is decided of a laboratory: the commands that it can be asked but the inspection copy, what it replies and refuses, and
+//! What is decided of a laboratory: the commands that it can be asked, what it replies and refuses, and
 //! what each command makes of it (ISO/IEC 17025:2017, 7.5 and 8.4; 21 CFR Part 11). It knows no bytes of a request and no tables.
 #![tactic(auto)]
 

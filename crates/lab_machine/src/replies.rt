@@ -1,5 +1,6 @@
 //! What a laboratory replies.
 use lab_access::Roles;
+use lab_copies::CopyRow;
 use lab_kept::{FormVersion, Signature, TrailRow};
 use lab_names::{Key, LabCode, Moment, Name, Ordinal, PersonCode, Series};
 use lab_rules::{PersonLine, RecordRead, RecordState, Refusal, VersionRead};
@@ -83,4 +84,6 @@ pub enum Reply {
     Records(Series<RecordState>),
     /// Rows of the trail.
     Trail(Series<TrailRow>),
+    /// The rows of a copy for inspection, the header first.
+    Copied(Series<CopyRow>),
 }

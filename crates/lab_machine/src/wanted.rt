@@ -95,10 +95,12 @@ fn list_in(command: &Command) -> Option<ListWanted>
 {
     match command {
         Command::ReadPersons => Some(ListWanted::Persons),
-        Command::ReadRecords { from, to } => Some(ListWanted::Records {
-            from: *from,
-            to: *to,
-        }),
+        Command::ReadRecords { from, to } | Command::TakeCopy { from, to } => {
+            Some(ListWanted::Records {
+                from: *from,
+                to: *to,
+            })
+        }
         Command::ReadTrail { from, to } => Some(ListWanted::Trail {
             from: *from,
             to: *to,

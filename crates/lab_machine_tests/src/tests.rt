@@ -39,6 +39,7 @@ enum Case {
     ReadPersons,
     ReadRecords,
     ReadTrail,
+    TakeCopy,
 }
 
 fn typed(rt: &(impl Abort + AllocGlobal), text: &str) -> Typed {
@@ -100,6 +101,10 @@ fn command_on_records(rt: &(impl Abort + AllocGlobal), case: Case) -> Command {
         Case::ReadTrail => Command::ReadTrail {
             from: number(rt, 5),
             to: number(rt, 8),
+        },
+        Case::TakeCopy => Command::TakeCopy {
+            from: number(rt, 3),
+            to: number(rt, 5),
         },
         _ => Command::Card,
     }
@@ -178,6 +183,10 @@ fn list_needed(rt: &impl Abort, case: Case) -> Option<ListWanted> {
         Case::ReadTrail => Some(ListWanted::Trail {
             from: number(rt, 5),
             to: number(rt, 8),
+        }),
+        Case::TakeCopy => Some(ListWanted::Records {
+            from: number(rt, 3),
+            to: number(rt, 5),
         }),
         _ => None,
     }
@@ -263,6 +272,7 @@ fn a_list_is_needed(rt: HostRuntime) {
     wants(&rt, Case::ReadPersons);
     wants(&rt, Case::ReadRecords);
     wants(&rt, Case::ReadTrail);
+    wants(&rt, Case::TakeCopy);
 }
 
 fn person(rt: &(impl Abort + AllocGlobal), roles: Roles) -> Person {

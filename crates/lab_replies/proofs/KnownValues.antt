@@ -1,7 +1,8 @@
 -- A reply of each kind, so that a wrong member in the definitions does not check: worked replies, and else what Python's `json`
--- writes of the same members with sorted keys.
+-- writes of the same members with sorted keys, or Python's `csv` of the rows of a copy.
 use Rattle.std.proofs.Common.{◌≡◌, refl, ℕ, List, [], ◌∷◌, ◌++◌, codes, Some, None, true, false}
 use Rattle.std.specs.Fmt.{digits}
+use Rattle.csv.specs.Writing.{fields_text, is_blank, escaped}
 use Rattle.hex.specs.Hex.{encode_with}
 use Rattle.serde_json.proofs.OnLiterals.{serde_json_on_literals}
 use Rattle.lab_names.specs.Calendar.{year_of, place_in_year, month_of, day_of_month, hour_of, minute_of, second_of, span_of, place_of}
@@ -378,3 +379,24 @@ pub known_trails : reply_text (reply.Trail (record {
     ≡ codes "{\"trail\":[{\"action\":\"found\",\"moment\":\"1970-01-01T00:00:00Z\",\"number\":1,\"person\":\"\",\"subject\":\"aqua\"}]}"
 unfolding serde_json_on_literals digits moment_text year_of place_in_year month_of day_of_month hour_of minute_of second_of span_of place_of
 known_trails = refl
+
+-- the rows of a copy of no records
+abbrev no_records : List (List (List ℕ))
+no_records =
+    (codes "kind" ∷ codes "lab" ∷ codes "record" ∷ codes "version" ∷ codes "key" ∷ codes "value" ∷ codes "unit"
+    ∷ codes "person" ∷ codes "name" ∷ codes "moment" ∷ codes "reason" ∷ codes "digest" ∷ codes "seal" ∷ [])
+    ∷ (codes "copy" ∷ codes "aqua" ∷ codes "3" ∷ codes "5" ∷ codes "2" ∷ [] ∷ [] ∷ codes "hal" ∷ codes "Aqua Lab"
+    ∷ codes "1970-01-01T01:23:20Z" ∷ [] ∷ [] ∷ [] ∷ [])
+    ∷ (codes "end" ∷ codes "aqua" ∷ codes "0" ∷ codes "0" ∷ codes "0" ∷ codes "0" ∷ [] ∷ [] ∷ [] ∷ [] ∷ [] ∷ [] ∷ []
+    ∷ [])
+    ∷ []
+
+-- a line a row, and a field in quotes where it has a comma, a quote or a line feed
+pub known_copies :
+    (reply_text (reply.Copied no_records)
+    ≡ codes "kind,lab,record,version,key,value,unit,person,name,moment,reason,digest,seal\n"
+    ++ codes "copy,aqua,3,5,2,,,hal,Aqua Lab,1970-01-01T01:23:20Z,,,\nend,aqua,0,0,0,0,,,,,,,\n")
+    × (reply_text (reply.Copied ((codes "record" ∷ codes "S 1, \"a\"\nb" ∷ []) ∷ [])) ≡ codes "record,\"S 1, \"\"a\"\"\nb\"\n")
+    × (reply_text (reply.Copied []) ≡ [])
+unfolding fields_text is_blank escaped
+known_copies = (refl, refl, refl)

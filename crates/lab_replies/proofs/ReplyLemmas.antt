@@ -1,4 +1,4 @@
--- No reply has a number with a point, so that each has one text.
+-- No body has a number with a point, so that each has one text.
 use Rattle.std.proofs.Common.{◌≡◌, ℕ, List, map, false, refl, Option, Some, None}
 use Rattle.serde_json.specs.Written.{has_float, members_have_float}
 use Rattle.lab_access.specs.declared.refusals.PeopleRefusal.{PeopleRefusal}
@@ -30,7 +30,7 @@ use Rattle.lab_replies.specs.Persons.{roles_data, person_data}
 use Rattle.lab_replies.specs.Forms.{with_kind, field_members, field_data, form_data}
 use Rattle.lab_replies.specs.Records.{signed_data, version_state_data, current_of, record_data, row_data, signature_data, value_data, reason_of, version_data, record_state_data}
 use Rattle.lab_replies.specs.Trails.{trail_row_data}
-use Rattle.lab_replies.specs.Replies.{reply_data}
+use Rattle.lab_replies.specs.Replies.{body_of, HasNoFloat}
 use Rattle.lab_replies.proofs.FloatLemmas.{neither, list_floats, texts_floats}
 
 -- ---- parts
@@ -147,7 +147,7 @@ version_floats read =
     (neither _ _ (state_floats read.state)
     (neither _ _ (list_floats value_data value_floats read.values) refl)))))
 
-pub reply_floats : (told : Reply) → has_float (reply_data told) ≡ false
+pub reply_floats : (told : Reply) → HasNoFloat (body_of told)
 reply_floats (reply.Refused told) = refusal_floats told
 reply_floats (reply.Card lab name) = refl
 reply_floats (reply.Opened session token due) = refl
@@ -167,3 +167,4 @@ reply_floats (reply.RecordRead read) = record_floats read
 reply_floats (reply.VersionRead read) = version_floats read
 reply_floats (reply.Records records) = neither _ _ (list_floats record_state_data record_state_floats records) refl
 reply_floats (reply.Trail rows) = neither _ _ (list_floats trail_row_data trail_row_floats rows) refl
+reply_floats (reply.Copied rows) = tt

@@ -1,4 +1,4 @@
-//! What a laboratory replies, as JSON data and its text (RFC 8259). It knows no HTTP.
+//! What a laboratory replies, as the text of a body: JSON (RFC 8259), or of a copy CSV (RFC 4180). It knows no HTTP.
 #![tactic(auto)]
 
 mod forms;
@@ -11,4 +11,4 @@ mod replies;
 mod trails;
 
 pub use refusals::{entry_value, refusal_value};
-pub use replies::{reply_body, reply_value};
+pub use replies::reply_body;

@@ -1,8 +1,8 @@
-//! What a laboratory replies, as JSON and as its text.
-ghost use Rattle.std.specs.Prelude.{◌≡◌, IfOk, false, string_bytes};
+//! What the body of a reply tells, and its text: JSON, or of a copy its rows as CSV.
+ghost use Rattle.std.specs.Prelude.{◌≡◌, IfOk};
 ghost use Rattle.serde_json.specs.View.{view};
-ghost use Rattle.serde_json.specs.Written.{compact_text, has_float};
-ghost use Rattle.lab_replies.specs.Replies.{card_data, reply_data, reply_text};
+ghost use Rattle.lab_rows.specs.Csv.{csv_text};
+ghost use Rattle.lab_replies.specs.Replies.{card_data, body_shown, body_of, body_text, HasNoFloat, reply_text};
 
 use crate::forms::{form_made_value, form_value};
 use crate::members::{object_of, text};
@@ -16,57 +16,96 @@ use crate::records::{
 };
 use crate::refusals::refusal_value;
 use crate::trails::trail_value;
+use lab_copy::{CopyRow, write_copy};
 use lab_machine::Reply;
 use lab_names::{LabCode, Name, OutOfMemory};
 use serde_json::Value;
 use std::alloc::Global;
 
-/// The text of a reply, without blanks. The only error is out of memory.
-#[tactic(auto, using(crate::proofs::ReplyLemmas::reply_floats))]
-pub fn reply_body(alloc: Global, reply: &Reply) -> Result<String, OutOfMemory>
-    ensures { IfOk result (λ body. string_bytes body ≡ reply_text reply.now) }
-{
-    let value = reply_value(alloc, reply)?;
-    Ok(value.to_string(alloc)?)
+/// What a body tells.
+#[derive(Drop)]
+pub(crate) enum Body<'r> {
+    /// JSON.
+    Json(Value),
+    /// The rows of a copy.
+    Csv(&'r [CopyRow]),
 }
 
-/// A reply as JSON. The only error is out of memory.
-pub fn reply_value(alloc: Global, reply: &Reply) -> Result<Value, OutOfMemory>
-    ensures { IfOk result (λ value. view value ≡ reply_data reply.now) }
+/// The text of a reply's body. The only error is out of memory.
+#[tactic(auto, using(crate::proofs::ReplyLemmas::reply_floats))]
+pub fn reply_body(alloc: Global, reply: &Reply) -> Result<Vec<u8>, OutOfMemory>
+    ensures { IfOk result (λ body. body.items ≡ reply_text reply.now) }
+{
+    let body = body_of(alloc, reply)?;
+    text_of(alloc, &body)
+}
+
+// The text of a body.
+fn text_of(alloc: Global, body: &Body<'_>) -> Result<Vec<u8>, OutOfMemory>
+    requires { HasNoFloat (body_shown body.now) }
+    ensures { IfOk result (λ text. text.items ≡ body_text (body_shown body.now)) }
+{
+    match body {
+        Body::Json(value) => Ok(value.to_string(alloc)?.into_bytes()),
+        Body::Csv(rows) => copy_text(alloc, rows),
+    }
+}
+
+// The rows of a copy as CSV. Writing to memory fails only where there is none left.
+fn copy_text(alloc: Global, rows: &[CopyRow]) -> Result<Vec<u8>, OutOfMemory>
+    ensures { IfOk result (λ text. text.items ≡ csv_text rows.now) }
+{
+    let mut text = Vec::new(alloc);
+    match write_copy(alloc, &mut text, rows) {
+        Ok(()) => Ok(text),
+        Err(_) => Err(OutOfMemory),
+    }
+}
+
+// What the body of a reply tells.
+fn body_of(alloc: Global, reply: &Reply) -> Result<Body<'_>, OutOfMemory>
+    ensures { IfOk result (λ body. body_shown body ≡ body_of reply.now) }
 {
     match reply {
-        Reply::Refused(refusal) => refusal_value(alloc, refusal),
-        Reply::Card { lab, name } => card_value(alloc, lab, name),
+        Reply::Refused(refusal) => Ok(Body::Json(refusal_value(alloc, refusal)?)),
+        Reply::Card { lab, name } => Ok(Body::Json(card_value(alloc, lab, name)?)),
         Reply::Opened {
             session,
             token,
             due,
-        } => opened_value(alloc, *session, token, *due),
-        Reply::Closed { session } => closed_value(alloc, *session),
-        Reply::PasswordChanged { changed } => changed_value(alloc, *changed),
-        Reply::PersonDone { code } => person_done_value(alloc, code),
-        Reply::HalfTold { half } => half_value(alloc, half),
-        Reply::RolesSet { code, roles } => roles_set_value(alloc, code, roles),
-        Reply::Persons(persons) => persons_value(alloc, persons.as_slice()),
-        Reply::FormMade { code, version } => form_made_value(alloc, code, *version),
-        Reply::FormRead(form) => form_value(alloc, form),
-        Reply::RecordOpened { number, version } => record_opened_value(alloc, *number, *version),
+        } => Ok(Body::Json(opened_value(alloc, *session, token, *due)?)),
+        Reply::Closed { session } => Ok(Body::Json(closed_value(alloc, *session)?)),
+        Reply::PasswordChanged { changed } => Ok(Body::Json(changed_value(alloc, *changed)?)),
+        Reply::PersonDone { code } => Ok(Body::Json(person_done_value(alloc, code)?)),
+        Reply::HalfTold { half } => Ok(Body::Json(half_value(alloc, half)?)),
+        Reply::RolesSet { code, roles } => Ok(Body::Json(roles_set_value(alloc, code, roles)?)),
+        Reply::Persons(persons) => Ok(Body::Json(persons_value(alloc, persons.as_slice())?)),
+        Reply::FormMade { code, version } => Ok(Body::Json(form_made_value(
+            alloc, code, *version,
+        )?)),
+        Reply::FormRead(form) => Ok(Body::Json(form_value(alloc, form)?)),
+        Reply::RecordOpened { number, version } => Ok(Body::Json(record_opened_value(
+            alloc, *number, *version,
+        )?)),
         Reply::Entered {
             number,
             version,
             rows,
             digest,
-        } => entered_value(alloc, *number, *version, *rows, digest),
+        } => Ok(Body::Json(entered_value(alloc, *number, *version, *rows, digest)?)),
         Reply::Amended {
             number,
             version,
             digest,
-        } => amended_value(alloc, *number, *version, digest),
-        Reply::Signed { signature, state } => signed_value(alloc, signature, state),
-        Reply::RecordRead(read) => record_value(alloc, read),
-        Reply::VersionRead(read) => version_value(alloc, read),
-        Reply::Records(records) => records_value(alloc, records.as_slice()),
-        Reply::Trail(rows) => trail_value(alloc, rows.as_slice()),
+        } => Ok(Body::Json(amended_value(alloc, *number, *version, digest)?)),
+        Reply::Signed { signature, state } => Ok(Body::Json(signed_value(
+            alloc, signature, state,
+        )?)),
+        Reply::RecordRead(read) => Ok(Body::Json(record_value(alloc, read)?)),
+        Reply::VersionRead(read) => Ok(Body::Json(version_value(alloc, read)?)),
+        Reply::Records(records) => Ok(Body::Json(records_value(alloc, records.as_slice())?)),
+        Reply::Trail(rows) => Ok(Body::Json(trail_value(alloc, rows.as_slice())?)),
+        Reply::Copied(rows) => Ok(Body::Csv(rows.as_slice())),
     }
 }
 

@@ -8,7 +8,7 @@ use Rattle.lab_members.specs.declared.refusals.BodyRefusal.TheVariants.{BadBody}
 use Rattle.lab_bodies.specs.declared.bodies.Post.TheVariants.{Open, Close, ChangePassword, Enrol, AskIssue, ConfirmIssue, SetRoles, Retire, Unlock, MakeForm, OpenRecord, Enter, Amend, Sign}
 use Rattle.lab_routes.specs.declared.refusals.RouteRefusal.TheVariants.{NoRoute, Method, Body}
 use Rattle.lab_routes.specs.declared.refusals.Allowed.TheVariants.{Get as GetAlone, Post as PostAlone, GetOrPost}
-use Rattle.lab_routes.specs.declared.routes.Route.TheVariants.{Card, Persons, Form, Record, Version, Records, Trail, Posted}
+use Rattle.lab_routes.specs.declared.routes.Route.TheVariants.{Card, Persons, Form, Record, Version, Records, Trail, Copy, Posted}
 use Rattle.lab_routes.specs.Numbers.{ordinal_in}
 use Rattle.lab_routes.specs.Paths.{path_of, query_of, behind, segments}
 use Rattle.lab_routes.specs.Queries.{range_in}
@@ -63,7 +63,7 @@ pub known_commands : (route_of (codes "GET") ([]) ≡ Ok Card)
 unfolding route_of is_place row_of admits is_key ordinal_in digits segments
 known_commands = (refl, refl, refl, refl, refl, refl, refl, refl, refl, refl, refl, refl)
 
--- and the rows of forms, records and the trail
+-- and the rows of forms, records, the trail and copies
 pub known_commands_of_records : (route_of (codes "GET") (codes "/forms/water_2/3") ≡ Ok Form)
     × (route_of (codes "POST") (codes "/records") ≡ Ok (Posted OpenRecord))
     × (route_of (codes "POST") (codes "/entries") ≡ Ok (Posted Enter))
@@ -73,8 +73,9 @@ pub known_commands_of_records : (route_of (codes "GET") (codes "/forms/water_2/3
     × (route_of (codes "GET") (codes "/records/5/versions/1000000000") ≡ Ok Version)
     × (route_of (codes "GET") (codes "/records") ≡ Ok Records)
     × (route_of (codes "GET") (codes "/trail") ≡ Ok Trail)
+    × (route_of (codes "GET") (codes "/copy") ≡ Ok Copy)
 unfolding route_of is_place row_of admits is_key ordinal_in digits segments
-known_commands_of_records = (refl, refl, refl, refl, refl, refl, refl, refl, refl)
+known_commands_of_records = (refl, refl, refl, refl, refl, refl, refl, refl, refl, refl)
 
 -- what is no place
 pub known_elsewhere : (route_of (codes "GET") (codes "/") ≡ Err NoRoute)
@@ -91,9 +92,10 @@ pub known_elsewhere : (route_of (codes "GET") (codes "/") ≡ Err NoRoute)
     × (route_of (codes "GET") (codes "/forms/water") ≡ Err NoRoute)
     × (route_of (codes "GET") (codes "/forms/water/01") ≡ Err NoRoute)
     × (route_of (codes "GET") (codes "/Persons") ≡ Err NoRoute)
-    × (route_of (codes "GET") (codes "/copy") ≡ Err NoRoute)
+    × (route_of (codes "GET") (codes "/copies") ≡ Err NoRoute)
+    × (route_of (codes "GET") (codes "/copy/1") ≡ Err NoRoute)
 unfolding route_of is_place row_of admits is_key ordinal_in digits segments
-known_elsewhere = (refl, refl, refl, refl, refl, refl, refl, refl, refl, refl, refl, refl, refl, refl, refl)
+known_elsewhere = (refl, refl, refl, refl, refl, refl, refl, refl, refl, refl, refl, refl, refl, refl, refl, refl)
 
 -- the methods of a place, which is looked at first
 pub known_methods : (route_of (codes "PUT") (codes "/persons") ≡ Err (Method GetOrPost))
@@ -103,9 +105,10 @@ pub known_methods : (route_of (codes "PUT") (codes "/persons") ≡ Err (Method G
     × (route_of (codes "POST") (codes "/records/5") ≡ Err (Method GetAlone))
     × (route_of (codes "GET") (codes "/open") ≡ Err (Method PostAlone))
     × (route_of (codes "PUT") (codes "/records/0") ≡ Err NoRoute)
-    × (route_of (codes "PUT") (codes "/copy") ≡ Err NoRoute)
+    × (route_of (codes "PUT") (codes "/copy") ≡ Err (Method GetAlone))
+    × (route_of (codes "PUT") (codes "/copies") ≡ Err NoRoute)
 unfolding route_of is_place row_of admits is_key ordinal_in digits segments
-known_methods = (refl, refl, refl, refl, refl, refl, refl, refl)
+known_methods = (refl, refl, refl, refl, refl, refl, refl, refl, refl)
 
 -- where a target goes
 pub known_destinations : (destination_of (codes "GET") (codes "/labs/aqua") ≡ Ok (record { lab = codes "aqua"; place = []; query = []; route = Card }))
@@ -146,7 +149,9 @@ pub known_at : (command_at Form (codes "/forms/water/3") ([]) ([]) ≡ Ok (comma
     × (command_at Version (codes "/records/5/versions/2") ([]) ([]) ≡ Ok (command.ReadVersion 5 2))
     × (command_at Records (codes "/records") (codes "from=1&to=100") ([]) ≡ Ok (command.ReadRecords 1 100))
     × (command_at Trail (codes "/trail") (codes "from=3&to=4") ([]) ≡ Ok (command.ReadTrail 3 4))
+    × (command_at Copy (codes "/copy") (codes "from=3&to=5") ([]) ≡ Ok (command.TakeCopy 3 5))
     × (command_at Trail (codes "/trail") ([]) ([]) ≡ Err (Body BadBody))
+    × (command_at Copy (codes "/copy") (codes "from=5&to=3") ([]) ≡ Err (Body BadBody))
     × (command_at Card ([]) (codes "a") ([]) ≡ Ok command.Card)
 unfolding command_at segments range_in behind ordinal_in digits
-known_at = (refl, refl, refl, refl, refl, refl, refl)
+known_at = (refl, refl, refl, refl, refl, refl, refl, refl, refl)

@@ -82,7 +82,7 @@ version_segments (a ∷ b ∷ c ∷ d ∷ more) is =
 rows_admit : (method place : List ℕ) → Each (λ row. is_row method place row ≡ true → Admitted row.route place) routes
 unfolding segments
 rows_admit method place =
-    ((λ _. tt), ((λ _. tt), ((λ _. tt), ((λ _. tt), ((λ _. tt), ((λ _. tt), ((λ _. tt), ((λ _. tt), ((λ _. tt), ((λ _. tt), ((λ _. tt), ((λ _. tt), ((λ is. form_segments (segments place) (true_last _ _ is)), ((λ _. tt), ((λ _. tt), ((λ _. tt), ((λ _. tt), ((λ is. record_segments (segments place) (true_last _ _ is)), ((λ is. version_segments (segments place) (true_last _ _ is)), ((λ _. tt), ((λ _. tt), tt)))))))))))))))))))))
+    ((λ _. tt), ((λ _. tt), ((λ _. tt), ((λ _. tt), ((λ _. tt), ((λ _. tt), ((λ _. tt), ((λ _. tt), ((λ _. tt), ((λ _. tt), ((λ _. tt), ((λ _. tt), ((λ is. form_segments (segments place) (true_last _ _ is)), ((λ _. tt), ((λ _. tt), ((λ _. tt), ((λ _. tt), ((λ is. record_segments (segments place) (true_last _ _ is)), ((λ is. version_segments (segments place) (true_last _ _ is)), ((λ _. tt), ((λ _. tt), ((λ _. tt), tt))))))))))))))))))))))
 
 -- ---- where a request goes
 

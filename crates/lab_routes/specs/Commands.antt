@@ -14,7 +14,7 @@ use Rattle.lab_routes.specs.declared.refusals.RouteRefusal.TheVariants.{Body}
 use Rattle.lab_routes.specs.declared.refusals.RouteFault.{RouteFault}
 use Rattle.lab_routes.specs.declared.refusals.RouteFault.TheVariants.{Refused, Memory}
 use Rattle.lab_routes.specs.declared.routes.Route.{Route}
-use Rattle.lab_routes.specs.declared.routes.Route.TheVariants.{Card, Persons, Form, Record, Version, Records, Trail, Posted}
+use Rattle.lab_routes.specs.declared.routes.Route.TheVariants.{Card, Persons, Form, Record, Version, Records, Trail, Copy, Posted}
 use Rattle.lab_routes.specs.declared.queries.Range.{Range}
 use Rattle.lab_heads.specs.Requests.{RequestParts}
 use Rattle.lab_names.specs.Names.{is_key}
@@ -51,6 +51,7 @@ command_at Version place query body =
     Ok (command.ReadVersion (number_at 1 place) (number_at 3 place))
 command_at Records place query body = ranged command.ReadRecords (range_in query)
 command_at Trail place query body = ranged command.ReadTrail (range_in query)
+command_at Copy place query body = ranged command.TakeCopy (range_in query)
 command_at (Posted post) place query body = by_body (body_named (post_named post) body)
 
 -- ---- what the code may count on

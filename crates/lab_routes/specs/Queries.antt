@@ -1,5 +1,5 @@
--- The query of a reading of records or of the trail: exactly `from=A&to=B`, at most a hundred
--- numbers (docs/HTTP.md).
+-- The query of a reading of records or of the trail, or of a copy: exactly `from=A&to=B`, at most a
+-- hundred numbers (docs/HTTP.md).
 use Rattle.std.specs.Prelude.{ℕ, ◌+◌, ◌==◌, ◌&&◌, Bool, nat_le, List, [], ◌∷◌, codes, if◌then◌else◌, Option, Some, None, option_and_then}
 use Rattle.std.specs.List.{slice_split}
 use Rattle.lab_routes.specs.declared.queries.Range.{Range}

@@ -10,7 +10,7 @@ use Rattle.lab_routes.specs.declared.refusals.RouteRefusal.TheVariants.{NoRoute,
 use Rattle.lab_routes.specs.declared.refusals.Allowed.{Allowed}
 use Rattle.lab_routes.specs.declared.refusals.Allowed.TheVariants.{Get as GetAlone, Post as PostAlone, GetOrPost}
 use Rattle.lab_routes.specs.declared.routes.Route.{Route}
-use Rattle.lab_routes.specs.declared.routes.Route.TheVariants.{Card, Persons, Form, Record, Version, Records, Trail, Posted}
+use Rattle.lab_routes.specs.declared.routes.Route.TheVariants.{Card, Persons, Form, Record, Version, Records, Trail, Copy, Posted}
 use Rattle.lab_routes.specs.declared.routes.Row.{Row as RowOfCode}
 use Rattle.lab_routes.specs.declared.routes.Destination.{Destination as Found}
 use Rattle.lab_routes.specs.Numbers.{ordinal_in}
@@ -63,6 +63,7 @@ routes =
     ∷ gets (codes "/records/{record}/versions/{version}") Version
     ∷ gets (codes "/records") Records
     ∷ gets (codes "/trail") Trail
+    ∷ gets (codes "/copy") Copy
     ∷ []
 
 -- as the code has a row

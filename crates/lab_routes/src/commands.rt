@@ -3,7 +3,7 @@ ghost use Rattle.std.specs.Prelude.{◌≡◌, Ok, Err, IfOk, IfErr, IsTrue, IsS
 ghost use Rattle.lab_names.specs.Names.{is_key, is_lab_code};
 ghost use Rattle.lab_heads.specs.Requests.{parts_shown};
 ghost use Rattle.lab_bodies.specs.Bodies.{post_named, body_named};
-ghost use Rattle.lab_machine.specs.declared.commands.Command.TheVariants.{ReadForm, ReadRecord, ReadVersion, ReadRecords, ReadTrail};
+ghost use Rattle.lab_machine.specs.declared.commands.Command.TheVariants.{ReadForm, ReadRecord, ReadVersion, ReadRecords, ReadTrail, TakeCopy};
 ghost use Rattle.lab_routes.specs.declared.refusals.RouteFault.TheVariants.{Memory};
 ghost use Rattle.lab_routes.specs.Numbers.{ordinal_in};
 ghost use Rattle.lab_routes.specs.Paths.{segment_at};
@@ -110,6 +110,20 @@ fn trail(query: &str) -> Result<Command, RouteFault>
     }
 }
 
+// A copy of records from a number to a number.
+fn copy(query: &str) -> Result<Command, RouteFault>
+    ensures read { IfOk result (λ command. ranged TakeCopy (range_in query.now) ≡ Ok command) }
+    ensures fault { IfErr result (FaultFits (ranged TakeCopy (range_in query.now))) }
+{
+    match range_in(query) {
+        Some(range) => Ok(Command::TakeCopy {
+            from: range.from,
+            to: range.to,
+        }),
+        None => Err(BAD_QUERY),
+    }
+}
+
 // What a body names.
 fn posted(alloc: Global, post: Post, body: &[u8]) -> Result<Command, RouteFault>
     ensures read { IfOk result (λ command. by_body (body_named (post_named post) body.now) ≡ Ok command) }
@@ -137,6 +151,7 @@ fn command_at(alloc: Global, to: &Destination<'_>, body: &[u8]) -> Result<Comman
         Route::Version => Ok(version(to.place)),
         Route::Records => records(to.query),
         Route::Trail => trail(to.query),
+        Route::Copy => copy(to.query),
         Route::Posted(post) => posted(alloc, post, body),
     }
 }

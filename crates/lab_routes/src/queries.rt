@@ -1,4 +1,4 @@
-//! The query of a reading of records or of the trail.
+//! The query of a reading of records or of the trail, or of a copy.
 ghost use Rattle.std.specs.Prelude.{◌≡◌, ◌∷◌};
 ghost use Rattle.std.specs.List.{slice_split};
 ghost use Rattle.lab_routes.specs.Queries.{number_behind, range_of, is_ampersand, range_by, range_in};

@@ -26,6 +26,8 @@ pub enum Route {
     Records,
     /// Rows of the trail from a number to a number.
     Trail,
+    /// A copy of records from a number to a number.
+    Copy,
     /// What a body names.
     Posted(Post),
 }
@@ -80,7 +82,7 @@ macro_rules! posts {
 const LABS_PREFIX: &str = "/labs/";
 
 /// A row for each command.
-const ROUTES: [Row; 21] = [
+const ROUTES: [Row; 22] = [
     gets!("", Card),
     posts!("/open", Open),
     posts!("/close", Close),
@@ -102,6 +104,7 @@ const ROUTES: [Row; 21] = [
     gets!("/records/{record}/versions/{version}", Version),
     gets!("/records", Records),
     gets!("/trail", Trail),
+    gets!("/copy", Copy),
 ];
 
 fn is_number_mark(mark: &str) -> bool

@@ -40,6 +40,16 @@ fn what_is_read_by_a_range(rt: HostRuntime) {
 }
 
 #[test]
+fn a_copy_is_taken_of_a_range(rt: HostRuntime) {
+    reads(&rt, "/labs/aqua/copy?from=1&to=100", "aqua|-|copy|1|100|");
+    reads(
+        &rt,
+        "/labs/aqua/copy?from=1000000000&to=1000000000",
+        "aqua|-|copy|1000000000|1000000000|",
+    );
+}
+
+#[test]
 fn what_is_posted_of_sessions(rt: HostRuntime) {
     posts(
         &rt,

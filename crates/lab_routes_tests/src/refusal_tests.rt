@@ -20,7 +20,8 @@ fn what_is_no_place_has_no_methods(rt: HostRuntime) {
     is_no_place(&rt, "/labs");
     is_no_place(&rt, "/labs/");
     is_no_place(&rt, "/labs/aqua/");
-    is_no_place(&rt, "/labs/aqua/copy");
+    is_no_place(&rt, "/labs/aqua/copies");
+    is_no_place(&rt, "/labs/aqua/copy/");
     is_no_place(&rt, "/labs/aqua/open/");
     is_no_place(&rt, "//labs/aqua");
     is_no_place(&rt, "/Labs/aqua");
@@ -65,6 +66,7 @@ fn a_place_tells_its_methods(rt: HostRuntime) {
     allows(&rt, "DELETE", "/labs/aqua/records?x", Allowed::GetOrPost);
     allows(&rt, "HEAD", "/labs/aqua", Allowed::Get);
     allows(&rt, "get", "/labs/aqua/trail", Allowed::Get);
+    allows(&rt, "POST", "/labs/aqua/copy", Allowed::Get);
     allows(&rt, "POST", "/labs/aqua/records/5", Allowed::Get);
     allows(&rt, "GET", "/labs/aqua/forms", Allowed::Post);
     allows(&rt, "post", "/labs/aqua/open", Allowed::Post);
@@ -95,6 +97,14 @@ fn a_range_has_a_hundred_numbers_at_most(rt: HostRuntime) {
     has_no_range(&rt, "?from=2&to=1");
     has_no_range(&rt, "?from=999999999&to=1000000001");
     has_no_range(&rt, "?from=1&to=4294967297");
+}
+
+#[test]
+fn the_trail_and_copies_want_a_range_as_well(rt: HostRuntime) {
+    refuses(&rt, "GET", "/labs/aqua/trail", "", BAD_BODY);
+    refuses(&rt, "GET", "/labs/aqua/copy", "", BAD_BODY);
+    refuses(&rt, "GET", "/labs/aqua/copy?from=1&to=101", "", BAD_BODY);
+    refuses(&rt, "GET", "/labs/aqua/copy?from=0&to=1", "", BAD_BODY);
 }
 
 #[test]

@@ -66,6 +66,7 @@ fn put_read(rt: &(impl Abort + AllocGlobal), text: &mut String, command: &Comman
         }
         Command::ReadRecords { from, to } => put_numbers(rt, text, "records", *from, *to),
         Command::ReadTrail { from, to } => put_numbers(rt, text, "trail", *from, *to),
+        Command::TakeCopy { from, to } => put_numbers(rt, text, "copy", *from, *to),
         _ => {}
     }
 }

@@ -1,6 +1,7 @@
 -- Whole answers as the documents of the interface write them, so that a wrong rule in the definitions does not check.
 use Rattle.std.proofs.Common.{◌≡◌, refl, ℕ, List, [], ◌∷◌, ◌++◌, codes}
 use Rattle.std.specs.Fmt.{digits}
+use Rattle.csv.specs.Writing.{fields_text, is_blank}
 use Rattle.serde_json.proofs.OnLiterals.{serde_json_on_literals}
 use Rattle.lab_names.specs.Calendar.{year_of, place_in_year, month_of, day_of_month, weekday_of, hour_of, minute_of, second_of, span_of, place_of}
 use Rattle.lab_names.specs.declared.tick.Tick.{Tick}
@@ -62,6 +63,30 @@ pub known_refusals : (reply_text tick (Refused (Head HeadTooLong))
     (codes "{\"error\":\"storage\",\"number\":63}"))
 unfolding reply_text message_text serde_json_on_literals digits imf_fixdate year_of place_in_year month_of day_of_month weekday_of hour_of minute_of second_of span_of place_of
 known_refusals = (refl, refl)
+
+-- the rows of a copy of no records
+abbrev no_records : List (List (List ℕ))
+no_records =
+    (codes "kind" ∷ codes "lab" ∷ codes "record" ∷ codes "version" ∷ codes "key" ∷ codes "value" ∷ codes "unit"
+    ∷ codes "person" ∷ codes "name" ∷ codes "moment" ∷ codes "reason" ∷ codes "digest" ∷ codes "seal" ∷ [])
+    ∷ (codes "copy" ∷ codes "aqua" ∷ codes "3" ∷ codes "5" ∷ codes "2" ∷ [] ∷ [] ∷ codes "hal" ∷ codes "Aqua Lab"
+    ∷ codes "1970-01-01T01:23:20Z" ∷ [] ∷ [] ∷ [] ∷ [])
+    ∷ (codes "end" ∷ codes "aqua" ∷ codes "0" ∷ codes "0" ∷ codes "0" ∷ codes "0" ∷ [] ∷ [] ∷ [] ∷ [] ∷ [] ∷ [] ∷ []
+    ∷ [])
+    ∷ []
+
+-- a copy is CSV
+pub known_copy : reply_text tick (Replied (reply.Copied no_records))
+    ≡ line (codes "HTTP/1.1 200 OK")
+    ++ line (codes "Date: Sun, 06 Nov 1994 08:49:37 GMT")
+    ++ line (codes "Content-Type: text/csv")
+    ++ line (codes "Content-Length: 156")
+    ++ line (codes "Connection: close")
+    ++ line []
+    ++ codes "kind,lab,record,version,key,value,unit,person,name,moment,reason,digest,seal\n"
+    ++ codes "copy,aqua,3,5,2,,,hal,Aqua Lab,1970-01-01T01:23:20Z,,,\nend,aqua,0,0,0,0,,,,,,,\n"
+unfolding reply_text message_text fields_text is_blank digits imf_fixdate year_of place_in_year month_of day_of_month weekday_of hour_of minute_of second_of span_of place_of
+known_copy = refl
 
 -- the reply where memory ran out has no date
 pub known_memory : memory_text

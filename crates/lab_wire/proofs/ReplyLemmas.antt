@@ -8,19 +8,19 @@ use Rattle.lab_messages.specs.Messages.{message_text}
 use Rattle.lab_replies.specs.Refusals.{refused_data}
 use Rattle.lab_wire.specs.declared.replies.Answer.{Answer}
 use Rattle.lab_wire.specs.Statuses.{answer_status}
-use Rattle.lab_wire.specs.Replies.{json_type, answer_text, further_fields, reply_text}
+use Rattle.lab_wire.specs.Replies.{answer_type, answer_text, further_fields, reply_text}
 
 pub entry_floats : (entry : Entry) → has_float (refused_data entry []) ≡ false
 entry_floats entry = refl
 
-pub reply_is : (tick : Tick) (answer : Answer) (status : ℕ) (further body : List ℕ) → status ≡ answer_status answer
-    → further ≡ further_fields answer → body ≡ answer_text answer
+pub reply_is : (tick : Tick) (answer : Answer) (status : ℕ) (kind further body : List ℕ) → status ≡ answer_status answer
+    → kind ≡ answer_type answer → further ≡ further_fields answer → body ≡ answer_text answer
     → message_text (record {
       status = status;
       moment = Some tick.moment;
-      media_type = json_type;
+      media_type = kind;
       further = further;
       body = body;
     }) ≡ reply_text tick answer
 unfolding reply_text
-reply_is tick answer status further body s f b = rw (s, f, b) refl
+reply_is tick answer status kind further body s k f b = rw (s, k, f, b) refl

@@ -1,12 +1,12 @@
--- What is answered, and its bytes: the body is JSON (RFC 8259), and the status may ask for a field
--- (RFC 9110, sections 8.3, 10.2.1 and 11.6.1).
+-- What is answered, and its bytes: the body is JSON (RFC 8259), or a copy as CSV (RFC 4180), and the
+-- status may ask for a field (RFC 9110, sections 8.3, 10.2.1 and 11.6.1).
 use Rattle.std.specs.Prelude.{ℕ, List, [], ◌++◌, ◌==◌, codes, if◌then◌else◌, Some, None}
 use Rattle.serde_json.specs.Written.{compact_text}
 use Rattle.lab_names.specs.declared.tick.Tick.{Tick}
 use Rattle.lab_names.specs.Faults.{Entry, memory_entry}
 use Rattle.lab_kept.specs.Faults.{storage_entry}
 use Rattle.lab_replies.specs.Refusals.{refused_data}
-use Rattle.lab_replies.specs.Replies.{reply_text as body_text}
+use Rattle.lab_replies.specs.Replies.{Body as ReplyBody, Json, Csv, body_of, reply_text as body_text}
 use Rattle.lab_messages.specs.Messages.{line, message_text}
 use Rattle.lab_routes.specs.declared.refusals.RouteRefusal.{RouteRefusal}
 use Rattle.lab_routes.specs.declared.refusals.RouteRefusal.TheVariants.{NoRoute, Method, Body}
@@ -20,9 +20,23 @@ use Rattle.lab_wire.specs.Statuses.{answer_status, memory_status}
 
 -- ---- the body
 
--- the type of every body
+-- the types of bodies (RFC 8259, section 11; RFC 4180, section 3)
 abbrev pub json_type : List ℕ
 json_type = codes "application/json"
+
+abbrev pub csv_type : List ℕ
+csv_type = codes "text/csv"
+
+-- that of a reply's
+abbrev pub body_type : ReplyBody → List ℕ
+body_type (Json told) = json_type
+body_type (Csv rows) = csv_type
+
+-- that of an answer's: no refusal is CSV
+abbrev pub answer_type : Answer → List ℕ
+answer_type (Replied told) = body_type (body_of told)
+answer_type (Refused refusal) = json_type
+answer_type Storage = json_type
 
 -- a refusal that tells its word and its number alone
 abbrev pub entry_text : Entry → List ℕ
@@ -66,7 +80,7 @@ unfoldable pub reply_text : Tick → Answer → List ℕ
 reply_text tick answer = message_text (record {
   status = answer_status answer;
   moment = Some tick.moment;
-  media_type = json_type;
+  media_type = answer_type answer;
   further = further_fields answer;
   body = answer_text answer;
 })

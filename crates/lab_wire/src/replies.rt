@@ -1,6 +1,7 @@
-//! Answers as bytes: HTTP/1.1 messages (RFC 9112) with JSON bodies (RFC 8259).
+//! Answers as bytes: HTTP/1.1 messages (RFC 9112) whose bodies are JSON (RFC 8259), or a copy as CSV (RFC 4180).
 ghost use Rattle.std.specs.Prelude.{◌≡◌, IfOk, string_bytes};
-ghost use Rattle.lab_wire.specs.Replies.{entry_text, answer_text, challenge_field, allow_by_route, allow_by_request, allow_field, further_fields, reply_text, memory_text};
+ghost use Rattle.lab_replies.specs.Replies.{body_of};
+ghost use Rattle.lab_wire.specs.Replies.{body_type, answer_type, entry_text, answer_text, challenge_field, allow_by_route, allow_by_request, allow_field, further_fields, reply_text, memory_text};
 
 use crate::refusals::RequestRefusal;
 use crate::statuses::answer_status;
@@ -13,8 +14,11 @@ use lab_replies::{entry_value, reply_body};
 use lab_routes::RouteRefusal;
 use std::alloc::Global;
 
-/// The type of every body.
+/// The type of a body that is JSON.
 const JSON: &str = "application/json";
+
+/// The type of a body that is a copy.
+const CSV: &str = "text/csv";
 
 /// What is answered to a request.
 #[derive(Drop)]
@@ -38,7 +42,7 @@ pub fn reply_bytes(alloc: Global, tick: &Tick, answer: &Answer) -> Result<Vec<u8
         alloc,
         answer_status(answer),
         Some(tick.moment),
-        JSON,
+        answer_type(answer),
         &further,
         &body,
     )
@@ -62,18 +66,38 @@ pub fn memory_reply(alloc: Global) -> Result<Vec<u8>, OutOfMemory>
 
 // ---- the body
 
+// The type of a reply's body.
+fn reply_type(reply: &Reply) -> &'static str
+    ensures { result.now ≡ body_type (body_of reply.now) }
+{
+    match reply {
+        Reply::Copied(_) => CSV,
+        _ => JSON,
+    }
+}
+
+// The type of an answer's body.
+fn answer_type(answer: &Answer) -> &'static str
+    ensures { result.now ≡ answer_type answer.now }
+{
+    match answer {
+        Answer::Replied(reply) => reply_type(reply),
+        Answer::Refused(_) | Answer::Storage => JSON,
+    }
+}
+
 // A refusal that tells its word and its number alone.
 #[tactic(auto, using(crate::proofs::ReplyLemmas::entry_floats))]
-fn entry_body(alloc: Global, number: u32, word: &str) -> Result<String, OutOfMemory>
-    ensures { IfOk result (λ body. string_bytes body
+fn entry_body(alloc: Global, number: u32, word: &str) -> Result<Vec<u8>, OutOfMemory>
+    ensures { IfOk result (λ body. body.items
         ≡ entry_text (record { number = number; word = word.now })) }
 {
     let value = entry_value(alloc, number, word)?;
-    Ok(value.to_string(alloc)?)
+    Ok(value.to_string(alloc)?.into_bytes())
 }
 
-fn answer_body(alloc: Global, answer: &Answer) -> Result<String, OutOfMemory>
-    ensures { IfOk result (λ body. string_bytes body ≡ answer_text answer.now) }
+fn answer_body(alloc: Global, answer: &Answer) -> Result<Vec<u8>, OutOfMemory>
+    ensures { IfOk result (λ body. body.items ≡ answer_text answer.now) }
 {
     match answer {
         Answer::Replied(reply) => reply_body(alloc, reply),

@@ -5,6 +5,8 @@
 #[cfg(test)]
 mod bytes;
 #[cfg(test)]
+mod copy_tests;
+#[cfg(test)]
 mod head_tests;
 #[cfg(test)]
 mod message_tests;

@@ -36,7 +36,7 @@ fn a_message_has_its_lines_in_their_order(rt: HostRuntime) {
         at(&rt, 100),
         "application/json",
         further,
-        "{}",
+        b"{}",
     );
     let text: &[u8] = b"HTTP/1.1 401 Unauthorized\r\nDate: Thu, 01 Jan 1970 00:01:40 GMT\r\n\
         Content-Type: application/json\r\nContent-Length: 2\r\nConnection: close\r\n\
@@ -52,7 +52,7 @@ fn a_length_is_counted_in_bytes(rt: HostRuntime) {
         at(&rt, 0),
         "text/csv",
         "",
-        "a,\u{e9},\u{20ac}\r\n",
+        b"a,\xc3\xa9,\xe2\x82\xac\r\n",
     );
     let text: &[u8] = b"HTTP/1.1 200 OK\r\nDate: Thu, 01 Jan 1970 00:00:00 GMT\r\n\
         Content-Type: text/csv\r\nContent-Length: 10\r\nConnection: close\r\n\r\n\
@@ -63,7 +63,7 @@ fn a_length_is_counted_in_bytes(rt: HostRuntime) {
 #[test]
 fn a_message_without_moment_has_no_date(rt: HostRuntime) {
     let status = StatusCode::SERVICE_UNAVAILABLE;
-    let reply = message(rt.alloc(), status, None, "application/json", "", "");
+    let reply = message(rt.alloc(), status, None, "application/json", "", b"");
     let text: &[u8] = b"HTTP/1.1 503 Service Unavailable\r\nContent-Type: application/json\r\n\
         Content-Length: 0\r\nConnection: close\r\n\r\n";
     assert_bytes(&rt, &reply.expect(&rt, "memory"), text);

@@ -135,8 +135,8 @@ fn tick(rt: &impl Abort, seconds: i64) -> Tick {
     }
 }
 
-// The answer at 100 seconds has these bytes.
-fn is_sent_as(rt: &(impl Abort + AllocGlobal), answer: Answer, wanted: &[u8]) {
+/// The answer at 100 seconds has these bytes.
+pub(crate) fn is_sent_as(rt: &(impl Abort + AllocGlobal), answer: Answer, wanted: &[u8]) {
     let bytes = reply_bytes(rt.alloc(), &tick(rt, 100), &answer).expect(rt, "memory");
     drop(answer);
     assert_bytes(rt, &bytes, wanted);
