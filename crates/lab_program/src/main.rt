@@ -1,4 +1,4 @@
-//! `labdesk`: signed laboratory records, run from events on standard input.
+//! `labdesk`: signed laboratory records.
 #![tactic(auto)]
 
 use std::io;
@@ -10,6 +10,13 @@ const UNTOLD: u8 = 1;
 fn main(rt: HostRuntime) -> io::Result<ExitCode> {
     let words: Vec<String> = std::env::args(&rt)?.collect(rt.alloc())?;
     let (mut output, mut errors) = (rt.stdout(), rt.stderr());
-    let status = lab_tasks::labdesk(rt.alloc(), &words, rt.stdin(), &mut output, &mut errors);
+    let status = lab_tasks::labdesk(
+        &rt,
+        rt.alloc(),
+        &words,
+        rt.stdin(),
+        &mut output,
+        &mut errors,
+    );
     Ok(ExitCode::from(status.unwrap_or(UNTOLD)))
 }

@@ -1,2 +1,4 @@
 pub mod ExplainLemmas
+pub mod GivenLemmas
 pub mod KnownValues
+pub mod RehearsalLemmas

@@ -1,16 +1,18 @@
 -- The command line, as `clap` is told of it: `labdesk`, which has a version and wants one of its
--- subcommands, `replay` and `check`.
-use Rattle.std.specs.Prelude.{◌≡◌, ◌⊎◌, ℕ, List, [], ◌∷◌, codes, true, Option, Some, None, option_map, if◌then◌else◌, bytes_eq, Result, Ok, IfOk}
+-- subcommands: `replay` and `check`, or `rehearse` with a laboratory and a moment.
+use Rattle.std.specs.Prelude.{◌≡◌, ◌⊎◌, ℕ, ℤ, pos, List, [], ◌∷◌, codes, decimal, true, IsTrue, Option, Some, None, if◌then◌else◌, bytes_eq, Result, Ok, IfOk}
 use Rattle.std.specs.Io.KnownBytes.{Keeps}
-use Rattle.clap.specs.Words.{App, IsAmong, Kinds, new_app, subcommand_of, with_subcommand}
+use Rattle.clap.specs.Words.{App, IsAmong, Kinds, Row, Rule, fault_of, first_of, new_app, new_rule, one_of, subcommand_of, with_rule, with_subcommand}
+use Rattle.clap.specs.declared.builder.value_parser.ValueParser.TheVariants.{Signed}
 use Rattle.clap.specs.declared.error.kind.ErrorKind.{ErrorKind}
 use Rattle.clap.specs.declared.error.kind.ErrorKind.TheVariants.{OutOfMemory, DisplayHelp, DisplayVersion}
+use Rattle.lab_names.specs.Moment.{is_moment, last_moment}
 use Rattle.lab_messages.specs.declared.sending.WriteFault.{WriteFault as Untold}
 use Rattle.lab_events.specs.declared.fault.ReplayFault.{ReplayFault}
 use Rattle.lab_events.specs.declared.fault.ReplayFault.TheVariants.{WriteFault, Memory}
 use Rattle.lab_events.specs.Replay.{IsTold}
 use Rattle.lab_tasks.specs.declared.command_line.Task.{Task}
-use Rattle.lab_tasks.specs.declared.command_line.Task.TheVariants.{Replay, Check}
+use Rattle.lab_tasks.specs.declared.command_line.Task.TheVariants.{Replay, Check, Rehearse}
 
 -- `labdesk` by itself
 abbrev pub bare_app : App
@@ -18,20 +20,62 @@ bare_app = record (new_app (codes "labdesk")) {
   top = record (new_app (codes "labdesk")).top { has_version = true; subcommand_required = true };
 }
 
+-- an argument that has to be given, behind `--` and its name
+abbrev pub wanted_rule : List ℕ → Rule
+wanted_rule name = record (new_rule name) { long = Some name; value_names = 1; required = true }
+
+-- a moment: the seconds from the first to the last
+abbrev pub moment_rule : Rule
+moment_rule = record (wanted_rule (codes "moment")) {
+  parser = Some (Signed (pos 0) (pos last_moment));
+}
+
+-- `rehearse` by itself
+abbrev pub rehearse_app : App
+rehearse_app =
+    with_rule (with_rule (new_app (codes "rehearse")) (wanted_rule (codes "lab"))) moment_rule
+
 -- with its subcommands
 abbrev pub labdesk_app : App
 labdesk_app =
-    with_subcommand (with_subcommand bare_app (new_app (codes "replay")).top)
-    (new_app (codes "check")).top
+    with_subcommand (with_subcommand (with_subcommand bare_app (new_app (codes "replay")).top)
+    (new_app (codes "check")).top) rehearse_app.top
 
--- the subcommand that words name, which are at no fault
-abbrev pub subcommand_named : App → List (List ℕ) → Option (List ℕ)
-subcommand_named app words = option_map (λ named. named.0) (subcommand_of app words)
+-- ---- what words ask for that are at no fault
 
--- the task of a subcommand: there are two
-abbrev pub task_named : Option (List ℕ) → Task
-task_named None = Replay
-task_named (Some name) = if bytes_eq name (codes "check") then Check else Replay
+-- a task, without what it is given
+pub data Errand : Type 0 where
+  replays : Errand
+  checks : Errand
+  rehearses : Errand
+
+abbrev pub errand_of : Task → Errand
+errand_of Replay = replays
+errand_of Check = checks
+errand_of (Rehearse lab seconds) = rehearses
+
+-- that of a subcommand
+abbrev pub errand_called : List ℕ → Errand
+errand_called name = if bytes_eq name (codes "check") then checks
+    else (if bytes_eq name (codes "rehearse") then rehearses else replays)
+
+abbrev pub errand_named : Option (List ℕ × List Row) → Errand
+errand_named None = replays
+errand_named (Some named) = errand_called named.0
+
+-- a rehearsal is given the laboratory and the moment among these
+abbrev pub IsGiven : List Row → Task → Type 0
+IsGiven rows Replay = Unit {0}
+IsGiven rows Check = Unit {0}
+IsGiven rows (Rehearse lab seconds) =
+    ((text : List ℕ) → first_of (codes "lab") rows ≡ Some text → lab.now ≡ text)
+    × ((moment : ℕ) → one_of (codes "moment") rows ≡ Some (decimal moment)
+    → IsTrue (is_moment moment) → seconds ≡ pos moment)
+
+-- what the words give it, where they name it
+abbrev pub IsGivenIn : Option (List ℕ × List Row) → Task → Type 0
+IsGivenIn None task = Unit {0}
+IsGivenIn (Some named) task = IsGiven named.1 task
 
 -- the words are the program's own name, whatever it is, and one more
 abbrev pub Asks : List ℕ → List (List ℕ) → Type 0
@@ -42,6 +86,17 @@ AsksReplay = Asks (codes "replay")
 
 abbrev pub AsksCheck : List (List ℕ) → Type 0
 AsksCheck = Asks (codes "check")
+
+-- the words, which are at no fault, name a rehearsal with this laboratory and this moment
+pub record AsksRehearsal (lab : List ℕ) (moment : ℕ) (words : List (List ℕ)) : Type 0 where
+  pub unfaulted : fault_of labdesk_app words ≡ []
+  pub rows : List Row
+  pub named : subcommand_of labdesk_app words ≡ Some (codes "rehearse", rows)
+  pub lab_is : first_of (codes "lab") rows ≡ Some lab
+  pub moment_is : one_of (codes "moment") rows ≡ Some (decimal moment)
+  pub within : IsTrue (is_moment moment)
+
+-- ---- words that ask for no task
 
 -- the program stopped with this fault, and told it: the status is 1
 abbrev pub Stopped : ReplayFault → Option (List ℕ) → Option (List ℕ) → Result ℕ Untold → Type 0

@@ -2,6 +2,7 @@
 #![tactic(auto)]
 
 mod command_line;
+mod rehearsals;
 
 pub use command_line::{Task, labdesk, task_of};
 pub use lab_messages::WriteFault;

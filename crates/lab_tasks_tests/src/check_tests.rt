@@ -113,7 +113,7 @@ fn a_reader_that_fails(rt: HostRuntime) {
         let left = copy.as_bytes();
         let input = Torn { left, fails_behind };
         let (mut output, mut errors) = (Vec::new(rt.alloc()), Vec::new(rt.alloc()));
-        let answered = labdesk(rt.alloc(), &WORDS, input, &mut output, &mut errors);
+        let answered = labdesk(&rt, rt.alloc(), &WORDS, input, &mut output, &mut errors);
         assert_bytes(&rt, &output, "", &fails_behind);
         assert_bytes(&rt, &errors, "labdesk: read_fault\n", &fails_behind);
         assert_eq!(rt; answered, Ok(1), "behind {fails_behind} bytes");
@@ -127,6 +127,7 @@ fn a_verdict_that_cannot_be_written(rt: HostRuntime) {
         let mut output = Narrow::new(rt.alloc(), 5, fails);
         let mut errors = Vec::new(rt.alloc());
         let answered = labdesk(
+            &rt,
             rt.alloc(),
             &WORDS,
             copy.as_bytes(),
@@ -145,6 +146,7 @@ fn a_fault_that_cannot_be_told(rt: HostRuntime) {
     let mut output = Narrow::new(rt.alloc(), 0, true);
     let mut errors = Narrow::new(rt.alloc(), 8, true);
     let answered = labdesk(
+        &rt,
         rt.alloc(),
         &WORDS,
         copy.as_bytes(),

@@ -4,4 +4,6 @@
 #[cfg(test)]
 mod check_tests;
 #[cfg(test)]
+mod rehearsal_tests;
+#[cfg(test)]
 mod tests;

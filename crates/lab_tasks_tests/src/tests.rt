@@ -1,6 +1,7 @@
 use lab_tasks::labdesk;
 use std::alloc::Global;
 use std::io::{ErrorKind, Write};
+use std::net::Net;
 use std::process::Abort;
 use std::{fmt, io};
 
@@ -57,7 +58,7 @@ impl Write for Narrow {
 }
 
 /// Gives the words to a program whose input is a founding, and asserts the status and what is written and told.
-pub(crate) fn check_words<R: Abort + AllocGlobal>(
+pub(crate) fn check_words<R: Net + Abort + AllocGlobal>(
     rt: &R,
     words: &[&str],
     written: &str,
@@ -68,7 +69,7 @@ pub(crate) fn check_words<R: Abort + AllocGlobal>(
 }
 
 /// Gives the words and the input to a program, and asserts the status and what is written and told.
-pub(crate) fn check_input<R: Abort + AllocGlobal>(
+pub(crate) fn check_input<R: Net + Abort + AllocGlobal>(
     rt: &R,
     words: &[&str],
     input: &str,
@@ -78,6 +79,7 @@ pub(crate) fn check_input<R: Abort + AllocGlobal>(
 ) {
     let (mut output, mut errors) = (Vec::new(rt.alloc()), Vec::new(rt.alloc()));
     let answered = labdesk(
+        rt,
         rt.alloc(),
         words,
         input.as_bytes(),
@@ -125,9 +127,10 @@ fn help(rt: HostRuntime) {
 Usage: labdesk <COMMAND>
 
 Commands:
-  replay  Run the events of standard input, and write their answers to standard output
-  check   Check the inspection copy of standard input, and tell what is found
-  help    Print this message or the help of the given subcommand(s)
+  replay    Run the events of standard input, and write their answers to standard output
+  check     Check the inspection copy of standard input, and tell what is found
+  rehearse  Found a laboratory from the body of standard input, and ask for its card
+  help      Print this message or the help of the given subcommand(s)
 
 Options:
   -h, --help     Print help
@@ -159,7 +162,7 @@ Options:
 #[test]
 fn words_that_ask_for_nothing(rt: HostRuntime) {
     let told = "error: 'labdesk' requires a subcommand but one was not provided\n  \
-        [subcommands: replay, check, help]\n\nUsage: labdesk <COMMAND>\n\n\
+        [subcommands: replay, check, rehearse, help]\n\nUsage: labdesk <COMMAND>\n\n\
         For more information, try '--help'.\n";
     check_words(&rt, &["out/labdesk"], "", told, 2);
 }
@@ -189,6 +192,7 @@ fn a_version_that_cannot_be_written(rt: HostRuntime) {
     let mut output = Narrow::new(rt.alloc(), 9, true);
     let mut errors = Vec::new(rt.alloc());
     let answered = labdesk(
+        &rt,
         rt.alloc(),
         &words,
         AQUA.as_bytes(),

@@ -1,9 +1,9 @@
 -- The command is simple, so its matches and faults are those of the words by `clap`'s definitions.
-use Rattle.std.proofs.Common.{◌≡◌, ◌∙◌, Option, Some, None, ap, refl, sym, subst, true, map, option_map, List}
+use Rattle.std.proofs.Common.{◌≡◌, ◌∙◌, Option, Some, None, ap, refl, sym, subst, true, map, List}
 use Rattle.std.proofs.lemmas.Result.{err_from_is_err_and}
-use Rattle.clap.specs.Words.{Row, Text, fault_of, is_simple, is_simple_and_free, subcommand_of, HasKind}
+use Rattle.clap.specs.Words.{fault_of, is_simple, is_simple_and_free, subcommand_of, HasKind}
 use Rattle.clap.proofs.OnLiterals.{clap_on_literals}
-use Rattle.lab_tasks.specs.CommandLine.{labdesk_app, task_named}
+use Rattle.lab_tasks.specs.CommandLine.{labdesk_app, errand_named, IsGivenIn}
 use Rattle.lab_tasks.proofs.command_line.task_of.Goals as goal
 
 simple : is_simple_and_free labdesk_app ≡ true
@@ -13,11 +13,6 @@ simple = refl
 has_matches : is_simple labdesk_app ≡ true
 unfolding clap_on_literals
 has_matches = refl
-
-map_map : {X Y Z : Type 0} (f : X → Y) (g : Y → Z) (o : Option X) →
-    option_map (λ x. g (f x)) o ≡ option_map g (option_map f o)
-map_map f g None = refl
-map_map f g (Some x) = refl
 
 pub returns-in_err-matches-clause-fault : goal.returns-in_err-matches-clause-fault
 returns-in_err-matches-clause-fault g c =
@@ -35,10 +30,17 @@ returns-clause-fault g c =
     sym (ap (λ a. fault_of a (map g.S.AsStr.text c.args.words.now)) app)
     ∙ c.in_ok-matches.ensures.kinds (ap is_simple_and_free app ∙ simple)
 
-pub returns-clause-task : goal.returns-clause-task
-returns-clause-task g c =
+pub returns-clause-errand : goal.returns-clause-errand
+returns-clause-errand g c =
     let app = c.in_ok-command.ensures in
     let rows = (c.in_ok-matches.ensures.matches (ap is_simple app ∙ has_matches)).1 in
-    c.task_named.ensures ∙ ap task_named (c.subcommand_name.ensures ∙ map_map _ _ _
-    ∙ ap (option_map (λ (p : Text × List Row). p.0)) (rows
-    ∙ ap (λ a. subcommand_of a (map g.S.AsStr.text c.args.words.now)) app))
+    c.task_among.ensures.errand ∙ ap errand_named (rows
+    ∙ ap (λ a. subcommand_of a (map g.S.AsStr.text c.args.words.now)) app)
+
+pub returns-clause-given : goal.returns-clause-given
+returns-clause-given g c =
+    let app = c.in_ok-command.ensures in
+    let rows = (c.in_ok-matches.ensures.matches (ap is_simple app ∙ has_matches)).1 in
+    subst (λ named. IsGivenIn named c.task_among.result) (rows
+    ∙ ap (λ a. subcommand_of a (map g.S.AsStr.text c.args.words.now)) app)
+    c.task_among.ensures.given

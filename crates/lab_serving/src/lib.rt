@@ -1,0 +1,23 @@
+//! Serving requests over loopback sockets, one connection after the other, and the rehearsal of one
+//! request over them. What is said of sockets stands in `loopback`; all else is said of any
+//! connections.
+#![tactic(auto)]
+
+mod connections;
+mod faults;
+mod loopback;
+mod outside;
+mod rehearsals;
+mod serving;
+mod told;
+
+pub use crate::connections::{Connection, Connections};
+pub use crate::faults::{ListenFault, RehearsalFault, ServerFault};
+pub use crate::loopback::{Listening, listen, rehearse, serve};
+pub use crate::outside::{Chance, Clock, DrawFault};
+pub use crate::rehearsals::{rehearse_over, request_bytes};
+pub use crate::serving::serve_over;
+pub use crate::told::tell;
+pub use lab_desk::{Desk, FoundFault, Keeper, LabCode};
+pub use lab_messages::WriteFault;
+pub use lab_names::Moment;

@@ -1,0 +1,248 @@
+//! Sockets: a listener of this machine, and what is served and rehearsed over it.
+
+ghost use Rattle.std.specs.Prelude.{ℕ, List, IfSome};
+ghost use Rattle.std.specs.Io.KnownBytes.{Appends};
+ghost use Rattle.lab_kept.specs.Worlds.{Passes, Given};
+ghost use Rattle.lab_desk.specs.Keeping.{AreWithin};
+ghost use Rattle.lab_serving.specs.Staying.{StaysOn};
+ghost use Rattle.lab_serving.specs.Tasks.{FoundsBy, IsRehearsal, IsServing, Prints};
+ghost use Rattle.lab_serving.specs.Texts.{IsAnnounced};
+ghost use Rattle.lab_serving.specs.Visits.{ServesCount};
+
+use crate::connections::{Connection, Connections};
+use crate::faults::{ListenFault, RehearsalFault, ServerFault};
+use crate::outside::{Chance, Clock};
+use crate::rehearsals::{found_in_memory, rehearse_over};
+use crate::serving::serve_over;
+use crate::told::tell;
+use lab_desk::{Desk, Keeper, LabCode};
+use lab_messages::WriteFault;
+use lab_names::Moment;
+use std::alloc::Global;
+use std::io::{ErrorKind, Read, Write};
+use std::net::{
+    Ipv4Addr, Net, OpenListener, OpenStream, SocketAddr, SocketAddrV4, TcpListener, TcpStream,
+};
+
+/// How often in a row a connection that was lost before it was accepted is passed over.
+const MOST_LOST: u32 = 1_000_000;
+
+/// A listener of which connections are accepted, and its port.
+#[derive(Drop)]
+pub struct Listening<L> {
+    listener: L,
+    port: u16,
+}
+
+impl<L: OpenListener + Drop> Listening<L> {
+    /// The connections of a listener.
+    pub fn new(listener: L) -> Result<Listening<L>, ListenFault> {
+        match listener.local_addr() {
+            Ok(address) => Ok(Listening {
+                listener,
+                port: address.port(),
+            }),
+            Err(_) => Err(ListenFault),
+        }
+    }
+
+    fn next_stream(&self) -> Result<L::Stream, ListenFault> {
+        for _ in 0..MOST_LOST {
+            match self.listener.accept() {
+                Ok((stream, _)) => return Ok(stream),
+                Err(error) if is_lost(error.kind()) => {}
+                Err(_) => return Err(ListenFault),
+            }
+        }
+        Err(ListenFault)
+    }
+}
+
+fn is_lost(kind: ErrorKind) -> bool {
+    matches!(
+        kind,
+        ErrorKind::Interrupted | ErrorKind::ConnectionAborted | ErrorKind::ConnectionReset
+    )
+}
+
+impl<L: OpenListener + Drop> Connections for Listening<L>
+where
+    L::Stream: Read + Write + OpenStream,
+{
+    type Reader = L::Stream;
+
+    type Writer = L::Stream;
+
+    ghost listens_at = { λ listening. listening.port };
+
+    fn port(&self) -> u16 {
+        self.port
+    }
+
+    fn accept(&mut self) -> Result<Connection<L::Stream, L::Stream>, ListenFault> {
+        ends_of(self.next_stream()?)
+    }
+}
+
+/// Both ends of a stream.
+fn ends_of<T: Read + Write + OpenStream + Drop>(
+    reader: T,
+) -> Result<Connection<T, T>, ListenFault> {
+    match reader.try_clone() {
+        Ok(writer) => Ok(Connection { reader, writer }),
+        Err(_) => Err(ListenFault),
+    }
+}
+
+/// The address of a port of this machine.
+fn loopback(port: u16) -> SocketAddr {
+    SocketAddr::V4(SocketAddrV4::new(Ipv4Addr::LOCALHOST, port))
+}
+
+/// A listener at a port of this machine; port 0 is any that is free.
+pub fn listen<N: Net>(net: &N, port: u16) -> Result<N::Listener, ServerFault> {
+    match TcpListener::bind(net, loopback(port)) {
+        Ok(listener) => Ok(listener),
+        Err(_) => Err(ServerFault::Read),
+    }
+}
+
+/// A client's connection to a port of this machine.
+fn connect<N: Net>(net: &N, port: u16) -> Result<Connection<N::Stream, N::Stream>, ServerFault> {
+    match TcpStream::connect(net, loopback(port)) {
+        Ok(stream) => Ok(ends_of(stream)?),
+        Err(_) => Err(ServerFault::Read),
+    }
+}
+
+/// Serves so many connections of a listener.
+fn serve_listener<S: Keeper + Drop, L: OpenListener + Drop, C: Clock, X: Chance, W: Write>(
+    alloc: Global,
+    desk: &mut Desk<S>,
+    listener: L,
+    clock: &mut C,
+    chance: &mut X,
+    count: u32,
+    output: &mut W,
+) -> Result<(), ServerFault>
+where
+    L::Stream: Read + Write + OpenStream,
+    ensures printed { IsAnnounced result (W.contents output.old) (W.contents output.new) }
+    ensures served { AreWithin (S.world desk.old.keeper) →
+        Given (S.world desk.old.keeper) (S.world desk.new.keeper)
+        (ServesCount S.world S.rests S.moves desk.old.keeper desk.new.keeper result count) }
+    ensures stays { AreWithin (S.world desk.old.keeper) →
+        Given (S.world desk.old.keeper) (S.world desk.new.keeper)
+        (StaysOn (S.world desk.old.keeper) (S.world desk.new.keeper)) }
+    ensures passes { Passes (S.world desk.old.keeper) (S.world desk.new.keeper) }
+{
+    let mut listening = Listening::new(listener)?;
+    serve_over(alloc, desk, &mut listening, clock, chance, count, output)
+}
+
+/// `labdesk serve`: serves so many connections of a listener, as [`serve_over`] does, and tells on
+/// standard error why it stopped before the last. Answers the status: 0 where all were served, and
+/// else 1.
+///
+/// # Errors
+/// It stopped, and standard error failed before the whole line was told.
+pub fn serve<S: Keeper + Drop, L: OpenListener + Drop, C: Clock, X: Chance, W: Write, E: Write>(
+    alloc: Global,
+    desk: &mut Desk<S>,
+    listener: L,
+    clock: &mut C,
+    chance: &mut X,
+    count: u32,
+    output: &mut W,
+    errors: &mut E,
+) -> Result<u8, WriteFault>
+where
+    L::Stream: Read + Write + OpenStream,
+    ensures serves { IsServing S.world S.rests S.moves desk.old.keeper desk.new.keeper count
+        (W.contents output.old) (W.contents output.new)
+        (E.contents errors.old) (E.contents errors.new) result }
+    ensures stays { AreWithin (S.world desk.old.keeper) →
+        Given (S.world desk.old.keeper) (S.world desk.new.keeper)
+        (StaysOn (S.world desk.old.keeper) (S.world desk.new.keeper)) }
+    ensures passes { Passes (S.world desk.old.keeper) (S.world desk.new.keeper) }
+{
+    match serve_listener(alloc, desk, listener, clock, chance, count, output) {
+        Ok(()) => Ok(0),
+        Err(fault) => {
+            tell(errors, fault.word())?;
+            Ok(1)
+        }
+    }
+}
+
+/// Asks a desk for the card of a laboratory over a socket of this machine, and prints what it gets.
+fn rehearse_on<N: Net, S: Keeper + Drop, W: Write>(
+    net: &N,
+    alloc: Global,
+    desk: &mut Desk<S>,
+    lab: &LabCode,
+    moment: Moment,
+    output: &mut W,
+) -> Result<(), ServerFault>
+    ensures { (printed : List ℕ)
+        × Appends (W.contents output.old) (W.contents output.new) printed }
+{
+    let listener = listen(net, 0)?;
+    let mut listening = Listening::new(listener)?;
+    let mut client = connect(net, listening.port())?;
+    rehearse_over(
+        alloc,
+        desk,
+        lab,
+        moment,
+        &mut client,
+        &mut listening,
+        output,
+    )
+}
+
+/// Founds a laboratory in memory, and asks for its card.
+fn found_and_ask<N: Net, B: Read, W: Write>(
+    net: &N,
+    alloc: Global,
+    lab: &LabCode,
+    moment: Moment,
+    body: &mut B,
+    output: &mut W,
+) -> Result<(), RehearsalFault>
+    ensures founded { IfSome (B.remaining body.old) (λ bytes. FoundsBy lab.now bytes result) }
+    ensures printed { (printed : List ℕ) × Prints result printed
+        × Appends (W.contents output.old) (W.contents output.new) printed }
+{
+    let mut desk = found_in_memory(alloc, lab, body)?;
+    Ok(rehearse_on(net, alloc, &mut desk, lab, moment, output)?)
+}
+
+/// `labdesk rehearse`: founds a laboratory in memory from its body, at the first of all moments,
+/// asks for its card over a socket of this machine at the moment that is given, and prints what it
+/// gets. Tells on standard error why the founding was refused, or what failed. Answers the status:
+/// 0 where a reply was printed, and else 1.
+///
+/// # Errors
+/// It failed, and standard error failed before the whole line was told.
+pub fn rehearse<N: Net, B: Read, W: Write, E: Write>(
+    net: &N,
+    alloc: Global,
+    lab: &LabCode,
+    moment: Moment,
+    body: &mut B,
+    output: &mut W,
+    errors: &mut E,
+) -> Result<u8, WriteFault>
+    ensures { IsRehearsal (B.remaining body.old) lab.now
+        (W.contents output.old) (W.contents output.new)
+        (E.contents errors.old) (E.contents errors.new) result }
+{
+    match found_and_ask(net, alloc, lab, moment, body, output) {
+        Ok(()) => Ok(0),
+        Err(fault) => {
+            tell(errors, fault.word())?;
+            Ok(1)
+        }
+    }
+}
