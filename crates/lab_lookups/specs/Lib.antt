@@ -1,0 +1,4 @@
+pub mod Heads
+pub mod Shown
+pub mod Trails
+pub mod Forms

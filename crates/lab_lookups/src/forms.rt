@@ -1,0 +1,134 @@
+//! Versions of forms, by the codes of the forms.
+
+ghost use Rattle.std.specs.Prelude.{◌≡◌, option_map, slice_get, IfOk, OnOk, IsTrue};
+ghost use Rattle.sqlite.specs.State.{HasCleanDisk, IsUnchanged};
+ghost use Rattle.sqlite.specs.Held.{state};
+ghost use Rattle.lab_tables.specs.Ready.{IsReady, PassesBy, tables_of};
+ghost use Rattle.lab_kept.specs.Lookups.{last_of, last_form, exact_form};
+ghost use Rattle.lab_tables.specs.Meaning.{forms_of};
+ghost use Rattle.lab_retrieval.specs.Forms.{form_by};
+ghost use Rattle.lab_retrieval.specs.Shown.{form_read};
+ghost use Rattle.lab_lookups.specs.Forms.{exact_shown, form_versions_shown};
+
+use crate::asking::{rows_by_code, rows_by_version};
+use lab_kept::FormVersion;
+use lab_names::{Key, Ordinal};
+use lab_reading::ReadFault;
+use lab_retrieval::{FormHead, first_form, form_of_row, form_whole};
+use sqlite::{Alter, Connection, Error, Row};
+use std::alloc::Global;
+
+/// The row of the version of the form, in the laboratory with the id.
+fn exact_rows<S: Alter>(
+    conn: &mut Connection<S>,
+    lab: i64,
+    code: &str,
+    version: u32,
+) -> Result<Vec<Row>, Error>
+    ensures passes { PassesBy (state S.Store conn.old) (state S.Store conn.new) }
+    ensures same { HasCleanDisk (state S.Store conn.new) →
+        OnOk result (IsUnchanged (state S.Store conn.old) (state S.Store conn.new)) }
+    ensures rows { IsReady (state S.Store conn.old) → HasCleanDisk (state S.Store conn.new) →
+        IfOk result (λ rows. rows.items
+        ≡ exact_shown (tables_of (state S.Store conn.old)) lab code.now version) }
+{
+    rows_by_version(
+        conn,
+        "SELECT id, code, version, approval FROM forms WHERE lab = ?1 AND code = ?2 AND version = ?3",
+        lab,
+        code,
+        version,
+    )
+}
+
+/// The rows of the versions of the form, in the laboratory with the id, in the order of their numbers.
+fn form_version_rows<S: Alter>(
+    conn: &mut Connection<S>,
+    lab: i64,
+    code: &str,
+) -> Result<Vec<Row>, Error>
+    ensures passes { PassesBy (state S.Store conn.old) (state S.Store conn.new) }
+    ensures same { HasCleanDisk (state S.Store conn.new) →
+        OnOk result (IsUnchanged (state S.Store conn.old) (state S.Store conn.new)) }
+    ensures rows { IsReady (state S.Store conn.old) → HasCleanDisk (state S.Store conn.new) →
+        IfOk result (λ rows. rows.items
+        ≡ form_versions_shown (tables_of (state S.Store conn.old)) lab code.now) }
+{
+    rows_by_code(
+        conn,
+        "SELECT id, code, version, approval FROM forms WHERE lab = ?1 AND code = ?2 ORDER BY code, version",
+        lab,
+        code,
+    )
+}
+
+/// The version of a form that the last row shows.
+fn last_form_of(alloc: Global, rows: &[Row]) -> Result<Option<FormHead>, ReadFault>
+    ensures { IfOk result (λ form. form ≡ option_map form_read (last_of rows.now)) }
+{
+    match rows.last() {
+        Some(row) => Ok(Some(form_of_row(alloc, row)?)),
+        None => Ok(None),
+    }
+}
+
+/// The version of a form that has the row, where there is one.
+fn form_if<S: Alter>(
+    alloc: Global,
+    conn: &mut Connection<S>,
+    head: Option<FormHead>,
+) -> Result<Option<FormVersion>, ReadFault>
+    ensures passes { PassesBy (state S.Store conn.old) (state S.Store conn.new) }
+    ensures same { HasCleanDisk (state S.Store conn.new) → IsTrue (state S.Store conn.old).is_open →
+        OnOk result (IsUnchanged (state S.Store conn.old) (state S.Store conn.new)) }
+    ensures form { IsReady (state S.Store conn.old) → HasCleanDisk (state S.Store conn.new) →
+        IfOk result
+        (λ form. form ≡ option_map (form_by (tables_of (state S.Store conn.old))) head) }
+{
+    match head {
+        Some(head) => {
+            let form = form_whole(alloc, conn, head)?;
+            Ok(Some(form))
+        }
+        None => Ok(None),
+    }
+}
+
+/// The version of the form that has the number, in the laboratory with the id.
+pub fn exact_form_at<S: Alter>(
+    alloc: Global,
+    conn: &mut Connection<S>,
+    lab: i64,
+    code: &Key,
+    version: Ordinal,
+) -> Result<Option<FormVersion>, ReadFault>
+    ensures passes { PassesBy (state S.Store conn.old) (state S.Store conn.new) }
+    ensures same { HasCleanDisk (state S.Store conn.new) →
+        OnOk result (IsUnchanged (state S.Store conn.old) (state S.Store conn.new)) }
+    ensures form { IsReady (state S.Store conn.old) → HasCleanDisk (state S.Store conn.new) →
+        IfOk result (λ form. form
+        ≡ exact_form (forms_of (tables_of (state S.Store conn.old)) lab) code.now version) }
+{
+    let rows = exact_rows(conn, lab, code.as_str(), version.get())?;
+    let head = first_form(alloc, &rows)?;
+    form_if(alloc, conn, head)
+}
+
+/// The last version of the form, in the laboratory with the id.
+pub fn last_form_at<S: Alter>(
+    alloc: Global,
+    conn: &mut Connection<S>,
+    lab: i64,
+    code: &Key,
+) -> Result<Option<FormVersion>, ReadFault>
+    ensures passes { PassesBy (state S.Store conn.old) (state S.Store conn.new) }
+    ensures same { HasCleanDisk (state S.Store conn.new) →
+        OnOk result (IsUnchanged (state S.Store conn.old) (state S.Store conn.new)) }
+    ensures form { IsReady (state S.Store conn.old) → HasCleanDisk (state S.Store conn.new) →
+        IfOk result (λ form. form
+        ≡ last_form (forms_of (tables_of (state S.Store conn.old)) lab) code.now) }
+{
+    let rows = form_version_rows(conn, lab, code.as_str())?;
+    let head = last_form_of(alloc, &rows)?;
+    form_if(alloc, conn, head)
+}

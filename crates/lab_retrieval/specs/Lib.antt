@@ -1,0 +1,5 @@
+pub mod Sought
+pub mod Shown
+pub mod Chains
+pub mod Forms
+pub mod Wholes
