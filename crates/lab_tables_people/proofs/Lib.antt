@@ -1,0 +1,10 @@
+pub mod Premises
+pub mod OneRow
+pub mod SessionSetLaws
+pub mod CodeLaws
+pub mod PersonSetLaws
+pub mod PersonAddedLaws
+pub mod PlacedLaws
+pub mod FieldLaws
+pub mod LastForm
+pub mod FormAddedLaws

@@ -1,0 +1,13 @@
+pub mod KeptParts
+pub mod OrderLaws
+pub mod RowSet
+pub mod LabSet
+pub mod RecordSet
+pub mod PartAdded
+pub mod NextLaws
+pub mod EntriesInTurn
+pub mod VersionMore
+pub mod ChainEnds
+pub mod VersionOpened
+pub mod FormFound
+pub mod RecordAdded
