@@ -1,0 +1,3 @@
+pub mod Spared
+pub mod EachChange
+pub mod AllChanges
