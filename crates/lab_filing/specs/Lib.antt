@@ -1,0 +1,3 @@
+pub mod Shown
+pub mod Added
+pub mod Texts
