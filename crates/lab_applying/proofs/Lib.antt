@@ -1,0 +1,4 @@
+mod Turns
+mod Steps
+mod Commits
+mod After

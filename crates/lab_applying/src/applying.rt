@@ -1,0 +1,64 @@
+//! All changes of a request, by one commit.
+
+ghost use Rattle.std.specs.Prelude.{◌≡◌, [], IsTrue};
+ghost use Rattle.sqlite.specs.Held.{state};
+ghost use Rattle.sqlite.specs.State.{HasCleanDisk};
+ghost use Rattle.lab_tables.specs.Changes.{InTurn};
+ghost use Rattle.lab_tables.specs.Ready.{IsAtRest, IsReady, LeavesNoMore};
+ghost use Rattle.lab_tables_changes.specs.Steps.{StepsBy, AreMadeIfAny};
+ghost use Rattle.lab_applying.specs.Commits.{Ends};
+
+use crate::changes::all_inside;
+use lab_kept::Change;
+use lab_names::LabCode;
+use lab_reading::{ReadFault, lab_at};
+use lab_writing::RowId;
+use sqlite::{Alter, Connection, Error};
+use std::alloc::Global;
+
+/// Makes the changes of the laboratory whose row has the id, in one transaction.
+fn commit_all<S: Alter>(
+    conn: &mut Connection<S>,
+    lab: RowId,
+    changes: &[Change],
+) -> Result<(), Error>
+    requires at_rest { IsAtRest (state S.Store conn.old) }
+    ensures ends { Ends (InTurn (StepsBy lab.id) changes.now) result
+        (state S.Store conn.old) (state S.Store conn.new) }
+{
+    let _rules = conn.schema();
+    let mut tx = conn.transaction();
+    all_inside(&mut tx, lab, changes)?;
+    tx.commit()
+}
+
+/// Makes the changes of the laboratory of the code by one commit, all of them or none; by none where there is no change.
+///
+/// Errors: no laboratory of the code, or none of what a change names; a refusal of the store; or out of memory. The rows are
+/// then as before.
+pub fn apply<S: Alter>(
+    alloc: Global,
+    conn: &mut Connection<S>,
+    code: &LabCode,
+    changes: &[Change],
+) -> Result<(), ReadFault>
+    requires at_rest { IsAtRest (state S.Store conn.old) }
+    ensures at_rest { IsAtRest (state S.Store conn.new) }
+    ensures clean { HasCleanDisk (state S.Store conn.new) → HasCleanDisk (state S.Store conn.old) }
+    ensures live { HasCleanDisk (state S.Store conn.new) →
+        IsTrue (state S.Store conn.new).is_open → IsTrue (state S.Store conn.old).is_open }
+    ensures ends { IsReady (state S.Store conn.old) → Ends (AreMadeIfAny code.now changes.now) result
+        (state S.Store conn.old) (state S.Store conn.new) }
+    ensures quiet { changes.now ≡ [] → IsReady (state S.Store conn.old) →
+        LeavesNoMore (state S.Store conn.old) (state S.Store conn.new) }
+{
+    let found = lab_at(alloc, conn, code)?;
+    if changes.is_empty() {
+        return Ok(());
+    }
+    let Some(head) = found else {
+        return Err(ReadFault::Storage);
+    };
+    commit_all(conn, RowId { id: head.id }, changes)?;
+    Ok(())
+}

@@ -1,0 +1,6 @@
+mod LabMore
+mod AllRows
+mod Positions
+mod Commits
+mod Endings
+mod Placed

@@ -1,0 +1,51 @@
+//! A laboratory that is founded, placed by one commit.
+
+ghost use Rattle.std.specs.Prelude.{◌≡◌, Err, IsSome, IsTrue};
+ghost use Rattle.sqlite.specs.Held.{state};
+ghost use Rattle.sqlite.specs.State.{HasCleanDisk};
+ghost use Rattle.lab_kept.specs.declared.faults.PlacingFault.TheVariants.{LabExists};
+ghost use Rattle.lab_tables.specs.Meaning.{meaning};
+ghost use Rattle.lab_tables.specs.Ready.{IsAtRest, IsReady, LeavesNoMore, tables_of};
+ghost use Rattle.lab_founding.specs.Commits.{Ends};
+ghost use Rattle.lab_founding.specs.Founding.{IsPlacedBy};
+
+use crate::newborns::{is_asked, laboratory};
+use crate::places::{is_there, place};
+use lab_kept::{Newborn, PlacingFault};
+use sqlite::{Alter, Connection};
+use std::alloc::Global;
+
+/// Places the newborn laboratory by one commit: its row, its founders in the order of their codes, and the first row of its
+/// trail; all of them, or none.
+///
+/// Errors: a laboratory of the code is there; a refusal of the store, also of two founders of one code; or out of memory. The
+/// rows are then as before. A founder for whom a one-time word was asked is refused too: nobody can have asked before the
+/// founding, so this never comes.
+pub fn found<S: Alter>(
+    alloc: Global,
+    conn: &mut Connection<S>,
+    newborn: Newborn,
+) -> Result<(), PlacingFault>
+    requires at_rest { IsAtRest (state S.Store conn.old) }
+    ensures at_rest { IsAtRest (state S.Store conn.new) }
+    ensures clean { HasCleanDisk (state S.Store conn.new) → HasCleanDisk (state S.Store conn.old) }
+    ensures live { HasCleanDisk (state S.Store conn.new) →
+        IsTrue (state S.Store conn.new).is_open → IsTrue (state S.Store conn.old).is_open }
+    ensures ends { IsReady (state S.Store conn.old) → Ends (IsPlacedBy newborn) result
+        (state S.Store conn.old) (state S.Store conn.new) }
+    ensures exists { result ≡ Err LabExists → IsReady (state S.Store conn.old) →
+        HasCleanDisk (state S.Store conn.new) →
+        IsSome (meaning (tables_of (state S.Store conn.old)) newborn.code)
+        × IsTrue (state S.Store conn.old).is_open × IsTrue (state S.Store conn.new).is_open }
+    ensures quiet { result ≡ Err LabExists → IsReady (state S.Store conn.old) →
+        LeavesNoMore (state S.Store conn.old) (state S.Store conn.new) }
+{
+    if is_there(conn, &newborn.code)? {
+        return Err(PlacingFault::LabExists);
+    }
+    if is_asked(&newborn) {
+        return Err(PlacingFault::Storage);
+    }
+    let lab = laboratory(alloc, newborn)?;
+    place(conn, &lab)
+}

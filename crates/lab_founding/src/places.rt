@@ -1,0 +1,117 @@
+//! Whether a laboratory of a code is there, and the placing of one by a commit.
+
+ghost use Rattle.std.specs.Prelude.{◌≡◌, ◌≢◌, [], ◌∷◌, IfOk, IfErr, OnOk, find, is_some, slice_get, false};
+ghost use Rattle.sqlite_value.specs.declared.value.Value.TheVariants.{Text};
+ghost use Rattle.sqlite.specs.Held.{state};
+ghost use Rattle.sqlite.specs.State.{HasCleanDisk, IsUnchanged, KeepsCommit, Survives, Shown, CommitsShowing, FailsToQuery};
+ghost use Rattle.lab_kept.specs.declared.faults.PlacingFault.TheVariants.{LabExists};
+ghost use Rattle.lab_tables.specs.Meaning.{has_code};
+ghost use Rattle.lab_tables.specs.Ready.{IsAtRest, IsReady, PassesBy, tables_of};
+ghost use Rattle.lab_reading.specs.Shown.{labs_shown};
+ghost use Rattle.lab_founding.specs.Commits.{Ends};
+ghost use Rattle.lab_founding.specs.Founding.{AddsRows};
+
+use crate::rows::add_rows;
+use lab_kept::{Lab, PlacingFault};
+use lab_names::LabCode;
+use lab_reading::ReadFault;
+use sqlite::{Alter, Connection, Error, Row, params};
+
+/// What an error of the store is told as.
+fn placing_fault(error: Error) -> PlacingFault
+    ensures { result ≢ LabExists }
+{
+    match ReadFault::from(error) {
+        ReadFault::Storage => PlacingFault::Storage,
+        ReadFault::Memory => PlacingFault::Memory,
+    }
+}
+
+/// The rows of a query with a text.
+fn rows_by_text<S: Alter>(
+    conn: &mut Connection<S>,
+    sql: &str,
+    first: &str,
+) -> Result<Vec<Row>, Error>
+    ensures ok { HasCleanDisk (state S.Store conn.new) → IfOk result
+        (λ rows. Shown sql.now (Text first.now ∷ [])
+        (state S.Store conn.old) (state S.Store conn.new) rows.items) }
+    ensures err { HasCleanDisk (state S.Store conn.new) → IfErr result
+        (FailsToQuery sql.now (Text first.now ∷ [])
+        (state S.Store conn.old) (state S.Store conn.new)) }
+    ensures mode { conn.old.in_transaction ≡ false → conn.new.in_transaction ≡ false }
+    ensures survives { Survives (state S.Store conn.old) (state S.Store conn.new)
+        (CommitsShowing sql.now (Text first.now ∷ []) (state S.Store conn.old)) }
+{
+    conn.query_all(sql, params![first])
+}
+
+/// The row of the laboratory with the code.
+fn lab_rows<S: Alter>(conn: &mut Connection<S>, code: &str) -> Result<Vec<Row>, Error>
+    ensures passes { PassesBy (state S.Store conn.old) (state S.Store conn.new) }
+    ensures kept { HasCleanDisk (state S.Store conn.new) →
+        KeepsCommit (state S.Store conn.old) (state S.Store conn.new) }
+    ensures same { HasCleanDisk (state S.Store conn.new) →
+        OnOk result (IsUnchanged (state S.Store conn.old) (state S.Store conn.new)) }
+    ensures rows { IsReady (state S.Store conn.old) → HasCleanDisk (state S.Store conn.new) →
+        IfOk result
+        (λ rows. rows.items ≡ labs_shown (tables_of (state S.Store conn.old)) code.now) }
+{
+    rows_by_text(
+        conn,
+        "SELECT id, code, name, last, stray, records, sessions, trail FROM labs WHERE code = ?1",
+        code,
+    )
+}
+
+/// Whether there is a row.
+fn has_row(rows: &[Row]) -> bool
+    ensures { result ≡ is_some (slice_get rows.now 0) }
+{
+    rows.first().is_some()
+}
+
+/// Whether a laboratory of the code is there.
+pub(crate) fn is_there<S: Alter>(
+    conn: &mut Connection<S>,
+    code: &LabCode,
+) -> Result<bool, PlacingFault>
+    ensures passes { PassesBy (state S.Store conn.old) (state S.Store conn.new) }
+    ensures kept { HasCleanDisk (state S.Store conn.new) →
+        KeepsCommit (state S.Store conn.old) (state S.Store conn.new) }
+    ensures same { HasCleanDisk (state S.Store conn.new) →
+        OnOk result (IsUnchanged (state S.Store conn.old) (state S.Store conn.new)) }
+    ensures found { IsReady (state S.Store conn.old) → HasCleanDisk (state S.Store conn.new) →
+        IfOk result
+        (λ there. there ≡ is_some (find (has_code code.now) (tables_of (state S.Store conn.old)).labs)) }
+    ensures fault { IfErr result (λ fault. fault ≢ LabExists) }
+{
+    match lab_rows(conn, code.as_str()) {
+        Ok(rows) => Ok(has_row(&rows)),
+        Err(error) => Err(placing_fault(error)),
+    }
+}
+
+/// Adds the rows of the laboratory in one transaction.
+fn commit_rows<S: Alter>(conn: &mut Connection<S>, lab: &Lab) -> Result<(), Error>
+    requires at_rest { IsAtRest (state S.Store conn.old) }
+    ensures ends { Ends (AddsRows lab.now) result
+        (state S.Store conn.old) (state S.Store conn.new) }
+{
+    let mut tx = conn.transaction();
+    add_rows(&mut tx, lab)?;
+    tx.commit()
+}
+
+/// Adds the rows of the laboratory by one commit.
+pub(crate) fn place<S: Alter>(conn: &mut Connection<S>, lab: &Lab) -> Result<(), PlacingFault>
+    requires at_rest { IsAtRest (state S.Store conn.old) }
+    ensures ends { Ends (AddsRows lab.now) result
+        (state S.Store conn.old) (state S.Store conn.new) }
+    ensures fault { IfErr result (λ fault. fault ≢ LabExists) }
+{
+    match commit_rows(conn, lab) {
+        Ok(()) => Ok(()),
+        Err(error) => Err(placing_fault(error)),
+    }
+}
