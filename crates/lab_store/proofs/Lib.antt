@@ -1,0 +1,4 @@
+mod Settled
+mod Turns
+mod Committed
+mod Applied

@@ -1,0 +1,2 @@
+pub mod StoreWorlds
+pub mod StoreLaws
