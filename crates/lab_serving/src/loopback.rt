@@ -24,7 +24,7 @@ use std::net::{
     Ipv4Addr, Net, OpenListener, OpenStream, SocketAddr, SocketAddrV4, TcpListener, TcpStream,
 };
 
-/// How often in a row a connection that was lost before it was accepted is passed over.
+/// How often in a row a connection that was lost as it was accepted is passed over.
 const MOST_LOST: u32 = 1_000_000;
 
 /// A listener of which connections are accepted, and its port.
@@ -46,15 +46,27 @@ impl<L: OpenListener + Drop> Listening<L> {
         }
     }
 
-    fn next_stream(&self) -> Result<L::Stream, ListenFault> {
-        for _ in 0..MOST_LOST {
-            match self.listener.accept() {
-                Ok((stream, _)) => return Ok(stream),
-                Err(error) if is_lost(error.kind()) => {}
-                Err(_) => return Err(ListenFault),
-            }
+    /// The next stream; none where its connection was lost.
+    fn next_stream(&self) -> Result<Option<L::Stream>, ListenFault> {
+        match self.listener.accept() {
+            Ok((stream, _)) => Ok(Some(stream)),
+            Err(error) if is_lost(error.kind()) => Ok(None),
+            Err(_) => Err(ListenFault),
         }
-        Err(ListenFault)
+    }
+}
+
+impl<L: OpenListener + Drop> Listening<L>
+where
+    L::Stream: Read + Write + OpenStream,
+{
+    /// Both ends of the next stream; none where its connection was lost, or where the system has no second handle of it,
+    /// with which that connection ends.
+    fn next_ends(&self) -> Result<Option<Connection<L::Stream, L::Stream>>, ListenFault> {
+        match self.next_stream()? {
+            Some(stream) => Ok(ends_of(stream).ok()),
+            None => Ok(None),
+        }
     }
 }
 
@@ -80,7 +92,12 @@ where
     }
 
     fn accept(&mut self) -> Result<Connection<L::Stream, L::Stream>, ListenFault> {
-        ends_of(self.next_stream()?)
+        for _ in 0..MOST_LOST {
+            if let Some(ends) = self.next_ends()? {
+                return Ok(ends);
+            }
+        }
+        Err(ListenFault)
     }
 }
 

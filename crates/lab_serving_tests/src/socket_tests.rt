@@ -2,8 +2,9 @@
 use crate::made::{Numbers, assert_text, clock, desk};
 use crate::texts::{AQUA_CARD, AQUA_REPLY, BAD_HEAD_REPLY, LATER_REPLY, ZINC_CARD, ZINC_REPLY};
 use lab_serving::{listen, serve};
-use std::io::{Read, Write};
-use std::net::{Net, OpenListener, OpenStream, Shutdown, TcpStream};
+use std::cell::Cell;
+use std::io::{self, ErrorKind, Read, Write};
+use std::net::{Net, OpenListener, OpenStream, Shutdown, SocketAddr, TcpStream};
 use std::process::Abort;
 
 /// A client that connected and sent these bytes.
@@ -79,4 +80,76 @@ fn a_head_that_is_cut(rt: HostRuntime) {
     assert_serves(&rt, listener, port, 2);
     assert_gets(&rt, first, BAD_HEAD_REPLY);
     assert_gets(&rt, second, ZINC_REPLY);
+}
+
+/// A stream of which the system may have no second handle.
+#[derive(Drop)]
+struct Handle<T> {
+    stream: T,
+    is_single: bool,
+}
+
+impl<T: Read> Read for Handle<T> {
+    fn read(&mut self, room: &mut [u8]) -> io::Result<usize> {
+        self.stream.read(room)
+    }
+}
+
+impl<T: Write> Write for Handle<T> {
+    fn write(&mut self, bytes: &[u8]) -> io::Result<usize> {
+        self.stream.write(bytes)
+    }
+
+    fn flush(&mut self) -> io::Result<()> {
+        self.stream.flush()
+    }
+}
+
+impl<T: OpenStream> OpenStream for Handle<T> {
+    fn try_clone(&self) -> io::Result<Handle<T>> {
+        if self.is_single {
+            return Err(io::Error::from(ErrorKind::Other));
+        }
+        let stream = self.stream.try_clone()?;
+        Ok(Handle {
+            stream,
+            is_single: false,
+        })
+    }
+}
+
+/// A listener whose first stream has no second handle.
+#[derive(Drop)]
+struct Sparing<L> {
+    listener: L,
+    is_first: Cell<bool>,
+}
+
+impl<L: OpenListener> OpenListener for Sparing<L> {
+    type Stream = Handle<L::Stream>;
+
+    fn accept(&self) -> io::Result<(Handle<L::Stream>, SocketAddr)> {
+        let (stream, address) = self.listener.accept()?;
+        let is_single = self.is_first.replace(false);
+        Ok((Handle { stream, is_single }, address))
+    }
+
+    fn local_addr(&self) -> io::Result<SocketAddr> {
+        self.listener.local_addr()
+    }
+}
+
+#[test]
+fn a_stream_without_a_second_handle(rt: HostRuntime) {
+    let listener = listen(&rt, 0).expect(&rt, "a listener");
+    let port = listener.local_addr().expect(&rt, "an address").port();
+    let first = client(&rt, port, ZINC_CARD);
+    let second = client(&rt, port, AQUA_CARD);
+    let sparing = Sparing {
+        listener,
+        is_first: Cell::new(true),
+    };
+    assert_serves(&rt, sparing, port, 1);
+    assert_gets(&rt, second, AQUA_REPLY);
+    drop(first);
 }
