@@ -5,7 +5,7 @@ use Rattle.std.proofs.lemmas.Bool.Decides.{nat_tests}
 use Rattle.lab_desk.specs.declared.events.Event.{Event as EventRead}
 use Rattle.lab_events.specs.declared.event.Heading.{Heading as HeadingRead}
 use Rattle.lab_events.specs.declared.fault.ReplayFault.{ReplayFault}
-use Rattle.lab_events.specs.declared.fault.ReplayFault.TheVariants.{BadEvent, ReadFault, WriteFault, Memory}
+use Rattle.lab_events.specs.declared.fault.ReplayFault.TheVariants.{BadEvent, ReadFault, WriteFault, Storage, Memory}
 use Rattle.lab_events.specs.Event.{cut_at, most_line, line_at, short_line, ◌>>=◌, heading_of, next_event, next_of, with_bytes, Event, End, Bad, Taken}
 use Rattle.lab_events.specs.Reading.{IsRefused, TakesByte, TakesLine, TakesBytes, TakesNext, heading_said, event_said}
 use Rattle.lab_events.proofs.ReadLemmas.{HasRead, after, cut_feed, cut_end}
@@ -106,6 +106,7 @@ next_no_line A None left after fault line = tt
 next_no_line A (Some input) left after BadEvent line = next_of_line input line.0 ∙ ap next_of line.1
 next_no_line A (Some input) left after ReadFault line = tt
 next_no_line A (Some input) left after WriteFault line = line
+next_no_line A (Some input) left after Storage line = tt
 next_no_line A (Some input) left after Memory line = tt
 
 module _ {A : Type 0} (line : Vec ℕ A) where
@@ -124,6 +125,7 @@ module _ {A : Type 0} (line : Vec ℕ A) where
       bad_heading input (line.items, taken.0) taken.1 refused
   next_no_heading (Some input) left after ReadFault taken refused = tt
   next_no_heading (Some input) left after WriteFault taken refused = refused
+  next_no_heading (Some input) left after Storage taken refused = tt
   next_no_heading (Some input) left after Memory taken refused = tt
 
   short_bytes : (b : Bool) (event : Event) (rest : List ℕ) → b ≡ false →
@@ -162,6 +164,7 @@ module _ {A : Type 0} (line : Vec ℕ A) where
       let no : IfSome (Some taken.0)
       (λ input. TakesBytes {A = A} heading.length input after (Err WriteFault)) =
       rw taken.2 at bytes in no
+  next_no_bytes (Some input) left after heading Storage taken said bytes = tt
   next_no_bytes (Some input) left after heading Memory taken said bytes = tt
 
   -- the event was read

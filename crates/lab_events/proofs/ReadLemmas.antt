@@ -9,7 +9,7 @@ use Rattle.std.proofs.KnownBytes.{Consumes-trans}
 use Rattle.std.specs.Io.KnownBytes.{Consumes}
 use borrow.Rule.Slice.PartMut.{put_mid}
 use Rattle.lab_events.specs.declared.fault.ReplayFault.{ReplayFault}
-use Rattle.lab_events.specs.declared.fault.ReplayFault.TheVariants.{BadEvent, ReadFault, WriteFault, Memory}
+use Rattle.lab_events.specs.declared.fault.ReplayFault.TheVariants.{BadEvent, ReadFault, WriteFault, Storage, Memory}
 use Rattle.lab_events.specs.Event.{cut_at, line_feed}
 use Rattle.lab_events.specs.Reading.{TakesAtMost, TakesByte}
 
@@ -123,6 +123,7 @@ left_at_fault : (input : List ℕ) (new : Option (List ℕ)) (fault : ReplayFaul
 left_at_fault input new BadEvent took = absurd took
 left_at_fault input new ReadFault took = took
 left_at_fault input new WriteFault took = took
+left_at_fault input new Storage took = took
 left_at_fault input new Memory took = took
 
 pub taken_at_fault : (old mid new : Option (List ℕ)) (front : List ℕ) (most : ℕ)

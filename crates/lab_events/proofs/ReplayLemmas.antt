@@ -1,31 +1,26 @@
 -- A replay, event by event.
-use Rattle.std.proofs.Common.{◌≡◌, ℕ, suc, zero, ◌<◌, List, [], ◌∷◌, ◌++◌, length, take, map, Option, Some, None, Bool, refl, sym, ap, subst, ◌∙◌, append_assoc, if◌then◌else◌, ◌==◌}
+use Rattle.std.proofs.Common.{◌≡◌, ℕ, suc, zero, ◌<◌, List, [], ◌∷◌, ◌++◌, length, take, map, Option, Some, None, Bool, refl, sym, ap, subst, ◌∙◌, append_assoc}
 use Rattle.std.proofs.Math.Seq.{take-nil}
-use Rattle.std.specs.Prelude.{IfSome, IfOk, OnOk, IfErr, Ok, Err, Result, unwrap_or}
+use Rattle.std.specs.Prelude.{IfSome, OnOk, IfErr, Ok, Err, Result, unwrap_or}
 use Rattle.std.specs.List.{concat}
-use Rattle.std.specs.Io.KnownBytes.{Appends, Keeps, prepend_known}
+use Rattle.std.specs.Io.KnownBytes.{Appends, Keeps}
 use Rattle.std.proofs.KnownBytes.{Appends-nil, Appends-trans, Appends-kept, Keeps-refl}
 use Rattle.std.proofs.lemmas.List.Folds.{concat-append}
 use Rattle.lab_messages.specs.declared.sending.WriteFault.{WriteFault as Untold}
-use Rattle.lab_kept.specs.declared.labs.Lab.{Lab}
 use Rattle.lab_kept.specs.Worlds.{World}
-use Rattle.lab_lists.specs.Lists.{world_of}
 use Rattle.lab_desk.specs.declared.events.Event.{Event}
 use Rattle.lab_desk.specs.declared.faults.RunFault.{RunFault}
 use Rattle.lab_desk.specs.declared.faults.RunFault.TheVariants.{Memory as RunMemory, Write}
 use Rattle.std.proofs.lemmas.List.{map-append}
 use Rattle.lab_desk.specs.Runs.{Handled, IsRun, Runs, RunsCut, answers_of}
-use Rattle.lab_desk.specs.Keeping.{AreWithin, AreReleasing}
-use Rattle.std.specs.Io.Buffered.{reader_remaining, reader_inner, reader_buffer, reader_capacity}
-use Rattle.std.specs.declared.io.BufReader.{BufReader}
 use Rattle.lab_desk.specs.Faults.{IfWrite, IfMemory}
 use Rattle.lab_events.specs.declared.fault.ReplayFault.{ReplayFault}
-use Rattle.lab_events.specs.declared.fault.ReplayFault.TheVariants.{BadEvent, ReadFault, WriteFault, Memory}
+use Rattle.lab_events.specs.declared.fault.ReplayFault.TheVariants.{BadEvent, ReadFault, WriteFault, Storage, Memory}
 use Rattle.lab_events.specs.Event.{next_event}
-use Rattle.lab_events.specs.Fault.{IsInputFault, IsReaderFault, fault_of_run, fault_line}
+use Rattle.lab_events.specs.Fault.{IsInputFault, fault_of_run, fault_line}
 use Rattle.lab_events.specs.Reading.{TakesNext}
-use Rattle.lab_events.specs.Replay.{BeginsWith, Stops, IsTold, IsWritten, IsReplay, Replays, events_of}
-use Rattle.lab_desk.proofs.Running.{run_then, no_run, run_releasing}
+use Rattle.lab_events.specs.Replay.{BeginsWith, Stops, IsTold, IsWritten, Replays, events_of}
+use Rattle.lab_desk.proofs.Running.{run_then, no_run}
 
 -- the events so far were run, and the rest of the input is left
 pub record SoFar (old new : World) (input now before after : Option (List ℕ)) : Type 0 where
@@ -111,6 +106,7 @@ module _ (old : World) (before : Option (List ℕ)) where
       (begins.0, at_rest now left rest (Err BadEvent) begins.1 next)
   fails ReadFault (Some bytes) now left events rest begins next = (begins.0, tt)
   fails WriteFault (Some bytes) now left events rest begins next = (begins.0, tt)
+  fails Storage (Some bytes) now left events rest begins next = (begins.0, tt)
   fails Memory (Some bytes) now left events rest begins next = (begins.0, tt)
 
   answered_whole : (fault : ReplayFault) (answers : List Handled) → IsInputFault fault →
@@ -118,6 +114,7 @@ module _ (old : World) (before : Option (List ℕ)) where
   answered_whole BadEvent answers h = refl
   answered_whole ReadFault answers h = refl
   answered_whole WriteFault answers h = absurd h
+  answered_whole Storage answers h = absurd h
   answered_whole Memory answers h = refl
 
   -- there was no next event
@@ -277,79 +274,6 @@ module _ (old : World) (before : Option (List ℕ)) where
       replays_cut event taken.items sent (world mid)
       (world new) input now left after last wider sofar next cut
 
--- nothing was begun
-stops_none : (fault : ReplayFault) (input : Option (List ℕ)) → IsReaderFault fault
-    → IfSome input (λ bytes. BeginsWith [] bytes (unwrap_or input [])
-    × Stops (Err fault) (next_event (unwrap_or input [])))
-stops_none fault None h = tt
-stops_none BadEvent (Some bytes) h = absurd h
-stops_none ReadFault (Some bytes) h = (refl, tt)
-stops_none WriteFault (Some bytes) h = absurd h
-stops_none Memory (Some bytes) h = (refl, tt)
-
-nothing_written : (fault : ReplayFault) → IsReaderFault fault → IsWritten (Err fault) [] []
-nothing_written BadEvent h = absurd h
-nothing_written ReadFault h = refl
-nothing_written WriteFault h = absurd h
-nothing_written Memory h = refl
-
-pub replays_none : (fault : ReplayFault) (old : World) (input before after : Option (List ℕ)) →
-    IsReaderFault fault → Keeps before after
-    → Replays old old input before after (Err fault)
-replays_none fault old input before after h kept = record {
-  handled = [];
-  written = [];
-  rest = unwrap_or input [];
-  begins = stops_none fault input h;
-  run = no_run old;
-  answered = nothing_written fault h;
-  wrote = Appends-kept before before after [] (Appends-nil before) kept;
-}
-
--- of no laboratories each is within its limits
-pub none_beyond : (labs : List Lab) → labs ≡ [] → AreWithin (world_of labs)
-none_beyond labs none = subst (λ (k : List Lab). AreWithin (world_of k)) (sym none)
-    (λ live code. tt)
-
--- and bound and under dual control
-pub none_releasing : AreReleasing (world_of [])
-none_releasing = λ live code. tt
-
--- so is each after a replay
-pub replay_releasing : (labs : List Lab) (input before after : Option (List ℕ))
-    (ending : Result (Unit {0}) ReplayFault) →
-    Replays (world_of []) (world_of labs) input before after ending → AreReleasing (world_of labs)
-replay_releasing labs input before after ending replays =
-    run_releasing (world_of []) (world_of labs) replays.handled (λ live. tt) replays.run
-    none_releasing
-
--- a desk without laboratories, over a fresh reader
-pub from_nothing : (labs kept : List Lab) (input now before after : Option (List ℕ))
-    (ending : Result (Unit {0}) ReplayFault)
-    → kept ≡ [] → now ≡ input → Replays (world_of kept) (world_of labs) now before after ending →
-    Replays (world_of []) (world_of labs) input before after ending
-from_nothing labs kept input now before after ending none same replays =
-    let empty : Replays (world_of []) (world_of labs) now before after ending =
-    subst (λ (k : List Lab). Replays (world_of k) (world_of labs) now before after ending) none
-    replays in
-    subst (λ i. Replays (world_of []) (world_of labs) i before after ending) same empty
-
-prepend_nothing : (known : Option (List ℕ)) → prepend_known [] known ≡ known
-prepend_nothing None = refl
-prepend_nothing (Some bytes) = refl
-
-known_fresh : (capacity : ℕ) (buffer : List ℕ) (known : Option (List ℕ)) → capacity ≡ 8192 →
-    buffer ≡ []
-    → (if capacity == 0 then None else prepend_known buffer known) ≡ known
-known_fresh capacity buffer known large none = rw (large, none) (prepend_nothing known)
-
-pub fresh_reader : {T A : Type 0} (remaining : T → Option (List ℕ)) (reader : BufReader T A)
-    (inner : T) → reader_inner reader ≡ inner → reader_buffer reader ≡ []
-    → reader_capacity reader ≡ 8192 → reader_remaining remaining reader ≡ remaining inner
-fresh_reader remaining reader inner same none large =
-    known_fresh (reader_capacity reader) (reader_buffer reader)
-    (remaining (reader_inner reader)) large none ∙ ap remaining same
-
 -- a line that was told, whole or in part
 pub told : (fault : ReplayFault) (old new : Option (List ℕ)) (r : Result (Unit {0}) Untold) →
     OnOk r (Appends old new (fault_line fault))
@@ -357,16 +281,3 @@ pub told : (fault : ReplayFault) (old new : Option (List ℕ)) (r : Result (Unit
     IfErr r (λ untold. untold.sent < length (fault_line fault)) → IsTold fault r old new
 told fault old new (Ok _) whole cut short = whole
 told fault old new (Err untold) whole cut short = (cut, short)
-
--- there was no memory to read the words
-pub no_replay : (input before after told_before told_after : Option (List ℕ))
-    (status : Result ℕ Untold) → IfOk status (λ number. number ≡ 1) → Keeps before after →
-    IsTold Memory status told_before told_after
-    → IsReplay input before after told_before told_after status
-no_replay input before after told_before told_after status failed kept tells = record {
-  ending = Err Memory;
-  labs = [];
-  replays = replays_none Memory (world_of []) input before after tt kept;
-  releasing = none_releasing;
-  tells = (failed, tells);
-}

@@ -5,13 +5,14 @@ use Rattle.lab_desk.specs.declared.faults.RunFault.TheVariants.{Memory as RunMem
 use Rattle.lab_names.specs.declared.faults.NameFault.{NameFault}
 use Rattle.lab_names.specs.declared.faults.NameFault.TheVariants.{BadName, Memory as NoMemory}
 use Rattle.lab_events.specs.declared.fault.ReplayFault.{ReplayFault}
-use Rattle.lab_events.specs.declared.fault.ReplayFault.TheVariants.{BadEvent, ReadFault, WriteFault, Memory}
+use Rattle.lab_events.specs.declared.fault.ReplayFault.TheVariants.{BadEvent, ReadFault, WriteFault, Storage, Memory}
 
 -- the fault's word
 abbrev pub fault_word : ReplayFault → List ℕ
 fault_word BadEvent = codes "bad_event"
 fault_word ReadFault = codes "read_fault"
 fault_word WriteFault = codes "write_fault"
+fault_word Storage = codes "storage"
 fault_word Memory = codes "memory"
 
 -- the line that tells it
@@ -39,4 +40,5 @@ abbrev pub IsInputFault : ReplayFault → Type 0
 IsInputFault BadEvent = Unit {0}
 IsInputFault ReadFault = Unit {0}
 IsInputFault WriteFault = ⊥
+IsInputFault Storage = ⊥
 IsInputFault Memory = Unit {0}

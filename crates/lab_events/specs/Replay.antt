@@ -3,14 +3,11 @@
 use Rattle.std.specs.Prelude.{◌≡◌, ◌<◌, ℕ, List, [], ◌∷◌, ◌++◌, length, take, map, Option, Ok, Err, Result, IfSome, IfOk}
 use Rattle.std.specs.Io.KnownBytes.{Keeps, Appends}
 use Rattle.lab_messages.specs.declared.sending.WriteFault.{WriteFault as Untold}
-use Rattle.lab_kept.specs.declared.labs.Lab.{Lab}
 use Rattle.lab_kept.specs.Worlds.{World}
-use Rattle.lab_lists.specs.Lists.{world_of}
 use Rattle.lab_desk.specs.declared.events.Event.{Event as EventRead}
-use Rattle.lab_desk.specs.Keeping.{AreReleasing}
 use Rattle.lab_desk.specs.Runs.{Handled, IsRun, answers_of}
 use Rattle.lab_events.specs.declared.fault.ReplayFault.{ReplayFault}
-use Rattle.lab_events.specs.declared.fault.ReplayFault.TheVariants.{BadEvent, ReadFault, WriteFault, Memory}
+use Rattle.lab_events.specs.declared.fault.ReplayFault.TheVariants.{BadEvent, ReadFault, WriteFault, Storage, Memory}
 use Rattle.lab_events.specs.Event.{Next, End, Bad, Taken, next_event}
 use Rattle.lab_events.specs.Fault.{fault_line}
 use Rattle.lab_events.specs.Reading.{event_said}
@@ -29,6 +26,7 @@ Stops (Ok _) next = next ≡ End
 Stops (Err BadEvent) next = next ≡ Bad
 Stops (Err ReadFault) next = Unit {0}
 Stops (Err WriteFault) next = Unit {0}
+Stops (Err Storage) next = Unit {0}
 Stops (Err Memory) next = Unit {0}
 
 -- the answers were written in order and whole, and nothing else; after a write fault the last of
@@ -40,6 +38,7 @@ IsWritten (Err WriteFault) handled written =
     × (sent < length last.answer) × (written ≡ answers_of before ++ take sent last.answer)
 IsWritten (Err BadEvent) handled written = written ≡ answers_of handled
 IsWritten (Err ReadFault) handled written = written ≡ answers_of handled
+IsWritten (Err Storage) handled written = written ≡ answers_of handled
 IsWritten (Err Memory) handled written = written ≡ answers_of handled
 
 -- the events that were handled
@@ -73,13 +72,3 @@ abbrev pub Tells : Result (Unit {0}) ReplayFault → Result ℕ Untold → Optio
 Tells (Ok _) status before after = (status ≡ Ok 0) × Keeps before after
 Tells (Err fault) status before after = IfOk status (λ number. number ≡ 1)
     × IsTold fault status before after
-
--- a replay over no laboratories, by its status: it leaves laboratories that are bound and under
--- dual control, each of which kept what was at each event from its founding on (`keeps` of `IsRun`)
-pub record IsReplay (input before after told_before told_after : Option (List ℕ))
-    (status : Result ℕ Untold) : Type 0 where
-  pub ending : Result (Unit {0}) ReplayFault
-  pub labs : List Lab
-  pub replays : Replays (world_of []) (world_of labs) input before after ending
-  pub releasing : AreReleasing (world_of labs)
-  pub tells : Tells ending status told_before told_after

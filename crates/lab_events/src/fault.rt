@@ -19,6 +19,9 @@ pub enum ReplayFault {
     /// An answer could not be written.
     #[error("write_fault")]
     WriteFault,
+    /// The laboratories could not be kept.
+    #[error("storage")]
+    Storage,
     /// There was no memory to go on.
     #[error("memory")]
     Memory,
@@ -36,6 +39,7 @@ impl ReplayFault {
             ReplayFault::BadEvent => "labdesk: bad_event\n",
             ReplayFault::ReadFault => "labdesk: read_fault\n",
             ReplayFault::WriteFault => "labdesk: write_fault\n",
+            ReplayFault::Storage => "labdesk: storage\n",
             ReplayFault::Memory => "labdesk: memory\n",
         }
     }

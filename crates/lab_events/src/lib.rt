@@ -9,6 +9,6 @@ mod replays;
 pub use crate::event::next_event;
 pub use crate::fault::ReplayFault;
 pub use crate::limited::LimitedReader;
-pub use crate::replays::{replay, tell};
+pub use crate::replays::{run_events, tell};
 pub use lab_desk::Event;
 pub use lab_messages::WriteFault;

@@ -1,6 +1,7 @@
 //! Whole replays, from the bytes of events to the bytes of answers.
 use lab_desk::Desk;
-use lab_events::{Event, LimitedReader, ReplayFault, WriteFault, next_event, replay};
+use lab_events::{Event, LimitedReader, ReplayFault, WriteFault, next_event};
+use lab_installations::replay;
 use lab_lists::Lists;
 use std::alloc::Global;
 use std::io::{BufReader, ErrorKind, Read, Write};

@@ -1,6 +1,7 @@
 //! `labdesk`: signed laboratory records.
 #![tactic(auto)]
 
+use lab_tasks::{Host, HostShelf, SystemChance, SystemClock, TerminalProgress, labdesk};
 use std::io;
 use std::process::ExitCode;
 
@@ -10,11 +11,19 @@ const UNTOLD: u8 = 1;
 fn main(rt: HostRuntime) -> io::Result<ExitCode> {
     let words: Vec<String> = std::env::args(&rt)?.collect(rt.alloc())?;
     let (mut output, mut errors) = (rt.stdout(), rt.stderr());
-    let status = lab_tasks::labdesk(
-        &rt,
+    let mut host = Host {
+        net: &rt,
+        shelf: HostShelf::new(&rt),
+        clock: SystemClock::new(&rt),
+        chance: SystemChance::new(&rt),
+        progress: TerminalProgress::new(&rt),
+    };
+    let input = rt.stdin();
+    let status = labdesk(
         rt.alloc(),
+        &mut host,
         &words,
-        rt.stdin(),
+        input,
         &mut output,
         &mut errors,
     );

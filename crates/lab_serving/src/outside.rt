@@ -32,8 +32,11 @@ pub trait Chance {
             Gives (coming self.old) (coming self.new) (words ∷ [])) };
 }
 
-/// The tick of a connection.
-pub(crate) fn draw<C: Clock, X: Chance>(clock: &mut C, chance: &mut X) -> Result<Tick, DrawFault>
+/// The tick of a connection: a moment of the clock, and eight words of chance.
+///
+/// # Errors
+/// `DrawFault` where the clock or the source of chance gave none.
+pub fn draw<C: Clock, X: Chance>(clock: &mut C, chance: &mut X) -> Result<Tick, DrawFault>
     ensures moment { IfOk result (λ tick.
         Gives (C.coming clock.old) (C.coming clock.new) (tick.moment ∷ [])) }
     ensures words { IfOk result (λ tick.

@@ -3,6 +3,7 @@
 ghost use Rattle.std.specs.Prelude.{◌≡◌, List, [], IfOk, IfErr, IfSome};
 ghost use Rattle.lab_kept.specs.Worlds.{Passes, Given};
 ghost use Rattle.lab_desk.specs.Keeping.{AreWithin};
+ghost use Rattle.lab_serving.specs.Faults.{IsReaderFault};
 ghost use Rattle.lab_serving.specs.Rehearsals.{Forwards, IsFounded, IsServedAt, IsUnfounded, rehearsal_tick};
 ghost use Rattle.lab_serving.specs.Staying.{StaysOn};
 ghost use Rattle.lab_serving.specs.Texts.{IsPrinted, card_request};
@@ -38,8 +39,13 @@ pub fn request_bytes(alloc: Global, lab: &LabCode) -> Result<Vec<u8>, OutOfMemor
 }
 
 /// All the bytes that a reader gives.
-fn read_all<R: Read>(alloc: Global, reader: &mut R) -> Result<Vec<u8>, ServerFault>
-    ensures { IfOk result (λ bytes. IfSome (R.remaining reader.old) (λ all. bytes.items ≡ all)) }
+///
+/// # Errors
+/// `ServerFault` where it can't be read, or for want of memory.
+pub fn read_all<R: Read>(alloc: Global, reader: &mut R) -> Result<Vec<u8>, ServerFault>
+    ensures bytes { IfOk result (λ bytes.
+        IfSome (R.remaining reader.old) (λ all. bytes.items ≡ all)) }
+    ensures fault { IfErr result IsReaderFault }
 {
     let mut bytes = Vec::new(alloc);
     reader.read_to_end(&mut bytes)?;

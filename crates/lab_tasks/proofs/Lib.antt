@@ -1,4 +1,6 @@
+pub mod AppLemmas
+pub mod AskLemmas
+pub mod DoneLemmas
 pub mod ExplainLemmas
 pub mod GivenLemmas
 pub mod KnownValues
-pub mod RehearsalLemmas

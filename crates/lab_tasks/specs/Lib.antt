@@ -1,2 +1,5 @@
+pub mod Apps
+pub mod Tasks
+pub mod Explaining
+pub mod Laboratories
 pub mod CommandLine
-pub mod Rehearsals

@@ -1,8 +1,19 @@
-//! What the words of `labdesk` ask for, over streams that are handed in.
+//! What the words of `labdesk` ask for, over files, a clock, chance, the network and streams that
+//! are handed in.
 #![tactic(auto)]
 
+mod apps;
 mod command_line;
-mod rehearsals;
+mod explaining;
+mod hosts;
+mod laboratories;
+mod tasks;
 
-pub use command_line::{Task, labdesk, task_of};
+pub use command_line::labdesk;
+pub use hosts::Host;
+pub use lab_installations::{
+    Closing, HostShelf, Progress, Shelf, SystemChance, SystemClock, TerminalProgress, Unheard,
+};
 pub use lab_messages::WriteFault;
+pub use lab_serving::{Chance, Clock};
+pub use tasks::{Task, task_of};

@@ -1,7 +1,8 @@
-//! `labdesk check`, over copies whose digests and seals are those of tests/copies: by sha256sum and Python.
+//! `labdesk check`, over copies whose digests and seals are those of tests/copies: by sha256sum and
+//! Python.
 
-use crate::tests::{Narrow, assert_bytes, check_input, check_words, joined};
-use lab_tasks::{WriteFault, labdesk};
+use crate::made::{assert_cut, assert_done, bare_host, check_input, joined};
+use lab_tasks::WriteFault;
 use std::io;
 use std::io::{ErrorKind, Read};
 
@@ -103,7 +104,8 @@ fn a_copy_whose_end_is_cut(rt: HostRuntime) {
 
 #[test]
 fn what_is_no_copy(rt: HostRuntime) {
-    check_words(&rt, &WORDS, "bad bad_row 1\n", "", 1);
+    let input = "kind,lab\n";
+    check_input(&rt, &WORDS, input, "bad bad_row 1\n", "", 1);
 }
 
 #[test]
@@ -112,11 +114,9 @@ fn a_reader_that_fails(rt: HostRuntime) {
     for fails_behind in [0, 9, HEADER.len(), copy.len()] {
         let left = copy.as_bytes();
         let input = Torn { left, fails_behind };
-        let (mut output, mut errors) = (Vec::new(rt.alloc()), Vec::new(rt.alloc()));
-        let answered = labdesk(&rt, rt.alloc(), &WORDS, input, &mut output, &mut errors);
-        assert_bytes(&rt, &output, "", &fails_behind);
-        assert_bytes(&rt, &errors, "labdesk: read_fault\n", &fails_behind);
-        assert_eq!(rt; answered, Ok(1), "behind {fails_behind} bytes");
+        let mut host = bare_host(&rt);
+        let ends = ("", "labdesk: read_fault\n", 1);
+        assert_done(&rt, &mut host, &WORDS, input, ends);
     }
 }
 
@@ -124,38 +124,18 @@ fn a_reader_that_fails(rt: HostRuntime) {
 fn a_verdict_that_cannot_be_written(rt: HostRuntime) {
     let copy = joined(&rt, &[HEADER, COPY, EMPTY_END]);
     for fails in [false, true] {
-        let mut output = Narrow::new(rt.alloc(), 5, fails);
-        let mut errors = Vec::new(rt.alloc());
-        let answered = labdesk(
-            &rt,
-            rt.alloc(),
-            &WORDS,
-            copy.as_bytes(),
-            &mut output,
-            &mut errors,
-        );
-        assert_bytes(&rt, &output.bytes, "good ", &WORDS);
-        assert_bytes(&rt, &errors, "labdesk: write_fault\n", &WORDS);
-        assert_eq!(rt; answered, Ok(1));
+        let mut host = bare_host(&rt);
+        let ends = ("good ", "labdesk: write_fault\n", Ok(1));
+        assert_cut(&rt, &mut host, &WORDS, copy.as_str(), (5, 99, fails), ends);
     }
 }
 
 #[test]
 fn a_fault_that_cannot_be_told(rt: HostRuntime) {
     let copy = joined(&rt, &[HEADER, COPY, EMPTY_END]);
-    let mut output = Narrow::new(rt.alloc(), 0, true);
-    let mut errors = Narrow::new(rt.alloc(), 8, true);
-    let answered = labdesk(
-        &rt,
-        rt.alloc(),
-        &WORDS,
-        copy.as_bytes(),
-        &mut output,
-        &mut errors,
-    );
-    assert_bytes(&rt, &output.bytes, "", &WORDS);
-    assert_bytes(&rt, &errors.bytes, "labdesk:", &WORDS);
-    assert_eq!(rt; answered, Err(WriteFault { sent: 8 }));
+    let mut host = bare_host(&rt);
+    let ends = ("", "labdesk:", Err(WriteFault { sent: 8 }));
+    assert_cut(&rt, &mut host, &WORDS, copy.as_str(), (0, 8, true), ends);
 }
 
 #[test]
@@ -168,19 +148,21 @@ Options:
   -h, --help  Print help
 
 It tells `good` and how many records, versions, entries and signatures the copy has, or
-`bad`, what is wrong first, and the row. A copy is described in docs/COPIES.md.
+`bad`, what is wrong first, and the row. A copy is described in docs/COPIES.md. An example:
+
+    labdesk check < copy.csv
 ";
-    check_words(&rt, &["labdesk", "check", "--help"], help, "", 0);
-    check_words(&rt, &["labdesk", "help", "check"], help, "", 0);
+    check_input(&rt, &["labdesk", "check", "--help"], "", help, "", 0);
+    check_input(&rt, &["labdesk", "help", "check"], "", help, "", 0);
 }
 
 #[test]
 fn words_that_are_wrong(rt: HostRuntime) {
     let told = "error: unexpected argument 'copy.csv' found\n\nUsage: labdesk check\n\n\
         For more information, try '--help'.\n";
-    check_words(&rt, &["labdesk", "check", "copy.csv"], "", told, 2);
+    check_input(&rt, &["labdesk", "check", "copy.csv"], "", "", told, 2);
     let told = "error: unrecognized subcommand 'chek'\n\n  \
         tip: a similar subcommand exists: 'check'\n\nUsage: labdesk <COMMAND>\n\n\
         For more information, try '--help'.\n";
-    check_words(&rt, &["labdesk", "chek"], "", told, 2);
+    check_input(&rt, &["labdesk", "chek"], "", "", told, 2);
 }

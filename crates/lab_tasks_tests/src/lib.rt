@@ -4,6 +4,16 @@
 #[cfg(test)]
 mod check_tests;
 #[cfg(test)]
+mod files;
+#[cfg(test)]
+mod found_tests;
+#[cfg(test)]
+mod made;
+#[cfg(test)]
 mod rehearsal_tests;
 #[cfg(test)]
-mod tests;
+mod replay_tests;
+#[cfg(test)]
+mod texts;
+#[cfg(test)]
+mod words_tests;

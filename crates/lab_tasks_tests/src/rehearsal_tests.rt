@@ -1,53 +1,20 @@
 //! `labdesk rehearse`, over a socket of this machine.
 
-use crate::tests::{Narrow, assert_bytes, check_input, joined};
-use lab_tasks::{WriteFault, labdesk};
-use std::io;
-use std::io::{ErrorKind, Read};
+use crate::made::{assert_cut, assert_done, bare_host, check_input, joined, padded_input};
+use crate::texts::{AQUA_REPLY, BODY};
+use lab_tasks::WriteFault;
 
 const WORDS: [&str; 6] = ["labdesk", "rehearse", "--lab", "aqua", "--moment", "100"];
-
-const BODY: &str = "{\"founders\":[\
-    {\"code\":\"ann\",\"name\":\"Ann Ames\",\"password\":\"correct horse 1\"},\
-    {\"code\":\"bob\",\"name\":\"Bob Bell\",\"password\":\"correct horse 2\"},\
-    {\"code\":\"cid\",\"name\":\"Cid Cole\",\"password\":\"correct horse 3\"}],\
-    \"name\":\"Aqua Lab\"}";
-
-const CARD: &str = "HTTP/1.1 200 OK\r\nDate: Thu, 01 Jan 1970 00:01:40 GMT\r\n\
-    Content-Type: application/json\r\nContent-Length: 32\r\nConnection: close\r\n\r\n\
-    {\"lab\":\"aqua\",\"name\":\"Aqua Lab\"}";
 
 const LAST_CARD: &str = "HTTP/1.1 200 OK\r\nDate: Fri, 31 Dec 9999 23:59:59 GMT\r\n\
     Content-Type: application/json\r\nContent-Length: 40\r\nConnection: close\r\n\r\n\
     {\"lab\":\"b-2-of-brick\",\"name\":\"Aqua Lab\"}";
 
-/// Gives a text, then blanks until so many bytes came in all, and then fails.
-#[derive(Drop)]
-struct Padded<'a> {
-    left: &'a [u8],
-    blanks: usize,
-}
-
-impl Read for Padded<'_> {
-    fn read(&mut self, buffer: &mut [u8]) -> io::Result<usize> {
-        if !self.left.is_empty() {
-            return self.left.read(buffer);
-        }
-        if self.blanks == 0 {
-            return Err(io::Error::new(ErrorKind::Other, "too far"));
-        }
-        let count = buffer.len().min(self.blanks);
-        buffer[..count].fill(b' ');
-        self.blanks -= count;
-        Ok(count)
-    }
-}
-
 #[test]
 fn the_card(rt: HostRuntime) {
-    check_input(&rt, &WORDS, BODY, CARD, "", 0);
+    check_input(&rt, &WORDS, BODY, AQUA_REPLY, "", 0);
     let words = ["labdesk", "rehearse", "--moment=100", "--lab=aqua"];
-    check_input(&rt, &words, BODY, CARD, "", 0);
+    check_input(&rt, &words, BODY, AQUA_REPLY, "", 0);
 }
 
 #[test]
@@ -77,30 +44,21 @@ fn a_founding_that_is_refused(rt: HostRuntime) {
 #[test]
 fn a_body_of_a_million_bytes(rt: HostRuntime) {
     let ends = [
-        (1_000_000, CARD, "", 0),
+        (1_000_000, AQUA_REPLY, "", 0),
         (999_999, "", "labdesk: read_fault\n", 1),
     ];
     for (length, printed, told, status) in ends {
-        let left = BODY.as_bytes();
-        let blanks = left.len().abs_diff(length);
-        let (mut output, mut errors) = (Vec::new(rt.alloc()), Vec::new(rt.alloc()));
-        let input = Padded { left, blanks };
-        let answered = labdesk(&rt, rt.alloc(), &WORDS, input, &mut output, &mut errors);
-        assert_bytes(&rt, &output, printed, &length);
-        assert_bytes(&rt, &errors, told, &length);
-        assert_eq!(rt; answered, Ok(status), "of {length} bytes");
+        let mut host = bare_host(&rt);
+        let input = padded_input(BODY, length);
+        assert_done(&rt, &mut host, &WORDS, input, (printed, told, status));
     }
 }
 
 #[test]
 fn an_output_that_fails(rt: HostRuntime) {
-    let mut output = Narrow::new(rt.alloc(), 12, true);
-    let mut errors = Narrow::new(rt.alloc(), 9, true);
-    let input = BODY.as_bytes();
-    let answered = labdesk(&rt, rt.alloc(), &WORDS, input, &mut output, &mut errors);
-    assert_bytes(&rt, &output.bytes, "HTTP/1.1 200", &WORDS);
-    assert_bytes(&rt, &errors.bytes, "labdesk: ", &WORDS);
-    assert_eq!(rt; answered, Err(WriteFault { sent: 9 }));
+    let mut host = bare_host(&rt);
+    let ends = ("HTTP/1.1 200", "labdesk: ", Err(WriteFault { sent: 9 }));
+    assert_cut(&rt, &mut host, &WORDS, BODY, (12, 9, true), ends);
 }
 
 #[test]

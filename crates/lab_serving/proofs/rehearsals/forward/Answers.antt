@@ -14,13 +14,13 @@ returns-in_err-write_reply g c =
     c.from_residual-in_err-write_reply.ensures.1 in
     rw fault.1 (forwards_cut (g.R.Read.remaining c.args.reader.now) c.as_slice.result.now _
     fault.0 _ _ (known_as (g.R.Read.remaining c.args.reader.now) c.as_slice.result.now
-    c.in_ok-bytes.bytes.items c.as_slice.ensures.value c.in_ok-bytes.ensures)
+    c.in_ok-bytes.bytes.items c.as_slice.ensures.value c.in_ok-bytes.ensures.bytes)
     c.in_err-write_reply.ensures.cut)
 
 pub returns : goal.returns
 returns g c = (
   c.as_slice.result.now,
   known_as (g.R.Read.remaining c.args.reader.now) c.as_slice.result.now
-      c.in_ok-bytes.bytes.items c.as_slice.ensures.value c.in_ok-bytes.ensures,
+      c.in_ok-bytes.bytes.items c.as_slice.ensures.value c.in_ok-bytes.ensures.bytes,
   c.in_ok-write_reply.ensures.whole,
 )

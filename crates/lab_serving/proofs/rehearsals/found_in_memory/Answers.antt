@@ -24,7 +24,7 @@ returns-in_err-found-clause-refused g c =
     rw fault.1 (for_known (g.B.Read.remaining c.args.body.now) c.as_slice.result.now
     (λ bytes. IsUnfounded c.args.lab.now bytes fault.0)
     (known_as (g.B.Read.remaining c.args.body.now) c.as_slice.result.now
-    c.in_ok-bytes.bytes.items c.as_slice.ensures.value c.in_ok-bytes.ensures)
+    c.in_ok-bytes.bytes.items c.as_slice.ensures.value c.in_ok-bytes.ensures.bytes)
     (unfounded_so c.args.lab.now c.as_slice.result.now _ c.in_ok-desk.desk.keeper _ fault.0
     fault.2 c.founding_tick.ensures c.in_ok-desk.ensures c.in_err-found.ensures.fault))
 
@@ -33,7 +33,7 @@ returns-clause-founded g c =
     for_known (g.B.Read.remaining c.args.body.now) c.as_slice.result.now
     (λ bytes. IsFounded c.args.lab.now bytes c.found.new.self.keeper)
     (known_as (g.B.Read.remaining c.args.body.now) c.as_slice.result.now
-    c.in_ok-bytes.bytes.items c.as_slice.ensures.value c.in_ok-bytes.ensures)
+    c.in_ok-bytes.bytes.items c.as_slice.ensures.value c.in_ok-bytes.ensures.bytes)
     (founded_alone c.args.lab.now c.as_slice.result.now _ c.in_ok-desk.desk.keeper
     c.found.new.self.keeper c.founding_tick.ensures c.in_ok-desk.ensures
     (c.in_ok-found.ensures.founded tt tt))

@@ -1,0 +1,463 @@
+#!/usr/bin/env python3
+"""Writes what the tests of laboratories in a file begin with, ask and have to find: the rows of two laboratories, events with their
+answers, and what the tables have to say of each laboratory afterwards. All of it is made by bench/laboratory.py, which is no part of
+the program, and read by Python's sqlite3 from tables of its own.
+
+    bench/rows.py            writes the files
+    bench/rows.py --check    says whether they are as they would be written
+    bench/rows.py --show     prints what the tables say where the files have its SHA-256 alone
+
+The laboratories are brick and aqua: the same codes, forms, samples and numbers, sessions of the same tokens. Each id is seven times a
+number, and three; the rows of brick come first, and those of one laboratory in no order. Passwords of these rows have one round of
+PBKDF2, so that trying one costs little.
+"""
+import copy
+import functools
+import os
+import random
+import re
+import sqlite3
+import sys
+
+import laboratory
+import streams
+from laboratory import sha
+from streams import FOUNDERS, LEAD, NOTE, Stream, reply_of
+
+ROOT = os.path.dirname(os.path.dirname(os.path.abspath(__file__)))
+ROLES = ["analyst", "reviewer", "manager", "administrator", "inspector"]
+COLUMNS = {
+    "labs": "code name last stray records sessions trail",
+    "persons": "lab code name roles retired failures locked kind salt rounds bytes salt2 rounds2 bytes2 changed asker asked ask_salt "
+               "ask_rounds ask_bytes",
+    "sessions": "lab person number token opened last closed signed",
+    "forms": "lab code version approval",
+    "fields": "form place key label required kind unit decimals low high size",
+    "choices": "field place name",
+    "records": "lab number form form_code sample current",
+    "versions": "record number format opener opened reason",
+    "entries": "version place key value unit person moment reason",
+    "signatures": "version place person name meaning moment reason digest seal",
+    "trail": "lab number moment person action subject",
+}
+# What the tables say of a laboratory, its code being ?1, without any id: each thing by what it is known by in the laboratory.
+QUESTIONS = [
+    "SELECT code, name, last, stray, records, sessions, trail FROM labs WHERE code = ?1",
+    "SELECT persons.code, persons.name, roles, retired, failures, locked, kind, salt, rounds, bytes, salt2, rounds2, bytes2, changed, "
+    "asked, ask_salt, ask_rounds, ask_bytes FROM labs, persons WHERE labs.code = ?1 AND persons.lab = labs.id ORDER BY persons.code",
+    "SELECT persons.code, askers.code, askers.lab = labs.id FROM labs, persons, persons AS askers WHERE labs.code = ?1 AND persons.lab "
+    "= labs.id AND askers.id = persons.asker ORDER BY persons.code",
+    "SELECT sessions.number, persons.code, persons.lab = labs.id, token, opened, sessions.last, closed, signed FROM labs, sessions, "
+    "persons WHERE labs.code = ?1 AND sessions.lab = labs.id AND persons.id = sessions.person ORDER BY sessions.number",
+    "SELECT forms.code, version, approval FROM labs, forms WHERE labs.code = ?1 AND forms.lab = labs.id ORDER BY forms.code, version",
+    "SELECT forms.code, version, place, key, label, required, kind, unit, decimals, low, high, size FROM labs, forms, fields WHERE "
+    "labs.code = ?1 AND forms.lab = labs.id AND fields.form = forms.id ORDER BY forms.code, version, place",
+    "SELECT forms.code, version, key, choices.place, choices.name FROM labs, forms, fields, choices WHERE labs.code = ?1 AND forms.lab "
+    "= labs.id AND fields.form = forms.id AND choices.field = fields.id ORDER BY forms.code, version, key, choices.place",
+    "SELECT number, form_code, forms.code, version, forms.lab = labs.id, sample, current FROM labs, records, forms WHERE labs.code = ?1 "
+    "AND records.lab = labs.id AND forms.id = records.form ORDER BY number",
+    "SELECT records.number, versions.number, format, persons.code, persons.lab = labs.id, opened, reason FROM labs, records, versions, "
+    "persons WHERE labs.code = ?1 AND records.lab = labs.id AND versions.record = records.id AND persons.id = versions.opener ORDER BY "
+    "records.number, versions.number",
+    "SELECT records.number, versions.number, place, key, value, unit, persons.code, persons.lab = labs.id, moment, entries.reason FROM "
+    "labs, records, versions, entries, persons WHERE labs.code = ?1 AND records.lab = labs.id AND versions.record = records.id AND "
+    "entries.version = versions.id AND persons.id = entries.person ORDER BY records.number, versions.number, place",
+    "SELECT records.number, versions.number, place, persons.code, persons.lab = labs.id, signatures.name, meaning, moment, "
+    "signatures.reason, digest, seal FROM labs, records, versions, signatures, persons WHERE labs.code = ?1 AND records.lab = labs.id AND "
+    "versions.record = records.id AND signatures.version = versions.id AND persons.id = signatures.person ORDER BY records.number, "
+    "versions.number, place",
+    "SELECT number, moment, action, subject FROM labs, trail WHERE labs.code = ?1 AND trail.lab = labs.id ORDER BY number",
+    "SELECT number, persons.code, persons.lab = labs.id FROM labs, trail, persons WHERE labs.code = ?1 AND trail.lab = labs.id AND "
+    "persons.id = trail.person ORDER BY number",
+]
+# How many rows each table has: so none stands beside those that a laboratory is told by.
+COUNTS = [f"SELECT count(*) FROM {table} WHERE ?1 = 'all'" for table in ("desk", *COLUMNS)]
+
+
+# ---- the laboratories as rows
+
+
+def person_columns(p):
+    salt = rounds = made = salt2 = rounds2 = made2 = changed = None
+    kind = 0
+    if p.password is not None:
+        kind = 1 if p.password[0] == "chosen" else 2
+        salt, rounds, made = p.password[1]
+        changed = p.password[-1]
+        if kind == 2:
+            salt2, rounds2, made2 = p.password[2]
+    asked = ask_salt = ask_rounds = ask_made = None
+    if p.ask is not None:
+        asked, (ask_salt, ask_rounds, ask_made) = p.ask[1:]
+    roles = sum(2**at for at, role in enumerate(ROLES) if role in p.roles)
+    return {"code": p.code, "name": p.name, "roles": roles, "retired": int(p.retired), "failures": p.failures, "locked": p.locked,
+            "kind": kind, "salt": blob(salt), "rounds": rounds, "bytes": blob(made), "salt2": blob(salt2), "rounds2": rounds2,
+            "bytes2": blob(made2), "changed": changed, "asked": asked, "ask_salt": blob(ask_salt), "ask_rounds": ask_rounds,
+            "ask_bytes": blob(ask_made)}
+
+
+def blob(digits):
+    return None if digits is None else bytes.fromhex(digits)
+
+
+class Rows:
+    """The rows of laboratories, each table's in the order in which they are put in."""
+
+    def __init__(self, labs, id_of=lambda at: 7 * at + 3, seed=1):
+        self.tables = {table: [] for table in COLUMNS}
+        self.id_of, self.random = id_of, random.Random(seed)
+        for lab in labs:
+            self.add_lab(lab)
+
+    def add(self, table, **columns):
+        at = len(self.tables[table]) + 1
+        self.tables[table].append({"id": self.id_of(at), **columns})
+        return self.id_of(at)
+
+    def mixed(self, things):
+        return self.random.sample(list(things), len(things))
+
+    def add_lab(self, lab):
+        own = self.add("labs", code=lab.code, name=lab.name, last=lab.last, stray=lab.strays, records=len(lab.records),
+                       sessions=len(lab.sessions), trail=len(lab.trail))
+        persons = {}
+        for p in sorted(self.mixed(lab.persons), key=lambda p: p.ask is not None):
+            asker = None if p.ask is None else persons[p.ask[0]]
+            persons[p.code] = self.add("persons", lab=own, asker=asker, **person_columns(p))
+        for s in self.mixed(lab.sessions):
+            self.add("sessions", lab=own, person=persons[s.person], number=s.number, token=blob(s.token), opened=s.opened, last=s.last,
+                     closed=int(s.closed), signed=int(s.signed))
+        forms = {(f.code, f.version): self.add_form(own, f) for f in self.mixed(lab.forms)}
+        for r in self.mixed(lab.records):
+            self.add_record(own, forms, persons, r)
+        for t in self.mixed(lab.trail):
+            self.add("trail", lab=own, number=t.number, moment=t.moment, person=persons.get(t.person), action=t.action, subject=t.subject)
+
+    def add_form(self, lab, f):
+        form = self.add("forms", lab=lab, code=f.code, version=f.version, approval=int(f.approval))
+        for place, one in self.mixed(list(enumerate(f.fields, 1))):
+            field = self.add("fields", form=form, place=place, key=one["key"], label=one["label"], required=int(one["required"]),
+                             kind=one["kind"], unit=one.get("unit"), decimals=one.get("decimals"), low=one.get("min"),
+                             high=one.get("max"), size=one.get("size"))
+            for at, name in self.mixed(list(enumerate(one.get("choices", []), 1))):
+                self.add("choices", field=field, place=at, name=name)
+        return form
+
+    def add_record(self, lab, forms, persons, r):
+        kept = self.add("records", lab=lab, number=r.number, form=forms[r.form.code, r.form.version], form_code=r.form.code,
+                        sample=r.sample, current=len(r.versions))
+        for v in self.mixed(r.versions):
+            version = self.add("versions", record=kept, number=v.number, format=2, opener=persons[v.opener], opened=v.opened,
+                               reason=v.reason)
+            for place, one in self.mixed(list(enumerate(v.rows, 1))):
+                self.add("entries", version=version, place=place, key=one.key, value=one.value, unit=one.unit,
+                         person=persons[one.person], moment=one.moment, reason=one.reason)
+            for place, one in self.mixed(list(enumerate(v.signatures, 1))):
+                self.add("signatures", version=version, place=place, person=persons[one.person], name=one.name, meaning=one.meaning,
+                         moment=one.moment, reason=one.reason or None, digest=blob(one.digest), seal=blob(one.seal))
+
+    def statements(self):
+        """A statement for each table that has rows: its head, and a line for each row."""
+        for table, rows in self.tables.items():
+            if rows:
+                names = ["id", *COLUMNS[table].split()]
+                lines = [f"({', '.join(literal(row.get(name)) for name in names)})" for row in rows]
+                yield [f"INSERT INTO {table} ({', '.join(names)}) VALUES", *lines]
+
+    def fill(self, conn):
+        """Makes the tables by the program's own statements, and puts these rows in."""
+        conn.execute("PRAGMA foreign_keys = ON")
+        for sql in schema():
+            conn.execute(sql)
+        for head, *rows in self.statements():
+            conn.execute(f"{head} {', '.join(rows)}")
+
+    def database(self):
+        """Tables of the C library with these rows."""
+        conn = sqlite3.connect(":memory:", isolation_level=None)
+        self.fill(conn)
+        return conn
+
+
+def literal(value):
+    if value is None:
+        return "NULL"
+    if isinstance(value, bytes):
+        return f"x'{value.hex()}'"
+    return str(value) if isinstance(value, int) else "'" + value.replace("'", "''") + "'"
+
+
+@functools.cache
+def schema():
+    with open(f"{ROOT}/crates/lab_files/src/texts.rt") as f:
+        text = re.sub(r"\\\n *", "", f.read())
+    made = re.findall(r'"(CREATE (?:TABLE|INDEX) .*?)";', text)
+    assert len(made) == 13
+    return [*made, "INSERT INTO desk (schema) VALUES (3)"]
+
+
+def told(conn, code):
+    """What the tables say of a laboratory: a line for each row of each question's answer."""
+    def word(value):
+        return "-" if value is None else value.hex() if isinstance(value, bytes) else str(value)
+    questions = COUNTS if code == "all" else QUESTIONS
+    return "".join("".join(word(value) + "|" for value in row) + "\n" for sql in questions for row in conn.execute(sql, (code,)))
+
+
+def all_told(labs, codes):
+    conn = Rows(labs.values()).database()
+    assert conn.execute("PRAGMA foreign_key_check").fetchall() == []
+    return "".join(told(conn, code) for code in codes)
+
+
+# ---- the laboratories with which the tests begin
+
+
+NAMES = {
+    "aqua": {"dan": "Dan Day", "eve": "Eve Ems", "fay": "Fay Fox", "gus": "Gus Gray", "hal": "Hal Hill"},
+    "brick": {"dan": "Dan Drew", "eve": "Eva East", "fay": "Fay Ford", "gus": "Gus Gunn", "hal": "Hal Hope"},
+}
+DUTIES = {"dan": ["analyst"], "eve": ["analyst", "reviewer"], "fay": ["reviewer"], "gus": ["manager"], "hal": ["inspector"]}
+COLOUR = {"key": "colour", "label": "Colour", "required": False, "kind": "choice", "choices": ["none", "pale blue"]}
+
+
+def begun(s, lab, value):
+    """A laboratory with a form, an open record, a released one, an open ask, and somebody whose next failure locks."""
+    s.next_word = 1_000
+    s.found(0, lab, lab.capitalize() + " Lab", FOUNDERS)
+    s.open(10, "ann", lab=lab)
+    s.open(10, "bob", lab=lab)
+    for code, name in NAMES[lab].items():
+        s.post(20, "ann", "/persons", lab=lab, code=code, name=name, roles=DUTIES[code])
+        first = s.post(20, "ann", "/issue", lab=lab, code=code)["half"]
+        s.passwords[lab, code] = first + s.post(20, "bob", "/confirm", lab=lab, code=code)["half"]
+        s.open(20, code, lab=lab)
+    for code in NAMES[lab]:
+        s.change(500, code, f"{code} of {lab} 1", lab=lab)
+    s.post(500, "ann", "/persons", lab=lab, code="ida", name="Ida Inn", roles=["analyst"])
+    s.post(500, "ann", "/issue", lab=lab, code="ida")
+    s.post(600, "gus", "/forms", lab=lab, form="water", fields=[LEAD, NOTE, COLOUR])
+    s.open(900, "dan", lab=lab)
+    s.post(1000, "dan", "/records", lab=lab, form="water", sample="S1")
+    s.post(1100, "dan", "/entries", lab=lab, record=1, key="lead", value=value, unit="mg/L")
+    s.post(1110, "dan", "/records", lab=lab, form="water", sample="S2")
+    s.post(1110, "dan", "/entries", lab=lab, record=2, key="lead", value="8.01", unit="mg/L")
+    s.sign(1120, "dan", 2, 1, "authorship", lab=lab, code="dan")
+    s.open(1130, "eve", lab=lab)
+    s.open(1130, "hal", lab=lab)
+    s.sign(1140, "eve", 2, 1, "review", lab=lab, code="eve")
+    for moment in range(1150, 1154):
+        s.open(moment, "fay", lab=lab, password="not of fay at all", wants=20)
+
+
+def setup():
+    """Both laboratories, with no events so far. Passwords have one round."""
+    whole = laboratory.verifier
+    laboratory.verifier = functools.partial(whole, rounds=1)
+    s = Stream()
+    begun(s, "brick", "6.25")
+    begun(s, "aqua", "7.50")
+    laboratory.verifier = whole
+    s.events, s.answers, s.next_word = [], [], 10_000
+    return s
+
+
+# ---- events that both laboratories are asked
+
+
+OTHER, SAME = ({"key": "lead", "value": value, "unit": "mg/L"} for value in ("7.5", "8.01"))
+
+
+def entries(s, lab):
+    second = {"record": 1, "key": "lead", "value": "7.5", "unit": "mg/L"}
+    s.post(1200, "dan", "/entries", lab=lab, **second, wants=47)
+    s.post(1200, "dan", "/entries", lab=lab, **second, reason="misread scale", wants={"rows": 2, "version": 1})
+    s.sign(1300, "dan", 1, 1, "authorship", lab=lab, wants={"state": "signed"})
+
+
+def amendments(s, lab):
+    s.sign(1320, "eve", 1, 1, "review", lab=lab, wants={"state": "released"})
+    s.get(1330, "hal", "/records/1/versions/1", lab=lab)
+    s.post(1400, "dan", "/amendments", lab=lab, record=2, reason="one decimal is meant", altered=[SAME], wants=49)
+    s.post(1400, "dan", "/amendments", lab=lab, record=2, altered=[OTHER], wants=47)
+    s.post(1400, "dan", "/amendments", lab=lab, record=2, reason="one decimal is meant", altered=[OTHER], wants={"version": 2})
+    s.post(1400, "dan", "/amendments", lab=lab, record=2, reason="once more", altered=[SAME], wants=50)
+    s.sign(1410, "dan", 2, 2, "authorship", lab=lab, digest=s.digest(2, 1, lab), wants=52)
+    s.sign(1410, "dan", 2, 2, "authorship", lab=lab, wants={"state": "signed"})
+    s.sign(1420, "eve", 2, 2, "rejection", lab=lab, reason="not our scale", wants={"state": "rejected"})
+
+
+def records_and_persons(s, lab):
+    s.post(1430, "dan", "/records", lab=lab, form="water", sample="S1", wants={"number": 43, "record": 1})
+    s.post(1430, "dan", "/records", lab=lab, form="water", sample="S9", wants={"record": 3, "version": 1})
+    s.post(1440, "dan", "/entries", lab=lab, record=3, key="colour", value="pale blue", unit="", wants={"rows": 1})
+    s.open(1450, "fay", lab=lab, password="not of fay at all", wants=20)
+    s.post(1450, None, "/open", lab=lab, code="zed", password="nobody's password", wants=20)
+    s.open(1470, "ann", lab=lab)
+    s.post(1470, "ann", "/unlock", lab=lab, code="fay")
+    s.post(1490, "ann", "/retire", lab=lab, code="dan")
+    s.get(1490, "dan", "/records/1", lab=lab, wants=22)
+    s.post(1490, "hal", "/close", lab=lab)
+
+
+def hours():
+    """All of that in aqua, and the first part in brick."""
+    aqua, brick = setup(), setup()
+    for part in (entries, amendments, records_and_persons):
+        part(aqua, "aqua")
+    entries(brick, "brick")
+    return {"aqua": aqua, "brick": brick}
+
+
+# ---- requests during which the store is stopped
+
+
+def stopped():
+    """What each is asked, with its answer and the laboratories afterwards; each by itself, on the laboratories as they begin."""
+    def one(play):
+        s = setup()
+        play(s)
+        assert len(s.events) == 1
+        return s
+    def founding(s):
+        s.next_word = 20_000
+        s.found(2000, "cider", "Cider Lab", FOUNDERS)
+    return {
+        "ENTRY": one(lambda s: s.post(1200, "dan", "/entries", record=1, key="lead", value="7.5", unit="mg/L", reason="misread scale")),
+        "SIGNING": one(lambda s: s.sign(1300, "dan", 1, 1, "authorship")),
+        "AMENDMENT": one(lambda s: s.post(1400, "dan", "/amendments", record=2, reason="one decimal is meant", altered=[OTHER])),
+        "LOCK": one(lambda s: s.open(1450, "fay", password="not of fay at all", wants=20)),
+        "READING": one(lambda s: s.get(1460, "hal", "/records/2/versions/1")),
+        "FOUNDING": one(founding),
+    }
+
+
+def refused_for_storage(name, s):
+    if name == "FOUNDING":
+        return b"refused 63 storage\n"
+    moment = int(s.events[0].split()[1])
+    return reply_of(503, moment, laboratory.body(error="storage", number=63))
+
+
+# ---- as text of the program
+
+
+def broken(text, width=116):
+    """The lines of a literal, none of which begins with a space."""
+    escaped = {"\\": "\\\\", '"': '\\"', "\r": "\\r", "\n": "\\n"}
+    line = ""
+    for one in text:
+        piece = escaped.get(one, one)
+        if len(line) + len(piece) > width and one != " ":
+            yield line
+            line = ""
+        line += piece
+    if line:
+        yield line
+
+
+def laid_out(head, value):
+    """As `rt fmt` does it: the value on a line of its own where the first line would be too long."""
+    return f"{head} {value}" if len(f"{head} {value}".split("\n")[0]) <= 100 else f"{head}\n    {value}"
+
+
+def constant(name, comment, text):
+    value = 'b"' + "\\\n    ".join(broken(text)) + '";'
+    return f"/// {comment}\n" + laid_out(f"pub const {name}: &[u8] =", value) + "\n"
+
+
+def digest_constant(name, comment, text):
+    return f"/// {comment}\n" + laid_out(f"pub const {name}: &str =", f'"{sha(text.encode())}";') + "\n"
+
+
+HEADS = "Written by `bench/rows.py`."
+
+
+def shared_lines(rows, width=230):
+    """Short rows share a line."""
+    line = rows[0]
+    for row in rows[1:]:
+        if len(line) + len(row) > width:
+            yield line
+            line = row
+        else:
+            line += ", " + row
+    yield line
+
+
+def rows_text():
+    begins = setup()
+    found = list(Rows([begins.labs["brick"], begins.labs["aqua"]]).statements())
+    out = [f"//! The rows of two laboratories, brick and aqua, as statements that put them in, and questions for what the tables say of one.\n"
+           f"//! {HEADS}\n\n"
+           "/// The statements, in an order that every arrow allows. Each id is seven times a number, and three; those of brick come first.\n"
+           f"pub const ROWS: [&str; {len(found)}] = [\n"]
+    for head, *rows in found:
+        body = ", \\\n        ".join(shared_lines(rows))
+        out.append(f"    \"{head} \\\n        {body}\",\n")
+    out.append("];\n\n")
+    for name, comment, texts in (
+            ("QUESTIONS", "What the tables say of a laboratory, by its code, without any id.", QUESTIONS),
+            ("COUNTS", "How many rows each table has, where the code is `all`.", COUNTS)):
+        out.append(f"/// {comment}\npub const {name}: [&str; {len(texts)}] = [\n")
+        out += [f"    \"{one}\",\n" for one in texts]
+        out.append("];\n\n")
+    return "".join(out).rstrip("\n") + "\n"
+
+
+def hours_text():
+    out = [f"//! Events of each of the two laboratories, what they are answered, and what the tables have to say afterwards.\n//! {HEADS}\n"]
+    for lab, s in hours().items():
+        name = lab.upper()
+        out.append(constant(f"{name}_EVENTS", f"{len(s.events)} events of {lab}.", b"".join(s.events).decode()))
+        out.append(constant(f"{name}_ANSWERS", "What they are answered.", b"".join(s.answers).decode()))
+        out.append(digest_constant(f"{name}_AFTER", f"The SHA-256 of what the tables say of {lab} afterwards.", all_told(s.labs, [lab])))
+    out.append(digest_constant("BRICK_BEFORE", "And of brick before.", all_told(setup().labs, ["brick"])))
+    return "\n".join(out)
+
+
+CODES = ["aqua", "brick", "cider", "all"]
+
+
+def stops_text():
+    out = ["//! Requests and a founding during which the store is stopped: what each asks, its own answer, that of a store that refuses, and the\n"
+           "//! SHA-256 of what the tables say of all laboratories.\n"
+           f"//! {HEADS}\n"]
+    out.append(digest_constant("BEFORE", "What they say before each.", all_told(setup().labs, CODES)))
+    for name, s in stopped().items():
+        what = name.lower()
+        out.append(constant(f"{name}_EVENT", f"The {what}.", s.events[0].decode()))
+        out.append(constant(f"{name}_ANSWER", "Its own answer.", s.answers[0].decode()))
+        out.append(constant(f"{name}_REFUSED", "The answer where the store refuses.", refused_for_storage(name, s).decode()))
+        out.append(digest_constant(f"{name}_AFTER", "What the tables say after it.", all_told(s.labs, CODES)))
+    return "\n".join(out)
+
+
+FILES = {
+    "crates/lab_store_faults_tests/src/rows.rt": rows_text,
+    "crates/lab_store_faults_tests/src/hours.rt": hours_text,
+    "crates/lab_store_faults_tests/src/requests.rt": stops_text,
+}
+
+
+def main():
+    if sys.argv[1:] == ["--show"]:
+        print(all_told(setup().labs, CODES))
+        for name, s in stopped().items():
+            print(f"# {name}\n{all_told(s.labs, CODES)}")
+        return 0
+    wrong = []
+    for path, text in FILES.items():
+        path = f"{ROOT}/{path}"
+        if sys.argv[1:] == ["--check"]:
+            with open(path) as f:
+                wrong += [path] if f.read() != text() else []
+        else:
+            with open(path, "w") as f:
+                f.write(text())
+    print("; ".join(f"{path} is not as it would be written" for path in wrong) or f"{len(FILES)} files")
+    return 1 if wrong else 0
+
+
+if __name__ == "__main__":
+    sys.exit(main())

@@ -1,0 +1,48 @@
+-- Why a task over a file failed, and what standard error is told of it (docs/REFUSALS.md).
+use Rattle.std.specs.Prelude.{◌≡◌, ◌⊎◌, ◌++◌, ℕ, List, Option, Some, None, Result, Ok, Err, IfOk, codes, decimal}
+use Rattle.std.specs.Io.KnownBytes.{Keeps}
+use Rattle.lab_names.specs.Faults.{memory_entry}
+use Rattle.lab_messages.specs.declared.sending.WriteFault.{WriteFault as Untold}
+use Rattle.lab_files.specs.Faults.{file_fault_entry, file_fault_value}
+use Rattle.lab_desk.specs.Faults.{found_fault_entry}
+use Rattle.lab_walks.specs.Faults.{copy_fault_word}
+use Rattle.lab_serving.specs.Faults.{IsTold, server_fault_word, told_line}
+use Rattle.lab_installations.specs.declared.faults.TaskFault.{TaskFault}
+use Rattle.lab_installations.specs.declared.faults.TaskFault.TheVariants.{File, Founding, Copying, Server}
+
+-- the fault's word
+abbrev pub task_fault_word : TaskFault → List ℕ
+task_fault_word (File fault) = (file_fault_entry fault).word
+task_fault_word (Founding fault) = (found_fault_entry fault).word
+task_fault_word (Copying fault) = copy_fault_word fault
+task_fault_word (Server fault) = server_fault_word fault
+
+-- its value: the number of a file's schema that is another one
+abbrev pub task_fault_value : TaskFault → Option ℕ
+task_fault_value (File fault) = file_fault_value fault
+task_fault_value (Founding fault) = None
+task_fault_value (Copying fault) = None
+task_fault_value (Server fault) = None
+
+-- a word and, where there is one, a space and the value
+abbrev pub valued : List ℕ → Option ℕ → List ℕ
+valued word None = word
+valued word (Some value) = word ++ codes " " ++ decimal value
+
+-- the line that tells a fault
+abbrev pub task_fault_line : TaskFault → List ℕ
+task_fault_line fault = told_line (valued (task_fault_word fault) (task_fault_value fault))
+
+-- the status 1, and what standard error was told: the fault's line, or, for want of memory to make
+-- it, that memory ran out; where standard error failed, the line's first bytes, and not all
+abbrev pub Declines : TaskFault → Result ℕ Untold → Option (List ℕ) → Option (List ℕ) → Type 0
+Declines fault status before after =
+    IfOk status (λ number. number ≡ 1)
+    × (IsTold (task_fault_line fault) status before after
+    ⊎ IsTold (told_line memory_entry.word) status before after)
+
+-- the status 0 and nothing told where all was done, and else the fault
+abbrev pub TellsTask : Result (Unit {0}) TaskFault → Result ℕ Untold → Option (List ℕ) →
+    Option (List ℕ) → Type 0
+TellsTask (Ok _) status before after = (status ≡ Ok 0) × Keeps before after
+TellsTask (Err fault) status before after = Declines fault status before after

@@ -1,0 +1,16 @@
+//! Inspection copies that go out of a keeper one record at a time (21 CFR 11.10(b)), so that a copy
+//! of any length takes the memory of its longest record.
+#![tactic(auto)]
+
+mod faults;
+mod laws;
+mod progress;
+mod reads;
+mod rows;
+mod walks;
+
+pub use faults::CopyOutFault;
+pub use lab_kept::{Keeper, LabCode, Moment, Ordinal};
+pub use laws::a_laboratory_can_be_walked;
+pub use progress::{Progress, Unheard};
+pub use walks::copy_out;
