@@ -1,0 +1,52 @@
+"""Runs a command, and tells what it took: seconds on the wall, and its greatest memory, as Linux tells it of a process that runs."""
+import contextlib
+import re
+import subprocess
+import threading
+import time
+
+EVERY = 0.002
+MEGABYTE = 1_000_000
+
+
+class Took:
+    def __init__(self, seconds, memory):
+        self.seconds, self.memory = seconds, memory
+
+
+class Watch(threading.Thread):
+    """Looks every few milliseconds at the most memory that a process had. (The figure that `wait4` has is no use for small ones: it
+    begins with that of the process which started the command.)"""
+
+    def __init__(self, process):
+        super().__init__()
+        self.process, self.most, self.ended = process, 0, threading.Event()
+
+    def run(self):
+        with contextlib.suppress(OSError):  # it has ended
+            while not self.ended.is_set():
+                with open(f"/proc/{self.process.pid}/status") as status:
+                    if found := re.search(r"VmHWM:\s+(\d+) kB", status.read()):
+                        self.most = int(found[1]) * 1024 / MEGABYTE
+                self.ended.wait(EVERY)
+
+
+def took(words, given="/dev/null", written=None):
+    """What a command took that read this file, and wrote to that one or to nobody."""
+    with open(given, "rb") as source, open(written or "/dev/null", "wb") as target:
+        begun = time.perf_counter()
+        process = subprocess.Popen(words, stdin=source, stdout=target)
+        watch = Watch(process)
+        watch.start()
+        status = process.wait()
+        seconds = time.perf_counter() - begun
+        watch.ended.set()
+        watch.join()
+    assert status == 0, (words, status)
+    return Took(seconds, watch.most)
+
+
+def best(words, given="/dev/null", written=None, runs=3):
+    """The least time of some runs, and the most memory of any."""
+    every = [took(words, given, written) for _ in range(runs)]
+    return Took(min(one.seconds for one in every), max(one.memory for one in every))
