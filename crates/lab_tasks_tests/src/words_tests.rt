@@ -5,7 +5,7 @@ use lab_tasks::WriteFault;
 
 #[test]
 fn the_version(rt: HostRuntime) {
-    let version = "labdesk 0.5.0\nproved with rattle-kit-13f logic dac8208d650f15bf\n";
+    let version = "labdesk 0.5.0\nproved with rattle-kit-13b logic dac8208d650f15bf\n";
     check_input(&rt, &["out/labdesk", "--version"], "", version, "", 0);
     check_input(&rt, &["labdesk", "-V"], "", version, "", 0);
 }
