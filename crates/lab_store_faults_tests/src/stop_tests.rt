@@ -80,7 +80,7 @@ fn a_version_is_read_whole_or_not_at_all(rt: HostRuntime) {
         own: READING_ANSWER,
         refused: READING_REFUSED,
     };
-    is_walked(&rt, reading, READING_AFTER, (3, 5));
+    is_walked(&rt, reading, READING_AFTER, (1, 1));
 }
 
 // Three passwords are made of many rounds each.
@@ -91,5 +91,5 @@ fn a_laboratory_is_founded_whole_or_not_at_all(rt: HostRuntime) {
         own: FOUNDING_ANSWER,
         refused: FOUNDING_REFUSED,
     };
-    is_walked(&rt, founding, FOUNDING_AFTER, (7, 11));
+    is_walked(&rt, founding, FOUNDING_AFTER, (1, 1));
 }
