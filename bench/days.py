@@ -231,6 +231,15 @@ def copied(day):
     day.do(1450, "hal", "copied|", "copy", 1, 1)
 
 
+def guessed(day):
+    """Guessing by signing (21 CFR 11.300(d))."""
+    day.back("The fifth failed password at a signing locks, and closes the sessions")
+    for i in range(5):
+        day.sign(1300 + i, "dan", 20, 1, 1, "authorship", code="dan", password="dan password 2")
+    day.do(1305, "dan", 22, "read record", 1)
+    day.open(1306, "dan", 20, who="right")
+
+
 def worked(day):
     text = digest_of(day.lab, day.lab.records[0], day.lab.records[0].versions[0])
     assert text == sha(VERSION.encode())
@@ -798,14 +807,14 @@ def days():
     day.title("Setup")
     setup(day)
     day.keep()
-    for part in (worked, persons, limits, refusals, repeats, copied):
+    for part in (worked, persons, limits, refusals, repeats, copied, guessed):
         part(day)
     return day
 
 
 def write_cases(folder):
     """Each part by itself, quickly set up, with what must be told of it."""
-    for part in (worked, persons, limits, refusals, repeats, copied):
+    for part in (worked, persons, limits, refusals, repeats, copied, guessed):
         day = Day()
         quick_setup(day)
         day.keep()
