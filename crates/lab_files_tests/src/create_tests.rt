@@ -2,7 +2,7 @@
 
 use crate::helpers::{make, number, reopen, rows, run};
 use lab_files::FileFault;
-use sqlite::Connection;
+use sqlite::{Connection, Constraint, Error, ErrorCode};
 use std::test::Fail;
 
 const NAMES: [&str; 12] = [
@@ -58,6 +58,11 @@ fn a_new_file_opens_and_keeps_rows(rt: HostRuntime) -> Result<(), Fail> {
     Ok(())
 }
 
+// The answer to a row that breaks such a rule.
+fn refused(rule: Constraint) -> Result<(), Error> {
+    Err(Error::SqliteFailure(ErrorCode::ConstraintViolation(rule)))
+}
+
 #[test]
 fn keys_and_arrows_of_a_new_file_hold(rt: HostRuntime) -> Result<(), Fail> {
     let mut conn = Connection::open_in_memory(rt.alloc())?;
@@ -65,9 +70,9 @@ fn keys_and_arrows_of_a_new_file_hold(rt: HostRuntime) -> Result<(), Fail> {
     let lab =
         "INSERT INTO labs (code, name, last, stray, records, sessions, trail) VALUES ('aqua', 'Aqua Lab', 0, 0, 0, 0, 0)";
     assert!(rt; run(&mut conn, lab).is_ok());
-    assert!(rt; run(&mut conn, lab).is_err());
+    assert!(rt; run(&mut conn, lab) == refused(Constraint::Unique));
     let form = "INSERT INTO forms (lab, code, version, approval) VALUES (2, 'water', 1, 0)";
-    assert!(rt; run(&mut conn, form).is_err());
+    assert!(rt; run(&mut conn, form) == refused(Constraint::ForeignKey));
     Ok(())
 }
 

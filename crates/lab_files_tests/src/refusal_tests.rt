@@ -43,7 +43,7 @@ fn where_the_store_fails_nothing_is_made(rt: HostRuntime) -> Result<(), Fail> {
             }
             Some((Err(fault), opened)) => {
                 assert!(rt; fault == FileFault::Storage);
-                assert!(rt; opened.is_err());
+                assert!(rt; opened == Err(FileFault::Storage));
                 failed = failed.saturating_add(1);
             }
         }
