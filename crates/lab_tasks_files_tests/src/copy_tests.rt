@@ -112,8 +112,16 @@ fn a_range_that_ends_before_it_begins(rt: HostRuntime) {
     let told = "error: the number of '--from <A>' is above that of '--to <B>'\n\n\
         Usage: labdesk copy --file <F> --lab <L> --from <A> --to <B>\n\n\
         For more information, try '--help'.\n";
-    assert_words(&rt, &words("--lab=aqua", "--from=6", "--to=5"), ("", told, 2));
-    assert_words(&rt, &words("--lab=Aqua", "--from=6", "--to=5"), ("", told, 2));
+    assert_words(
+        &rt,
+        &words("--lab=aqua", "--from=6", "--to=5"),
+        ("", told, 2),
+    );
+    assert_words(
+        &rt,
+        &words("--lab=Aqua", "--from=6", "--to=5"),
+        ("", told, 2),
+    );
 }
 
 #[test]

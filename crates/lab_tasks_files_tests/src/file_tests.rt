@@ -78,26 +78,37 @@ fn assert_founded<R: Abort + AllocGlobal>(
     assert_done(rt, host, &words, body, ends);
 }
 
+const REFUSED: (&str, &str, u8) = ("", "labdesk: not_a_desk_file\n", 1);
+
+const FOUNDED: (&str, &str, u8) = ("founded aqua\n", "", 0);
+
 #[test]
 fn a_laboratory_in_a_file(rt: HostRuntime) {
     let path = new_path(&rt, "laboratory").expect(&rt, "a path");
-    let file = path.as_str();
-    let missing = ("", "labdesk: not_a_desk_file\n", 1);
-    assert_copied(&rt, host(&rt, 100), file, missing);
-    let bad = ("", "labdesk: bad_body\n", 1);
-    assert_founded(&rt, host(&rt, 100), file, "{", bad);
-    let none = ("", "labdesk: no_such_lab\n", 1);
-    assert_copied(&rt, host(&rt, 100), file, none);
-    let founded = ("founded aqua\n", "", 0);
-    assert_founded(&rt, host(&rt, 100), file, BODY, founded);
-    let there = ("", "labdesk: lab_exists\n", 1);
-    assert_founded(&rt, host(&rt, 200), file, BODY, there);
-    let copied = (COPY_OF_NONE, "", 0);
-    assert_copied(&rt, host(&rt, 6000), file, copied);
-    remove(&rt, file).expect(&rt, "a file");
+    assert_founded(&rt, host(&rt, 100), path.as_str(), BODY, FOUNDED);
+    assert_copied(&rt, host(&rt, 6000), path.as_str(), (COPY_OF_NONE, "", 0));
+    remove(&rt, path.as_str()).expect(&rt, "a file");
 }
 
-const REFUSED: (&str, &str, u8) = ("", "labdesk: not_a_desk_file\n", 1);
+#[test]
+fn a_laboratory_that_is_there(rt: HostRuntime) {
+    let path = new_path(&rt, "twice").expect(&rt, "a path");
+    assert_founded(&rt, host(&rt, 100), path.as_str(), BODY, FOUNDED);
+    let there = ("", "labdesk: lab_exists\n", 1);
+    assert_founded(&rt, host(&rt, 200), path.as_str(), BODY, there);
+    remove(&rt, path.as_str()).expect(&rt, "a file");
+}
+
+#[test]
+fn a_file_that_is_made_for_no_laboratory(rt: HostRuntime) {
+    let path = new_path(&rt, "bare").expect(&rt, "a path");
+    assert_copied(&rt, host(&rt, 100), path.as_str(), REFUSED);
+    let bad = ("", "labdesk: bad_body\n", 1);
+    assert_founded(&rt, host(&rt, 100), path.as_str(), "{", bad);
+    let none = ("", "labdesk: no_such_lab\n", 1);
+    assert_copied(&rt, host(&rt, 100), path.as_str(), none);
+    remove(&rt, path.as_str()).expect(&rt, "a file");
+}
 
 #[test]
 fn a_file_that_is_empty(rt: HostRuntime) {

@@ -165,7 +165,14 @@ where
 {
     let (mut output, mut errors) = (Vec::new(rt.alloc()), Vec::new(rt.alloc()));
     let input = input.as_bytes();
-    let answered = labdesk(rt.alloc(), &mut host, words, input, &mut output, &mut errors);
+    let answered = labdesk(
+        rt.alloc(),
+        &mut host,
+        words,
+        input,
+        &mut output,
+        &mut errors,
+    );
     assert_bytes(rt, &output, written, "the output");
     assert_bytes(rt, &errors, told, "standard error");
     assert_eq!(rt; answered, Ok(status), "to {words:?}");
@@ -183,7 +190,14 @@ pub(crate) fn assert_cut<R: Abort + AllocGlobal, N: Net>(
     let mut output = Narrow::new(rt.alloc(), room, fails);
     let mut errors = Narrow::new(rt.alloc(), told_room, fails);
     let input: &[u8] = &[];
-    let answered = labdesk(rt.alloc(), &mut host, words, input, &mut output, &mut errors);
+    let answered = labdesk(
+        rt.alloc(),
+        &mut host,
+        words,
+        input,
+        &mut output,
+        &mut errors,
+    );
     assert_bytes(rt, &output.bytes, written, "the output");
     assert_bytes(rt, &errors.bytes, told, "standard error");
     assert_eq!(rt; answered, answer, "to {words:?}");
@@ -203,7 +217,6 @@ pub(crate) fn assert_words<R: Net + Abort + AllocGlobal>(
 pub(crate) fn assert_refused<R: Net + Abort + AllocGlobal>(rt: &R, words: &[&str], what: &str) {
     let told = format!(in rt.alloc();
         "error: invalid value {what}\n\nFor more information, try '--help'.\n"
-    )
-    .expect(rt, "a text");
+    ).expect(rt, "a text");
     assert_words(rt, words, ("", told.as_str(), 2));
 }
