@@ -4,7 +4,7 @@ use crate::files::{Filed, aqua_file, bare_file, of_schema, other_file};
 use crate::made::{
     assert_cut, assert_done, assert_refused, assert_words, bare_host, host, stopped_host,
 };
-use crate::sockets::{Awaiting, Closed, assert_gets, assert_gets_nothing, awaiting, client};
+use crate::sockets::{Awaiting, Closed, assert_gets, assert_gets_nothing, client, listening};
 use crate::texts::{AQUA_CARD, AQUA_REPLY, ZINC_CARD, ZINC_REPLY};
 use lab_tasks::WriteFault;
 use std::process::Abort;
@@ -36,7 +36,7 @@ fn assert_serves<R: Abort + AllocGlobal>(
 
 #[test]
 fn two_connections(rt: HostRuntime) {
-    let (net, port) = awaiting(&rt);
+    let (net, port) = listening(&rt);
     let first = client(&rt, port, AQUA_CARD);
     let second = client(&rt, port, ZINC_CARD);
     assert_serves(&rt, &net, port, 2, ("", 0));
@@ -46,7 +46,7 @@ fn two_connections(rt: HostRuntime) {
 
 #[test]
 fn a_clock_that_fails_after_one_connection(rt: HostRuntime) {
-    let (net, port) = awaiting(&rt);
+    let (net, port) = listening(&rt);
     let first = client(&rt, port, AQUA_CARD);
     let second = client(&rt, port, ZINC_CARD);
     assert_serves(&rt, &net, port, 1, ("labdesk: read_fault\n", 1));

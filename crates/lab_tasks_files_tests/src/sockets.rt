@@ -45,7 +45,7 @@ impl Net for Closed {
 }
 
 /// A network with a listener at a port that was free, and the port.
-pub(crate) fn awaiting<R: Net<Listener = TcpListener, Stream = TcpStream> + Abort>(
+pub(crate) fn listening<R: Net<Listener = TcpListener, Stream = TcpStream> + Abort>(
     rt: &R,
 ) -> (Awaiting, u16) {
     let listener = TcpListener::bind(rt, "127.0.0.1:0").expect(rt, "a listener");
