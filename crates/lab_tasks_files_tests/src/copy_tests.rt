@@ -4,8 +4,7 @@ use crate::files::{Filed, aqua_file, bare_file, of_schema, other_file, played_fi
 use crate::made::{
     assert_cut, assert_done, assert_refused, assert_words, bare_host, host, stopped_host,
 };
-use crate::texts::{COPY, DAY};
-use lab_copies_tests::days::COPY_OF_NONE;
+use crate::texts::{COPY, COPY_OF_NONE, DAY};
 use std::net::Net;
 use std::process::Abort;
 

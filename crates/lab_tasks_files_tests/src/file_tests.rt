@@ -1,8 +1,7 @@
 //! The commands over a file of this machine, one after the other.
 
 use crate::made::{Numbers, Seconds, assert_done};
-use crate::texts::BODY;
-use lab_copies_tests::days::COPY_OF_NONE;
+use crate::texts::{BODY, COPY_OF_NONE};
 use lab_tasks::{Host, HostShelf, Unheard};
 use std::process::Abort;
 use std::{env, fs, io, process};

@@ -89,3 +89,9 @@ pub(crate) const COPY: &str =
     479d443c15a239cc8702b35a7db1ed4047ac2fa0b0750d220aaf16aa87d762a8,\
     ea075062c058d47ba3440c0901e093184f10746e41156107a531b398c3f86278\n\
     end,aqua,1,1,1,2,,,,,,,\n";
+
+/// The copy of records 7 to 9 at second 6000, of which there is none.
+pub(crate) const COPY_OF_NONE: &str =
+    "kind,lab,record,version,key,value,unit,person,name,moment,reason,digest,seal\n\
+    copy,aqua,7,9,2,,,,Aqua Lab,1970-01-01T01:40:00Z,,,\n\
+    end,aqua,0,0,0,0,,,,,,,\n";
