@@ -1,14 +1,16 @@
 -- The laboratories of a file: what the tables of a connection mean, and what becomes of their rows,
 -- as a keeper's (21 CFR 11.10(c); ISO/IEC 17025:2017, 7.11.3).
-use Rattle.std.specs.Prelude.{◌≡◌, ℕ, List}
+use Rattle.std.specs.Prelude.{◌≡◌, ℕ, List, Ok}
 use Rattle.sqlite_trees.specs.declared.store.Store.{Ghosts}
 use Rattle.sqlite.specs.Held.{Held, state}
+use Rattle.sqlite.specs.State.{State, HasCleanDisk, IsUnchanged}
 use Rattle.lab_kept.specs.declared.labs.Lab.{Lab}
 use Rattle.lab_kept.specs.declared.changes.Change.{Change}
 use Rattle.lab_kept.specs.Worlds.{World}
 use Rattle.lab_tables.specs.Ready.{tables_of}
 use Rattle.lab_tables.specs.Placing.{PlacesLab}
 use Rattle.lab_tables_changes.specs.Steps.{AreMadeIfAny}
+use Rattle.lab_files.specs.Verdicts.{Answers}
 use Rattle.lab_store.specs.StoreWorlds.{world_of}
 
 module _ {S : Type 0} (disk : Ghosts S) where
@@ -28,3 +30,9 @@ module _ {S : Type 0} (disk : Ghosts S) where
   -- the rows are as they were but for a laboratory that is new
   abbrev pub file_places : Held S → Held S → Lab → Type 0
   file_places old new lab = PlacesLab lab (tables_of (state disk old)) (tables_of (state disk new))
+
+  -- the file was asked for its schema when it was opened, and is one of this schema: the answer to
+  -- what the file is was yes
+  abbrev pub IsTaken : Held S → Type 0
+  IsTaken conn = HasCleanDisk (state disk conn) → (old : State)
+      × IsUnchanged old (state disk conn) × Answers old (state disk conn) (Ok tt)

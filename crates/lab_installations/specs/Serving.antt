@@ -8,7 +8,15 @@ use Rattle.lab_desk.specs.Keeping.{AreWithin}
 use Rattle.lab_serving.specs.Staying.{StaysOn}
 use Rattle.lab_serving.specs.Tasks.{IsServing}
 use Rattle.lab_installations.specs.declared.faults.TaskFault.{TaskFault}
+use Rattle.lab_installations.specs.declared.faults.TaskFault.TheVariants.{File, Founding, Copying, Server}
 use Rattle.lab_installations.specs.Faults.{Declines}
+
+-- a fault before serving: the file wasn't opened, no port listened at, or memory ran out
+abbrev pub IsUnprepared : TaskFault → Type 0
+IsUnprepared (File fault) = Unit {0}
+IsUnprepared (Founding fault) = ⊥
+IsUnprepared (Copying fault) = ⊥
+IsUnprepared (Server fault) = Unit {0}
 
 module _ {S : Type 0} (world : S → World) (rests : S → S → Type 0)
     (moves : S → S → List ℕ → List Change → Type 0) (count : ℕ)
@@ -22,7 +30,7 @@ module _ {S : Type 0} (world : S → World) (rests : S → S → Type 0)
 
   -- nothing was served, and why was told: the file wasn't opened, or no port listened at
   abbrev pub DeclinesToServe : Type 0
-  DeclinesToServe = (fault : TaskFault) × Keeps before after
+  DeclinesToServe = (fault : TaskFault) × IsUnprepared fault × Keeps before after
       × Declines fault status told_before told_after
 
   abbrev pub ServesFile : Type 0

@@ -3,6 +3,7 @@
 ghost use Rattle.std.specs.Prelude.{IfOk};
 ghost use Rattle.sqlite.specs.Held.{state};
 ghost use Rattle.lab_tables.specs.Ready.{IsAtRest};
+ghost use Rattle.lab_installations.specs.Files.{IsTaken};
 
 use crate::shelves::Shelf;
 use lab_files::{FileFault, create, open};
@@ -19,6 +20,7 @@ pub fn open_file<H: Shelf>(
     path: &str,
 ) -> Result<Connection<H::Disk>, FileFault>
     ensures at_rest { IfOk result (λ conn. IsAtRest (state H.Disk.Store conn)) }
+    ensures taken { IfOk result (IsTaken H.Disk.Store) }
 {
     if !shelf.has(path) {
         return Err(FileFault::NotADeskFile);

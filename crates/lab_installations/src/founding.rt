@@ -55,8 +55,13 @@ pub fn found_over<S: Keeper + Drop, C: Clock, X: Chance, B: Read, W: Write>(
     body: &mut B,
     output: &mut W,
 ) -> Result<(), TaskFault>
-    ensures ends { Ends S.world S.places lab.now (B.remaining body.old)
-        desk.old.keeper desk.new.keeper result }
+    ensures ends { Ends S.world S.places (record {
+        moments = C.coming clock.old;
+        later = C.coming clock.new;
+        words = X.coming chance.old;
+        further = X.coming chance.new;
+        })
+        lab.now (B.remaining body.old) desk.old.keeper desk.new.keeper result }
     ensures prints { Prints (founded_line lab.now) result
         (W.contents output.old) (W.contents output.new) }
     ensures passes { Passes (S.world desk.old.keeper) (S.world desk.new.keeper) }
@@ -81,8 +86,13 @@ fn found_in_file<H: Shelf, C: Clock, X: Chance, B: Read, W: Write>(
 ) -> Result<(), TaskFault>
 where
     Connection<H::Disk>: Closing,
-    ensures ends { EndsInFile (file_world H.Disk.Store) (file_places H.Disk.Store) lab.now
-        (B.remaining body.old) result }
+    ensures ends { EndsInFile (file_world H.Disk.Store) (file_places H.Disk.Store) (record {
+        moments = C.coming clock.old;
+        later = C.coming clock.new;
+        words = X.coming chance.old;
+        further = X.coming chance.new;
+        })
+        lab.now (B.remaining body.old) result }
     ensures prints { Prints (founded_line lab.now) result
         (W.contents output.old) (W.contents output.new) }
 {
@@ -113,8 +123,13 @@ pub fn found<H: Shelf, C: Clock, X: Chance, B: Read, W: Write, E: Write>(
 ) -> Result<u8, WriteFault>
 where
     Connection<H::Disk>: Closing,
-    ensures { IsFounding (file_world H.Disk.Store) (file_places H.Disk.Store) lab.now
-        (B.remaining body.old) (W.contents output.old) (W.contents output.new)
+    ensures { IsFounding (file_world H.Disk.Store) (file_places H.Disk.Store) (record {
+        moments = C.coming clock.old;
+        later = C.coming clock.new;
+        words = X.coming chance.old;
+        further = X.coming chance.new;
+        })
+        lab.now (B.remaining body.old) (W.contents output.old) (W.contents output.new)
         (E.contents errors.old) (E.contents errors.new) result }
 {
     match found_in_file(alloc, shelf, path, lab, clock, chance, body, output) {

@@ -1,7 +1,8 @@
 //! `labdesk serve`: the laboratories of a file are served on a port of this machine.
 
 ghost use Rattle.lab_installations.specs.Files.{file_moves, file_rests, file_world};
-ghost use Rattle.lab_installations.specs.Serving.{ServesFile};
+ghost use Rattle.lab_installations.specs.Serving.{IsUnprepared, ServesFile};
+ghost use Rattle.std.specs.Prelude.{IfErr};
 
 use crate::faults::TaskFault;
 use crate::files::open_file;
@@ -23,7 +24,9 @@ fn prepared<N: Net, H: Shelf>(
     shelf: &mut H,
     path: &str,
     port: u16,
-) -> Result<(Desk<Store<H::Disk>>, N::Listener), TaskFault> {
+) -> Result<(Desk<Store<H::Disk>>, N::Listener), TaskFault>
+    ensures { IfErr result IsUnprepared }
+{
     let conn = open_file(alloc, shelf, path)?;
     let desk = Desk::new(alloc, Store::new(alloc, conn))?;
     let listener = listen(net, port)?;

@@ -33,7 +33,12 @@ fn do_task<N: Net, H: Shelf, C: Clock, X: Chance, P: Progress, R: Read + Drop, W
 where
     Connection<H::Disk>: Closing,
     ensures { (asked : Asked) → IsTask task.entry asked →
-        IsDone H.Disk.Store asked (R.remaining input)
+        IsDone H.Disk.Store (record {
+        moments = C.coming host.old.clock;
+        later = C.coming host.new.clock;
+        words = X.coming host.old.chance;
+        further = X.coming host.new.chance;
+        }) asked (R.remaining input)
         (W.contents output.old) (W.contents output.new)
         (E.contents errors.old) (E.contents errors.new) result }
 {
@@ -91,7 +96,12 @@ pub fn labdesk<
 where
     Connection<H::Disk>: Closing,
     ensures done { (asked : Asked) → Asks asked (map S.text words.now) →
-        IsDone H.Disk.Store asked (R.remaining input)
+        IsDone H.Disk.Store (record {
+        moments = C.coming host.old.clock;
+        later = C.coming host.new.clock;
+        words = X.coming host.old.chance;
+        further = X.coming host.new.chance;
+        }) asked (R.remaining input)
         (W.contents output.old) (W.contents output.new)
         (E.contents errors.old) (E.contents errors.new) result }
     ensures explained { IsExplained (fault_of labdesk_app (map S.text words.now))

@@ -46,7 +46,13 @@ pub(crate) fn found_for<N, H: Shelf, C: Clock, X: Chance, P, R: Read + Drop, W: 
 ) -> Result<u8, WriteFault>
 where
     Connection<H::Disk>: Closing,
-    ensures { IsFounded H.Disk.Store (W.contents output.old) (W.contents output.new)
+    ensures { IsFounded H.Disk.Store (record {
+        moments = C.coming host.old.clock;
+        later = C.coming host.new.clock;
+        words = X.coming host.old.chance;
+        further = X.coming host.new.chance;
+        })
+        (W.contents output.old) (W.contents output.new)
         (E.contents errors.old) (E.contents errors.new) result lab.now
         (body_in (R.remaining input)) }
 {
@@ -76,7 +82,7 @@ fn ordinal(number: u32) -> Ordinal
 }
 
 // A copy of the records of a range, of the laboratory of this text.
-fn copy_range<N, H: Shelf, C: Clock, X, P: Progress, W: Write, E: Write>(
+fn copy_range<N, H: Shelf, C: Clock, X: Chance, P: Progress, W: Write, E: Write>(
     alloc: Global,
     host: &mut Host<'_, N, H, C, X, P>,
     file: &str,
@@ -88,7 +94,13 @@ fn copy_range<N, H: Shelf, C: Clock, X, P: Progress, W: Write, E: Write>(
 ) -> Result<u8, WriteFault>
 where
     Connection<H::Disk>: Closing,
-    ensures { IsCopied H.Disk.Store (W.contents output.old) (W.contents output.new)
+    ensures { IsCopied H.Disk.Store (record {
+        moments = C.coming host.old.clock;
+        later = C.coming host.new.clock;
+        words = X.coming host.old.chance;
+        further = X.coming host.new.chance;
+        })
+        (W.contents output.old) (W.contents output.new)
         (E.contents errors.old) (E.contents errors.new) result lab.now from to }
 {
     let lab = match LabCode::parse(alloc, lab) {
@@ -114,7 +126,7 @@ where
 ///
 /// # Errors
 /// A fault could not be told whole, as standard error failed.
-pub(crate) fn copy_for<N, H: Shelf, C: Clock, X, P: Progress, W: Write, E: Write>(
+pub(crate) fn copy_for<N, H: Shelf, C: Clock, X: Chance, P: Progress, W: Write, E: Write>(
     alloc: Global,
     host: &mut Host<'_, N, H, C, X, P>,
     file: &str,
@@ -127,7 +139,13 @@ pub(crate) fn copy_for<N, H: Shelf, C: Clock, X, P: Progress, W: Write, E: Write
 where
     Connection<H::Disk>: Closing,
     ensures { IsTrue (is_ordinal from) → IsTrue (is_ordinal to) →
-        IsCopiedIf H.Disk.Store (W.contents output.old) (W.contents output.new)
+        IsCopiedIf H.Disk.Store (record {
+        moments = C.coming host.old.clock;
+        later = C.coming host.new.clock;
+        words = X.coming host.old.chance;
+        further = X.coming host.new.chance;
+        })
+        (W.contents output.old) (W.contents output.new)
         (E.contents errors.old) (E.contents errors.new) result lab.now from to (nat_le from to) }
 {
     if from > to {

@@ -28,7 +28,7 @@ returns-in_err-desk-clause-prints g c =
 
 pub returns-clause-ends : goal.returns-clause-ends
 returns-clause-ends g c =
-    in_file _ _ c.args.lab.now (g.B.Read.remaining c.args.body.now) c.in_ok-desk.desk.keeper
+    in_file _ _ _ c.args.lab.now (g.B.Read.remaining c.args.body.now) c.in_ok-desk.desk.keeper
     c.found_over-done.new.desk.keeper c.found_over-done.result c.found_over-done.ensures.ends
 
 pub returns-clause-prints : goal.returns-clause-prints

@@ -7,4 +7,5 @@ pub returns-in-Ok : goal.returns-in-Ok
 returns-in-Ok g c = inl (_, _, c.serve-status.ensures.serves, c.serve-status.ensures.stays)
 
 pub returns-in-Err : goal.returns-in-Err
-returns-in-Err g c = inr (_, Keeps-refl _, c.decline.ensures)
+returns-in-Err g c =
+    inr (_, rw c.in-Err.is at c.prepared.ensures, Keeps-refl _, c.decline.ensures)
