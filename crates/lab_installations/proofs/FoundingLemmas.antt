@@ -79,13 +79,13 @@ module _ {S : Type 0} (world : S → World) (places : S → S → Lab → Type 0
       (known_as known read bytes same whole)
       (printed_so read old new result printed (tick, drawn, founds honest reached, durable honest reached))
 
-  -- so it was over the keeper of a file
-  pub in_file : (known : Option (List ℕ)) (old new : S) (result : Result (Unit {0}) TaskFault) →
-      Ends world places drawing code known old new result → EndsInFile world places drawing code known result
-  in_file known old new (Ok done) ends = (old, new, ends)
-  in_file known old new (Err (File fault)) ends = tt
-  in_file known old new (Err (Founding fault)) ends = (old, new, ends)
-  in_file known old new (Err (Copying fault)) ends = (old, new, ends)
-  in_file known old new (Err (Server Read)) ends = (old, new, ends)
-  in_file known old new (Err (Server Write)) ends = (old, new, ends)
-  in_file known old new (Err (Server Memory)) ends = tt
+  -- so it was over the keeper of a file that was opened
+  pub in_file : (opened : S → Type 0) (known : Option (List ℕ)) (old new : S)
+      (result : Result (Unit {0}) TaskFault) → opened old
+      → Ends world places drawing code known old new result
+      → EndsInFile world places drawing opened code known result
+  in_file opened known old new (Ok done) is ends = (old, new, is, ends)
+  in_file opened known old new (Err (File fault)) is ends = tt
+  in_file opened known old new (Err (Founding fault)) is ends = (old, new, is, ends)
+  in_file opened known old new (Err (Copying fault)) is ends = (old, new, is, ends)
+  in_file opened known old new (Err (Server fault)) is ends = (old, new, is, ends)

@@ -3,6 +3,7 @@ use Rattle.std.specs.Prelude.{◌≡◌, ◌⊎◌, ◌++◌, ℕ, List, Option,
 use Rattle.std.specs.Io.KnownBytes.{Keeps}
 use Rattle.lab_names.specs.Faults.{memory_entry}
 use Rattle.lab_messages.specs.declared.sending.WriteFault.{WriteFault as Untold}
+use Rattle.lab_files.specs.declared.faults.FileFault.TheVariants.{Memory as FileMemory}
 use Rattle.lab_files.specs.Faults.{file_fault_entry, file_fault_value}
 use Rattle.lab_desk.specs.Faults.{found_fault_entry}
 use Rattle.lab_walks.specs.Faults.{copy_fault_word}
@@ -23,6 +24,10 @@ task_fault_value (File fault) = file_fault_value fault
 task_fault_value (Founding fault) = None
 task_fault_value (Copying fault) = None
 task_fault_value (Server fault) = None
+
+-- memory ran out before a file was opened
+abbrev pub unopened_fault : TaskFault
+unopened_fault = File FileMemory
 
 -- a word and, where there is one, a space and the value
 abbrev pub valued : List ℕ → Option ℕ → List ℕ

@@ -17,13 +17,13 @@ use Rattle.lab_installations.specs.Faults.{TellsTask}
 -- ---- what was printed
 
 -- the line, where all was done; its first bytes, and not all, where the output failed; and else
--- nothing
+-- nothing. There is no fault of a copy
 abbrev pub Prints : List ℕ → Result (Unit {0}) TaskFault → Option (List ℕ) → Option (List ℕ) →
     Type 0
 Prints line (Ok _) before after = Appends before after line
 Prints line (Err (File fault)) before after = Keeps before after
 Prints line (Err (Founding fault)) before after = Keeps before after
-Prints line (Err (Copying fault)) before after = Keeps before after
+Prints line (Err (Copying fault)) before after = ⊥
 Prints line (Err (Server Read)) before after = Keeps before after
 Prints line (Err (Server Write)) before after =
     (sent : ℕ) × (sent < length line) × Appends before after (take sent line)
@@ -37,6 +37,11 @@ pub record Drawing : Type 0 where
   pub later : Option (List ℕ)
   pub words : Option (List (List ℕ))
   pub further : Option (List (List ℕ))
+
+abbrev pub drawing_of : Option (List ℕ) → Option (List ℕ) → Option (List (List ℕ)) →
+    Option (List (List ℕ)) → Drawing
+drawing_of moments later words further =
+    record { moments = moments; later = later; words = words; further = further }
 
 -- the tick is of the moment and the words that they gave
 abbrev pub IsDrawn : Drawing → Tick → Type 0
@@ -74,25 +79,25 @@ module _ {S : Type 0} (world : S → World) (places : S → S → Lab → Type 0
   Ends code body old new ending = Given (world old) (world new)
       (IfSome body (λ bytes. EndsFounding code bytes old new ending))
 
-  -- so it was over the keeper of a file. Where there was no file none was asked, and where memory
-  -- ran out there may have been none yet
-  abbrev pub EndsInFile : List ℕ → Option (List ℕ) → Result (Unit {0}) TaskFault → Type 0
-  EndsInFile code body (Ok done) = (old : S) × (new : S) × Ends code body old new (Ok done)
-  EndsInFile code body (Err (File fault)) = Unit {0}
-  EndsInFile code body (Err (Founding fault)) =
-      (old : S) × (new : S) × Ends code body old new (Err (Founding fault))
-  EndsInFile code body (Err (Copying fault)) =
-      (old : S) × (new : S) × Ends code body old new (Err (Copying fault))
-  EndsInFile code body (Err (Server Read)) =
-      (old : S) × (new : S) × Ends code body old new (Err (Server Read))
-  EndsInFile code body (Err (Server Write)) =
-      (old : S) × (new : S) × Ends code body old new (Err (Server Write))
-  EndsInFile code body (Err (Server Memory)) = Unit {0}
+  module _ (opened : S → Type 0) where
+    -- so it was over a keeper that was opened
+    abbrev pub EndsOver : List ℕ → Option (List ℕ) → Result (Unit {0}) TaskFault → Type 0
+    EndsOver code body ending =
+        (old : S) × (new : S) × opened old × Ends code body old new ending
 
-  -- the task `found`, by its status, what was printed and what was told
-  pub record IsFounding (code : List ℕ) (body before after told_before told_after : Option (List ℕ))
-      (status : Result ℕ Untold) : Type 0 where
-    pub ending : Result (Unit {0}) TaskFault
-    pub ends : EndsInFile code body ending
-    pub prints : Prints (founded_line code) ending before after
-    pub told : TellsTask ending status told_before told_after
+    -- over the keeper of a file, where one was opened
+    abbrev pub EndsInFile : List ℕ → Option (List ℕ) → Result (Unit {0}) TaskFault → Type 0
+    EndsInFile code body (Ok done) = EndsOver code body (Ok done)
+    EndsInFile code body (Err (File fault)) = Unit {0}
+    EndsInFile code body (Err (Founding fault)) = EndsOver code body (Err (Founding fault))
+    EndsInFile code body (Err (Copying fault)) = EndsOver code body (Err (Copying fault))
+    EndsInFile code body (Err (Server fault)) = EndsOver code body (Err (Server fault))
+
+    -- the task `found`, by its status, what was printed and what was told
+    pub record IsFounding (code : List ℕ) (body : Option (List ℕ))
+        (before after told_before told_after : Option (List ℕ)) (status : Result ℕ Untold)
+        : Type 0 where
+      pub ending : Result (Unit {0}) TaskFault
+      pub ends : EndsInFile code body ending
+      pub prints : Prints (founded_line code) ending before after
+      pub told : TellsTask ending status told_before told_after

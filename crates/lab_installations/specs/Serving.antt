@@ -19,12 +19,12 @@ IsUnprepared (Copying fault) = ⊥
 IsUnprepared (Server fault) = Unit {0}
 
 module _ {S : Type 0} (world : S → World) (rests : S → S → Type 0)
-    (moves : S → S → List ℕ → List Change → Type 0) (count : ℕ)
+    (moves : S → S → List ℕ → List Change → Type 0) (opened : S → Type 0) (count : ℕ)
     (before after told_before told_after : Option (List ℕ)) (status : Result ℕ Untold) where
-  -- over the keeper of a file so many connections were served, unless a fault came, which was told;
-  -- each laboratory stays within its limits and has all that was recorded
+  -- over the keeper of a file that was opened so many connections were served, unless a fault came,
+  -- which was told; each laboratory stays within its limits and has all that was recorded
   abbrev pub Serves : Type 0
-  Serves = (old : S) × (new : S)
+  Serves = (old : S) × (new : S) × opened old
       × IsServing world rests moves old new count before after told_before told_after status
       × (AreWithin (world old) → Given (world old) (world new) (StaysOn (world old) (world new)))
 

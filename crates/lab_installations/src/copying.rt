@@ -1,7 +1,7 @@
 //! `labdesk copy`: the inspection copy of a laboratory of a file.
 
 ghost use Rattle.lab_installations.specs.Copying.{CopiesBy, IsCopying};
-ghost use Rattle.lab_installations.specs.Files.{file_rests, file_world};
+ghost use Rattle.lab_installations.specs.Files.{IsOurs, file_rests, file_world};
 
 use crate::faults::TaskFault;
 use crate::files::open_file;
@@ -31,7 +31,7 @@ fn copy_file<H: Shelf, C: Clock, W: Write, P: Progress>(
 where
     Connection<H::Disk>: Closing,
     ensures { CopiesBy (file_world H.Disk.Store) (file_rests H.Disk.Store)
-        (C.coming clock.old) (C.coming clock.new) lab.now from to
+        (IsOurs H.Disk.Store) (C.coming clock.old) (C.coming clock.new) lab.now from to
         (W.contents output.old) (W.contents output.new) result }
 {
     let conn = open_file(alloc, shelf, path)?;
@@ -67,7 +67,7 @@ pub fn copy<H: Shelf, C: Clock, W: Write, E: Write, P: Progress>(
 where
     Connection<H::Disk>: Closing,
     ensures { IsCopying (file_world H.Disk.Store) (file_rests H.Disk.Store)
-        (C.coming clock.old) (C.coming clock.new) lab.now from to
+        (IsOurs H.Disk.Store) (C.coming clock.old) (C.coming clock.new) lab.now from to
         (W.contents output.old) (W.contents output.new)
         (E.contents errors.old) (E.contents errors.new) result }
 {

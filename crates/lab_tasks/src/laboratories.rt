@@ -4,6 +4,7 @@ ghost use Rattle.std.specs.Prelude.{◌≡◌, ℕ, pos, List, IsTrue, Err, nat_
 ghost use Rattle.lab_names.specs.Moment.{is_moment};
 ghost use Rattle.lab_names.specs.Ordinals.{is_ordinal};
 ghost use Rattle.lab_serving.specs.Faults.{Tells};
+ghost use Rattle.lab_installations.specs.Foundings.{drawing_of};
 ghost use Rattle.lab_tasks.specs.CommandLine.{IsCopied, IsCopiedIf, IsFounded, IsRehearsed};
 ghost use Rattle.lab_tasks.specs.Laboratories.{body_in};
 
@@ -46,14 +47,10 @@ pub(crate) fn found_for<N, H: Shelf, C: Clock, X: Chance, P, R: Read + Drop, W: 
 ) -> Result<u8, WriteFault>
 where
     Connection<H::Disk>: Closing,
-    ensures { IsFounded H.Disk.Store (record {
-        moments = C.coming host.old.clock;
-        later = C.coming host.new.clock;
-        words = X.coming host.old.chance;
-        further = X.coming host.new.chance;
-        })
-        (W.contents output.old) (W.contents output.new)
-        (E.contents errors.old) (E.contents errors.new) result lab.now
+    ensures { IsFounded H.Disk.Store (W.contents output.old) (W.contents output.new)
+        (E.contents errors.old) (E.contents errors.new) result
+        (drawing_of (C.coming host.old.clock) (C.coming host.new.clock)
+        (X.coming host.old.chance) (X.coming host.new.chance)) lab.now
         (body_in (R.remaining input)) }
 {
     let lab = match LabCode::parse(alloc, lab) {
@@ -82,7 +79,7 @@ fn ordinal(number: u32) -> Ordinal
 }
 
 // A copy of the records of a range, of the laboratory of this text.
-fn copy_range<N, H: Shelf, C: Clock, X: Chance, P: Progress, W: Write, E: Write>(
+fn copy_range<N, H: Shelf, C: Clock, X, P: Progress, W: Write, E: Write>(
     alloc: Global,
     host: &mut Host<'_, N, H, C, X, P>,
     file: &str,
@@ -94,14 +91,9 @@ fn copy_range<N, H: Shelf, C: Clock, X: Chance, P: Progress, W: Write, E: Write>
 ) -> Result<u8, WriteFault>
 where
     Connection<H::Disk>: Closing,
-    ensures { IsCopied H.Disk.Store (record {
-        moments = C.coming host.old.clock;
-        later = C.coming host.new.clock;
-        words = X.coming host.old.chance;
-        further = X.coming host.new.chance;
-        })
-        (W.contents output.old) (W.contents output.new)
-        (E.contents errors.old) (E.contents errors.new) result lab.now from to }
+    ensures { IsCopied H.Disk.Store (W.contents output.old) (W.contents output.new)
+        (E.contents errors.old) (E.contents errors.new) result
+        (C.coming host.old.clock) (C.coming host.new.clock) lab.now from to }
 {
     let lab = match LabCode::parse(alloc, lab) {
         Ok(lab) => lab,
@@ -126,7 +118,7 @@ where
 ///
 /// # Errors
 /// A fault could not be told whole, as standard error failed.
-pub(crate) fn copy_for<N, H: Shelf, C: Clock, X: Chance, P: Progress, W: Write, E: Write>(
+pub(crate) fn copy_for<N, H: Shelf, C: Clock, X, P: Progress, W: Write, E: Write>(
     alloc: Global,
     host: &mut Host<'_, N, H, C, X, P>,
     file: &str,
@@ -139,14 +131,9 @@ pub(crate) fn copy_for<N, H: Shelf, C: Clock, X: Chance, P: Progress, W: Write, 
 where
     Connection<H::Disk>: Closing,
     ensures { IsTrue (is_ordinal from) → IsTrue (is_ordinal to) →
-        IsCopiedIf H.Disk.Store (record {
-        moments = C.coming host.old.clock;
-        later = C.coming host.new.clock;
-        words = X.coming host.old.chance;
-        further = X.coming host.new.chance;
-        })
-        (W.contents output.old) (W.contents output.new)
-        (E.contents errors.old) (E.contents errors.new) result lab.now from to (nat_le from to) }
+        IsCopiedIf H.Disk.Store (W.contents output.old) (W.contents output.new)
+        (E.contents errors.old) (E.contents errors.new) result
+        (C.coming host.old.clock) (C.coming host.new.clock) lab.now from to (nat_le from to) }
 {
     if from > to {
         return explain_order(alloc, output, errors);
