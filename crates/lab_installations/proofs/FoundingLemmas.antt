@@ -14,7 +14,7 @@ use Rattle.lab_serving.specs.Faults.{IsReaderFault}
 use Rattle.lab_serving.proofs.RehearsalLemmas.{for_known, known_as}
 use Rattle.lab_installations.specs.declared.faults.TaskFault.{TaskFault}
 use Rattle.lab_installations.specs.declared.faults.TaskFault.TheVariants.{Copying, File, Founding, Server}
-use Rattle.lab_installations.specs.Foundings.{Drawing, Ends, EndsFounding, EndsInFile, IsDrawn, IsFounded, Prints}
+use Rattle.lab_installations.specs.Foundings.{Drawing, Ends, EndsFounding, EndsInFile, IsDrawn, IsFounded, Prints, drawing_of}
 
 -- ---- what is printed
 
@@ -25,6 +25,10 @@ prints_idle line Write known h keeps = absurd h
 prints_idle line Memory known h keeps = keeps
 
 -- ---- what is made
+
+-- of a tick that wasn't drawn nothing is said
+abbrev pub undrawn : Drawing
+undrawn = drawing_of None None None None
 
 module _ {S : Type 0} (world : S → World) (places : S → S → Lab → Type 0) (drawing : Drawing)
     (code : List ℕ) where

@@ -4,7 +4,7 @@ use Rattle.std.proofs.lemmas.Result.{err_from_is_err_and}
 use Rattle.lab_serving.specs.declared.faults.ServerFault.TheVariants.{Memory}
 use Rattle.lab_installations.specs.Files.{IsOpened, file_places, file_world}
 use Rattle.lab_installations.proofs.FileLemmas.{kept_so}
-use Rattle.lab_installations.proofs.FoundingLemmas.{ends_idle, in_file}
+use Rattle.lab_installations.proofs.FoundingLemmas.{ends_idle, in_file, undrawn}
 use Rattle.lab_installations.proofs.founding.found_in_file.Goals as goal
 
 pub returns-in_err-conn-clause-ends : goal.returns-in_err-conn-clause-ends
@@ -22,7 +22,7 @@ returns-in_err-desk-clause-ends g c =
     let fault = err_from_is_err_and c.from_residual-in_err-desk.result
     c.from_residual-in_err-desk.ensures.1 in
     rw (fault.1, fault.2) (c.in_ok-conn.conn, c.in_ok-conn.conn, c.in_ok-conn.ensures.opened,
-    ends_idle (file_world g.H.Disk.Store) (file_places g.H.Disk.Store) _ c.args.lab.now
+    ends_idle (file_world g.H.Disk.Store) (file_places g.H.Disk.Store) undrawn c.args.lab.now
     (g.B.Read.remaining c.args.body.now) c.in_ok-conn.conn Memory tt)
 
 pub returns-in_err-desk-clause-prints : goal.returns-in_err-desk-clause-prints

@@ -4,13 +4,13 @@ use Rattle.std.proofs.KnownBytes.{Keeps-refl}
 use Rattle.std.proofs.lemmas.Result.{err_from_is_err_and}
 use Rattle.lab_desk.specs.Foundings.{founded_line}
 use Rattle.lab_serving.specs.declared.faults.ServerFault.TheVariants.{Memory, Read}
-use Rattle.lab_installations.proofs.FoundingLemmas.{ends_founded, ends_idle, ends_refused, prints_idle}
+use Rattle.lab_installations.proofs.FoundingLemmas.{ends_founded, ends_idle, ends_refused, prints_idle, undrawn}
 use Rattle.lab_installations.proofs.founding.found_over.Goals as goal
 
 pub returns-in_err-line-clause-ends : goal.returns-in_err-line-clause-ends
 returns-in_err-line-clause-ends g c =
     let fault = err_from_is_err_and c.from_residual.result c.from_residual.ensures.1 in
-    rw (fault.1, fault.2) (ends_idle g.S.Keeper.world g.S.Keeper.places _ c.args.lab.now
+    rw (fault.1, fault.2) (ends_idle g.S.Keeper.world g.S.Keeper.places undrawn c.args.lab.now
     (g.B.Read.remaining c.args.body.now) c.args.desk.now.keeper Memory tt)
 
 pub returns-in_err-line-clause-prints : goal.returns-in_err-line-clause-prints
@@ -36,7 +36,7 @@ pub returns-in_err-tick-clause-ends : goal.returns-in_err-tick-clause-ends
 returns-in_err-tick-clause-ends g c =
     let fault = err_from_is_err_and c.from_residual-in_err-tick.result
     c.from_residual-in_err-tick.ensures.1 in
-    rw (fault.1, fault.2) (ends_idle g.S.Keeper.world g.S.Keeper.places _ c.args.lab.now
+    rw (fault.1, fault.2) (ends_idle g.S.Keeper.world g.S.Keeper.places undrawn c.args.lab.now
     (g.B.Read.remaining c.args.body.now) c.args.desk.now.keeper Read tt)
 
 pub returns-in_err-tick-clause-prints : goal.returns-in_err-tick-clause-prints

@@ -7,7 +7,7 @@ use Rattle.lab_installations.proofs.serving.prepared.Goals as goal
 pub returns-in_err-conn-clause-ours : goal.returns-in_err-conn-clause-ours
 returns-in_err-conn-clause-ours g c =
     let fault = err_from_is_err_and c.from_residual.result c.from_residual.ensures.1 in
-    rw (fault.1, fault.2) tt
+    rw fault.1 tt
 
 pub returns-in_err-conn-clause-fault : goal.returns-in_err-conn-clause-fault
 returns-in_err-conn-clause-fault g c =
@@ -18,7 +18,7 @@ pub returns-in_err-desk-clause-ours : goal.returns-in_err-desk-clause-ours
 returns-in_err-desk-clause-ours g c =
     let fault = err_from_is_err_and c.from_residual-in_err-desk.result
     c.from_residual-in_err-desk.ensures.1 in
-    rw (fault.1, fault.2) tt
+    rw fault.1 tt
 
 pub returns-in_err-desk-clause-fault : goal.returns-in_err-desk-clause-fault
 returns-in_err-desk-clause-fault g c =
@@ -30,7 +30,7 @@ pub returns-in_err-listener-clause-ours : goal.returns-in_err-listener-clause-ou
 returns-in_err-listener-clause-ours g c =
     let fault = err_from_is_err_and c.from_residual-in_err-listener.result
     c.from_residual-in_err-listener.ensures.1 in
-    rw (fault.1, fault.2) tt
+    rw fault.1 tt
 
 pub returns-in_err-listener-clause-fault : goal.returns-in_err-listener-clause-fault
 returns-in_err-listener-clause-fault g c =
