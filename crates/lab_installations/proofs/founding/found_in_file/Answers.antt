@@ -21,9 +21,13 @@ pub returns-in_err-desk-clause-ends : goal.returns-in_err-desk-clause-ends
 returns-in_err-desk-clause-ends g c =
     let fault = err_from_is_err_and c.from_residual-in_err-desk.result
     c.from_residual-in_err-desk.ensures.1 in
-    rw (fault.1, fault.2) (c.in_ok-conn.conn, c.in_ok-conn.conn, c.in_ok-conn.ensures.opened,
-    ends_idle (file_world g.H.Disk.Store) (file_places g.H.Disk.Store) undrawn c.args.lab.now
-    (g.B.Read.remaining c.args.body.now) c.in_ok-conn.conn Memory tt)
+    rw (fault.1, fault.2) (
+      c.in_ok-conn.conn,
+      c.in_ok-conn.conn,
+      c.in_ok-conn.ensures.opened,
+      ends_idle (file_world g.H.Disk.Store) (file_places g.H.Disk.Store) undrawn c.args.lab.now
+          (g.B.Read.remaining c.args.body.now) c.in_ok-conn.conn Memory tt,
+    )
 
 pub returns-in_err-desk-clause-prints : goal.returns-in_err-desk-clause-prints
 returns-in_err-desk-clause-prints g c =
