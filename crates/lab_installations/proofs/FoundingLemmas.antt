@@ -14,7 +14,7 @@ use Rattle.lab_serving.specs.Faults.{IsReaderFault}
 use Rattle.lab_serving.proofs.RehearsalLemmas.{for_known, known_as}
 use Rattle.lab_installations.specs.declared.faults.TaskFault.{TaskFault}
 use Rattle.lab_installations.specs.declared.faults.TaskFault.TheVariants.{Copying, File, Founding, Server}
-use Rattle.lab_installations.specs.Foundings.{Ends, EndsFounding, EndsInFile, IsFounded, Prints}
+use Rattle.lab_installations.specs.Foundings.{Drawing, Ends, EndsFounding, EndsInFile, IsDrawn, IsFounded, Prints, drawing_of}
 
 -- ---- what is printed
 
@@ -26,65 +26,70 @@ prints_idle line Memory known h keeps = keeps
 
 -- ---- what is made
 
-module _ {S : Type 0} (world : S → World) (places : S → S → Lab → Type 0) (code : List ℕ) where
+-- of a tick that wasn't drawn nothing is said
+abbrev pub undrawn : Drawing
+undrawn = drawing_of None None None None
+
+module _ {S : Type 0} (world : S → World) (places : S → S → Lab → Type 0) (drawing : Drawing)
+    (code : List ℕ) where
   idle : (bytes : List ℕ) (keeper : S) (fault : ServerFault) → IsReaderFault fault →
-      EndsFounding world places code bytes keeper keeper (Err (Server fault))
+      EndsFounding world places drawing code bytes keeper keeper (Err (Server fault))
   idle bytes keeper Read h = refl
   idle bytes keeper Write h = absurd h
   idle bytes keeper Memory h = refl
 
   idle_known : (known : Option (List ℕ)) (keeper : S) (fault : ServerFault) → IsReaderFault fault →
       IfSome known
-      (λ bytes. EndsFounding world places code bytes keeper keeper (Err (Server fault)))
+      (λ bytes. EndsFounding world places drawing code bytes keeper keeper (Err (Server fault)))
   idle_known None keeper fault h = tt
   idle_known (Some bytes) keeper fault h = idle bytes keeper fault h
 
   -- nothing was done
   pub ends_idle : (known : Option (List ℕ)) (keeper : S) (fault : ServerFault) →
-      IsReaderFault fault → Ends world places code known keeper keeper (Err (Server fault))
+      IsReaderFault fault → Ends world places drawing code known keeper keeper (Err (Server fault))
   ends_idle known keeper fault h = λ honest reached. idle_known known keeper fault h
 
   -- the founding was refused
   pub ends_refused : (known : Option (List ℕ)) (read bytes : List ℕ) (old new : S) (tick : Tick)
-      (fault : FoundFault) → read ≡ bytes → IfSome known (λ all. bytes ≡ all) →
-      FoundFaultFits (world old).may_refuse
+      (fault : FoundFault) → IsDrawn drawing tick → read ≡ bytes
+      → IfSome known (λ all. bytes ≡ all) → FoundFaultFits (world old).may_refuse
       (Given (world old) (world new) (IsSome ((world old).meaning code))) code tick
       (founding_in read) fault
       → Given (world old) (world new) (Leaves (world old) (world new))
-      → Ends world places code known old new (Err (Founding fault))
-  ends_refused known read bytes old new tick fault same whole fits leaves = λ honest reached.
+      → Ends world places drawing code known old new (Err (Founding fault))
+  ends_refused known read bytes old new tick fault drawn same whole fits leaves = λ honest reached.
       for_known known read
-      (λ all. EndsFounding world places code all old new (Err (Founding fault)))
-      (known_as known read bytes same whole) (tick, fits, leaves honest reached)
+      (λ all. EndsFounding world places drawing code all old new (Err (Founding fault)))
+      (known_as known read bytes same whole) (tick, drawn, fits, leaves honest reached)
 
   printed_so : (bytes : List ℕ) (old new : S) (result : Result (Unit {0}) TaskFault) →
-      IfErr result (λ fault. fault ≡ Server Write) → IsFounded world places code bytes old new →
-      EndsFounding world places code bytes old new result
+      IfErr result (λ fault. fault ≡ Server Write) → IsFounded world places drawing code bytes old new →
+      EndsFounding world places drawing code bytes old new result
   printed_so bytes old new (Ok done) e is = is
   printed_so bytes old new (Err fault) e is =
-      subst (λ f. EndsFounding world places code bytes old new (Err f)) (sym e) is
+      subst (λ f. EndsFounding world places drawing code bytes old new (Err f)) (sym e) is
 
   -- the laboratory was founded, whether or not that was printed
   pub ends_founded : (known : Option (List ℕ)) (read bytes : List ℕ) (old new : S) (tick : Tick)
-      (result : Result (Unit {0}) TaskFault) → read ≡ bytes → IfSome known (λ all. bytes ≡ all) →
-      IfErr result (λ fault. fault ≡ Server Write) →
+      (result : Result (Unit {0}) TaskFault) → IsDrawn drawing tick → read ≡ bytes
+      → IfSome known (λ all. bytes ≡ all) → IfErr result (λ fault. fault ≡ Server Write) →
       Given (world old) (world new)
       (Founds (world old) (world new) (places old new) code tick (founding_in read)) →
       Given (world old) (world new) (IsDurable (world new)) →
-      Ends world places code known old new result
-  ends_founded known read bytes old new tick result same whole printed founds durable =
+      Ends world places drawing code known old new result
+  ends_founded known read bytes old new tick result drawn same whole printed founds durable =
       λ honest reached. for_known known read
-      (λ all. EndsFounding world places code all old new result)
+      (λ all. EndsFounding world places drawing code all old new result)
       (known_as known read bytes same whole)
-      (printed_so read old new result printed (tick, founds honest reached, durable honest reached))
+      (printed_so read old new result printed (tick, drawn, founds honest reached, durable honest reached))
 
-  -- so it was over the keeper of a file
-  pub in_file : (known : Option (List ℕ)) (old new : S) (result : Result (Unit {0}) TaskFault) →
-      Ends world places code known old new result → EndsInFile world places code known result
-  in_file known old new (Ok done) ends = (old, new, ends)
-  in_file known old new (Err (File fault)) ends = tt
-  in_file known old new (Err (Founding fault)) ends = (old, new, ends)
-  in_file known old new (Err (Copying fault)) ends = tt
-  in_file known old new (Err (Server Read)) ends = tt
-  in_file known old new (Err (Server Write)) ends = (old, new, ends)
-  in_file known old new (Err (Server Memory)) ends = tt
+  -- so it was over the keeper of a file that was opened
+  pub in_file : (opened : S → Type 0) (known : Option (List ℕ)) (old new : S)
+      (result : Result (Unit {0}) TaskFault) → opened old
+      → Ends world places drawing code known old new result
+      → EndsInFile world places drawing opened code known result
+  in_file opened known old new (Ok done) is ends = (old, new, is, ends)
+  in_file opened known old new (Err (File fault)) is ends = tt
+  in_file opened known old new (Err (Founding fault)) is ends = (old, new, is, ends)
+  in_file opened known old new (Err (Copying fault)) is ends = (old, new, is, ends)
+  in_file opened known old new (Err (Server fault)) is ends = (old, new, is, ends)

@@ -1,4 +1,5 @@
 pub mod MemoryLemmas
 pub mod ReplayLemmas
+pub mod FileLemmas
 pub mod FoundingLemmas
 pub mod TellLemmas

@@ -1,8 +1,9 @@
 -- Why a task over a file failed, and what standard error is told of it (docs/REFUSALS.md).
-use Rattle.std.specs.Prelude.{◌≡◌, ◌⊎◌, ◌++◌, ℕ, List, Option, Some, None, Result, Ok, Err, IfOk, codes, decimal}
+use Rattle.std.specs.Prelude.{◌≡◌, ◌⊎◌, ◌++◌, ℕ, List, Option, Some, None, Result, Ok, Err, IfOk, IsSome, codes, decimal}
 use Rattle.std.specs.Io.KnownBytes.{Keeps}
 use Rattle.lab_names.specs.Faults.{memory_entry}
 use Rattle.lab_messages.specs.declared.sending.WriteFault.{WriteFault as Untold}
+use Rattle.lab_files.specs.declared.faults.FileFault.TheVariants.{Memory as FileMemory}
 use Rattle.lab_files.specs.Faults.{file_fault_entry, file_fault_value}
 use Rattle.lab_desk.specs.Faults.{found_fault_entry}
 use Rattle.lab_walks.specs.Faults.{copy_fault_word}
@@ -24,6 +25,10 @@ task_fault_value (Founding fault) = None
 task_fault_value (Copying fault) = None
 task_fault_value (Server fault) = None
 
+-- memory ran out before a file was opened
+abbrev pub unopened_fault : TaskFault
+unopened_fault = File FileMemory
+
 -- a word and, where there is one, a space and the value
 abbrev pub valued : List ℕ → Option ℕ → List ℕ
 valued word None = word
@@ -33,13 +38,19 @@ valued word (Some value) = word ++ codes " " ++ decimal value
 abbrev pub task_fault_line : TaskFault → List ℕ
 task_fault_line fault = told_line (valued (task_fault_word fault) (task_fault_value fault))
 
--- the status 1, and what standard error was told: the fault's line, or, for want of memory to make
--- it, that memory ran out; where standard error failed, the line's first bytes, and not all
+-- standard error was told the fault's line, or, where a value has to be put into it and there was no
+-- memory for that, that memory ran out; where standard error failed, the line's first bytes, and not
+-- all
+abbrev pub IsToldOf : {X : Type 0} → TaskFault → Result X Untold → Option (List ℕ) →
+    Option (List ℕ) → Type 0
+IsToldOf fault told before after =
+    IsTold (task_fault_line fault) told before after
+    ⊎ (IsSome (task_fault_value fault) × IsTold (told_line memory_entry.word) told before after)
+
+-- the status 1, and what standard error was told
 abbrev pub Declines : TaskFault → Result ℕ Untold → Option (List ℕ) → Option (List ℕ) → Type 0
 Declines fault status before after =
-    IfOk status (λ number. number ≡ 1)
-    × (IsTold (task_fault_line fault) status before after
-    ⊎ IsTold (told_line memory_entry.word) status before after)
+    IfOk status (λ number. number ≡ 1) × IsToldOf fault status before after
 
 -- the status 0 and nothing told where all was done, and else the fault
 abbrev pub TellsTask : Result (Unit {0}) TaskFault → Result ℕ Untold → Option (List ℕ) →

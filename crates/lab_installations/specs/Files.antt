@@ -1,14 +1,18 @@
 -- The laboratories of a file: what the tables of a connection mean, and what becomes of their rows,
 -- as a keeper's (21 CFR 11.10(c); ISO/IEC 17025:2017, 7.11.3).
-use Rattle.std.specs.Prelude.{◌≡◌, ℕ, List}
+use Rattle.std.specs.Prelude.{◌≡◌, ◌⊎◌, ℕ, false, List, Ok, IsTrue}
 use Rattle.sqlite_trees.specs.declared.store.Store.{Ghosts}
 use Rattle.sqlite.specs.Held.{Held, state}
+use Rattle.sqlite.specs.State.{HasCleanDisk, IsUnchanged}
 use Rattle.lab_kept.specs.declared.labs.Lab.{Lab}
 use Rattle.lab_kept.specs.declared.changes.Change.{Change}
 use Rattle.lab_kept.specs.Worlds.{World}
 use Rattle.lab_tables.specs.Ready.{tables_of}
 use Rattle.lab_tables.specs.Placing.{PlacesLab}
 use Rattle.lab_tables_changes.specs.Steps.{AreMadeIfAny}
+use Rattle.lab_files.specs.NewFiles.{Ends, IsBlank, IsNewFile}
+use Rattle.lab_files.specs.Schemas.{is_taken}
+use Rattle.lab_files.specs.Verdicts.{Answers}
 use Rattle.lab_store.specs.StoreWorlds.{world_of}
 
 module _ {S : Type 0} (disk : Ghosts S) where
@@ -28,3 +32,21 @@ module _ {S : Type 0} (disk : Ghosts S) where
   -- the rows are as they were but for a laboratory that is new
   abbrev pub file_places : Held S → Held S → Lab → Type 0
   file_places old new lab = PlacesLab lab (tables_of (state disk old)) (tables_of (state disk new))
+
+  -- the file was asked which schema it has, and it is one of this schema
+  abbrev pub IsOurs : Held S → Type 0
+  IsOurs conn = HasCleanDisk (state disk conn) → (old : Held S)
+      × IsUnchanged (state disk old) (state disk conn)
+      × Answers (state disk old) (state disk conn) (Ok tt)
+
+  -- the tables were made in it by one commit: none of their names was there, and where nothing was,
+  -- it is a new file
+  abbrev pub IsNew : Held S → Type 0
+  IsNew conn = (old : Held S) × (is_taken (state disk old).now.schema ≡ false)
+      × (HasCleanDisk (state disk conn) → IsBlank (state disk old).now →
+      IsTrue (state disk conn).is_open × IsNewFile (state disk conn).now)
+      × Ends (state disk old) (state disk conn)
+
+  -- one of this schema, or a new one
+  abbrev pub IsOpened : Held S → Type 0
+  IsOpened conn = IsOurs conn ⊎ IsNew conn

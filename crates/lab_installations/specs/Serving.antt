@@ -8,21 +8,29 @@ use Rattle.lab_desk.specs.Keeping.{AreWithin}
 use Rattle.lab_serving.specs.Staying.{StaysOn}
 use Rattle.lab_serving.specs.Tasks.{IsServing}
 use Rattle.lab_installations.specs.declared.faults.TaskFault.{TaskFault}
+use Rattle.lab_installations.specs.declared.faults.TaskFault.TheVariants.{File, Founding, Copying, Server}
 use Rattle.lab_installations.specs.Faults.{Declines}
 
+-- a fault before serving: the file wasn't opened, no port listened at, or memory ran out
+abbrev pub IsUnprepared : TaskFault → Type 0
+IsUnprepared (File fault) = Unit {0}
+IsUnprepared (Founding fault) = ⊥
+IsUnprepared (Copying fault) = ⊥
+IsUnprepared (Server fault) = Unit {0}
+
 module _ {S : Type 0} (world : S → World) (rests : S → S → Type 0)
-    (moves : S → S → List ℕ → List Change → Type 0) (count : ℕ)
+    (moves : S → S → List ℕ → List Change → Type 0) (opened : S → Type 0) (count : ℕ)
     (before after told_before told_after : Option (List ℕ)) (status : Result ℕ Untold) where
-  -- over the keeper of a file so many connections were served, unless a fault came, which was told;
-  -- each laboratory stays within its limits and has all that was recorded
+  -- over the keeper of a file that was opened so many connections were served, unless a fault came,
+  -- which was told; each laboratory stays within its limits and has all that was recorded
   abbrev pub Serves : Type 0
-  Serves = (old : S) × (new : S)
+  Serves = (old : S) × (new : S) × opened old
       × IsServing world rests moves old new count before after told_before told_after status
       × (AreWithin (world old) → Given (world old) (world new) (StaysOn (world old) (world new)))
 
   -- nothing was served, and why was told: the file wasn't opened, or no port listened at
   abbrev pub DeclinesToServe : Type 0
-  DeclinesToServe = (fault : TaskFault) × Keeps before after
+  DeclinesToServe = (fault : TaskFault) × IsUnprepared fault × Keeps before after
       × Declines fault status told_before told_after
 
   abbrev pub ServesFile : Type 0

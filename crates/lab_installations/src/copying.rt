@@ -1,7 +1,7 @@
 //! `labdesk copy`: the inspection copy of a laboratory of a file.
 
 ghost use Rattle.lab_installations.specs.Copying.{CopiesBy, IsCopying};
-ghost use Rattle.lab_installations.specs.Files.{file_rests, file_world};
+ghost use Rattle.lab_installations.specs.Files.{IsOurs, file_rests, file_world};
 
 use crate::faults::TaskFault;
 use crate::files::open_file;
@@ -30,7 +30,8 @@ fn copy_file<H: Shelf, C: Clock, W: Write, P: Progress>(
 ) -> Result<(), TaskFault>
 where
     Connection<H::Disk>: Closing,
-    ensures { CopiesBy (file_world H.Disk.Store) (file_rests H.Disk.Store) lab.now from to
+    ensures { CopiesBy (file_world H.Disk.Store) (file_rests H.Disk.Store)
+        (IsOurs H.Disk.Store) (C.coming clock.old) (C.coming clock.new) lab.now from to
         (W.contents output.old) (W.contents output.new) result }
 {
     let conn = open_file(alloc, shelf, path)?;
@@ -46,7 +47,8 @@ where
 
 /// `labdesk copy`: opens the file at the path, writes the inspection copy of the laboratory's
 /// records from a number to a number, record by record, tells after each how far it is, and tells on
-/// standard error why it stopped. Answers the status: 0 where the copy is whole, and else 1. The rows stay as they are.
+/// standard error why it stopped. Answers the status: 0 where the copy is whole, and else 1. The
+/// rows stay as they are.
 ///
 /// # Errors
 /// It stopped, and standard error failed before the whole line was told.
@@ -64,7 +66,8 @@ pub fn copy<H: Shelf, C: Clock, W: Write, E: Write, P: Progress>(
 ) -> Result<u8, WriteFault>
 where
     Connection<H::Disk>: Closing,
-    ensures { IsCopying (file_world H.Disk.Store) (file_rests H.Disk.Store) lab.now from to
+    ensures { IsCopying (file_world H.Disk.Store) (file_rests H.Disk.Store)
+        (IsOurs H.Disk.Store) (C.coming clock.old) (C.coming clock.new) lab.now from to
         (W.contents output.old) (W.contents output.new)
         (E.contents errors.old) (E.contents errors.new) result }
 {

@@ -3,6 +3,7 @@
 ghost use Rattle.std.specs.Prelude.{IfOk};
 ghost use Rattle.sqlite.specs.Held.{state};
 ghost use Rattle.lab_tables.specs.Ready.{IsAtRest};
+ghost use Rattle.lab_installations.specs.Files.{IsNew, IsOpened, IsOurs};
 
 use crate::shelves::Shelf;
 use lab_files::{FileFault, create, open};
@@ -19,6 +20,7 @@ pub fn open_file<H: Shelf>(
     path: &str,
 ) -> Result<Connection<H::Disk>, FileFault>
     ensures at_rest { IfOk result (λ conn. IsAtRest (state H.Disk.Store conn)) }
+    ensures ours { IfOk result (IsOurs H.Disk.Store) }
 {
     if !shelf.has(path) {
         return Err(FileFault::NotADeskFile);
@@ -39,6 +41,7 @@ fn new_file<H: Shelf>(
     path: &str,
 ) -> Result<Connection<H::Disk>, FileFault>
     ensures at_rest { IfOk result (λ conn. IsAtRest (state H.Disk.Store conn)) }
+    ensures made { IfOk result (IsNew H.Disk.Store) }
 {
     let mut conn = shelf.connect(alloc, path)?;
     create(&mut conn)?;
@@ -55,6 +58,7 @@ pub fn make_file<H: Shelf>(
     path: &str,
 ) -> Result<Connection<H::Disk>, FileFault>
     ensures at_rest { IfOk result (λ conn. IsAtRest (state H.Disk.Store conn)) }
+    ensures opened { IfOk result (IsOpened H.Disk.Store) }
 {
     if shelf.has(path) {
         open_file(alloc, shelf, path)

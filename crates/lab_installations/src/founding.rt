@@ -1,8 +1,8 @@
 //! `labdesk found`: a laboratory is founded in a file.
 
 ghost use Rattle.lab_desk.specs.Foundings.{founded_line};
-ghost use Rattle.lab_installations.specs.Files.{file_places, file_world};
-ghost use Rattle.lab_installations.specs.Foundings.{Ends, EndsInFile, IsFounding, Prints};
+ghost use Rattle.lab_installations.specs.Files.{IsOpened, file_places, file_world};
+ghost use Rattle.lab_installations.specs.Foundings.{Ends, EndsInFile, IsFounding, Prints, drawing_of};
 ghost use Rattle.std.specs.Prelude.{◌≡◌, IfErr, IfOk};
 ghost use Rattle.lab_kept.specs.Worlds.{Passes};
 ghost use Rattle.lab_serving.specs.declared.faults.ServerFault.TheVariants.{Write as NotWritten};
@@ -55,8 +55,9 @@ pub fn found_over<S: Keeper + Drop, C: Clock, X: Chance, B: Read, W: Write>(
     body: &mut B,
     output: &mut W,
 ) -> Result<(), TaskFault>
-    ensures ends { Ends S.world S.places lab.now (B.remaining body.old)
-        desk.old.keeper desk.new.keeper result }
+    ensures ends { Ends S.world S.places (drawing_of (C.coming clock.old) (C.coming clock.new)
+        (X.coming chance.old) (X.coming chance.new))
+        lab.now (B.remaining body.old) desk.old.keeper desk.new.keeper result }
     ensures prints { Prints (founded_line lab.now) result
         (W.contents output.old) (W.contents output.new) }
     ensures passes { Passes (S.world desk.old.keeper) (S.world desk.new.keeper) }
@@ -81,8 +82,10 @@ fn found_in_file<H: Shelf, C: Clock, X: Chance, B: Read, W: Write>(
 ) -> Result<(), TaskFault>
 where
     Connection<H::Disk>: Closing,
-    ensures ends { EndsInFile (file_world H.Disk.Store) (file_places H.Disk.Store) lab.now
-        (B.remaining body.old) result }
+    ensures ends { EndsInFile (file_world H.Disk.Store) (file_places H.Disk.Store)
+        (drawing_of (C.coming clock.old) (C.coming clock.new)
+        (X.coming chance.old) (X.coming chance.new))
+        (IsOpened H.Disk.Store) lab.now (B.remaining body.old) result }
     ensures prints { Prints (founded_line lab.now) result
         (W.contents output.old) (W.contents output.new) }
 {
@@ -113,8 +116,11 @@ pub fn found<H: Shelf, C: Clock, X: Chance, B: Read, W: Write, E: Write>(
 ) -> Result<u8, WriteFault>
 where
     Connection<H::Disk>: Closing,
-    ensures { IsFounding (file_world H.Disk.Store) (file_places H.Disk.Store) lab.now
-        (B.remaining body.old) (W.contents output.old) (W.contents output.new)
+    ensures { IsFounding (file_world H.Disk.Store) (file_places H.Disk.Store)
+        (drawing_of (C.coming clock.old) (C.coming clock.new)
+        (X.coming chance.old) (X.coming chance.new))
+        (IsOpened H.Disk.Store) lab.now (B.remaining body.old)
+        (W.contents output.old) (W.contents output.new)
         (E.contents errors.old) (E.contents errors.new) result }
 {
     match found_in_file(alloc, shelf, path, lab, clock, chance, body, output) {

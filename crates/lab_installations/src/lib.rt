@@ -1,5 +1,6 @@
-//! What an installation does with a file of laboratories, or with a store in memory: it founds, serves, copies and replays, and
-//! tells on standard error why it stopped. Files, clock, chance, sockets and streams are handed in.
+//! What an installation does with a file of laboratories, or with a store in memory: it founds,
+//! serves, copies and replays, and tells on standard error why it stopped. Files, clock, chance,
+//! sockets and streams are handed in.
 #![tactic(auto)]
 
 mod copying;

@@ -1,7 +1,8 @@
 //! `labdesk serve`: the laboratories of a file are served on a port of this machine.
 
-ghost use Rattle.lab_installations.specs.Files.{file_moves, file_rests, file_world};
-ghost use Rattle.lab_installations.specs.Serving.{ServesFile};
+ghost use Rattle.lab_installations.specs.Files.{IsOurs, file_moves, file_rests, file_world};
+ghost use Rattle.lab_installations.specs.Serving.{IsUnprepared, ServesFile};
+ghost use Rattle.std.specs.Prelude.{IfErr, IfOk};
 
 use crate::faults::TaskFault;
 use crate::files::open_file;
@@ -23,7 +24,10 @@ fn prepared<N: Net, H: Shelf>(
     shelf: &mut H,
     path: &str,
     port: u16,
-) -> Result<(Desk<Store<H::Disk>>, N::Listener), TaskFault> {
+) -> Result<(Desk<Store<H::Disk>>, N::Listener), TaskFault>
+    ensures ours { IfOk result (λ prepared. IsOurs H.Disk.Store prepared.0.keeper) }
+    ensures fault { IfErr result IsUnprepared }
+{
     let conn = open_file(alloc, shelf, path)?;
     let desk = Desk::new(alloc, Store::new(alloc, conn))?;
     let listener = listen(net, port)?;
@@ -51,7 +55,8 @@ pub fn serve<N: Net, H: Shelf, C: Clock, X: Chance, W: Write, E: Write>(
 where
     Connection<H::Disk>: Closing,
     ensures { ServesFile (file_world H.Disk.Store) (file_rests H.Disk.Store)
-        (file_moves H.Disk.Store) count (W.contents output.old) (W.contents output.new)
+        (file_moves H.Disk.Store) (IsOurs H.Disk.Store) count
+        (W.contents output.old) (W.contents output.new)
         (E.contents errors.old) (E.contents errors.new) result }
 {
     match prepared(net, alloc, shelf, path, port) {

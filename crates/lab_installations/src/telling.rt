@@ -3,7 +3,7 @@
 ghost use Rattle.std.specs.Prelude.{◌⊎◌, Some};
 ghost use Rattle.lab_names.specs.Faults.{memory_entry};
 ghost use Rattle.lab_serving.specs.Faults.{IsTold, told_line};
-ghost use Rattle.lab_installations.specs.Faults.{Declines, task_fault_line, valued};
+ghost use Rattle.lab_installations.specs.Faults.{Declines, IsToldOf, valued};
 
 use crate::faults::TaskFault;
 use lab_messages::WriteFault;
@@ -30,11 +30,9 @@ fn tell_valued<E: Write>(
     }
 }
 
-/// Tells a fault, or, for want of memory to make its line, that memory ran out.
+/// Tells a fault, or, where there is no memory to put a value into its line, that memory ran out.
 fn tell_fault<E: Write>(alloc: Global, errors: &mut E, fault: TaskFault) -> Result<(), WriteFault>
-    ensures { IsTold (task_fault_line fault) result (E.contents errors.old) (E.contents errors.new)
-        ⊎ IsTold (told_line memory_entry.word) result
-        (E.contents errors.old) (E.contents errors.new) }
+    ensures { IsToldOf fault result (E.contents errors.old) (E.contents errors.new) }
 {
     match fault.value() {
         Some(value) => tell_valued(alloc, errors, fault.word(), value),

@@ -25,11 +25,10 @@ use Rattle.lab_verdicts.specs.Verdicts.{IsCheck}
 use Rattle.lab_serving.specs.Tasks.{FoundsBy, IsRehearsal}
 use Rattle.lab_serving.specs.declared.faults.RehearsalFault.TheVariants.{Server as RehearsalServer}
 use Rattle.lab_serving.specs.declared.faults.ServerFault.TheVariants.{Memory as ServerMemory}
-use Rattle.lab_installations.specs.declared.faults.TaskFault.TheVariants.{Server}
 use Rattle.lab_installations.specs.Copying.{IsCopying}
-use Rattle.lab_installations.specs.Faults.{Declines as DeclinesTask}
-use Rattle.lab_installations.specs.Files.{file_moves, file_places, file_rests, file_world}
-use Rattle.lab_installations.specs.Foundings.{IsFounding}
+use Rattle.lab_installations.specs.Faults.{Declines as DeclinesTask, unopened_fault}
+use Rattle.lab_installations.specs.Files.{IsOpened, IsOurs, file_moves, file_places, file_rests, file_world}
+use Rattle.lab_installations.specs.Foundings.{Drawing, IsFounding}
 use Rattle.lab_installations.specs.Replays.{IsReplay, ReplaysFromNothing}
 use Rattle.lab_installations.specs.Serving.{ServesFile}
 use Rattle.lab_tasks.specs.CommandLine.{IsCopiedIf, IsDone}
@@ -75,32 +74,32 @@ module _ (before after told_before told_after : Option (List ℕ)) (status : Res
 -- ---- each task, not begun
 
 module _ (before after told_before told_after : Option (List ℕ)) (status : Result ℕ Untold) where
-  declines_task : IsUnbegun before after told_before told_after status → DeclinesTask (Server ServerMemory) status told_before told_after
-  declines_task told = (told.1.0, inr told.1.1)
+  declines_task : IsUnbegun before after told_before told_after status → DeclinesTask unopened_fault status told_before told_after
+  declines_task told = (told.1.0, inl told.1.1)
 
-  pub no_founding : {S : Type 0} (world : S → World) (places : S → S → Lab → Type 0) (code : List ℕ) (body : Option (List ℕ))
-      → IsUnbegun before after told_before told_after status
-      → IsFounding world places code body before after told_before told_after status
-  no_founding world places code body told = record {
-    ending = Err (Server ServerMemory);
+  pub no_founding : {S : Type 0} (world : S → World) (places : S → S → Lab → Type 0) (drawing : Drawing) (opened : S → Type 0)
+      (code : List ℕ) (body : Option (List ℕ)) → IsUnbegun before after told_before told_after status
+      → IsFounding world places drawing opened code body before after told_before told_after status
+  no_founding world places drawing opened code body told = record {
+    ending = Err unopened_fault;
     ends = tt;
     prints = told.0;
     told = declines_task told;
   }
 
-  pub no_copying : {S : Type 0} (world : S → World) (rests : S → S → Type 0) (code : List ℕ) (from to : ℕ)
-      → IsUnbegun before after told_before told_after status
-      → IsCopying world rests code from to before after told_before told_after status
-  no_copying world rests code from to told = record {
-    ending = Err (Server ServerMemory);
+  pub no_copying : {S : Type 0} (world : S → World) (rests : S → S → Type 0) (opened : S → Type 0) (moments later : Option (List ℕ))
+      (code : List ℕ) (from to : ℕ) → IsUnbegun before after told_before told_after status
+      → IsCopying world rests opened moments later code from to before after told_before told_after status
+  no_copying world rests opened moments later code from to told = record {
+    ending = Err unopened_fault;
     copies = told.0;
     told = declines_task told;
   }
 
   no_serving : {S : Type 0} (world : S → World) (rests : S → S → Type 0) (moves : S → S → List ℕ → List Change → Type 0)
-      (count : ℕ) → IsUnbegun before after told_before told_after status
-      → ServesFile world rests moves count before after told_before told_after status
-  no_serving world rests moves count told = inr (Server ServerMemory, told.0, declines_task told)
+      (opened : S → Type 0) (count : ℕ) → IsUnbegun before after told_before told_after status
+      → ServesFile world rests moves opened count before after told_before told_after status
+  no_serving world rests moves opened count told = inr (unopened_fault, tt, told.0, declines_task told)
 
   printed_none : Keeps before after → Appends before after []
   printed_none same = Appends-kept before before after [] (Appends-nil before) same
@@ -170,19 +169,22 @@ no_check (Some bytes) before after told_before told_after status told =
 
 -- ---- whichever is asked for
 
-module _ {S : Type 0} (disk : Ghosts S) (before after told_before told_after : Option (List ℕ)) (status : Result ℕ Untold) where
+module _ {S : Type 0} (disk : Ghosts S) (drawing : Drawing) (before after told_before told_after : Option (List ℕ))
+    (status : Result ℕ Untold) where
   no_copy_if : (lab : List ℕ) (from to : ℕ) (ordered : Bool) → IsUnbegun before after told_before told_after status
-      → IsCopiedIf disk before after told_before told_after status lab from to ordered
+      → IsCopiedIf disk before after told_before told_after status drawing.moments drawing.later lab from to ordered
   no_copy_if lab from to true told = never_begun before after told_before told_after status _
-      (no_copying before after told_before told_after status (file_world disk) (file_rests disk) lab from to) (is_lab_code lab) told
+      (no_copying before after told_before told_after status (file_world disk) (file_rests disk) (IsOurs disk) drawing.moments drawing.later lab from to)
+      (is_lab_code lab) told
   no_copy_if lab from to false told = (OutOfMemory, inl refl, told)
 
   pub never_done : (asked : Asked) (input : Option (List ℕ)) → IsUnbegun before after told_before told_after status
-      → IsDone disk asked input before after told_before told_after status
+      → IsDone disk drawing asked input before after told_before told_after status
   never_done (founds file lab) input told = never_begun before after told_before told_after status _
-      (no_founding before after told_before told_after status (file_world disk) (file_places disk) lab (body_in input)) (is_lab_code lab) told
+      (no_founding before after told_before told_after status (file_world disk) (file_places disk) drawing (IsOpened disk) lab (body_in input))
+      (is_lab_code lab) told
   never_done (serves file port count) input told =
-      no_serving before after told_before told_after status (file_world disk) (file_rests disk) (file_moves disk) count told
+      no_serving before after told_before told_after status (file_world disk) (file_rests disk) (file_moves disk) (IsOurs disk) count told
   never_done (copies file lab from to) input told = no_copy_if lab from to (nat_le from to) told
   never_done checks input told = no_check input before after told_before told_after status told
   never_done replays input told = no_replay input before after told_before told_after status told
@@ -190,6 +192,6 @@ module _ {S : Type 0} (disk : Ghosts S) (before after told_before told_after : O
       (no_rehearsal before after told_before told_after status lab (body_in input)) (is_lab_code lab) told
 
   pub done_as : (asked other : Asked) (input : Option (List ℕ)) → asked ≡ other
-      → IsDone disk other input before after told_before told_after status
-      → IsDone disk asked input before after told_before told_after status
-  done_as asked other input is done = subst (λ a. IsDone disk a input before after told_before told_after status) (sym is) done
+      → IsDone disk drawing other input before after told_before told_after status
+      → IsDone disk drawing asked input before after told_before told_after status
+  done_as asked other input is done = subst (λ a. IsDone disk drawing a input before after told_before told_after status) (sym is) done

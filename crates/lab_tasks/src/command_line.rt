@@ -2,6 +2,7 @@
 
 ghost use Rattle.std.specs.Prelude.{map};
 ghost use Rattle.clap.specs.Words.{fault_of};
+ghost use Rattle.lab_installations.specs.Foundings.{drawing_of};
 ghost use Rattle.lab_tasks.specs.Apps.{labdesk_app};
 ghost use Rattle.lab_tasks.specs.CommandLine.{IsDone};
 ghost use Rattle.lab_tasks.specs.Explaining.{IsExplained};
@@ -33,7 +34,8 @@ fn do_task<N: Net, H: Shelf, C: Clock, X: Chance, P: Progress, R: Read + Drop, W
 where
     Connection<H::Disk>: Closing,
     ensures { (asked : Asked) → IsTask task.entry asked →
-        IsDone H.Disk.Store asked (R.remaining input)
+        IsDone H.Disk.Store (drawing_of (C.coming host.old.clock) (C.coming host.new.clock)
+        (X.coming host.old.chance) (X.coming host.new.chance)) asked (R.remaining input)
         (W.contents output.old) (W.contents output.new)
         (E.contents errors.old) (E.contents errors.new) result }
 {
@@ -91,7 +93,8 @@ pub fn labdesk<
 where
     Connection<H::Disk>: Closing,
     ensures done { (asked : Asked) → Asks asked (map S.text words.now) →
-        IsDone H.Disk.Store asked (R.remaining input)
+        IsDone H.Disk.Store (drawing_of (C.coming host.old.clock) (C.coming host.new.clock)
+        (X.coming host.old.chance) (X.coming host.new.chance)) asked (R.remaining input)
         (W.contents output.old) (W.contents output.new)
         (E.contents errors.old) (E.contents errors.new) result }
     ensures explained { IsExplained (fault_of labdesk_app (map S.text words.now))

@@ -4,6 +4,7 @@ ghost use Rattle.std.specs.Prelude.{◌≡◌, ℕ, pos, List, IsTrue, Err, nat_
 ghost use Rattle.lab_names.specs.Moment.{is_moment};
 ghost use Rattle.lab_names.specs.Ordinals.{is_ordinal};
 ghost use Rattle.lab_serving.specs.Faults.{Tells};
+ghost use Rattle.lab_installations.specs.Foundings.{drawing_of};
 ghost use Rattle.lab_tasks.specs.CommandLine.{IsCopied, IsCopiedIf, IsFounded, IsRehearsed};
 ghost use Rattle.lab_tasks.specs.Laboratories.{body_in};
 
@@ -47,7 +48,9 @@ pub(crate) fn found_for<N, H: Shelf, C: Clock, X: Chance, P, R: Read + Drop, W: 
 where
     Connection<H::Disk>: Closing,
     ensures { IsFounded H.Disk.Store (W.contents output.old) (W.contents output.new)
-        (E.contents errors.old) (E.contents errors.new) result lab.now
+        (E.contents errors.old) (E.contents errors.new) result
+        (drawing_of (C.coming host.old.clock) (C.coming host.new.clock)
+        (X.coming host.old.chance) (X.coming host.new.chance)) lab.now
         (body_in (R.remaining input)) }
 {
     let lab = match LabCode::parse(alloc, lab) {
@@ -89,7 +92,8 @@ fn copy_range<N, H: Shelf, C: Clock, X, P: Progress, W: Write, E: Write>(
 where
     Connection<H::Disk>: Closing,
     ensures { IsCopied H.Disk.Store (W.contents output.old) (W.contents output.new)
-        (E.contents errors.old) (E.contents errors.new) result lab.now from to }
+        (E.contents errors.old) (E.contents errors.new) result
+        (C.coming host.old.clock) (C.coming host.new.clock) lab.now from to }
 {
     let lab = match LabCode::parse(alloc, lab) {
         Ok(lab) => lab,
@@ -128,7 +132,8 @@ where
     Connection<H::Disk>: Closing,
     ensures { IsTrue (is_ordinal from) → IsTrue (is_ordinal to) →
         IsCopiedIf H.Disk.Store (W.contents output.old) (W.contents output.new)
-        (E.contents errors.old) (E.contents errors.new) result lab.now from to (nat_le from to) }
+        (E.contents errors.old) (E.contents errors.new) result
+        (C.coming host.old.clock) (C.coming host.new.clock) lab.now from to (nat_le from to) }
 {
     if from > to {
         return explain_order(alloc, output, errors);

@@ -18,7 +18,9 @@ pub returns-in-Ok : goal.returns-in-Ok
 returns-in-Ok g c = record {
   old = c.new-store.result;
   new = c.copy_out-copied.new.keeper;
+  begins = rw c.new-store.ensures c.in_ok-conn.ensures.ours;
   moment = c.in_ok-moment.moment;
+  given = c.in_ok-moment.ensures.given;
   text = rw c.in-Ok.is at c.copy_out-copied.ensures.text;
   fault = tt;
   read = c.copy_out-copied.ensures.read;
@@ -28,7 +30,9 @@ pub returns-in-Err : goal.returns-in-Err
 returns-in-Err g c = record {
   old = c.new-store.result;
   new = c.copy_out-copied.new.keeper;
+  begins = rw c.new-store.ensures c.in_ok-conn.ensures.ours;
   moment = c.in_ok-moment.moment;
+  given = c.in_ok-moment.ensures.given;
   text = rw c.in-Err.is at c.copy_out-copied.ensures.text;
   fault = rw c.in-Err.is at c.copy_out-copied.ensures.fault;
   read = c.copy_out-copied.ensures.read;

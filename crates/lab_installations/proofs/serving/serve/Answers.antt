@@ -4,7 +4,14 @@ use Rattle.std.proofs.KnownBytes.{Keeps-refl}
 use Rattle.lab_installations.proofs.serving.serve.Goals as goal
 
 pub returns-in-Ok : goal.returns-in-Ok
-returns-in-Ok g c = inl (_, _, c.serve-status.ensures.serves, c.serve-status.ensures.stays)
+returns-in-Ok g c = inl (
+  _,
+  _,
+  rw c.in-Ok.is at c.prepared.ensures.ours,
+  c.serve-status.ensures.serves,
+  c.serve-status.ensures.stays,
+)
 
 pub returns-in-Err : goal.returns-in-Err
-returns-in-Err g c = inr (_, Keeps-refl _, c.decline.ensures)
+returns-in-Err g c =
+    inr (_, rw c.in-Err.is at c.prepared.ensures.fault, Keeps-refl _, c.decline.ensures)
