@@ -114,7 +114,8 @@ fn a_file_that_is_empty(rt: HostRuntime) {
     let path = written(&rt, "empty", "").expect(&rt, "a path");
     assert_founded(&rt, host(&rt, 100), path.as_str(), BODY, REFUSED);
     let kept = taken(&rt, path.as_str()).expect(&rt, "a file");
-    // The store makes it a database without tables, which begins as SQLite's "Database File Format" says.
+    // The store makes it a database without tables: these are the first bytes of one, as SQLite's
+    // "Database File Format" has them.
     assert!(rt; kept.starts_with(b"SQLite format 3\0"), "{kept:?}");
 }
 

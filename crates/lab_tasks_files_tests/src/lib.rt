@@ -1,4 +1,5 @@
-//! Tests of `lab_tasks` over files and sockets: `serve`, `copy`, and the commands one after the other.
+//! Tests of `lab_tasks` over files and sockets: `serve`, `copy`, and the commands one after the
+//! other.
 #![tactic(auto)]
 
 #[cfg(test)]

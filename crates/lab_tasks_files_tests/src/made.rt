@@ -1,5 +1,5 @@
-//! What the program is given by the tests: a shelf with one file in memory, a clock, words of chance,
-//! and writers that fail.
+//! What the program is given by the tests: a shelf with one file in memory, a clock, words of
+//! chance, and writers that fail.
 use crate::files::Filed;
 use lab_files::FileFault;
 use lab_names::Moment;
