@@ -52,8 +52,9 @@ fn origin_after(
     }
 }
 
-/// The version that the rows tell, behind one of the digest or none.
-fn version_after(
+/// The version that the rows tell, behind one of the digest or none. Of the record all but its versions is read. A first
+/// version of another number, and a later one without a reason or of the first number, are faults of the store.
+pub fn version_after(
     cover: &Record,
     before: Option<Digest>,
     leaf: VersionLeaf,

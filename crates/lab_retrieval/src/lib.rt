@@ -15,7 +15,7 @@ mod leaves;
 mod records;
 mod wholes;
 
-pub use chains::chain;
+pub use chains::{chain, version_after};
 pub use choices::names_at;
 pub use codes::{code_at, code_if};
 pub use fields::fields_at;
