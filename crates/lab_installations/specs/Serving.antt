@@ -7,16 +7,20 @@ use Rattle.lab_kept.specs.Worlds.{World, Given}
 use Rattle.lab_desk.specs.Keeping.{AreWithin}
 use Rattle.lab_serving.specs.Staying.{StaysOn}
 use Rattle.lab_serving.specs.Tasks.{IsServing}
+use Rattle.lab_serving.specs.declared.faults.ServerFault.TheVariants.{Read, Write, Memory}
 use Rattle.lab_installations.specs.declared.faults.TaskFault.{TaskFault}
 use Rattle.lab_installations.specs.declared.faults.TaskFault.TheVariants.{File, Founding, Copying, Server}
 use Rattle.lab_installations.specs.Faults.{Declines}
 
--- a fault before serving: the file wasn't opened, no port listened at, or memory ran out
+-- a fault before serving: the file wasn't opened, no port listened at, or memory ran out; nothing
+-- was written yet, so no writer is blamed
 abbrev pub IsUnprepared : TaskFault → Type 0
 IsUnprepared (File fault) = Unit {0}
 IsUnprepared (Founding fault) = ⊥
 IsUnprepared (Copying fault) = ⊥
-IsUnprepared (Server fault) = Unit {0}
+IsUnprepared (Server Read) = Unit {0}
+IsUnprepared (Server Write) = ⊥
+IsUnprepared (Server Memory) = Unit {0}
 
 module _ {S : Type 0} (world : S → World) (rests : S → S → Type 0)
     (moves : S → S → List ℕ → List Change → Type 0) (opened : S → Type 0) (count : ℕ)

@@ -1,12 +1,13 @@
 //! Sockets: a listener of this machine, and what is served and rehearsed over it.
 
-ghost use Rattle.std.specs.Prelude.{ℕ, List, IfSome};
+ghost use Rattle.std.specs.Prelude.{◌≡◌, ℕ, List, IfSome, IfErr};
 ghost use Rattle.std.specs.Io.KnownBytes.{Appends};
 ghost use Rattle.lab_kept.specs.Worlds.{Passes, Given};
 ghost use Rattle.lab_desk.specs.Keeping.{AreWithin};
 ghost use Rattle.lab_serving.specs.Staying.{StaysOn};
 ghost use Rattle.lab_serving.specs.Tasks.{FoundsBy, IsRehearsal, IsServing, Prints};
 ghost use Rattle.lab_serving.specs.Texts.{IsAnnounced};
+ghost use Rattle.lab_serving.specs.declared.faults.ServerFault.TheVariants.{Read as NoneListened};
 ghost use Rattle.lab_serving.specs.Visits.{ServesCount};
 
 use crate::connections::{Connection, Connections};
@@ -117,7 +118,12 @@ fn loopback(port: u16) -> SocketAddr {
 }
 
 /// A listener at a port of this machine; port 0 is any that is free.
-pub fn listen<N: Net>(net: &N, port: u16) -> Result<N::Listener, ServerFault> {
+///
+/// # Errors
+/// `Read` where the network gives none, and no other fault.
+pub fn listen<N: Net>(net: &N, port: u16) -> Result<N::Listener, ServerFault>
+    ensures fault { IfErr result (λ fault. fault ≡ NoneListened) }
+{
     match TcpListener::bind(net, loopback(port)) {
         Ok(listener) => Ok(listener),
         Err(_) => Err(ServerFault::Read),

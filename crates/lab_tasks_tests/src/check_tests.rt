@@ -51,61 +51,65 @@ impl Read for Torn<'_> {
     }
 }
 
-#[test]
-fn a_sound_copy(rt: HostRuntime) {
-    let rows = [
-        HEADER, COPY, RECORD, VERSION, ENTRY, AUTHORSHIP, REVIEW, END,
-    ];
-    let copy = joined(&rt, &rows);
-    check_input(&rt, &WORDS, copy.as_str(), "good 1 1 1 2\n", "", 0);
-}
+/// Lines of a copy, and what is written of it, and the status.
+type Case = (&'static [&'static str], &'static str, u8);
 
-#[test]
-fn a_copy_of_no_record(rt: HostRuntime) {
-    let copy = joined(&rt, &[HEADER, COPY, EMPTY_END]);
-    check_input(&rt, &WORDS, copy.as_str(), "good 0 0 0 0\n", "", 0);
-}
+const OTHER_VALUE: &str = "entry,aqua,1,1,lead,7.51,mg/L,dan,,1970-01-01T00:18:20Z,,,\n";
 
-#[test]
-fn a_copy_with_a_flaw(rt: HostRuntime) {
-    let other = "entry,aqua,1,1,lead,7.51,mg/L,dan,,1970-01-01T00:18:20Z,,,\n";
-    let altered = joined(
-        &rt,
+static COPIES: [Case; 9] = [
+    // Sound ones: of a released record, and of none.
+    (
         &[
-            HEADER, COPY, RECORD, VERSION, other, AUTHORSHIP, REVIEW, END,
+            HEADER, COPY, RECORD, VERSION, ENTRY, AUTHORSHIP, REVIEW, END,
         ],
-    );
-    check_input(&rt, &WORDS, altered.as_str(), "bad digest 4\n", "", 1);
-    let exchanged = joined(
-        &rt,
+        "good 1 1 1 2\n",
+        0,
+    ),
+    (&[HEADER, COPY, EMPTY_END], "good 0 0 0 0\n", 0),
+    // Ones with a flaw: another value, signatures exchanged, and one left out.
+    (
+        &[
+            HEADER,
+            COPY,
+            RECORD,
+            VERSION,
+            OTHER_VALUE,
+            AUTHORSHIP,
+            REVIEW,
+            END,
+        ],
+        "bad digest 4\n",
+        1,
+    ),
+    (
         &[
             HEADER, COPY, RECORD, VERSION, ENTRY, REVIEW, AUTHORSHIP, END,
         ],
-    );
-    check_input(&rt, &WORDS, exchanged.as_str(), "bad one_person 4\n", "", 1);
-    let shorter = joined(
-        &rt,
+        "bad one_person 4\n",
+        1,
+    ),
+    (
         &[HEADER, COPY, RECORD, VERSION, ENTRY, AUTHORSHIP, END],
-    );
-    check_input(&rt, &WORDS, shorter.as_str(), "bad order 7\n", "", 1);
-}
-
-#[test]
-fn a_copy_whose_end_is_cut(rt: HostRuntime) {
-    let cut = joined(
-        &rt,
+        "bad order 7\n",
+        1,
+    ),
+    // Ones whose end is cut, and what is no copy.
+    (
         &[HEADER, COPY, RECORD, VERSION, ENTRY, AUTHORSHIP, REVIEW],
-    );
-    check_input(&rt, &WORDS, cut.as_str(), "bad no_end\n", "", 1);
-    let cut = joined(&rt, &[HEADER, COPY, "end,aqua"]);
-    check_input(&rt, &WORDS, cut.as_str(), "bad bad_row 3\n", "", 1);
-    check_input(&rt, &WORDS, "", "bad no_end\n", "", 1);
-}
+        "bad no_end\n",
+        1,
+    ),
+    (&[HEADER, COPY, "end,aqua"], "bad bad_row 3\n", 1),
+    (&[], "bad no_end\n", 1),
+    (&["kind,lab\n"], "bad bad_row 1\n", 1),
+];
 
 #[test]
-fn what_is_no_copy(rt: HostRuntime) {
-    let input = "kind,lab\n";
-    check_input(&rt, &WORDS, input, "bad bad_row 1\n", "", 1);
+fn copies_that_are_sound_or_not(rt: HostRuntime) {
+    for &(lines, written, status) in &COPIES {
+        let copy = joined(&rt, lines);
+        check_input(&rt, &WORDS, copy.as_str(), written, "", status);
+    }
 }
 
 #[test]
@@ -138,9 +142,7 @@ fn a_fault_that_cannot_be_told(rt: HostRuntime) {
     assert_cut(&rt, &mut host, &WORDS, copy.as_str(), (0, 8, true), ends);
 }
 
-#[test]
-fn help_on_a_check(rt: HostRuntime) {
-    let help = "Check the inspection copy of standard input, and tell what is found
+const HELP: &str = "Check the inspection copy of standard input, and tell what is found
 
 Usage: labdesk check
 
@@ -152,17 +154,31 @@ It tells `good` and how many records, versions, entries and signatures the copy 
 
     labdesk check < copy.csv
 ";
-    check_input(&rt, &["labdesk", "check", "--help"], "", help, "", 0);
-    check_input(&rt, &["labdesk", "help", "check"], "", help, "", 0);
-}
+
+/// Words, and what is written and told of them, and the status.
+static ASKED: [(&[&str], &str, &str, u8); 4] = [
+    (&["labdesk", "check", "--help"], HELP, "", 0),
+    (&["labdesk", "help", "check"], HELP, "", 0),
+    (
+        &["labdesk", "check", "copy.csv"],
+        "",
+        "error: unexpected argument 'copy.csv' found\n\nUsage: labdesk check\n\n\
+        For more information, try '--help'.\n",
+        2,
+    ),
+    (
+        &["labdesk", "chek"],
+        "",
+        "error: unrecognized subcommand 'chek'\n\n  \
+        tip: a similar subcommand exists: 'check'\n\nUsage: labdesk <COMMAND>\n\n\
+        For more information, try '--help'.\n",
+        2,
+    ),
+];
 
 #[test]
-fn words_that_are_wrong(rt: HostRuntime) {
-    let told = "error: unexpected argument 'copy.csv' found\n\nUsage: labdesk check\n\n\
-        For more information, try '--help'.\n";
-    check_input(&rt, &["labdesk", "check", "copy.csv"], "", "", told, 2);
-    let told = "error: unrecognized subcommand 'chek'\n\n  \
-        tip: a similar subcommand exists: 'check'\n\nUsage: labdesk <COMMAND>\n\n\
-        For more information, try '--help'.\n";
-    check_input(&rt, &["labdesk", "chek"], "", "", told, 2);
+fn help_and_words_that_are_wrong(rt: HostRuntime) {
+    for &(words, written, told, status) in &ASKED {
+        check_input(&rt, words, "", written, told, status);
+    }
 }

@@ -1,18 +1,13 @@
 //! Files in memory. The calls have no clauses, so that the proof of a test doesn't carry what a
 //! connection holds after each.
 use crate::texts::BODY;
-use lab_desk::{Desk, Event};
-use lab_events::next_event;
+use lab_desk::Desk;
 use lab_installations::store_in_memory;
 use lab_names::{LabCode, Moment, Tick};
 use lab_store::Store;
 use sqlite::{Alter, Connection, Error, MemStore};
 use std::alloc::Global;
-use std::io::{BufRead, BufReader};
 use std::process::Abort;
-
-/// More events than any text here has.
-const MOST_EVENTS: u64 = 1_000;
 
 /// A file of laboratories in memory.
 pub(crate) type Filed = Store<MemStore>;
@@ -68,29 +63,4 @@ fn desk<R: Abort + AllocGlobal>(rt: &R) -> Desk<Filed> {
 /// A file with the laboratory `aqua`.
 pub(crate) fn aqua_file<R: Abort + AllocGlobal>(rt: &R) -> Option<Filed> {
     Some(desk(rt).into_keeper())
-}
-
-fn next<R: Abort + AllocGlobal, B: BufRead>(rt: &R, reader: &mut B) -> Option<Event> {
-    next_event(rt.alloc(), reader).expect(rt, "an event")
-}
-
-/// Asserts that the desk does what an event asks for.
-fn assert_done<R: Abort + AllocGlobal>(rt: &R, desk: &mut Desk<Filed>, event: Event) {
-    let mut written = Vec::new(rt.alloc());
-    let taken = desk.run(&[event], &mut written).expect(rt, "a run");
-    assert!(rt; taken.as_slice() == [true].as_slice(), "{written:?}");
-    assert!(rt; written.starts_with(b"HTTP/1.1 200 OK\r\n"), "{written:?}");
-}
-
-/// A file with the laboratory `aqua` after these events, each of which is done.
-pub(crate) fn played_file<R: Abort + AllocGlobal>(rt: &R, text: &str) -> Option<Filed> {
-    let mut desk = desk(rt);
-    let mut reader = BufReader::new(rt.alloc(), text.as_bytes()).expect(rt, "a reader");
-    for _ in 0..MOST_EVENTS {
-        let Some(event) = next(rt, &mut reader) else {
-            break;
-        };
-        assert_done(rt, &mut desk, event);
-    }
-    Some(desk.into_keeper())
 }

@@ -111,9 +111,7 @@ fn a_fault_that_cannot_be_told(rt: HostRuntime) {
     }
 }
 
-#[test]
-fn help_on_a_founding(rt: HostRuntime) {
-    let help = "Found a laboratory in a file, from the body of standard input
+const HELP: &str = "Found a laboratory in a file, from the body of standard input
 
 Usage: labdesk found --file <F> --lab <L>
 
@@ -128,15 +126,24 @@ founding is described in docs/FORMATS.md. An example:
 
     labdesk found --file laboratories --lab aqua < examples/founding.json
 ";
-    check_input(&rt, &["labdesk", "found", "--help"], BODY, help, "", 0);
-    check_input(&rt, &["labdesk", "help", "found"], BODY, help, "", 0);
-}
+
+/// Words, and what is written and told of them, and the status.
+static ASKED: [(&[&str], &str, &str, u8); 3] = [
+    (&["labdesk", "found", "--help"], HELP, "", 0),
+    (&["labdesk", "help", "found"], HELP, "", 0),
+    (
+        &["labdesk", "found", "--file", "laboratories"],
+        "",
+        "error: the following required arguments were not provided:\n  \
+        --lab <L>\n\nUsage: labdesk found --file <F> --lab <L>\n\n\
+        For more information, try '--help'.\n",
+        2,
+    ),
+];
 
 #[test]
-fn words_that_are_left_out(rt: HostRuntime) {
-    let told = "error: the following required arguments were not provided:\n  \
-        --lab <L>\n\nUsage: labdesk found --file <F> --lab <L>\n\n\
-        For more information, try '--help'.\n";
-    let words = ["labdesk", "found", "--file", "laboratories"];
-    check_input(&rt, &words, BODY, "", told, 2);
+fn help_and_words_that_are_left_out(rt: HostRuntime) {
+    for &(words, written, told, status) in &ASKED {
+        check_input(&rt, words, BODY, written, told, status);
+    }
 }

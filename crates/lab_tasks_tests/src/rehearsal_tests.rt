@@ -10,35 +10,71 @@ const LAST_CARD: &str = "HTTP/1.1 200 OK\r\nDate: Fri, 31 Dec 9999 23:59:59 GMT\
     Content-Type: application/json\r\nContent-Length: 40\r\nConnection: close\r\n\r\n\
     {\"lab\":\"b-2-of-brick\",\"name\":\"Aqua Lab\"}";
 
-#[test]
-fn the_card(rt: HostRuntime) {
-    check_input(&rt, &WORDS, BODY, AQUA_REPLY, "", 0);
-    let words = ["labdesk", "rehearse", "--moment=100", "--lab=aqua"];
-    check_input(&rt, &words, BODY, AQUA_REPLY, "", 0);
-}
+/// Words, and what is written and told of a founding under them, and the status.
+type Case = (&'static [&'static str], &'static str, &'static str, u8);
+
+const BAD_NAME: &str = "labdesk: bad_name\n";
+
+static CODES_AND_MOMENTS: [Case; 7] = [
+    (&WORDS, AQUA_REPLY, "", 0),
+    (
+        &["labdesk", "rehearse", "--moment=100", "--lab=aqua"],
+        AQUA_REPLY,
+        "",
+        0,
+    ),
+    // The longest code, at the last moment.
+    (
+        &[
+            "labdesk",
+            "rehearse",
+            "--lab=b-2-of-brick",
+            "--moment=253402300799",
+        ],
+        LAST_CARD,
+        "",
+        0,
+    ),
+    // Texts that are no code.
+    (
+        &["labdesk", "rehearse", "--lab=", "--moment=100"],
+        "",
+        BAD_NAME,
+        1,
+    ),
+    (
+        &["labdesk", "rehearse", "--lab=Aqua", "--moment=100"],
+        "",
+        BAD_NAME,
+        1,
+    ),
+    (
+        &["labdesk", "rehearse", "--lab=b-2-of-bricks", "--moment=100"],
+        "",
+        BAD_NAME,
+        1,
+    ),
+    (
+        &["labdesk", "rehearse", "--lab=aqua ", "--moment=100"],
+        "",
+        BAD_NAME,
+        1,
+    ),
+];
 
 #[test]
-fn the_longest_code_at_the_last_moment(rt: HostRuntime) {
-    let (lab, moment) = ("--lab=b-2-of-brick", "--moment=253402300799");
-    let words = ["labdesk", "rehearse", lab, moment];
-    check_input(&rt, &words, BODY, LAST_CARD, "", 0);
-}
-
-#[test]
-fn a_text_that_is_no_code(rt: HostRuntime) {
-    for lab in ["--lab=", "--lab=Aqua", "--lab=b-2-of-bricks", "--lab=aqua "] {
-        let words = ["labdesk", "rehearse", lab, "--moment=100"];
-        check_input(&rt, &words, BODY, "", "labdesk: bad_name\n", 1);
+fn cards_and_texts_that_are_no_codes(rt: HostRuntime) {
+    for &(words, written, told, status) in &CODES_AND_MOMENTS {
+        check_input(&rt, words, BODY, written, told, status);
     }
 }
 
 #[test]
 fn a_founding_that_is_refused(rt: HostRuntime) {
-    for body in ["", "{\"name\":\"Aqua Lab\"}"] {
+    let twice = joined(&rt, &[BODY, BODY]);
+    for body in ["", "{\"name\":\"Aqua Lab\"}", twice.as_str()] {
         check_input(&rt, &WORDS, body, "", "labdesk: bad_body\n", 1);
     }
-    let twice = joined(&rt, &[BODY, BODY]);
-    check_input(&rt, &WORDS, twice.as_str(), "", "labdesk: bad_body\n", 1);
 }
 
 #[test]
@@ -61,9 +97,7 @@ fn an_output_that_fails(rt: HostRuntime) {
     assert_cut(&rt, &mut host, &WORDS, BODY, (12, 9, true), ends);
 }
 
-#[test]
-fn help_on_a_rehearsal(rt: HostRuntime) {
-    let help = "Found a laboratory from the body of standard input, and ask for its card
+const HELP: &str = "Found a laboratory from the body of standard input, and ask for its card
 
 Usage: labdesk rehearse --lab <L> --moment <S>
 
@@ -78,56 +112,75 @@ described in docs/FORMATS.md. An example:
 
     labdesk rehearse --lab aqua --moment 100 < examples/founding.json
 ";
-    check_input(&rt, &["labdesk", "rehearse", "--help"], BODY, help, "", 0);
-    check_input(&rt, &["labdesk", "help", "rehearse"], BODY, help, "", 0);
-}
 
-#[test]
-fn words_that_are_left_out(rt: HostRuntime) {
-    let told = "error: the following required arguments were not provided:\n  \
+static ASKED: [Case; 9] = [
+    (&["labdesk", "rehearse", "--help"], HELP, "", 0),
+    (&["labdesk", "help", "rehearse"], HELP, "", 0),
+    // Words left out, and too many.
+    (
+        &["labdesk", "rehearse"],
+        "",
+        "error: the following required arguments were not provided:\n  \
         --lab <L>\n  --moment <S>\n\nUsage: labdesk rehearse --lab <L> --moment <S>\n\n\
-        For more information, try '--help'.\n";
-    check_input(&rt, &["labdesk", "rehearse"], BODY, "", told, 2);
-    let told = "error: a value is required for '--moment <S>' but none was supplied\n\n\
-        For more information, try '--help'.\n";
-    let words = ["labdesk", "rehearse", "--lab=aqua", "--moment"];
-    check_input(&rt, &words, BODY, "", told, 2);
-}
+        For more information, try '--help'.\n",
+        2,
+    ),
+    (
+        &["labdesk", "rehearse", "--lab=aqua", "--moment"],
+        "",
+        "error: a value is required for '--moment <S>' but none was supplied\n\n\
+        For more information, try '--help'.\n",
+        2,
+    ),
+    (
+        &["labdesk", "rehearse", "aqua"],
+        "",
+        "error: unexpected argument 'aqua' found\n\n\
+        Usage: labdesk rehearse --lab <L> --moment <S>\n\n\
+        For more information, try '--help'.\n",
+        2,
+    ),
+    (
+        &[
+            "labdesk",
+            "rehearse",
+            "--lab=aqua",
+            "--moment=5",
+            "--lab=brick",
+        ],
+        "",
+        "error: the argument '--lab <L>' cannot be used multiple times\n\n\
+        Usage: labdesk rehearse --lab <L> --moment <S>\n\n\
+        For more information, try '--help'.\n",
+        2,
+    ),
+    // Moments that are none.
+    (
+        &["labdesk", "rehearse", "--lab=aqua", "--moment=253402300800"],
+        "",
+        "error: invalid value '253402300800' for '--moment <S>': \
+        253402300800 is not in 0..=253402300799\n\nFor more information, try '--help'.\n",
+        2,
+    ),
+    (
+        &["labdesk", "rehearse", "--lab=aqua", "--moment=-1"],
+        "",
+        "error: invalid value '-1' for '--moment <S>': \
+        -1 is not in 0..=253402300799\n\nFor more information, try '--help'.\n",
+        2,
+    ),
+    (
+        &["labdesk", "rehearse", "--lab=aqua", "--moment=soon"],
+        "",
+        "error: invalid value 'soon' for '--moment <S>': \
+        invalid digit found in string\n\nFor more information, try '--help'.\n",
+        2,
+    ),
+];
 
 #[test]
-fn moments_that_are_none(rt: HostRuntime) {
-    let past = "error: invalid value '253402300800' for '--moment <S>': \
-        253402300800 is not in 0..=253402300799\n\nFor more information, try '--help'.\n";
-    let before = "error: invalid value '-1' for '--moment <S>': \
-        -1 is not in 0..=253402300799\n\nFor more information, try '--help'.\n";
-    let text = "error: invalid value 'soon' for '--moment <S>': \
-        invalid digit found in string\n\nFor more information, try '--help'.\n";
-    let ends = [
-        ("--moment=253402300800", past),
-        ("--moment=-1", before),
-        ("--moment=soon", text),
-    ];
-    for (moment, told) in ends {
-        let words = ["labdesk", "rehearse", "--lab=aqua", moment];
-        check_input(&rt, &words, BODY, "", told, 2);
+fn help_and_words_that_are_wrong(rt: HostRuntime) {
+    for &(words, written, told, status) in &ASKED {
+        check_input(&rt, words, BODY, written, told, status);
     }
-}
-
-#[test]
-fn words_that_are_too_many(rt: HostRuntime) {
-    let told = "error: unexpected argument 'aqua' found\n\n\
-        Usage: labdesk rehearse --lab <L> --moment <S>\n\n\
-        For more information, try '--help'.\n";
-    check_input(&rt, &["labdesk", "rehearse", "aqua"], BODY, "", told, 2);
-    let told = "error: the argument '--lab <L>' cannot be used multiple times\n\n\
-        Usage: labdesk rehearse --lab <L> --moment <S>\n\n\
-        For more information, try '--help'.\n";
-    let words = [
-        "labdesk",
-        "rehearse",
-        "--lab=aqua",
-        "--moment=5",
-        "--lab=brick",
-    ];
-    check_input(&rt, &words, BODY, "", told, 2);
 }

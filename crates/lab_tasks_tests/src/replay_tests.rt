@@ -3,23 +3,7 @@
 use crate::made::{check_input, joined};
 use crate::texts::BODY;
 
-#[test]
-fn a_founding(rt: HostRuntime) {
-    let event = joined(&rt, &["found aqua 0 1 218\n", BODY]);
-    let words = ["out/labdesk", "replay"];
-    check_input(&rt, &words, event.as_str(), "founded aqua\n", "", 0);
-}
-
-#[test]
-fn what_is_no_event(rt: HostRuntime) {
-    let words = ["labdesk", "replay"];
-    check_input(&rt, &words, BODY, "", "labdesk: bad_event\n", 1);
-    check_input(&rt, &words, "", "", "", 0);
-}
-
-#[test]
-fn help_on_a_replay(rt: HostRuntime) {
-    let help = "Run the events of standard input, and write their answers to standard output
+const HELP: &str = "Run the events of standard input, and write their answers to standard output
 
 Usage: labdesk replay
 
@@ -35,6 +19,37 @@ The input is described in docs/FORMATS.md. An example:
 
     labdesk replay < examples/two-laboratories.events
 ";
-    check_input(&rt, &["out/labdesk", "help", "replay"], "", help, "", 0);
-    check_input(&rt, &["labdesk", "replay", "--help"], "", help, "", 0);
+
+const REPLAY: &[&str] = &["labdesk", "replay"];
+
+/// Words and parts of the input, and what is written and told of them, and the status.
+type Case = (
+    &'static [&'static str],
+    &'static [&'static str],
+    &'static str,
+    &'static str,
+    u8,
+);
+
+static CASES: [Case; 5] = [
+    (
+        REPLAY,
+        &["found aqua 0 1 218\n", BODY],
+        "founded aqua\n",
+        "",
+        0,
+    ),
+    // What is no event, and no input.
+    (REPLAY, &[BODY], "", "labdesk: bad_event\n", 1),
+    (REPLAY, &[], "", "", 0),
+    (&["out/labdesk", "help", "replay"], &[], HELP, "", 0),
+    (&["labdesk", "replay", "--help"], &[], HELP, "", 0),
+];
+
+#[test]
+fn events_and_help(rt: HostRuntime) {
+    for &(words, parts, written, told, status) in &CASES {
+        let input = joined(&rt, parts);
+        check_input(&rt, words, input.as_str(), written, told, status);
+    }
 }

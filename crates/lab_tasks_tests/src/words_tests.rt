@@ -3,16 +3,10 @@
 use crate::made::{assert_cut, bare_host, check_input};
 use lab_tasks::WriteFault;
 
-#[test]
-fn the_version(rt: HostRuntime) {
-    let version = "labdesk 0.5.0\nproved with rattle-kit-13b logic dac8208d650f15bf\n";
-    check_input(&rt, &["out/labdesk", "--version"], "", version, "", 0);
-    check_input(&rt, &["labdesk", "-V"], "", version, "", 0);
-}
+/// Words, and what is written and told of them, and the status.
+type Case = (&'static [&'static str], &'static str, &'static str, u8);
 
-#[test]
-fn help(rt: HostRuntime) {
-    let help = "Signed laboratory records
+const HELP: &str = "Signed laboratory records
 
 Usage: labdesk <COMMAND>
 
@@ -34,35 +28,54 @@ What goes in and comes out is described in docs/FORMATS.md. An example:
     labdesk found --file laboratories --lab aqua < examples/founding.json
     labdesk serve --file laboratories --port 8080
 ";
-    check_input(&rt, &["out/labdesk", "--help"], "", help, "", 0);
-    check_input(&rt, &["labdesk", "help"], "", help, "", 0);
-}
 
-#[test]
-fn no_words(rt: HostRuntime) {
-    let told = "error: 'labdesk' requires a subcommand but one was not provided\n  \
+const VERSION: &str = "labdesk 0.5.0\nproved with rattle-kit-13f logic dac8208d650f15bf\n";
+
+static CASES: [Case; 8] = [
+    (&["out/labdesk", "--version"], VERSION, "", 0),
+    (&["labdesk", "-V"], VERSION, "", 0),
+    (&["out/labdesk", "--help"], HELP, "", 0),
+    (&["labdesk", "help"], HELP, "", 0),
+    // No word.
+    (
+        &["out/labdesk"],
+        "",
+        "error: 'labdesk' requires a subcommand but one was not provided\n  \
         [subcommands: found, serve, copy, check, replay, rehearse, help]\n\n\
-        Usage: labdesk <COMMAND>\n\nFor more information, try '--help'.\n";
-    check_input(&rt, &["out/labdesk"], "", "", told, 2);
-}
-
-#[test]
-fn a_word_that_is_no_command(rt: HostRuntime) {
-    let told = "error: unrecognized subcommand 'relay'\n\n  \
+        Usage: labdesk <COMMAND>\n\nFor more information, try '--help'.\n",
+        2,
+    ),
+    // One that is no command.
+    (
+        &["out/labdesk", "relay"],
+        "",
+        "error: unrecognized subcommand 'relay'\n\n  \
         tip: a similar subcommand exists: 'replay'\n\nUsage: labdesk <COMMAND>\n\n\
-        For more information, try '--help'.\n";
-    check_input(&rt, &["out/labdesk", "relay"], "", "", told, 2);
-}
+        For more information, try '--help'.\n",
+        2,
+    ),
+    // One too many.
+    (
+        &["out/labdesk", "--file"],
+        "",
+        "error: unexpected argument '--file' found\n\nUsage: labdesk <COMMAND>\n\n\
+        For more information, try '--help'.\n",
+        2,
+    ),
+    (
+        &["out/labdesk", "replay", "twice"],
+        "",
+        "error: unexpected argument 'twice' found\n\nUsage: labdesk replay\n\n\
+        For more information, try '--help'.\n",
+        2,
+    ),
+];
 
 #[test]
-fn words_that_are_too_many(rt: HostRuntime) {
-    let told = "error: unexpected argument '--file' found\n\nUsage: labdesk <COMMAND>\n\n\
-        For more information, try '--help'.\n";
-    check_input(&rt, &["out/labdesk", "--file"], "", "", told, 2);
-    let told = "error: unexpected argument 'twice' found\n\nUsage: labdesk replay\n\n\
-        For more information, try '--help'.\n";
-    let words = ["out/labdesk", "replay", "twice"];
-    check_input(&rt, &words, "", "", told, 2);
+fn words_that_ask_for_no_task(rt: HostRuntime) {
+    for &(words, written, told, status) in &CASES {
+        check_input(&rt, words, "", written, told, status);
+    }
 }
 
 #[test]
