@@ -10,7 +10,7 @@ use std::alloc::Global;
 use std::io::Write;
 
 /// Writes rows behind those that went out.
-pub(crate) fn give_rows<W: Write>(
+pub fn give_rows<W: Write>(
     alloc: Global,
     out: &mut CopyOut,
     writer: &mut W,

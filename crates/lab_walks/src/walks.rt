@@ -1,6 +1,6 @@
-//! The walk over a laboratory's records: each is read, its rows go out, and it is let go.
+//! The walk over a laboratory's records: the rows of each go out, one record after the other.
 
-ghost use Rattle.std.specs.Prelude.{◌≡◌, ◌<◌, ◌≤◌, ◌^◌, [], ◌∷◌, None, Err, IsSome, IfErr, OnOk, length, option_to_list};
+ghost use Rattle.std.specs.Prelude.{◌≡◌, ◌<◌, ◌≤◌, ◌^◌, None, Err, IsSome, IfErr, OnOk, length};
 ghost use Rattle.lab_copies.specs.CopyLines.{body_lines};
 ghost use Rattle.lab_copy.specs.Outs.{Sends};
 ghost use Rattle.lab_kept.specs.Worlds.{Given, Lives};
@@ -8,30 +8,30 @@ ghost use Rattle.lab_names.specs.Ordinals.{last_ordinal};
 ghost use Rattle.lab_rows.specs.Csv.{csv_text};
 ghost use Rattle.lab_walks.specs.Faults.{CopyFaultFits, OnTold};
 ghost use Rattle.lab_walks.specs.Resting.{IsRead};
-ghost use Rattle.lab_walks.specs.Walks.{CanWalk, copy_text, counted_all, desk_order, numbers_between, record_at, record_rows, text_under, walked};
+ghost use Rattle.lab_walks.specs.Walks.{CanWalk, copy_text, counted_all, desk_order, numbers_between, record_rows, text_under, walked};
 
 use crate::CopyOutFault;
+use crate::givers::RecordGiver;
 use crate::progress::Progress;
-use crate::reads::{first_line, head_of, last_kept, read_record};
-use crate::rows::give_rows;
-use lab_copies::body_rows;
+use crate::reads::{first_line, head_of, last_kept};
 use lab_copy::CopyOut;
-use lab_kept::{Keeper, LabCode, Moment, Ordinal, Record};
+use lab_kept::{Keeper, LabCode, Moment, Ordinal};
 use lab_rows::CopyLine;
 use std::alloc::Global;
 use std::io::Write;
 
 /// Writes the inspection copy of a laboratory's records from a number to a number, made for nobody
-/// at this moment (21 CFR 11.10(b)). It holds one record at a time, and tells after each how far it
-/// is.
+/// at this moment (21 CFR 11.10(b)). The giver has the rows of one record after the other go out, and
+/// the progress is told after each.
 ///
 /// # Errors
 /// That there is no laboratory of the code, the store's refusal, that memory ran out, and a write
 /// that failed or took no byte. The front of the copy's text went out, and the rows are as they
 /// were.
-pub fn copy_out<S: Keeper, W: Write, P: Progress>(
+pub fn copy_out<S: Keeper, G: RecordGiver<S>, W: Write, P: Progress>(
     alloc: Global,
     keeper: &mut S,
+    giver: &G,
     lab: &LabCode,
     from: Ordinal,
     to: Ordinal,
@@ -63,7 +63,7 @@ pub fn copy_out<S: Keeper, W: Write, P: Progress>(
         Ok(Some(slice)) => {
             let last = last_kept(&slice, to);
             let line = first_line(slice, from, to, moment);
-            copy_under(alloc, keeper, line, last, writer, progress)
+            copy_under(alloc, keeper, giver, line, last, writer, progress)
         }
         Ok(None) => Err(CopyOutFault::NoSuchLab),
         Err(fault) => Err(CopyOutFault::from(fault)),
@@ -71,9 +71,10 @@ pub fn copy_out<S: Keeper, W: Write, P: Progress>(
 }
 
 // Writes a copy under its first line: the records up to a last one.
-fn copy_under<S: Keeper, W: Write, P: Progress>(
+fn copy_under<S: Keeper, G: RecordGiver<S>, W: Write, P: Progress>(
     alloc: Global,
     keeper: &mut S,
+    giver: &G,
     line: CopyLine,
     last: u32,
     writer: &mut W,
@@ -96,16 +97,17 @@ fn copy_under<S: Keeper, W: Write, P: Progress>(
 {
     let mut out = CopyOut::start(alloc, writer, &line)?;
     walk(
-        alloc, keeper, &line.lab, line.from, last, &mut out, writer, progress,
+        alloc, keeper, giver, &line.lab, line.from, last, &mut out, writer, progress,
     )?;
     out.finish(alloc, writer)?;
     Ok(())
 }
 
 // Writes the rows of the records from a number to a last one.
-fn walk<S: Keeper, W: Write, P: Progress>(
+fn walk<S: Keeper, G: RecordGiver<S>, W: Write, P: Progress>(
     alloc: Global,
     keeper: &mut S,
+    giver: &G,
     lab: &LabCode,
     from: Ordinal,
     last: u32,
@@ -135,61 +137,8 @@ fn walk<S: Keeper, W: Write, P: Progress>(
     let first = from.get();
     let end = last + 1;
     for number in first..end {
-        give_record(alloc, keeper, lab, number, out, writer)?;
+        giver.give_record(alloc, keeper, lab, number, out, writer)?;
         progress.told(number - first + 1, end - first);
     }
-    Ok(())
-}
-
-// Writes the rows of the record of a number, where there is one.
-fn give_record<S: Keeper, W: Write>(
-    alloc: Global,
-    keeper: &mut S,
-    lab: &LabCode,
-    number: u32,
-    out: &mut CopyOut,
-    writer: &mut W,
-) -> Result<(), CopyOutFault>
-    requires first { 1 ≤ number }
-    requires last { number ≤ last_ordinal }
-    ensures text { Given (S.world keeper.old) (S.world keeper.new)
-        (Sends (W.contents writer.old) (W.contents writer.new) (csv_text (record_rows lab.now
-        (option_to_list (record_at number ((S.world keeper.old).meaning lab.now))))) result) }
-    ensures counts { Given (S.world keeper.old) (S.world keeper.new)
-        (OnOk result (out.new ≡ record out.old {
-          counts = counted_all out.old.counts
-              (record_rows lab.now
-              (option_to_list (record_at number ((S.world keeper.old).meaning lab.now))));
-        })) }
-    ensures fault { IfErr result
-        (CopyFaultFits ⊥ (S.world keeper.old).may_refuse (Unit {0})) }
-    ensures lives { Given (S.world keeper.old) (S.world keeper.new)
-        (OnOk result (Lives (S.world keeper.old) (S.world keeper.new))) }
-    ensures read { IsRead S.world S.rests keeper.old keeper.new }
-{
-    match read_record(keeper, lab, number) {
-        Ok(Some(kept)) => give_whole(alloc, lab, kept, out, writer),
-        Ok(None) => Ok(()),
-        Err(fault) => Err(CopyOutFault::from(fault)),
-    }
-}
-
-// Writes the rows of a record.
-fn give_whole<W: Write>(
-    alloc: Global,
-    lab: &LabCode,
-    kept: Record,
-    out: &mut CopyOut,
-    writer: &mut W,
-) -> Result<(), CopyOutFault>
-    ensures text { Sends (W.contents writer.old) (W.contents writer.new)
-        (csv_text (record_rows lab.now (kept ∷ []))) result }
-    ensures counts { OnOk result (out.new ≡
-        record out.old { counts = counted_all out.old.counts (record_rows lab.now (kept ∷ [])) }) }
-    ensures fault { IfErr result (CopyFaultFits ⊥ ⊥ (Unit {0})) }
-{
-    let records = [kept];
-    let rows = body_rows(alloc, lab, &records)?;
-    give_rows(alloc, out, writer, rows.as_slice())?;
     Ok(())
 }

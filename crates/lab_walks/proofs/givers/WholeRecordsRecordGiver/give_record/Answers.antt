@@ -4,7 +4,7 @@ use Rattle.lab_kept.specs.declared.records.Record.{Record}
 use Rattle.lab_copy.specs.Outs.{Sends}
 use Rattle.lab_walks.specs.Walks.{record_at}
 use Rattle.lab_walks.proofs.TextLemmas.{records_text}
-use Rattle.lab_walks.proofs.walks.give_record.Goals as goal
+use Rattle.lab_walks.proofs.givers.WholeRecordsRecordGiver.give_record.Goals as goal
 
 pub returns-in-Ok-Some-clause-text : goal.returns-in-Ok-Some-clause-text
 returns-in-Ok-Some-clause-text g c = λ honest reached.
