@@ -10,7 +10,7 @@ use crate::telling::decline;
 use lab_messages::WriteFault;
 use lab_names::{LabCode, Moment, Ordinal};
 use lab_serving::Clock;
-use lab_store::Store;
+use lab_store::{OneVersionAtATime, Store};
 use lab_walks::{Progress, copy_out};
 use sqlite::Connection;
 use std::alloc::Global;
@@ -37,7 +37,17 @@ where
     let conn = open_file(alloc, shelf, path)?;
     let moment: Moment = clock.moment()?;
     let mut store = Store::new(alloc, conn);
-    let copied = copy_out(alloc, &mut store, lab, from, to, moment, output, progress);
+    let copied = copy_out(
+        alloc,
+        &mut store,
+        &OneVersionAtATime,
+        lab,
+        from,
+        to,
+        moment,
+        output,
+        progress,
+    );
     leave(store);
     match copied {
         Ok(()) => Ok(()),
@@ -46,9 +56,9 @@ where
 }
 
 /// `labdesk copy`: opens the file at the path, writes the inspection copy of the laboratory's
-/// records from a number to a number, record by record, tells after each how far it is, and tells on
-/// standard error why it stopped. Answers the status: 0 where the copy is whole, and else 1. The
-/// rows stay as they are.
+/// records from a number to a number, one version at a time, tells after each record how far it is,
+/// and tells on standard error why it stopped. Answers the status: 0 where the copy is whole, and
+/// else 1. The rows stay as they are.
 ///
 /// # Errors
 /// It stopped, and standard error failed before the whole line was told.

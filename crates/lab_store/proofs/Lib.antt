@@ -2,3 +2,4 @@ mod Settled
 mod Turns
 mod Committed
 mod Applied
+mod Given

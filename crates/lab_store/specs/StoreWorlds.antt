@@ -2,7 +2,9 @@
 -- something only while no fault of the disk went unseen and none has shut it.
 use Rattle.std.specs.Prelude.{◌≡◌, IsTrue}
 use Rattle.sqlite_trees.specs.Tree.{Trees}
+use Rattle.sqlite_trees.specs.declared.store.Store.{Ghosts}
 use Rattle.sqlite.specs.Effect.{Database}
+use Rattle.sqlite.specs.Held.{Held, state}
 use Rattle.sqlite.specs.State.{State, HasCleanDisk}
 use Rattle.lab_kept.specs.Worlds.{World, Meaning, SameMeaning}
 use Rattle.lab_tables.specs.Rows.{tables_in}
@@ -27,6 +29,14 @@ world_of s = record {
   may_leave = MayLeave s;
   is_safe = IsSafe s;
 }
+
+-- the same of a store over a connection, and that its rows are as they were
+module _ {S : Type 0} (g : Ghosts S) where
+  abbrev pub store_world : Held S → World
+  store_world held = world_of (state g held)
+
+  abbrev pub store_rests : Held S → Held S → Type 0
+  store_rests old new = tables_of (state g new) ≡ tables_of (state g old)
 
 -- the rows of all tables are as they were
 abbrev pub SameRows : State → State → Type 0

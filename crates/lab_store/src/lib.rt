@@ -2,6 +2,8 @@
 //! and (e); ISO/IEC 17025:2017, 7.11.3 and 8.4.2).
 #![tactic(auto)]
 
+mod givers;
 mod store;
 
+pub use givers::OneVersionAtATime;
 pub use store::Store;

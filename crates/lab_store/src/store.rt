@@ -1,16 +1,27 @@
 //! The keeper over a connection.
 
-ghost use Rattle.std.specs.Prelude.{◌≡◌, IfOk, OnOk};
+ghost use Rattle.std.specs.Prelude.{◌≡◌, IfErr, OnOk, option_to_list};
 ghost use Rattle.sqlite.specs.Held.{state};
+ghost use Rattle.lab_copy.specs.Outs.{Sends};
+ghost use Rattle.lab_kept.specs.Worlds.{Given, Lives};
+ghost use Rattle.lab_rows.specs.Csv.{csv_text};
+ghost use Rattle.lab_store.specs.StoreWorlds.{store_rests, store_world};
 ghost use Rattle.lab_tables.specs.Ready.{IsAtRest};
+ghost use Rattle.lab_walks.specs.Faults.{CopyFaultFits};
+ghost use Rattle.lab_walks.specs.Resting.{IsRead};
+ghost use Rattle.lab_walks.specs.Walks.{counted_all, record_at, record_rows};
 
 use lab_applying::apply;
+use lab_copy::CopyOut;
 use lab_founding::found;
 use lab_kept::{Change, Keeper, KeeperFault, Need, Newborn, PlacingFault, Series, Slice};
 use lab_loading::load;
-use lab_names::LabCode;
+use lab_names::{LabCode, Ordinal};
+use lab_pages::give_record_at;
+use lab_walks::CopyOutFault;
 use sqlite::{Alter, Connection};
 use std::alloc::Global;
+use std::io::Write;
 use std::marker::Model;
 
 /// The laboratories of a file, over a connection at rest that was created or opened by `lab_files`.
@@ -49,6 +60,39 @@ impl<S: Alter> Store<S> {
     {
         let Store { conn, alloc: _ } = self;
         conn
+    }
+
+    /// Writes the rows of a record into a copy on its way out, one version at a time.
+    ///
+    /// # Errors
+    /// The store's refusal, that memory ran out, and a write that failed or took no byte. The front
+    /// of the rows' text went out.
+    pub fn give_record<W: Write>(
+        &mut self,
+        alloc: Global,
+        lab: &LabCode,
+        number: Ordinal,
+        out: &mut CopyOut,
+        writer: &mut W,
+    ) -> Result<(), CopyOutFault>
+        ensures text { Given (store_world S.Store self.old) (store_world S.Store self.new)
+            (Sends (W.contents writer.old) (W.contents writer.new) (csv_text (record_rows lab.now
+            (option_to_list
+            (record_at number ((store_world S.Store self.old).meaning lab.now))))) result) }
+        ensures counts { Given (store_world S.Store self.old) (store_world S.Store self.new)
+            (OnOk result (out.new ≡ record out.old {
+              counts = counted_all out.old.counts
+                  (record_rows lab.now
+                  (option_to_list
+                  (record_at number ((store_world S.Store self.old).meaning lab.now))));
+            })) }
+        ensures fault { IfErr result
+            (CopyFaultFits ⊥ (store_world S.Store self.old).may_refuse (Unit {0})) }
+        ensures lives { Given (store_world S.Store self.old) (store_world S.Store self.new)
+            (OnOk result (Lives (store_world S.Store self.old) (store_world S.Store self.new))) }
+        ensures read { IsRead (store_world S.Store) (store_rests S.Store) self.old self.new }
+    {
+        give_record_at(alloc, &mut self.conn, lab, number, out, writer)
     }
 }
 
