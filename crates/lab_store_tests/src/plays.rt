@@ -2,6 +2,8 @@
 use lab_desk::{Desk, Event};
 use lab_events::next_event;
 use lab_kept::Keeper;
+use lab_names::{LabCode, Moment, Ordinal};
+use lab_walks::{RecordGiver, Unheard, copy_out};
 use std::io::{BufRead, BufReader};
 use std::process::Abort;
 
@@ -69,5 +71,31 @@ pub(crate) fn played<R: Abort + AllocGlobal, S: Keeper + Drop>(
         let answer = answers(rt, desk, &[event]);
         written.extend_from_slice(&answer).expect(rt, "the answers");
     }
+    written
+}
+
+/// The copy of the first nine records of `aqua`, of which each goes out of the keeper in this way.
+pub(crate) fn copied<R: Abort + AllocGlobal, S: Keeper, G: RecordGiver<S>>(
+    rt: &R,
+    keeper: &mut S,
+    giver: &G,
+) -> Vec<u8> {
+    let code = LabCode::parse(rt.alloc(), "aqua").expect(rt, "a code");
+    let to = Ordinal::new(9).expect(rt, "a number");
+    let moment = Moment::from_seconds(9000).expect(rt, "a moment");
+    let mut written = Vec::new(rt.alloc());
+    let done = copy_out(
+        rt.alloc(),
+        keeper,
+        giver,
+        &code,
+        Ordinal::FIRST,
+        to,
+        moment,
+        &mut written,
+        &mut Unheard,
+    );
+    drop(code);
+    assert!(rt; done.is_ok());
     written
 }
