@@ -1,6 +1,7 @@
 """A library in front of the C library's malloc and realloc that answers one growth of a program's memory with no memory: that of the
 number in REFUSED_GROWTH. It tells so by a byte on the descriptor in REFUSED_TOLD, or there how many growths there were, where
-COUNTS_GROWTHS stands. Growths are counted from the program's start; where AFTER_ACCEPTING stands, from its first connection on.
+COUNTS_GROWTHS stands. Growths are counted from the program's start; where FROM_CLOCK stands, from when it first asks for the time of
+day.
 """
 import contextlib
 import os
@@ -12,13 +13,13 @@ SHIM = r"""
 #include <dlfcn.h>
 #include <stdio.h>
 #include <stdlib.h>
-#include <sys/socket.h>
+#include <time.h>
 #include <unistd.h>
 static long left = -2, count = 0;
 static int waits = -1;
 static int refused(void) {
     if (left == -2) { const char *text = getenv("REFUSED_GROWTH"); left = text ? atol(text) : 0; }
-    if (waits == -1) waits = getenv("AFTER_ACCEPTING") != NULL;
+    if (waits == -1) waits = getenv("FROM_CLOCK") != NULL;
     if (waits) return 0;
     count++;
     if (left > 0 && --left == 0) { (void)!write(atoi(getenv("REFUSED_TOLD")), "x", 1); return 1; }
@@ -37,12 +38,11 @@ void *realloc(void *old, size_t size) {
     if (!real) real = dlsym(RTLD_NEXT, "realloc");
     return refused() ? NULL : real(old, size);
 }
-int accept4(int listener, struct sockaddr *address, socklen_t *length, int flags) {
-    static int (*real)(int, struct sockaddr *, socklen_t *, int);
-    if (!real) real = dlsym(RTLD_NEXT, "accept4");
-    int accepted = real(listener, address, length, flags);
-    waits = 0;
-    return accepted;
+int clock_gettime(clockid_t clock, struct timespec *now) {
+    static int (*real)(clockid_t, struct timespec *);
+    if (!real) real = dlsym(RTLD_NEXT, "clock_gettime");
+    if (clock == CLOCK_REALTIME) waits = 0;
+    return real(clock, now);
 }
 """
 
@@ -64,6 +64,11 @@ class Telling:
         return os.path.getsize(self.name) > 0
 
 
+    def count(self):
+        with open(self.name) as text:
+            return int(text.read())
+
+
 @contextlib.contextmanager
 def refusing(room, growth):
     descriptor, name = tempfile.mkstemp(dir=room)
@@ -72,3 +77,11 @@ def refusing(room, growth):
     finally:
         os.close(descriptor)
         os.remove(name)
+
+
+@contextlib.contextmanager
+def counting(room):
+    """The same for a run that is refused nothing, and tells how many growths it has."""
+    with refusing(room, 0) as telling:
+        telling.environment["COUNTS_GROWTHS"] = "1"
+        yield telling
