@@ -1,0 +1,116 @@
+"""Runs `labdesk found` and `labdesk serve` over a file at moments, and with random words, that are given to them.
+
+A small library in front of the C library's clock_gettime and getentropy answers the time of day, and then the eight words that are
+drawn with it, from a list of ticks in place of the machine's. Once the list is at its end there is no time any more; and words that
+are drawn before any time was asked for, which are of no tick, are zeros.
+"""
+import os
+import re
+import socket
+import struct
+import subprocess
+
+SHIM = r"""
+#define _GNU_SOURCE
+#include <dlfcn.h>
+#include <fcntl.h>
+#include <stdint.h>
+#include <stdlib.h>
+#include <string.h>
+#include <time.h>
+#include <unistd.h>
+static int ticks = -1, left = -1;
+static struct { int64_t seconds; uint64_t word; } tick;
+int clock_gettime(clockid_t clock, struct timespec *now) {
+    static int (*real)(clockid_t, struct timespec *);
+    if (clock != CLOCK_REALTIME) {
+        if (!real) real = dlsym(RTLD_NEXT, "clock_gettime");
+        return real(clock, now);
+    }
+    if (ticks < 0) ticks = open(getenv("TICKS"), O_RDONLY | O_CLOEXEC);
+    if (read(ticks, &tick, sizeof tick) != sizeof tick) return -1;
+    now->tv_sec = tick.seconds;
+    now->tv_nsec = 0;
+    left = 8;
+    return 0;
+}
+int getentropy(void *words, size_t length) {
+    if (left < 0) { memset(words, 0, length); return 0; }
+    if (left == 0 || length != sizeof tick.word) return -1;
+    memcpy(words, &tick.word, length);
+    tick.word++;
+    left--;
+    return 0;
+}
+"""
+# How long anything may take on a machine that has much else to do.
+PATIENCE = 300
+
+
+def make_shim(room):
+    with open(f"{room}/clocked.c", "w") as text:
+        text.write(SHIM)
+    subprocess.run(["gcc", "-shared", "-fPIC", "-o", f"{room}/clocked.so", f"{room}/clocked.c", "-ldl"], check=True)
+
+
+def clocked(room, path, ticks, *before):
+    """What the environment of a run has, so that these ticks are its own: pairs of a moment in seconds and the first of eight words.
+    They lie in a file beside the path. Other libraries of the room may stand before."""
+    with open(f"{path}.ticks", "wb") as text:
+        text.write(b"".join(struct.pack("=qQ", *tick) for tick in ticks))
+    return {"LD_PRELOAD": ":".join(f"{room}/{name}.so" for name in (*before, "clocked")), "TICKS": f"{path}.ticks"}
+
+
+def found_words(program, path, lab):
+    return [program, "found", "--file", path, "--lab", lab]
+
+
+def found(program, path, lab, content, environment):
+    """The status, and what is written and told."""
+    ran = subprocess.run(found_words(program, path, lab), input=content, capture_output=True, env=environment, timeout=PATIENCE)
+    return ran.returncode, ran.stdout, ran.stderr
+
+
+class Server:
+    """labdesk serve over a file, for so many connections at a port that is free, or the reason why it doesn't listen."""
+
+    def __init__(self, program, path, count, environment, **further):
+        words = [program, "serve", "--file", path, "--port", "0", "--count", str(count)]
+        self.process = subprocess.Popen(words, stdout=subprocess.PIPE, stderr=subprocess.PIPE, env=environment, **further)
+        self.line = self.process.stdout.readline()
+        listening = re.fullmatch(rb"listening 127\.0\.0\.1:(\d+)\n", self.line)
+        self.port = int(listening[1]) if listening else None
+
+    def answer(self, request):
+        """All that is answered on a connection of its own to these bytes, after which nothing comes. A server may close it before it
+        has read them all."""
+        with socket.create_connection(("127.0.0.1", self.port), timeout=PATIENCE) as client:
+            try:
+                client.sendall(request)
+                client.shutdown(socket.SHUT_WR)
+            except OSError:
+                pass
+            answer = b""
+            try:
+                while part := client.recv(65536):
+                    answer += part
+            except ConnectionResetError:
+                pass
+            return answer
+
+    def ended(self):
+        """The status, and what was written after the first line, and told."""
+        try:
+            written, told = self.process.communicate(timeout=PATIENCE)
+        except subprocess.TimeoutExpired:
+            self.process.kill()
+            written, told = self.process.communicate()
+        return self.process.returncode, written, told
+
+    def __enter__(self):
+        return self
+
+    def __exit__(self, *_):
+        if self.process.poll() is None:
+            self.process.kill()
+            self.process.communicate()
