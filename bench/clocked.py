@@ -9,6 +9,7 @@ import re
 import socket
 import struct
 import subprocess
+import tempfile
 
 SHIM = r"""
 #define _GNU_SOURCE
@@ -45,6 +46,12 @@ int getentropy(void *words, size_t length) {
 """
 # How long anything may take on a machine that has much else to do.
 PATIENCE = 300
+
+
+def folder():
+    """A folder for files, in memory where the system has such a place: what is looked at here doesn't hang on a disk, which a commit
+    waits for."""
+    return tempfile.TemporaryDirectory(dir="/dev/shm" if os.access("/dev/shm", os.W_OK) else None)
 
 
 def make_shim(room):
