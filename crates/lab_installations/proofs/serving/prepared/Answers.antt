@@ -36,7 +36,7 @@ pub returns-in_err-listener-clause-fault : goal.returns-in_err-listener-clause-f
 returns-in_err-listener-clause-fault g c =
     let fault = err_from_is_err_and c.from_residual-in_err-listener.result
     c.from_residual-in_err-listener.ensures.1 in
-    rw (fault.1, fault.2) tt
+    rw (fault.1, fault.2, c.in_err-listener.ensures.fault) tt
 
 pub returns-clause-ours : goal.returns-clause-ours
 returns-clause-ours g c =
