@@ -1,5 +1,5 @@
 -- Rows of a record in parts: what went out of the whole where parts went out one after the other.
-use Rattle.std.proofs.Common.{◌≡◌, ℕ, List, [], ◌∷◌, ◌++◌, Option, None, Result, Ok, Err, sym, ap, subst, ◌∙◌, append-nil}
+use Rattle.std.proofs.Common.{◌≡◌, ℕ, List, [], ◌∷◌, ◌++◌, Option, None, Result, Ok, Err, OnOk, sym, ap, subst, ◌∙◌, append-nil}
 use Rattle.std.specs.List.{flat_map}
 use Rattle.std.specs.Io.KnownBytes.{Appends}
 use Rattle.std.proofs.KnownBytes.{Appends-trans}
@@ -8,6 +8,7 @@ use Rattle.std.proofs.lemmas.List.{map-append}
 use Rattle.lab_kept.specs.declared.records.Record.{Record}
 use Rattle.lab_kept.specs.declared.records.Version.{Version}
 use Rattle.lab_rows.specs.Csv.{csv_row, csv_text}
+use Rattle.lab_copy.specs.declared.outs.CopyOut.{CopyOut}
 use Rattle.lab_copy.specs.Outs.{AppendsFront, Sends}
 use Rattle.lab_copy.proofs.SendLemmas.{front_went, first_went, second_went}
 use Rattle.lab_copies.specs.CopyLines.{fields_of_line, record_lines, rows_of_lines, version_lines}
@@ -16,6 +17,7 @@ use Rattle.lab_tables.specs.Meaning.{chained, leaves_of}
 use Rattle.lab_reading.specs.declared.heads.RecordHead.{RecordHead}
 use Rattle.lab_retrieval.specs.Wholes.{record_by}
 use Rattle.lab_walks.specs.Walks.{record_rows}
+use Rattle.lab_walks.proofs.OutLemmas.{given_on, given_rows}
 use Rattle.lab_pages.specs.Pages.{cover_by, cover_rows, page_rows, pages_rows}
 
 -- ---- any rows
@@ -90,3 +92,18 @@ pub record_in_parts : (t : Tables) (lab : List ℕ) (head : RecordHead) →
     ≡ record_rows lab (record_by t lab head ∷ [])
 record_in_parts t lab head =
     sym (ap rows_of_lines (append-nil (record_lines lab (record_by t lab head))))
+
+-- ---- what was given
+
+pub given_as : {A F : Type 0} (start out : CopyOut) (rows wanted : List (List (List ℕ)))
+    (result : Result A F) → rows ≡ wanted → OnOk result (out ≡ given_rows start rows) →
+    OnOk result (out ≡ given_rows start wanted)
+given_as start out rows wanted result same gave =
+    subst (λ (it : List (List (List ℕ))). OnOk result (out ≡ given_rows start it)) same gave
+
+pub given_behind : {A F : Type 0} (start mid out : CopyOut) (rows more : List (List (List ℕ)))
+    (result : Result A F) → mid ≡ given_rows start rows →
+    OnOk result (out ≡ given_rows mid more) → OnOk result (out ≡ given_rows start (rows ++ more))
+given_behind start mid out rows more (Ok done) first gave =
+    given_on start mid out rows more first gave
+given_behind start mid out rows more (Err fault) first gave = tt

@@ -5,7 +5,7 @@ use lab_copies_tests::days::{COPY, COPY_OF_NONE, COPY_OF_TWO};
 use lab_copy::write_copy;
 use lab_kept::{Keeper, LabCode};
 use lab_lists::Lists;
-use lab_walks::{CopyOutFault, Progress, Unheard, copy_out};
+use lab_walks::{CopyOutFault, Progress, Unheard, WholeRecords, copy_out};
 use std::io::Write;
 use std::process::Abort;
 
@@ -31,6 +31,7 @@ fn copied<S: Keeper, W: Write>(
     copy_out(
         rt.alloc(),
         keeper,
+        &WholeRecords,
         code,
         from,
         to,
@@ -134,6 +135,7 @@ fn it_is_told_how_far_the_copy_is(rt: HostRuntime) {
     let done = copy_out(
         rt.alloc(),
         &mut lists,
+        &WholeRecords,
         &code,
         from,
         to,

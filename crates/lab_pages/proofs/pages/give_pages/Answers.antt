@@ -1,5 +1,5 @@
 -- Each version goes out behind those before it; a fault cuts it within one.
-use Rattle.std.proofs.Common.{◌≡◌, List, [], ◌∷◌, map, length, ap, arith, rules}
+use Rattle.std.proofs.Common.{◌≡◌, List, [], ◌∷◌, map, length, sym, ap, ◌∙◌, arith, rules}
 use Rattle.std.specs.Vec.Iter.{into_iter_items}
 use Rattle.std.proofs.lemmas.Result.{err_from_is_err_and}
 use Rattle.sqlite.specs.Effect.{Database}
@@ -8,7 +8,7 @@ use Rattle.lab_tables.specs.Rows.{tables_in}
 use Rattle.lab_tables.specs.Ready.{tables_of}
 use Rattle.lab_reading.specs.declared.heads.VersionHead.{VersionHead}
 use Rattle.lab_reading.specs.Leaves.{leaf_by}
-use Rattle.lab_pages.proofs.GoneLemmas.{none_gone, page_more, page_cut, all_gone, all_given}
+use Rattle.lab_pages.proofs.GoneLemmas.{none_gone, none_left, page_more, page_cut, all_gone, all_given}
 use Rattle.lab_pages.proofs.StateLemmas.{passes_none, passes_on, unchanged_none, unchanged_then}
 use Rattle.lab_pages.proofs.pages.give_pages.Goals as goal
 
@@ -71,19 +71,21 @@ returns-in_err-digest-clause-text g c ready clean opened =
     rw failed.1 (page_cut c.args.lab.now c.args.cover.now at.before c.in-Some.head _ _
     c.args.heads.items (tables_of (state g.S.Store at.conn)) (tables_of old)
     (ap (λ (db : Database). tables_in db.trees) (so.same was opened).0.now_is)
-    c.in-Some.ensures.steps.0 _ _ _ _ _ _ (so.gone ready was opened)
+    c.in-Some.ensures.steps.0 _ _ _ _ _ c.args.out.now (so.gone ready was opened)
     (c.in_err-digest.ensures.text (so.passes.ready ready) clean))
 
 pub returns-clause-text : goal.returns-clause-text
 returns-clause-text g c ready clean opened =
     let old = state g.S.Store c.args.conn.now in
-    let none : into_iter_items c.loop-head.head-iterator ≡ [] = search rules in
+    let none : into_iter_items c.loop-head.head-iterator ≡ [] =
+    none_left _ (sym c.loop-head.invariant.counted ∙ c.in-None.ensures.steps.0) in
     all_gone c.args.lab.now c.args.cover.now _ _ _ _ _ _ _
     (ap (map (leaf_by (tables_of old))) none) (c.loop-head.invariant.gone ready clean opened)
 
 pub returns-clause-counts : goal.returns-clause-counts
 returns-clause-counts g c ready clean opened =
     let old = state g.S.Store c.args.conn.now in
-    let none : into_iter_items c.loop-head.head-iterator ≡ [] = search rules in
+    let none : into_iter_items c.loop-head.head-iterator ≡ [] =
+    none_left _ (sym c.loop-head.invariant.counted ∙ c.in-None.ensures.steps.0) in
     all_given c.args.lab.now c.args.cover.now _ _ _ _ _ _ _
     (ap (map (leaf_by (tables_of old))) none) (c.loop-head.invariant.gone ready clean opened)
