@@ -1,0 +1,4 @@
+pub mod StateLemmas
+pub mod RowLemmas
+pub mod GoneLemmas
+pub mod FoundLemmas
