@@ -10,7 +10,7 @@ use Rattle.lab_kept.specs.declared.records.Version.{Version}
 use Rattle.lab_rows.specs.Csv.{csv_row, csv_text}
 use Rattle.lab_copy.specs.declared.outs.CopyOut.{CopyOut}
 use Rattle.lab_copy.specs.Outs.{AppendsFront, Sends}
-use Rattle.lab_copy.proofs.SendLemmas.{front_went, first_went, second_went}
+use Rattle.lab_copy.proofs.SendLemmas.{front_went, second_went}
 use Rattle.lab_copies.specs.CopyLines.{fields_of_line, record_lines, rows_of_lines, version_lines}
 use Rattle.lab_tables.specs.Rows.{Tables}
 use Rattle.lab_tables.specs.Meaning.{chained, leaves_of}

@@ -79,7 +79,8 @@ fn version_made(
     }
 }
 
-/// Writes the rows of the version that its own rows tell, behind one of the digest or none, and answers its digest.
+/// Writes the rows of the version that its own rows tell, behind one of the digest or none, and
+/// answers its digest.
 pub(crate) fn give_leaf<W: Write>(
     alloc: Global,
     lab: &LabCode,

@@ -1,4 +1,5 @@
-//! A record's rows on their way out of the tables: each version is read, its rows go out, and it is let go.
+//! A record's rows on their way out of the tables: each version is read, its rows go out, and it is
+//! let go.
 
 ghost use Rattle.std.specs.Prelude.{◌≡◌, None, [], ◌∷◌, ◌++◌, map, IfErr, IfOk, IsTrue, OnOk, option_to_list};
 ghost use Rattle.sqlite.specs.State.{HasCleanDisk, IsUnchanged};
@@ -27,7 +28,8 @@ use sqlite::{Alter, Connection};
 use std::alloc::Global;
 use std::io::Write;
 
-/// Writes the rows of the version with the row, behind one of the digest or none, and answers its digest.
+/// Writes the rows of the version with the row, behind one of the digest or none, and answers its
+/// digest.
 fn give_page<S: Alter, W: Write>(
     alloc: Global,
     conn: &mut Connection<S>,
@@ -185,12 +187,12 @@ fn give_headed<S: Alter, W: Write>(
     }
 }
 
-/// Writes the rows of the record of the number, where the laboratory of the code has one: each version is read, and its
-/// rows go out, before the next is read.
+/// Writes the rows of the record of the number, where the laboratory of the code has one: each
+/// version is read, and its rows go out, before the next is read.
 ///
 /// # Errors
-/// The store's refusal, that memory ran out, and a write that failed or took no byte. The front of the rows' text went out,
-/// and the tables are as they were.
+/// The store's refusal, that memory ran out, and a write that failed or took no byte. The front of
+/// the rows' text went out, and the tables are as they were.
 pub fn give_record_at<S: Alter, W: Write>(
     alloc: Global,
     conn: &mut Connection<S>,

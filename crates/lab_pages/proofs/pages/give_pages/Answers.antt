@@ -1,12 +1,11 @@
 -- Each version goes out behind those before it; a fault cuts it within one.
-use Rattle.std.proofs.Common.{◌≡◌, List, [], ◌∷◌, map, length, sym, ap, ◌∙◌, arith, rules}
+use Rattle.std.proofs.Common.{◌≡◌, [], ◌∷◌, map, length, sym, ap, ◌∙◌, arith, rules}
 use Rattle.std.specs.Vec.Iter.{into_iter_items}
 use Rattle.std.proofs.lemmas.Result.{err_from_is_err_and}
 use Rattle.sqlite.specs.Effect.{Database}
 use Rattle.sqlite.specs.Held.{state}
 use Rattle.lab_tables.specs.Rows.{tables_in}
 use Rattle.lab_tables.specs.Ready.{tables_of}
-use Rattle.lab_reading.specs.declared.heads.VersionHead.{VersionHead}
 use Rattle.lab_reading.specs.Leaves.{leaf_by}
 use Rattle.lab_pages.proofs.GoneLemmas.{none_gone, none_left, page_more, page_cut, all_gone, all_given}
 use Rattle.lab_pages.proofs.StateLemmas.{passes_none, passes_on, unchanged_none, unchanged_then}
