@@ -1,3 +1,4 @@
+pub mod KnownValues
 pub mod RowLemmas
 pub mod ListLemmas
 pub mod SeenLemmas
