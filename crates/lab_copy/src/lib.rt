@@ -4,8 +4,6 @@
 mod faults;
 mod outs;
 mod sending;
-#[cfg(test)]
-mod tests;
 
 pub use faults::CopyOutFault;
 pub use lab_rows::{CopyLine, CopyRow, Counts, OutOfMemory};

@@ -8,4 +8,6 @@ mod failing;
 #[cfg(test)]
 mod kept;
 #[cfg(test)]
+mod out_tests;
+#[cfg(test)]
 mod tests;

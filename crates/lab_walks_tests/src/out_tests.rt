@@ -1,4 +1,6 @@
-use crate::{CopyOut, CopyOutFault, write_copy};
+//! Copies as they are written, whole or row by row.
+
+use lab_copy::{CopyOut, CopyOutFault, write_copy};
 use lab_names::{Rule, Text};
 use lab_rows::{
     CopyLine, CopyRow, Counts, Digest, Edition, EndLine, EntryLine, EntryRow, Format, Meaning,
