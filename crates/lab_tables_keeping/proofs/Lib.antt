@@ -23,3 +23,4 @@ pub mod VersionKept
 pub mod RecordKept
 pub mod EachChange
 pub mod FoundingKept
+pub mod KnownValues

@@ -15,3 +15,4 @@ pub mod SessionLaws
 pub mod ClosingLaws
 pub mod KeptLaws
 pub mod PartLaws
+pub mod KnownValues
