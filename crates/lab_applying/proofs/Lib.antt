@@ -2,3 +2,4 @@ mod Turns
 mod Steps
 mod Commits
 mod After
+pub mod KnownValues

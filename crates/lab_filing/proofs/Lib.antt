@@ -5,3 +5,4 @@ pub mod KeyLemmas
 pub mod Added
 pub mod InTurn
 pub mod Placed
+pub mod KnownValues

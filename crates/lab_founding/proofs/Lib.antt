@@ -4,3 +4,4 @@ mod Positions
 mod Commits
 mod Endings
 mod Placed
+pub mod KnownValues

@@ -2,3 +2,4 @@ pub mod StateLemmas
 pub mod RowLemmas
 pub mod GoneLemmas
 pub mod FoundLemmas
+pub mod KnownValues

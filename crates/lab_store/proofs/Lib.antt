@@ -3,3 +3,4 @@ mod Turns
 mod Committed
 mod Applied
 mod Given
+pub mod KnownValues

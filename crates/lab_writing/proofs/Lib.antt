@@ -13,3 +13,4 @@ pub mod PersonLemmas
 pub mod Commits
 pub mod ClosingLemmas
 pub mod ClosedAlike
+pub mod KnownValues
