@@ -6,3 +6,4 @@ pub mod HeadLemmas
 pub mod FaultLemmas
 pub mod ReadLemmas
 pub mod LimitLemmas
+pub mod KnownValues
