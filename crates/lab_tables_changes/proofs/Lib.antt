@@ -1,3 +1,4 @@
 pub mod Spared
 pub mod EachChange
 pub mod AllChanges
+pub mod KnownValues
