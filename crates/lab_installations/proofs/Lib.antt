@@ -3,3 +3,4 @@ pub mod ReplayLemmas
 pub mod FileLemmas
 pub mod FoundingLemmas
 pub mod TellLemmas
+pub mod KnownValues

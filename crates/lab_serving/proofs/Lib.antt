@@ -1,3 +1,4 @@
 pub mod TextLemmas
 pub mod VisitLemmas
 pub mod RehearsalLemmas
+pub mod KnownValues
