@@ -4,3 +4,4 @@ mod Transactions
 mod Asking
 mod FaultLemmas
 mod RowLemmas
+pub mod KnownValues

@@ -5,3 +5,4 @@ pub mod Lists
 pub mod Keys
 pub mod Exact
 pub mod Found
+pub mod KnownValues
