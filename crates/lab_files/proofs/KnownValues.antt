@@ -1,13 +1,12 @@
 -- Values from outside, so that a wrong rule in the definitions does not check: what a file is by its
 -- schema and by the number that it shows.
-use Rattle.std.proofs.Common.{◌≡◌, pos, true, false, [], ◌∷◌, Some, None, Ok, Err, refl}
+use Rattle.std.proofs.Common.{◌≡◌, pos, false, [], ◌∷◌, Some, None, Ok, Err, refl}
 use Rattle.std.specs.Prelude.{codes}
 use Rattle.sqlite_value.specs.declared.value.Value.TheVariants.{Int, Text}
-use Rattle.lab_tables.specs.Schema.{lab_schema, desk}
 use Rattle.lab_files.specs.declared.faults.FileFault.TheVariants.{NotADeskFile, SchemaOld, SchemaNew, Storage}
 use Rattle.lab_files.specs.Faults.{file_fault_entry, file_fault_value}
 use Rattle.lab_files.specs.NewFiles.{no_schema}
-use Rattle.lab_files.specs.Schemas.{table_named, is_whole, is_taken, has_number}
+use Rattle.lab_files.specs.Schemas.{is_taken, has_number}
 use Rattle.lab_files.specs.Verdicts.{number_shown, number_verdict, file_verdict}
 
 -- the schema of this program is 3; there is none before the first
@@ -22,16 +21,12 @@ pub known_shown : (number_shown ((Int (pos 3) ∷ []) ∷ []) ≡ Some (pos 3)) 
     × (number_shown ((Text (codes "3") ∷ []) ∷ []) ≡ None)
 known_shown = (refl, refl, refl, refl)
 
--- names without regard to case; an empty file has none of the tables
-pub known_schemas : (table_named lab_schema (codes "DESK") ≡ Some desk) × (is_whole lab_schema ≡ true)
-    × (has_number lab_schema ≡ true) × (is_taken no_schema ≡ false) × (has_number no_schema ≡ false)
-known_schemas = (refl, refl, refl, refl, refl)
-
--- a file that says 3 and has no table is no file of laboratories; one that says 4 is newer, whatever it has
-pub known_files : (file_verdict lab_schema ((Int (pos 3) ∷ []) ∷ []) ≡ Ok tt)
+-- an empty file has none of the tables; one that says 3 is no file of laboratories then, and one that
+-- says 4 is newer, whatever it has
+pub known_empty : (is_taken no_schema ≡ false) × (has_number no_schema ≡ false)
     × (file_verdict no_schema ((Int (pos 3) ∷ []) ∷ []) ≡ Err NotADeskFile)
     × (file_verdict no_schema ((Int (pos 4) ∷ []) ∷ []) ≡ Err (SchemaNew 4))
-known_files = (refl, refl, refl)
+known_empty = (refl, refl, refl, refl)
 
 -- numbers and words of faults, as the interface tells them
 pub known_faults : (file_fault_entry NotADeskFile ≡ record { number = 60; word = codes "not_a_desk_file" })
