@@ -1,3 +1,4 @@
+pub mod KnownValues
 pub mod Texts
 pub mod Lists
 pub mod Sorted
