@@ -22,7 +22,7 @@ FIELDS = {kind: ("key:key label:name required:flag kind:kind " + more).strip() f
     ("number", "unit:unit decimals:decimals min?:bound max?:bound"), ("text", "size:size"), ("choice", "choices:choices"), ("date", ""),
     ("yesno", ""))}
 # Of each kind the values that are refused, as JSON, by the number of the refusal.
-NO_TEXT = ["7", "true", "[]", "{}", '["dan"]']
+NO_TEXT = ["7", "-1", "true", "[]", "[[]]", "{}", '["dan"]']
 REFUSED = {
     "text": {88: NO_TEXT},
     "code": {88: NO_TEXT, 1: ['""', '"d"', '"Dan"', '"4dan"', '"-dan"', '"d_n"', '"dan "', '"d\\u0000n"', '"' + "d" * 17 + '"']},
@@ -30,20 +30,21 @@ REFUSED = {
     "name": {88: NO_TEXT, 1: ['""', '" Dan"', '"Dan "', r'"D\u0007n"', r'"D\nn"', '"D\u007fn"', '"' + "é" * 60 + 'x"']},
     "note": {88: NO_TEXT, 1: ['""', r'"a\tb"', r'"a\r\nb"', '"a\u007fb"', '"' + "é" * 500 + 'x"']},
     "unit": {88: NO_TEXT, 1: ['" "', '" mg"', '"mg "', r'"m\ng"', '"' + "é" * 10 + 'x"']},
-    "number": {88: ['"1"', "true", "[]", "0", "-1", "-0", "1.0", "1e0", "1.5", "1000000001", "18446744073709551617"]},
+    "number": {88: ['"1"', "true", "[]", "[[]]", "{}", "0", "-1", "-0", "1.0", "1e0", "1.5", "1000000001", "4294967297", "18446744073709551617"]},
     "digest": {88: [*NO_TEXT, '""', '"' + "a" * 63 + '"', '"' + "a" * 65 + '"', '"' + "A" * 64 + '"', '"' + "g" * 64 + '"']},
     "meaning": {88: [*NO_TEXT, '""', '"Review"', '"approve"', '"signed"']},
-    "roles": {88: ['"analyst"', "7", "{}", '["chief"]', '["Analyst"]', '["analyst","analyst"]', "[7]", "[null]", '[["analyst"]]']},
-    "flag": {88: ['"true"', "0", "1", "[]", "{}"]},
+    "roles": {88: ['"analyst"', "7", "-1", "true", "{}", "[[]]", '["chief"]', '["Analyst"]', '["analyst","analyst"]', "[7]", "[null]", '[["analyst"]]']},
+    "flag": {88: ['"true"', '"1"', "0", "1", "-1", "[]", "[[]]", "{}"]},
     "kind": {88: [*NO_TEXT, '""', '"Number"', '"numbers"', '"boolean"']},
-    "decimals": {88: ['"2"', "true", "-1", "-0", "2.0", "2e0", "4294967296"], 6: ["7", "4294967295"]},
-    "size": {88: ['"2"', "true", "-1", "2.0", "4294967296"], 6: ["0", "1001", "4294967295"]},
-    "bound": {88: ["0", "true", "[]"], 6: ['""', '"<0"', '">0"', '"1."', '".5"', '"0.005"', '"1234567890123456"', '"x"', '"1e1"']},
-    "choices": {88: ['"red"', "{}", "[7]", "[null]", '["red",7]'], 1: ['[""]', '["red"," blue"]', r'["r\ned"]'],
+    "decimals": {88: ['"2"', "true", "[[]]", "{}", "-1", "-0", "2.0", "2e0", "4294967296"], 6: ["7", "4294967295"]},
+    "size": {88: ['"2"', "true", "[[]]", "{}", "-1", "0.0", "2.0", "4294967296"], 6: ["0", "1001", "4294967295"]},
+    "bound": {88: ["0", "-1", "true", "[]", "[[]]", "{}"], 6: ['""', '"<0"', '">0"', '"1."', '".5"', '"0.005"', '"1234567890123456"', '"x"', '"1e1"']},
+    "choices": {88: ['"red"', "-1", "true", "{}", "[[]]", "[7]", "[null]", '["red",7]'], 1: ['[""]', '["red"," blue"]', r'["r\ned"]'],
                 6: ["[]", '["red","red"]', compact([f"c{number}" for number in range(21)])]},
-    "fields": {88: ['"lead"', "7", "{}", "[7]", "[[]]", "[null]", "[{}]"], 3: ["[]"], 4: [compact([NOTE, LEAD, NOTE])],
+    "fields": {88: ['"lead"', "7", "-1", "true", "{}", "[7]", "[[]]", "[null]", "[{}]"], 3: ["[]"], 4: [compact([NOTE, LEAD, NOTE])],
                5: [compact([dict(NOTE, key=f"k{number}") for number in range(61)])], 6: [compact([dict(LEAD, min="8", max="7")])]},
-    "altered": {88: ['"lead"', "7", "{}", "[7]", "[[]]", "[null]", "[{}]"],
+    "founders": {88: ['"ann"', "7", "-1", "true", "[]", "{}", "[[]]", "[7,7,7]", "[null,null,null]", "[{},{},{}]"]},
+    "altered": {88: ['"lead"', "7", "-1", "true", "{}", "[7]", "[[]]", "[null]", "[{}]"],
                 4: [compact([{"key": "lead", "value": value, "unit": ""} for value in "12"])]},
 }
 
@@ -66,7 +67,7 @@ def changes(told):
     is still one of its form."""
     yield lambda pairs: pairs, None
     yield lambda pairs: pairs[::-1], None
-    for also in ('"x"', "null", "{}"):
+    for also in ('"x"', "1", "null", "{}"):
         yield lambda pairs, also=also: [*pairs, ("also", also)], 88
     for name, kind, optional in members_of(told):
         def put(value, name=name):
@@ -100,6 +101,10 @@ def all_changes(place):
         for index, told in enumerate(FIELDS.values()):
             for change, number in changes(told):
                 yield element(change, "fields", index), number
+            # What a field of another kind has.
+            for name, value in {"unit": '""', "decimals": "2", "min": '"0"', "max": '"9"', "size": "1", "choices": '["red"]'}.items():
+                if name not in [one for one, _, _ in members_of(told)]:
+                    yield element(lambda pairs, name=name, value=value: [*pairs, (name, value)], "fields", index), 88
     if place == "/signatures":
         # A reason goes with a rejection alone, whatever it is.
         for meaning, reason in itertools.product(("authorship", "review", "approval"), ("why", "")):

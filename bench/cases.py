@@ -20,6 +20,7 @@ import random
 import subprocess
 import sys
 
+import cases_of_requests
 from bodies import BODIES, members_of_the_body
 from laboratory import sha, token_of
 from streams import FOUNDERS, LEAD, NOTE, POSTED, STATUS, Stream, compact, lines, request_of, split
@@ -737,6 +738,11 @@ def each_rule_is_open_to_its_roles(s):
         s.post(1200, who, "/password", old="guessed", new="guessed", wants=20)
         if who != "ann":
             s.post(1200, who, "/close")
+
+
+# ---- requests, by their bytes
+
+CASES.update((name, (globals()[start], play)) for name, (start, play) in cases_of_requests.CASES.items())
 
 
 # ---- bodies
