@@ -1,27 +1,19 @@
-#!/usr/bin/env python3
-"""Writes what the tests of laboratories in a file begin with, ask and have to find: the rows of two laboratories, events with their
-answers, and what the tables have to say of each laboratory afterwards. All of it is made by bench/laboratory.py, which is no part of
-the program, and read by Python's sqlite3 from tables of its own.
-
-    bench/rows.py            writes the files
-    bench/rows.py --check    says whether they are as they would be written
-    bench/rows.py --show     prints what the tables say where the files have its SHA-256 alone
+"""What checks of laboratories in a file begin with, ask and have to find: the rows of two laboratories, events with their answers, and
+what the tables have to say of each laboratory afterwards. All of it is made by bench/laboratory.py, which is no part of the program,
+and written and read by Python's sqlite3.
 
 The laboratories are brick and aqua: the same codes, forms, samples and numbers, sessions of the same tokens. Each id is seven times a
 number, and three; the rows of brick come first, and those of one laboratory in no order. Passwords of these rows have one round of
 PBKDF2, so that trying one costs little.
 """
-import copy
+import contextlib
 import functools
 import os
 import random
 import re
 import sqlite3
-import sys
 
 import laboratory
-import streams
-from laboratory import sha
 from streams import FOUNDERS, LEAD, NOTE, Stream, reply_of
 
 ROOT = os.path.dirname(os.path.dirname(os.path.abspath(__file__)))
@@ -196,12 +188,28 @@ def schema():
     return [*made, "INSERT INTO desk (schema) VALUES (3)"]
 
 
+def write(path, labs, *further):
+    """A file of the C library with the rows of these laboratories, and what further statements make of it."""
+    with contextlib.closing(sqlite3.connect(path, isolation_level=None)) as conn:
+        conn.execute("BEGIN")
+        Rows(labs).fill(conn)
+        for sql in further:
+            for one in sql.split(";"):
+                conn.execute(one)
+        conn.execute("COMMIT")
+
+
 def told(conn, code):
     """What the tables say of a laboratory: a line for each row of each question's answer."""
     def word(value):
         return "-" if value is None else value.hex() if isinstance(value, bytes) else str(value)
     questions = COUNTS if code == "all" else QUESTIONS
     return "".join("".join(word(value) + "|" for value in row) + "\n" for sql in questions for row in conn.execute(sql, (code,)))
+
+
+def two(labs):
+    """Both laboratories, brick first, as their rows stand in a file."""
+    return [labs["brick"], labs["aqua"]]
 
 
 def all_told(labs, codes):
@@ -260,6 +268,9 @@ def setup():
     laboratory.verifier = whole
     s.events, s.answers, s.next_word = [], [], 10_000
     return s
+
+
+CODES = ["aqua", "brick", "cider", "all"]
 
 
 # ---- events that both laboratories are asked
@@ -332,132 +343,6 @@ def stopped():
     }
 
 
-def refused_for_storage(name, s):
-    if name == "FOUNDING":
-        return b"refused 63 storage\n"
+def refused_for_storage(s):
     moment = int(s.events[0].split()[1])
     return reply_of(503, moment, laboratory.body(error="storage", number=63))
-
-
-# ---- as text of the program
-
-
-def broken(text, width=116):
-    """The lines of a literal, none of which begins with a space."""
-    escaped = {"\\": "\\\\", '"': '\\"', "\r": "\\r", "\n": "\\n"}
-    line = ""
-    for one in text:
-        piece = escaped.get(one, one)
-        if len(line) + len(piece) > width and one != " ":
-            yield line
-            line = ""
-        line += piece
-    if line:
-        yield line
-
-
-def laid_out(head, value):
-    """As `rt fmt` does it: the value on a line of its own where the first line would be too long."""
-    return f"{head} {value}" if len(f"{head} {value}".split("\n")[0]) <= 100 else f"{head}\n    {value}"
-
-
-def constant(name, comment, text):
-    value = 'b"' + "\\\n    ".join(broken(text)) + '";'
-    return f"/// {comment}\n" + laid_out(f"pub const {name}: &[u8] =", value) + "\n"
-
-
-def digest_constant(name, comment, text):
-    return f"/// {comment}\n" + laid_out(f"pub const {name}: &str =", f'"{sha(text.encode())}";') + "\n"
-
-
-HEADS = "Written by `bench/rows.py`."
-
-
-def shared_lines(rows, width=230):
-    """Short rows share a line."""
-    line = rows[0]
-    for row in rows[1:]:
-        if len(line) + len(row) > width:
-            yield line
-            line = row
-        else:
-            line += ", " + row
-    yield line
-
-
-def rows_text():
-    begins = setup()
-    found = list(Rows([begins.labs["brick"], begins.labs["aqua"]]).statements())
-    out = [f"//! The rows of two laboratories, brick and aqua, as statements that put them in, and questions for what the tables say of one.\n"
-           f"//! {HEADS}\n\n"
-           "/// The statements, in an order that every arrow allows. Each id is seven times a number, and three; those of brick come first.\n"
-           f"pub const ROWS: [&str; {len(found)}] = [\n"]
-    for head, *rows in found:
-        body = ", \\\n        ".join(shared_lines(rows))
-        out.append(f"    \"{head} \\\n        {body}\",\n")
-    out.append("];\n\n")
-    for name, comment, texts in (
-            ("QUESTIONS", "What the tables say of a laboratory, by its code, without any id.", QUESTIONS),
-            ("COUNTS", "How many rows each table has, where the code is `all`.", COUNTS)):
-        out.append(f"/// {comment}\npub const {name}: [&str; {len(texts)}] = [\n")
-        out += [f"    \"{one}\",\n" for one in texts]
-        out.append("];\n\n")
-    return "".join(out).rstrip("\n") + "\n"
-
-
-def hours_text():
-    out = [f"//! Events of each of the two laboratories, what they are answered, and what the tables have to say afterwards.\n//! {HEADS}\n"]
-    for lab, s in hours().items():
-        name = lab.upper()
-        out.append(constant(f"{name}_EVENTS", f"{len(s.events)} events of {lab}.", b"".join(s.events).decode()))
-        out.append(constant(f"{name}_ANSWERS", "What they are answered.", b"".join(s.answers).decode()))
-        out.append(digest_constant(f"{name}_AFTER", f"The SHA-256 of what the tables say of {lab} afterwards.", all_told(s.labs, [lab])))
-    out.append(digest_constant("BRICK_BEFORE", "And of brick before.", all_told(setup().labs, ["brick"])))
-    return "\n".join(out)
-
-
-CODES = ["aqua", "brick", "cider", "all"]
-
-
-def stops_text():
-    out = ["//! Requests and a founding during which the store is stopped: what each asks, its own answer, that of a store that refuses, and the\n"
-           "//! SHA-256 of what the tables say of all laboratories.\n"
-           f"//! {HEADS}\n"]
-    out.append(digest_constant("BEFORE", "What they say before each.", all_told(setup().labs, CODES)))
-    for name, s in stopped().items():
-        what = name.lower()
-        out.append(constant(f"{name}_EVENT", f"The {what}.", s.events[0].decode()))
-        out.append(constant(f"{name}_ANSWER", "Its own answer.", s.answers[0].decode()))
-        out.append(constant(f"{name}_REFUSED", "The answer where the store refuses.", refused_for_storage(name, s).decode()))
-        out.append(digest_constant(f"{name}_AFTER", "What the tables say after it.", all_told(s.labs, CODES)))
-    return "\n".join(out)
-
-
-FILES = {
-    "crates/lab_store_faults_tests/src/rows.rt": rows_text,
-    "crates/lab_store_faults_tests/src/hours.rt": hours_text,
-    "crates/lab_store_faults_tests/src/requests.rt": stops_text,
-}
-
-
-def main():
-    if sys.argv[1:] == ["--show"]:
-        print(all_told(setup().labs, CODES))
-        for name, s in stopped().items():
-            print(f"# {name}\n{all_told(s.labs, CODES)}")
-        return 0
-    wrong = []
-    for path, text in FILES.items():
-        path = f"{ROOT}/{path}"
-        if sys.argv[1:] == ["--check"]:
-            with open(path) as f:
-                wrong += [path] if f.read() != text() else []
-        else:
-            with open(path, "w") as f:
-                f.write(text())
-    print("; ".join(f"{path} is not as it would be written" for path in wrong) or f"{len(FILES)} files")
-    return 1 if wrong else 0
-
-
-if __name__ == "__main__":
-    sys.exit(main())
