@@ -188,15 +188,50 @@ def schema():
     return [*made, "INSERT INTO desk (schema) VALUES (3)"]
 
 
-def write(path, labs, *further):
-    """A file of the C library with the rows of these laboratories, and what further statements make of it."""
+def write(path, labs, *further, page_size=4096):
+    """A file of the C library with the rows of these laboratories, and what further statements, or functions, make of it."""
     with contextlib.closing(sqlite3.connect(path, isolation_level=None)) as conn:
+        conn.execute(f"PRAGMA page_size = {page_size}")
         conn.execute("BEGIN")
         Rows(labs).fill(conn)
-        for sql in further:
-            for one in sql.split(";"):
-                conn.execute(one)
+        for one in further:
+            if callable(one):
+                one(conn)
+            else:
+                for sql in one.split(";"):
+                    conn.execute(sql)
         conn.execute("COMMIT")
+
+
+def add_pages(conn):
+    """More pages of 512 bytes than the 2,000 that a connection keeps in memory: what a request wants is read from the file then."""
+    conn.execute("CREATE TABLE note (id INTEGER PRIMARY KEY, x BLOB)")
+    conn.execute("INSERT INTO note (x) VALUES (zeroblob(1050000))")
+
+
+# ---- a crowd: 2,000 records and 400 persons more of brick, whose id is 10, as are those of its first person and form
+
+
+CROWD = [
+    "INSERT INTO records (id, lab, number, form, form_code, sample, current) VALUES (7 * ?1 + 1003, 10, ?1, 10, 'water', 'C' || ?1, 1)",
+    "INSERT INTO versions (id, record, number, format, opener, opened) VALUES (7 * ?1 + 1003, 7 * ?1 + 1003, 1, 2, 10, 1153)",
+    "INSERT INTO entries (id, version, place, key, value, unit, person, moment) VALUES "
+    "(7 * ?1 + 1003, 7 * ?1 + 1003, 1, 'lead', '1.5', 'mg/L', 10, 1153)",
+    "INSERT INTO trail (id, lab, number, moment, person, action, subject) VALUES (7 * ?1 + 1003, 10, ?2 + ?1, 1153, 10, 'record', ?1 || '')",
+]
+
+
+def add_crowd(conn):
+    """The other laboratory stays as it is."""
+    lab, records, trail = conn.execute("SELECT id, records, trail FROM labs WHERE code = 'brick'").fetchone()
+    assert lab == 10 and records == 2
+    for number in range(1, 401):
+        conn.execute("INSERT INTO persons (id, lab, code, name, roles, retired, failures, kind) "
+                     "VALUES (7 * ?1 + 1003, 10, 'p' || ?1, 'P', 1, 0, 0, 0)", (number,))
+    for number in range(3, 2003):
+        for sql in CROWD:
+            conn.execute(sql, (number, trail - 2)[:2 if "?2" in sql else 1])
+    conn.execute("UPDATE labs SET records = 2002, trail = trail + 2000 WHERE id = 10")
 
 
 def told(conn, code):
