@@ -381,3 +381,71 @@ def stopped():
 def refused_for_storage(s):
     moment = int(s.events[0].split()[1])
     return reply_of(503, moment, laboratory.body(error="storage", number=63))
+
+
+# ---- what is read of both, and requests that want what is spoiled
+
+
+def rich():
+    """Both laboratories after some hours: amendments, a signature that was refused, a second form, a one-time word, an ask; in aqua dan's
+    session is the last one."""
+    s = setup()
+    for lab in ("brick", "aqua"):
+        entries(s, lab)
+        if lab == "aqua":
+            amendments(s, lab)
+        s.open(1430, "ann", lab=lab)
+        s.open(1430, "bob", lab=lab)
+        s.open(1430, "gus", lab=lab)
+        s.post(1430, "bob", "/confirm", lab=lab, code="ida")
+        s.post(1430, "ann", "/persons", lab=lab, code="jon", name="Jon Jay", roles=["analyst"])
+        s.post(1430, "ann", "/issue", lab=lab, code="jon")
+        if lab == "aqua":
+            s.post(1430, "gus", "/forms", lab=lab, form="air", approval=True, fields=[{"key": "dust", "label": "Dust", "required": True, "kind": "yesno"}])
+            s.post(1430, "gus", "/forms", lab=lab, form="water", fields=[{**LEAD, "unit": "ug/L", "decimals": 0, "max": "900"}])
+            s.post(1430, "dan", "/records", lab=lab, form="water", sample="S3")
+        s.open(1440, "hal", lab=lab)
+        s.open(1440, "dan", lab=lab)
+    s.events, s.answers, s.next_word = [], [], 30_000
+    return s
+
+
+def readings():
+    """All that can be read of both, and what isn't there."""
+    s = rich()
+    for lab, other in (("aqua", "brick"), ("brick", "aqua")):
+        s.read_all("hal", lab)
+        s.get(1500, "hal", "/records/9", 44, lab=lab)
+        s.get(1500, "hal", "/records/1/versions/9", 45, lab=lab)
+        s.get(1500, "hal", "/forms/water/3", 42, lab=lab)
+        s.get(1500, "hal", "/forms/soil/1", 42, lab=lab)
+        s.get(1500, "hal", "/records?from=2&to=3", lab=lab)
+        s.get(1500, "hal", "/records?from=4&to=100", lab=lab)
+        s.get(1500, "hal", "/trail?from=3&to=4", lab=lab)
+        s.get(1500, "hal", "/trail?from=101&to=200", lab=lab)
+        s.open(1500, "ivy", 20, "nobody's password", lab=lab)
+    s.get(1500, "hal", "/forms/air/1", 42, lab="brick")
+    s.get(1500, "hal", "/records/3", 44, lab="brick")
+    s.post(1500, "dan", "/records", 43, form="water", sample="S1")
+    return s
+
+
+def requests():
+    """By name, each by itself over the rich laboratories: a request that wants some of aqua's rows, and one of brick."""
+    def one(play):
+        s = rich()
+        play(s)
+        assert len(s.events) == 1
+        return s
+    return {
+        "card": one(lambda s: s.get(1500, None, "")),
+        "open dan": one(lambda s: s.open(1500, "dan")),
+        "persons": one(lambda s: s.get(1500, "hal", "/persons")),
+        "dan's record": one(lambda s: s.get(1500, "dan", "/records/1")),
+        "new record": one(lambda s: s.post(1500, "dan", "/records", form="air", sample="A1")),
+        "form": one(lambda s: s.get(1500, "hal", "/forms/water/1")),
+        "records": one(lambda s: s.get(1500, "hal", "/records?from=1&to=9")),
+        "version": one(lambda s: s.get(1500, "hal", "/records/2")),
+        "trail": one(lambda s: s.get(1500, "hal", "/trail?from=1&to=9")),
+        "brick": one(lambda s: s.get(1500, "hal", "/persons", lab="brick")),
+    }
