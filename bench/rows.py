@@ -387,8 +387,8 @@ def refused_for_storage(s):
 
 
 def rich():
-    """Both laboratories after some hours: amendments, a signature that was refused, a second form, a one-time word, an ask; in aqua dan's
-    session is the last one."""
+    """Both laboratories after some hours, with each kind of field, of password and of deed: amendments, a signature that was refused, a
+    lock, somebody who left, a one-time word, an ask. In aqua dan's session is the last one."""
     s = setup()
     for lab in ("brick", "aqua"):
         entries(s, lab)
@@ -404,6 +404,13 @@ def rich():
             s.post(1430, "gus", "/forms", lab=lab, form="air", approval=True, fields=[{"key": "dust", "label": "Dust", "required": True, "kind": "yesno"}])
             s.post(1430, "gus", "/forms", lab=lab, form="water", fields=[{**LEAD, "unit": "ug/L", "decimals": 0, "max": "900"}])
             s.post(1430, "dan", "/records", lab=lab, form="water", sample="S3")
+        s.post(1431, "gus", "/forms", lab=lab, form="rock", fields=[{"key": "day", "label": "Day", "required": False, "kind": "date"}])
+        s.post(1431, "gus", "/close", lab=lab)
+        s.post(1431, "ann", "/roles", lab=lab, code="eve", roles=["reviewer"])
+        s.post(1431, "ann", "/retire", lab=lab, code="cid")
+        s.open(1432, "fay", lab=lab, password="not of fay at all", wants=20)
+        if lab == "brick":
+            s.post(1433, "ann", "/unlock", lab=lab, code="fay")
         s.open(1440, "hal", lab=lab)
         s.open(1440, "dan", lab=lab)
     s.events, s.answers, s.next_word = [], [], 30_000
@@ -424,6 +431,7 @@ def readings():
         s.get(1500, "hal", "/trail?from=3&to=4", lab=lab)
         s.get(1500, "hal", "/trail?from=101&to=200", lab=lab)
         s.open(1500, "ivy", 20, "nobody's password", lab=lab)
+    assert len({t.action for lab in s.labs.values() for t in lab.trail}) == 17
     s.get(1500, "hal", "/forms/air/1", 42, lab="brick")
     s.get(1500, "hal", "/records/3", 44, lab="brick")
     s.post(1500, "dan", "/records", 43, form="water", sample="S1")
