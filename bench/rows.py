@@ -405,6 +405,8 @@ def rich():
             s.post(1430, "gus", "/forms", lab=lab, form="water", fields=[{**LEAD, "unit": "ug/L", "decimals": 0, "max": "900"}])
             s.post(1430, "dan", "/records", lab=lab, form="water", sample="S3")
         s.post(1431, "gus", "/forms", lab=lab, form="rock", fields=[{"key": "day", "label": "Day", "required": False, "kind": "date"}])
+        own = {"brick": ("max", "Max Moss"), "aqua": ("una", "Una Ulm")}[lab]
+        s.post(1431, "ann", "/persons", lab=lab, code=own[0], name=own[1], roles=["analyst"])
         s.post(1431, "gus", "/close", lab=lab)
         s.post(1431, "ann", "/roles", lab=lab, code="eve", roles=["reviewer"])
         s.post(1431, "ann", "/retire", lab=lab, code="cid")
@@ -435,6 +437,29 @@ def readings():
     s.get(1500, "hal", "/forms/air/1", 42, lab="brick")
     s.get(1500, "hal", "/records/3", 44, lab="brick")
     s.post(1500, "dan", "/records", 43, form="water", sample="S1")
+    s.post(1500, "dan", "/records", {"record": 4}, form="air", sample="S1")
+    s.post(1500, "dan", "/records", {"record": 3}, lab="brick", form="water", sample="S3")
+    s.post(1500, "dan", "/records", 42, lab="brick", form="air", sample="S1")
+    for lab, own, other in (("aqua", "una", "max"), ("brick", "max", "una")):
+        s.post(1500, "ann", "/issue", 33, lab=lab, code=other)
+        s.post(1500, "ann", "/issue", lab=lab, code=own)
+        s.post(1500, "ann", "/persons", 27, lab=lab, code=own, name="Another", roles=["analyst"])
+    for part in ("aqu", "aquas", "b"):
+        s.get(1500, None, "", 40, lab=part)
+    s.tokens["brick", "stranger"] = s.tokens["aqua", "hal"]
+    s.get(1500, "stranger", "/persons", 22, lab="brick")
+    return s
+
+
+def foundings():
+    """Three foundings in one file, whose founders come in another order than that of their codes, and one of a laboratory that is there."""
+    s = Stream()
+    s.next_word = 40_000
+    one, two, three = FOUNDERS
+    s.found(500, "terra", "Terra Lab", [three, one, two])
+    s.found(510, "aqua", "Aqua Lab", [two, three, one])
+    s.found(520, "aqua", "Another", FOUNDERS, wants=64)
+    s.found(530, "brick", "Brick Lab", FOUNDERS)
     return s
 
 
