@@ -1,27 +1,19 @@
-#!/usr/bin/env python3
-"""Writes what the tests of laboratories in a file begin with, ask and have to find: the rows of two laboratories, events with their
-answers, and what the tables have to say of each laboratory afterwards. All of it is made by bench/laboratory.py, which is no part of
-the program, and read by Python's sqlite3 from tables of its own.
-
-    bench/rows.py            writes the files
-    bench/rows.py --check    says whether they are as they would be written
-    bench/rows.py --show     prints what the tables say where the files have its SHA-256 alone
+"""What checks of laboratories in a file begin with, ask and have to find: the rows of two laboratories, events with their answers, and
+what the tables have to say of each laboratory afterwards. All of it is made by bench/laboratory.py, which is no part of the program,
+and written and read by Python's sqlite3.
 
 The laboratories are brick and aqua: the same codes, forms, samples and numbers, sessions of the same tokens. Each id is seven times a
 number, and three; the rows of brick come first, and those of one laboratory in no order. Passwords of these rows have one round of
 PBKDF2, so that trying one costs little.
 """
-import copy
+import contextlib
 import functools
 import os
 import random
 import re
 import sqlite3
-import sys
 
 import laboratory
-import streams
-from laboratory import sha
 from streams import FOUNDERS, LEAD, NOTE, Stream, reply_of
 
 ROOT = os.path.dirname(os.path.dirname(os.path.abspath(__file__)))
@@ -196,12 +188,63 @@ def schema():
     return [*made, "INSERT INTO desk (schema) VALUES (3)"]
 
 
+def write(path, labs, *further, page_size=4096):
+    """A file of the C library with the rows of these laboratories, and what further statements, or functions, make of it."""
+    with contextlib.closing(sqlite3.connect(path, isolation_level=None)) as conn:
+        conn.execute(f"PRAGMA page_size = {page_size}")
+        conn.execute("BEGIN")
+        Rows(labs).fill(conn)
+        for one in further:
+            if callable(one):
+                one(conn)
+            else:
+                for sql in one.split(";"):
+                    conn.execute(sql)
+        conn.execute("COMMIT")
+
+
+def add_pages(conn):
+    """More pages of 512 bytes than the 2,000 that a connection keeps in memory: what a request wants is read from the file then."""
+    conn.execute("CREATE TABLE note (id INTEGER PRIMARY KEY, x BLOB)")
+    conn.execute("INSERT INTO note (x) VALUES (zeroblob(1050000))")
+
+
+# ---- a crowd: 2,000 records and 400 persons more of brick, whose id is 10, as are those of its first person and form
+
+
+CROWD = [
+    "INSERT INTO records (id, lab, number, form, form_code, sample, current) VALUES (7 * ?1 + 1003, 10, ?1, 10, 'water', 'C' || ?1, 1)",
+    "INSERT INTO versions (id, record, number, format, opener, opened) VALUES (7 * ?1 + 1003, 7 * ?1 + 1003, 1, 2, 10, 1153)",
+    "INSERT INTO entries (id, version, place, key, value, unit, person, moment) VALUES "
+    "(7 * ?1 + 1003, 7 * ?1 + 1003, 1, 'lead', '1.5', 'mg/L', 10, 1153)",
+    "INSERT INTO trail (id, lab, number, moment, person, action, subject) VALUES (7 * ?1 + 1003, 10, ?2 + ?1, 1153, 10, 'record', ?1 || '')",
+]
+
+
+def add_crowd(conn):
+    """The other laboratory stays as it is."""
+    lab, records, trail = conn.execute("SELECT id, records, trail FROM labs WHERE code = 'brick'").fetchone()
+    assert lab == 10 and records == 2
+    for number in range(1, 401):
+        conn.execute("INSERT INTO persons (id, lab, code, name, roles, retired, failures, kind) "
+                     "VALUES (7 * ?1 + 1003, 10, 'p' || ?1, 'P', 1, 0, 0, 0)", (number,))
+    for number in range(3, 2003):
+        for sql in CROWD:
+            conn.execute(sql, (number, trail - 2)[:2 if "?2" in sql else 1])
+    conn.execute("UPDATE labs SET records = 2002, trail = trail + 2000 WHERE id = 10")
+
+
 def told(conn, code):
     """What the tables say of a laboratory: a line for each row of each question's answer."""
     def word(value):
         return "-" if value is None else value.hex() if isinstance(value, bytes) else str(value)
     questions = COUNTS if code == "all" else QUESTIONS
     return "".join("".join(word(value) + "|" for value in row) + "\n" for sql in questions for row in conn.execute(sql, (code,)))
+
+
+def two(labs):
+    """Both laboratories, brick first, as their rows stand in a file."""
+    return [labs["brick"], labs["aqua"]]
 
 
 def all_told(labs, codes):
@@ -260,6 +303,9 @@ def setup():
     laboratory.verifier = whole
     s.events, s.answers, s.next_word = [], [], 10_000
     return s
+
+
+CODES = ["aqua", "brick", "cider", "all"]
 
 
 # ---- events that both laboratories are asked
@@ -332,132 +378,107 @@ def stopped():
     }
 
 
-def refused_for_storage(name, s):
-    if name == "FOUNDING":
-        return b"refused 63 storage\n"
+def refused_for_storage(s):
     moment = int(s.events[0].split()[1])
     return reply_of(503, moment, laboratory.body(error="storage", number=63))
 
 
-# ---- as text of the program
+# ---- what is read of both, and requests that want what is spoiled
 
 
-def broken(text, width=116):
-    """The lines of a literal, none of which begins with a space."""
-    escaped = {"\\": "\\\\", '"': '\\"', "\r": "\\r", "\n": "\\n"}
-    line = ""
-    for one in text:
-        piece = escaped.get(one, one)
-        if len(line) + len(piece) > width and one != " ":
-            yield line
-            line = ""
-        line += piece
-    if line:
-        yield line
+def rich():
+    """Both laboratories after some hours, with each kind of field, of password and of deed: amendments, a signature that was refused, a
+    lock, somebody who left, a one-time word, an ask. In aqua dan's session is the last one."""
+    s = setup()
+    for lab in ("brick", "aqua"):
+        entries(s, lab)
+        if lab == "aqua":
+            amendments(s, lab)
+        s.open(1430, "ann", lab=lab)
+        s.open(1430, "bob", lab=lab)
+        s.open(1430, "gus", lab=lab)
+        s.post(1430, "bob", "/confirm", lab=lab, code="ida")
+        s.post(1430, "ann", "/persons", lab=lab, code="jon", name="Jon Jay", roles=["analyst"])
+        s.post(1430, "ann", "/issue", lab=lab, code="jon")
+        if lab == "aqua":
+            s.post(1430, "gus", "/forms", lab=lab, form="air", approval=True, fields=[{"key": "dust", "label": "Dust", "required": True, "kind": "yesno"}])
+            s.post(1430, "gus", "/forms", lab=lab, form="water", fields=[{**LEAD, "unit": "ug/L", "decimals": 0, "max": "900"}])
+            s.post(1430, "dan", "/records", lab=lab, form="water", sample="S3")
+        s.post(1431, "gus", "/forms", lab=lab, form="rock", fields=[{"key": "day", "label": "Day", "required": False, "kind": "date"}])
+        own = {"brick": ("max", "Max Moss"), "aqua": ("una", "Una Ulm")}[lab]
+        s.post(1431, "ann", "/persons", lab=lab, code=own[0], name=own[1], roles=["analyst"])
+        s.post(1431, "gus", "/close", lab=lab)
+        s.post(1431, "ann", "/roles", lab=lab, code="eve", roles=["reviewer"])
+        s.post(1431, "ann", "/retire", lab=lab, code="cid")
+        s.open(1432, "fay", lab=lab, password="not of fay at all", wants=20)
+        if lab == "brick":
+            s.post(1433, "ann", "/unlock", lab=lab, code="fay")
+        s.open(1440, "hal", lab=lab)
+        s.open(1440, "dan", lab=lab)
+    s.events, s.answers, s.next_word = [], [], 30_000
+    return s
 
 
-def laid_out(head, value):
-    """As `rt fmt` does it: the value on a line of its own where the first line would be too long."""
-    return f"{head} {value}" if len(f"{head} {value}".split("\n")[0]) <= 100 else f"{head}\n    {value}"
+def readings():
+    """All that can be read of both, and what isn't there."""
+    s = rich()
+    for lab, other in (("aqua", "brick"), ("brick", "aqua")):
+        s.read_all("hal", lab)
+        s.get(1500, "hal", "/records/9", 44, lab=lab)
+        s.get(1500, "hal", "/records/1/versions/9", 45, lab=lab)
+        s.get(1500, "hal", "/forms/water/3", 42, lab=lab)
+        s.get(1500, "hal", "/forms/soil/1", 42, lab=lab)
+        s.get(1500, "hal", "/records?from=2&to=3", lab=lab)
+        s.get(1500, "hal", "/records?from=4&to=100", lab=lab)
+        s.get(1500, "hal", "/trail?from=3&to=4", lab=lab)
+        s.get(1500, "hal", "/trail?from=101&to=200", lab=lab)
+        s.open(1500, "ivy", 20, "nobody's password", lab=lab)
+    assert len({t.action for lab in s.labs.values() for t in lab.trail}) == 17
+    s.get(1500, "hal", "/forms/air/1", 42, lab="brick")
+    s.get(1500, "hal", "/records/3", 44, lab="brick")
+    s.post(1500, "dan", "/records", 43, form="water", sample="S1")
+    s.post(1500, "dan", "/records", {"record": 4}, form="air", sample="S1")
+    s.post(1500, "dan", "/records", {"record": 3}, lab="brick", form="water", sample="S3")
+    s.post(1500, "dan", "/records", 42, lab="brick", form="air", sample="S1")
+    for lab, own, other in (("aqua", "una", "max"), ("brick", "max", "una")):
+        s.post(1500, "ann", "/issue", 33, lab=lab, code=other)
+        s.post(1500, "ann", "/issue", lab=lab, code=own)
+        s.post(1500, "ann", "/persons", 27, lab=lab, code=own, name="Another", roles=["analyst"])
+    for part in ("aqu", "aquas", "b"):
+        s.get(1500, None, "", 40, lab=part)
+    s.tokens["brick", "stranger"] = s.tokens["aqua", "hal"]
+    s.get(1500, "stranger", "/persons", 22, lab="brick")
+    return s
 
 
-def constant(name, comment, text):
-    value = 'b"' + "\\\n    ".join(broken(text)) + '";'
-    return f"/// {comment}\n" + laid_out(f"pub const {name}: &[u8] =", value) + "\n"
+def foundings():
+    """Three foundings in one file, whose founders come in another order than that of their codes, and one of a laboratory that is there."""
+    s = Stream()
+    s.next_word = 40_000
+    one, two, three = FOUNDERS
+    s.found(500, "terra", "Terra Lab", [three, one, two])
+    s.found(510, "aqua", "Aqua Lab", [two, three, one])
+    s.found(520, "aqua", "Another", FOUNDERS, wants=64)
+    s.found(530, "brick", "Brick Lab", FOUNDERS)
+    return s
 
 
-def digest_constant(name, comment, text):
-    return f"/// {comment}\n" + laid_out(f"pub const {name}: &str =", f'"{sha(text.encode())}";') + "\n"
-
-
-HEADS = "Written by `bench/rows.py`."
-
-
-def shared_lines(rows, width=230):
-    """Short rows share a line."""
-    line = rows[0]
-    for row in rows[1:]:
-        if len(line) + len(row) > width:
-            yield line
-            line = row
-        else:
-            line += ", " + row
-    yield line
-
-
-def rows_text():
-    begins = setup()
-    found = list(Rows([begins.labs["brick"], begins.labs["aqua"]]).statements())
-    out = [f"//! The rows of two laboratories, brick and aqua, as statements that put them in, and questions for what the tables say of one.\n"
-           f"//! {HEADS}\n\n"
-           "/// The statements, in an order that every arrow allows. Each id is seven times a number, and three; those of brick come first.\n"
-           f"pub const ROWS: [&str; {len(found)}] = [\n"]
-    for head, *rows in found:
-        body = ", \\\n        ".join(shared_lines(rows))
-        out.append(f"    \"{head} \\\n        {body}\",\n")
-    out.append("];\n\n")
-    for name, comment, texts in (
-            ("QUESTIONS", "What the tables say of a laboratory, by its code, without any id.", QUESTIONS),
-            ("COUNTS", "How many rows each table has, where the code is `all`.", COUNTS)):
-        out.append(f"/// {comment}\npub const {name}: [&str; {len(texts)}] = [\n")
-        out += [f"    \"{one}\",\n" for one in texts]
-        out.append("];\n\n")
-    return "".join(out).rstrip("\n") + "\n"
-
-
-def hours_text():
-    out = [f"//! Events of each of the two laboratories, what they are answered, and what the tables have to say afterwards.\n//! {HEADS}\n"]
-    for lab, s in hours().items():
-        name = lab.upper()
-        out.append(constant(f"{name}_EVENTS", f"{len(s.events)} events of {lab}.", b"".join(s.events).decode()))
-        out.append(constant(f"{name}_ANSWERS", "What they are answered.", b"".join(s.answers).decode()))
-        out.append(digest_constant(f"{name}_AFTER", f"The SHA-256 of what the tables say of {lab} afterwards.", all_told(s.labs, [lab])))
-    out.append(digest_constant("BRICK_BEFORE", "And of brick before.", all_told(setup().labs, ["brick"])))
-    return "\n".join(out)
-
-
-CODES = ["aqua", "brick", "cider", "all"]
-
-
-def stops_text():
-    out = ["//! Requests and a founding during which the store is stopped: what each asks, its own answer, that of a store that refuses, and the\n"
-           "//! SHA-256 of what the tables say of all laboratories.\n"
-           f"//! {HEADS}\n"]
-    out.append(digest_constant("BEFORE", "What they say before each.", all_told(setup().labs, CODES)))
-    for name, s in stopped().items():
-        what = name.lower()
-        out.append(constant(f"{name}_EVENT", f"The {what}.", s.events[0].decode()))
-        out.append(constant(f"{name}_ANSWER", "Its own answer.", s.answers[0].decode()))
-        out.append(constant(f"{name}_REFUSED", "The answer where the store refuses.", refused_for_storage(name, s).decode()))
-        out.append(digest_constant(f"{name}_AFTER", "What the tables say after it.", all_told(s.labs, CODES)))
-    return "\n".join(out)
-
-
-FILES = {
-    "crates/lab_store_faults_tests/src/rows.rt": rows_text,
-    "crates/lab_store_faults_tests/src/hours.rt": hours_text,
-    "crates/lab_store_faults_tests/src/requests.rt": stops_text,
-}
-
-
-def main():
-    if sys.argv[1:] == ["--show"]:
-        print(all_told(setup().labs, CODES))
-        for name, s in stopped().items():
-            print(f"# {name}\n{all_told(s.labs, CODES)}")
-        return 0
-    wrong = []
-    for path, text in FILES.items():
-        path = f"{ROOT}/{path}"
-        if sys.argv[1:] == ["--check"]:
-            with open(path) as f:
-                wrong += [path] if f.read() != text() else []
-        else:
-            with open(path, "w") as f:
-                f.write(text())
-    print("; ".join(f"{path} is not as it would be written" for path in wrong) or f"{len(FILES)} files")
-    return 1 if wrong else 0
-
-
-if __name__ == "__main__":
-    sys.exit(main())
+def requests():
+    """By name, each by itself over the rich laboratories: a request that wants some of aqua's rows, and one of brick."""
+    def one(play):
+        s = rich()
+        play(s)
+        assert len(s.events) == 1
+        return s
+    return {
+        "card": one(lambda s: s.get(1500, None, "")),
+        "open dan": one(lambda s: s.open(1500, "dan")),
+        "persons": one(lambda s: s.get(1500, "hal", "/persons")),
+        "dan's record": one(lambda s: s.get(1500, "dan", "/records/1")),
+        "new record": one(lambda s: s.post(1500, "dan", "/records", form="air", sample="A1")),
+        "form": one(lambda s: s.get(1500, "hal", "/forms/water/1")),
+        "records": one(lambda s: s.get(1500, "hal", "/records?from=1&to=9")),
+        "version": one(lambda s: s.get(1500, "hal", "/records/2")),
+        "trail": one(lambda s: s.get(1500, "hal", "/trail?from=1&to=9")),
+        "brick": one(lambda s: s.get(1500, "hal", "/persons", lab="brick")),
+    }

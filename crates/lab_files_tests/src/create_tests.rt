@@ -1,80 +1,9 @@
-//! What a new file has, and where none is made.
+//! Where no file is made, and what stays.
 
-use crate::helpers::{make, number, reopen, rows, run};
+use crate::helpers::{make, number, reopen, run};
 use lab_files::FileFault;
-use sqlite::{Connection, Constraint, Error, ErrorCode};
+use sqlite::Connection;
 use std::test::Fail;
-
-const NAMES: [&str; 12] = [
-    "choices",
-    "desk",
-    "entries",
-    "fields",
-    "forms",
-    "labs",
-    "persons",
-    "records",
-    "sessions",
-    "signatures",
-    "trail",
-    "versions",
-];
-
-#[test]
-fn a_new_file_has_the_tables_and_one_row(rt: HostRuntime) -> Result<(), Fail> {
-    let mut conn = Connection::open_in_memory(rt.alloc())?;
-    assert!(rt; make(&mut conn) == Ok(()));
-    let names = rows(
-        &mut conn,
-        "SELECT name FROM sqlite_schema WHERE type = 'table' ORDER BY name",
-    )?;
-    assert_eq!(rt; names.len(), NAMES.len());
-    for at in 0..NAMES.len() {
-        let name: String = names[at].get(0)?;
-        assert_eq!(rt; name.as_str(), NAMES[at]);
-    }
-    assert_eq!(rt; number(&mut conn, "SELECT count(*) FROM desk")?, 1);
-    assert_eq!(rt; number(&mut conn, "SELECT schema FROM desk")?, 3);
-    assert_eq!(rt; number(&mut conn, "SELECT id FROM desk")?, 1);
-    assert_eq!(rt; number(&mut conn, "SELECT count(*) FROM labs")?, 0);
-    assert_eq!(rt; number(&mut conn, "SELECT count(*) FROM trail")?, 0);
-    Ok(())
-}
-
-#[test]
-fn a_new_file_opens_and_keeps_rows(rt: HostRuntime) -> Result<(), Fail> {
-    let mut conn = Connection::open_in_memory(rt.alloc())?;
-    assert!(rt; make(&mut conn) == Ok(()));
-    assert!(rt; reopen(&mut conn) == Ok(()));
-    run(
-        &mut conn,
-        "INSERT INTO labs (code, name, last, stray, records, sessions, trail) VALUES ('aqua', 'Aqua Lab', 0, 0, 0, 0, 0)",
-    )?;
-    assert!(rt; reopen(&mut conn) == Ok(()));
-    assert_eq!(rt;
-        number(&mut conn, "SELECT count(*) FROM labs WHERE code = 'aqua'")?,
-        1
-    );
-    Ok(())
-}
-
-// The answer to a row that breaks such a rule.
-fn refused(rule: Constraint) -> Result<(), Error> {
-    Err(Error::SqliteFailure(ErrorCode::ConstraintViolation(rule)))
-}
-
-#[test]
-fn keys_and_arrows_of_a_new_file_hold(rt: HostRuntime) -> Result<(), Fail> {
-    let mut conn = Connection::open_in_memory(rt.alloc())?;
-    assert!(rt; make(&mut conn) == Ok(()));
-    let lab =
-        "INSERT INTO labs (code, name, last, stray, records, sessions, trail) VALUES ('aqua', 'Aqua Lab', 0, 0, 0, 0, 0)";
-    assert!(rt; run(&mut conn, lab).is_ok());
-    assert!(rt; run(&mut conn, lab) == refused(Constraint::Unique));
-    let form = "INSERT INTO forms (lab, code, version, approval) VALUES (2, 'water', 1, 0)";
-    assert!(rt; run(&mut conn, form) == refused(Constraint::ForeignKey));
-    Ok(())
-}
 
 #[test]
 fn no_file_is_made_over_another(rt: HostRuntime) -> Result<(), Fail> {

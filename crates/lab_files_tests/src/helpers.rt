@@ -1,7 +1,7 @@
 //! Calls without clauses, so that the proof of a test doesn't carry what a connection holds after each.
 
 use lab_files::{FileFault, create, open};
-use sqlite::{Alter, Connection, Error, Row};
+use sqlite::{Alter, Connection, Error};
 
 pub(crate) fn make<S: Alter>(conn: &mut Connection<S>) -> Result<(), FileFault> {
     if !conn.is_autocommit() {
@@ -16,10 +16,6 @@ pub(crate) fn reopen<S: Alter>(conn: &mut Connection<S>) -> Result<(), FileFault
 
 pub(crate) fn run<S: Alter>(conn: &mut Connection<S>, sql: &str) -> Result<(), Error> {
     conn.execute_batch(sql)
-}
-
-pub(crate) fn rows<S: Alter>(conn: &mut Connection<S>, sql: &str) -> Result<Vec<Row>, Error> {
-    conn.query_all(sql, &[])
 }
 
 pub(crate) fn number<S: Alter>(conn: &mut Connection<S>, sql: &str) -> Result<i64, Error> {

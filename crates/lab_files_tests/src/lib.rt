@@ -1,4 +1,5 @@
-//! Tests of `lab_files` over databases in memory. They stand apart, so that the crate isn't proved once more with them.
+//! Tests of `lab_files` and `lab_founding` over databases in memory, of what no command comes to: they stand apart, so that the
+//! crates aren't proved once more with them.
 #![tactic(auto)]
 
 #[cfg(test)]
@@ -6,8 +7,12 @@ mod create_tests;
 #[cfg(test)]
 mod fault_tests;
 #[cfg(test)]
+mod found_tests;
+#[cfg(test)]
+mod founded;
+#[cfg(test)]
 mod helpers;
 #[cfg(test)]
-mod open_tests;
+mod newborns;
 #[cfg(test)]
-mod refusal_tests;
+mod open_tests;

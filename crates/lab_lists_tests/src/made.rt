@@ -194,22 +194,17 @@ pub(crate) fn signing(rt: &(impl Abort + AllocGlobal)) -> Change {
 pub(crate) enum Wanted {
     Nothing,
     Session,
-    OtherSession,
     Person,
-    LastForm,
     ExactForm,
     RecordNumbered,
-    RecordAbout,
     Persons,
     Records,
     Trail,
-    LaterTrail,
 }
 
 fn token(wanted: Wanted) -> Option<Digest> {
     match wanted {
         Wanted::Session => Some(Digest::from_bytes([9; 32])),
-        Wanted::OtherSession => Some(Digest::from_bytes([8; 32])),
         _ => None,
     }
 }
@@ -223,9 +218,6 @@ fn person_wanted(rt: &(impl Abort + AllocGlobal), wanted: Wanted) -> Option<Pers
 
 fn form_wanted(rt: &(impl Abort + AllocGlobal), wanted: Wanted) -> Option<FormWanted> {
     match wanted {
-        Wanted::LastForm => Some(FormWanted::Last {
-            code: text(rt, "water"),
-        }),
         Wanted::ExactForm => Some(FormWanted::Exact {
             code: text(rt, "water"),
             version: Ordinal::FIRST,
@@ -234,14 +226,10 @@ fn form_wanted(rt: &(impl Abort + AllocGlobal), wanted: Wanted) -> Option<FormWa
     }
 }
 
-fn record_wanted(rt: &(impl Abort + AllocGlobal), wanted: Wanted) -> Option<RecordWanted> {
+fn record_wanted(wanted: Wanted) -> Option<RecordWanted> {
     match wanted {
         Wanted::RecordNumbered => Some(RecordWanted::Numbered {
             number: Ordinal::FIRST,
-        }),
-        Wanted::RecordAbout => Some(RecordWanted::About {
-            form: text(rt, "water"),
-            sample: text(rt, "S1"),
         }),
         _ => None,
     }
@@ -253,7 +241,6 @@ fn list_wanted(rt: &impl Abort, wanted: Wanted) -> Option<ListWanted> {
         Wanted::Persons => Some(ListWanted::Persons),
         Wanted::Records => Some(ListWanted::Records { from, to }),
         Wanted::Trail => Some(ListWanted::Trail { from, to }),
-        Wanted::LaterTrail => Some(ListWanted::Trail { from: to, to }),
         _ => None,
     }
 }
@@ -264,7 +251,7 @@ pub(crate) fn need(rt: &(impl Abort + AllocGlobal), wanted: Wanted) -> Need {
         list: list_wanted(rt, wanted),
         person: person_wanted(rt, wanted),
         form: form_wanted(rt, wanted),
-        filed: record_wanted(rt, wanted),
+        filed: record_wanted(wanted),
     }
 }
 

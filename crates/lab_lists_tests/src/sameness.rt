@@ -1,7 +1,7 @@
-//! Whether two laboratories, or two parts of one, hold the same: every field of them is compared.
+//! Whether two parts of a laboratory hold the same: every field of them is compared.
 use lab_kept::{
-    EntryRow, FormVersion, Lab, Origin, Password, Person, Record, Session, Signature, Slice,
-    TrailRow, Version,
+    EntryRow, FormVersion, Origin, Password, Person, Record, Session, Signature, Slice, TrailRow,
+    Version,
 };
 
 fn are_both_unset(one: &Password, other: &Password) -> bool {
@@ -12,7 +12,7 @@ fn are_both_unset(one: &Password, other: &Password) -> bool {
 }
 
 // Persons who have no password and of whom nothing was asked for.
-pub(crate) fn is_person(one: &Person, other: &Person) -> bool {
+fn is_person(one: &Person, other: &Person) -> bool {
     one.code == other.code
         && one.name == other.name
         && one.roles == other.roles
@@ -24,7 +24,7 @@ pub(crate) fn is_person(one: &Person, other: &Person) -> bool {
         && other.ask.is_none()
 }
 
-pub(crate) fn is_session(one: &Session, other: &Session) -> bool {
+fn is_session(one: &Session, other: &Session) -> bool {
     one.number == other.number
         && one.person == other.person
         && one.token == other.token
@@ -34,11 +34,11 @@ pub(crate) fn is_session(one: &Session, other: &Session) -> bool {
         && one.signed == other.signed
 }
 
-pub(crate) fn is_form(one: &FormVersion, other: &FormVersion) -> bool {
+fn is_form(one: &FormVersion, other: &FormVersion) -> bool {
     one.code == other.code && one.version == other.version && one.form == other.form
 }
 
-pub(crate) fn is_row(one: &EntryRow, other: &EntryRow) -> bool {
+fn is_row(one: &EntryRow, other: &EntryRow) -> bool {
     one.key == other.key
         && one.value == other.value
         && one.unit == other.unit
@@ -95,7 +95,7 @@ fn are_versions(one: &[Version], other: &[Version]) -> bool {
             .all(|(one, other)| is_version(one, other))
 }
 
-pub(crate) fn is_record(one: &Record, other: &Record) -> bool {
+fn is_record(one: &Record, other: &Record) -> bool {
     one.number == other.number
         && is_form(&one.form, &other.form)
         && one.sample == other.sample
@@ -118,22 +118,6 @@ fn are_persons(one: &[Person], other: &[Person]) -> bool {
             .all(|(one, other)| is_person(one, other))
 }
 
-fn are_sessions(one: &[Session], other: &[Session]) -> bool {
-    one.len() == other.len()
-        && one
-            .iter()
-            .zip(other.iter())
-            .all(|(one, other)| is_session(one, other))
-}
-
-fn are_forms(one: &[FormVersion], other: &[FormVersion]) -> bool {
-    one.len() == other.len()
-        && one
-            .iter()
-            .zip(other.iter())
-            .all(|(one, other)| is_form(one, other))
-}
-
 fn are_records(one: &[Record], other: &[Record]) -> bool {
     one.len() == other.len()
         && one
@@ -148,19 +132,6 @@ fn is_trail(one: &[TrailRow], other: &[TrailRow]) -> bool {
             .iter()
             .zip(other.iter())
             .all(|(one, other)| is_trail_row(one, other))
-}
-
-/// Whether the laboratories hold the same.
-pub(crate) fn is_lab(one: &Lab, other: &Lab) -> bool {
-    one.code == other.code
-        && one.name == other.name
-        && one.last == other.last
-        && one.strays == other.strays
-        && are_persons(one.persons.as_slice(), other.persons.as_slice())
-        && are_sessions(one.sessions.as_slice(), other.sessions.as_slice())
-        && are_forms(one.forms.as_slice(), other.forms.as_slice())
-        && are_records(one.records.as_slice(), other.records.as_slice())
-        && is_trail(one.trail.as_slice(), other.trail.as_slice())
 }
 
 fn is_same_session(one: &Option<Session>, other: &Option<Session>) -> bool {

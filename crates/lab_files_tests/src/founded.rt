@@ -1,6 +1,6 @@
 //! Files in which laboratories are founded, and what is told of them. The calls have no clauses, so that the proof of a test
 //! doesn't carry what a connection holds after each.
-use crate::made::{newborn, text};
+use crate::newborns::{newborn, text};
 use lab_files::{FileFault, create};
 use lab_founding::found;
 use lab_kept::{Lab, Newborn, PlacingFault};
