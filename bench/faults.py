@@ -6,8 +6,8 @@ of the number in FAULT_AT fails; or, where FAULT_BEHIND stands, the first after 
 them. It fails by the number in FAULT_ERROR, or by EIO, and so do as many calls as FAULT_TIMES says, or one; those after them are made.
 Where FAULT_MOST stands, a call takes at most so many bytes.
 
-On the descriptor in FAULT_TOLD it is told by `x` for each that failed, and then by `o` for each further call on the same place that
-takes bytes out of the program. Where COUNTS_CALLS stands, it is told there in the end how many calls counted.
+On the descriptor in FAULT_TOLD it is told by `x` for each that failed, and then by `o` for each further call that takes bytes out of the
+program, to the place in FAULT_OUT, or to the same place where that isn't given. Where COUNTS_CALLS stands, it is told there in the end how many calls counted.
 """
 import contextlib
 import errno
@@ -25,7 +25,7 @@ SHIM = r"""
 #include <sys/socket.h>
 #include <sys/types.h>
 #include <unistd.h>
-static const char *call, *where;
+static const char *call, *where, *out;
 static long at, behind, most, error, times, told, count, passed, failed;
 static long number(const char *name, long otherwise) {
     const char *text = getenv(name);
@@ -34,6 +34,7 @@ static long number(const char *name, long otherwise) {
 static void begin(void) {
     if (call) return;
     where = getenv("FAULT_WHERE");
+    out = getenv("FAULT_OUT") ? getenv("FAULT_OUT") : where;
     at = number("FAULT_AT", 0);
     behind = number("FAULT_BEHIND", -1);
     most = number("FAULT_MOST", -1);
@@ -42,7 +43,7 @@ static void begin(void) {
     told = number("FAULT_TOLD", -1);
     call = getenv("FAULT_CALL") ? getenv("FAULT_CALL") : "";
 }
-static int is_there(int place) {
+static int is_there(int place, const char *where) {
     char link[64], path[4096];
     ssize_t length;
     if (!where) return 0;
@@ -61,9 +62,8 @@ static void tell(const char *what) {
 /* Whether the call fails; how many bytes it may take. */
 static int fails(const char *name, int place, int is_out, size_t *length) {
     begin();
-    if (!is_there(place)) return 0;
-    if (failed && failed >= times && is_out) tell("o");
-    if (strcmp(name, call) != 0) return 0;
+    if (is_out && failed >= times && is_there(place, out)) tell("o");
+    if (strcmp(name, call) != 0 || !is_there(place, where)) return 0;
     count++;
     if (length && most >= 0 && *length > (size_t)most) *length = most;
     if (failed < times && (behind >= 0 ? passed == behind : at > 0 && count >= at)) {
@@ -76,7 +76,7 @@ static int fails(const char *name, int place, int is_out, size_t *length) {
     return 0;
 }
 static ssize_t done(const char *name, int place, ssize_t length) {
-    if (length > 0 && strcmp(name, call) == 0 && is_there(place)) passed += length;
+    if (length > 0 && strcmp(name, call) == 0 && is_there(place, where)) passed += length;
     return length;
 }
 __attribute__((destructor)) static void end(void) {
@@ -130,7 +130,8 @@ class Failing:
 
 @contextlib.contextmanager
 def failing(room, call, where, error=errno.EIO, **further):
-    """That call on that place fails: `at` says which one, `behind` behind how many bytes, `times` how many, `most` how much one takes."""
+    """That call on that place fails: `at` says which one, `behind` behind how many bytes, `times` how many, `most` how much one takes,
+    and `out` where no more is to go out then."""
     words = {f"FAULT_{name.upper()}": str(value) for name, value in further.items()}
     descriptor, name = tempfile.mkstemp(dir=room)
     os.remove(name)
