@@ -4,6 +4,7 @@ A small library in front of the C library's clock_gettime and getentropy answers
 drawn with it, from a list of ticks in place of the machine's. Once the list is at its end there is no time any more; and words that
 are drawn before any time was asked for, which are of no tick, are zeros.
 """
+import itertools
 import os
 import re
 import socket
@@ -121,3 +122,21 @@ class Server:
         if self.process.poll() is None:
             self.process.kill()
             self.process.communicate()
+
+
+def play(program, room, path, stream):
+    """Plays a stream over a file: foundings, and between them calls that come to one server."""
+    for is_founding, part in itertools.groupby(stream.events, lambda event: event.startswith(b"found ")):
+        events = list(part)
+        ticks = [tuple(map(int, event.partition(b"\n")[0].split()[-3:-1])) for event in events]
+        contents = [event.partition(b"\n")[2] for event in events]
+        if is_founding:
+            for event, tick, content in zip(events, ticks, contents):
+                told = found(program, path, event.split()[1].decode(), content, clocked(room, path, [tick]))
+                assert told[0] == 0, told
+        else:
+            with Server(program, path, len(events), clocked(room, path, ticks)) as server:
+                for content in contents:
+                    server.answer(content)
+                ended = server.ended()
+                assert ended == (0, b"", b""), ended
