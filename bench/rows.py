@@ -7,6 +7,7 @@ number, and three; the rows of brick come first, and those of one laboratory in 
 PBKDF2, so that trying one costs little.
 """
 import contextlib
+import copy
 import functools
 import os
 import random
@@ -378,8 +379,15 @@ def stopped():
     }
 
 
+def amended(s):
+    """The stream with an amendment at its end."""
+    s = copy.deepcopy(s)
+    s.post(1700, "dan", "/amendments", record=2, reason="one decimal is meant", altered=[OTHER])
+    return s
+
+
 def refused_for_storage(s):
-    moment = int(s.events[0].split()[1])
+    moment = int(s.events[-1].split()[1])
     return reply_of(503, moment, laboratory.body(error="storage", number=63))
 
 

@@ -130,11 +130,12 @@ def counted(path):
 
 
 def put(source, path):
-    """The file as it is before a run, synced; or no file."""
+    """The file as it is before a run, and its log where there is one, both synced; or no file."""
     remove(path)
-    if source:
-        shutil.copy(source, path)
-        shutil.copy(source, f"{path}.synced")
+    for end in ENDS if source else ():
+        if os.path.exists(source + end):
+            shutil.copy(source + end, path + end)
+            shutil.copy(source + end, f"{path}{end}.synced")
 
 
 def remove(path):
