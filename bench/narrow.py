@@ -6,6 +6,7 @@ on any; how many bytes, or calls of `accept` and `dup`, go through; by which err
 of no bytes; and how many of them fail before all go through again, where -1 stands for all. Where AT_ONCE stands, a read or write of
 such a place takes at most so many bytes; where INTERRUPTED stands, so many reads of each such place are interrupted first; where
 OTHER_ONES stands, each other one is. Where WIDER stands, the room of `recv` is one byte more for each connection that is accepted.
+On the descriptor in TELLS it is told in the end how often `recv` was called, and how many bytes it gave.
 """
 import subprocess
 
@@ -23,7 +24,7 @@ SHIM = r"""
 #include <unistd.h>
 static struct place { char name[8]; long room, left; int error; long times, failed, interrupted; } places[8];
 static int count = -1, is_other;
-static long at_once, interrupted, accepted;
+static long at_once, interrupted, accepted, asked, received;
 static long number(const char *name) {
     const char *text = getenv(name);
     return text ? atol(text) : 0;
@@ -52,6 +53,7 @@ static struct place *numbered(int place) {
 static int answered(struct place *p, int is_in, size_t *length, ssize_t *answer) {
     if (!p) return 0;
     *answer = -1;
+    if (strcmp(p->name, "recv") == 0) asked++;
     if (is_in && p->interrupted < interrupted) { p->interrupted++; errno = EINTR; return 1; }
     if (is_in && getenv("OTHER_ONES") && (is_other = !is_other)) { errno = EINTR; return 1; }
     if (p->times >= 0 && p->failed >= p->times) return 0;
@@ -62,7 +64,11 @@ static int answered(struct place *p, int is_in, size_t *length, ssize_t *answer)
 }
 static ssize_t passed(struct place *p, ssize_t length) {
     if (p && length > 0 && p->left > 0) p->left -= length;
+    if (p && length > 0 && strcmp(p->name, "recv") == 0) received += length;
     return length;
+}
+__attribute__((destructor)) static void end(void) {
+    if (getenv("TELLS")) dprintf(atoi(getenv("TELLS")), "%ld %ld", asked, received);
 }
 #define BYTES(name, of, is_in, buffer, more, given) \
     ssize_t name(int place, buffer bytes, size_t length more) { \
