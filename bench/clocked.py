@@ -2,7 +2,7 @@
 
 A small library in front of the C library's clock_gettime and getentropy answers the time of day, and then the eight words that are
 drawn with it, from a list of ticks in place of the machine's. Once the list is at its end there is no time any more; and words that
-are drawn before any time was asked for, which are of no tick, are zeros.
+are drawn before any time was asked for, which are of no tick, are zeros. Where DRAWN stands, only so many ticks have words.
 """
 import itertools
 import os
@@ -21,7 +21,7 @@ SHIM = r"""
 #include <string.h>
 #include <time.h>
 #include <unistd.h>
-static int ticks = -1, left = -1;
+static int ticks = -1, left = -1, drawn = 0;
 static struct { int64_t seconds; uint64_t word; } tick;
 int clock_gettime(clockid_t clock, struct timespec *now) {
     static int (*real)(clockid_t, struct timespec *);
@@ -33,7 +33,7 @@ int clock_gettime(clockid_t clock, struct timespec *now) {
     if (read(ticks, &tick, sizeof tick) != sizeof tick) return -1;
     now->tv_sec = tick.seconds;
     now->tv_nsec = 0;
-    left = 8;
+    left = !getenv("DRAWN") || drawn++ < atoi(getenv("DRAWN")) ? 8 : 0;
     return 0;
 }
 int getentropy(void *words, size_t length) {

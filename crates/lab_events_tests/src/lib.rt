@@ -1,4 +1,4 @@
-//! Tests of `lab_events`, on whole replays. They stand apart, so that the crate isn't proved once more with them.
+//! Tests of `lab_events`. They stand apart, so that the crate isn't proved once more with them.
 #![tactic(auto)]
 
 #[cfg(test)]
