@@ -21,6 +21,7 @@ import subprocess
 import sys
 
 import cases_of_requests
+from accounts import FROM_NOTHING, FROM_SETUP
 from bodies import BODIES, members_of_the_body
 from laboratory import sha, token_of
 from streams import FOUNDERS, LEAD, NOTE, POSTED, STATUS, Stream, compact, lines, request_of, split
@@ -749,6 +750,12 @@ CASES.update((name, (globals()[start], play)) for name, (start, play) in cases_o
 
 for the_place in BODIES:
     CASES["members_of_the_body_of_" + the_place[1:]] = (founders, functools.partial(members_of_the_body, the_place))
+
+# ---- foundings, passwords and accounts
+
+for the_start, the_plays in ((nothing, FROM_NOTHING), (setup, FROM_SETUP)):
+    for the_play in the_plays:
+        case(the_start)(the_play)
 
 
 # ---- a random day

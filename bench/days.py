@@ -220,7 +220,11 @@ def copied(day):
     day.back("A copy of a record that is open, by a manager, and nobody else's business")
     day.open(1200, "gus")
     assert day.do(1210, "gus", "copied|", "copy", 1, 1)[1].count("\n") == 6
-    assert day.do(1220, "dan", 24, "copy", 1, 1)[0].endswith("|P22|")
+    for who in ("ann", "eve", "fay"):
+        day.open(1211, who)
+    day.do(1212, "ann", "roles set|eve||", "roles", "eve", "")
+    for who in ("dan", "ann", "eve", "fay"):
+        assert day.do(1220, who, 24, "copy", 1, 1)[0].endswith("|P22|")
     day.back("A copy of records that are released and signed")
     release(day)
     day.open(1400, "hal")
@@ -744,6 +748,9 @@ def limits(day):
     day.set_counts(None, 1_000_000_000, None, None)
     day.open(1204, "fay", 28)
     day.open(1205, "fay", 20, password="fay password 2")
+    for _ in range(4):
+        day.open(1205, "fay", 20, password="fay password 2", who="x", words=day.sessions["dan"])
+    day.open(1205, "fay", 20, who="x", words=day.sessions["dan"])
     day.set_counts(500, None, None, None)
     day.open(1206, "ann")
     day.do(1207, "ann", 28, "enrol", "ivy", "Ivy Inn", "analyst")
@@ -806,6 +813,7 @@ def days():
     day = Day()
     day.title("Setup")
     setup(day)
+    day.sum()
     day.keep()
     for part in (worked, persons, limits, refusals, repeats, copied, guessed):
         part(day)

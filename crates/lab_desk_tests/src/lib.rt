@@ -1,12 +1,10 @@
-//! Tests of `lab_desk`, on foundings, requests and runs, over laboratories in a list and over a
+//! Tests of `lab_desk`, on requests, connections and runs, over laboratories in a list and over a
 //! keeper that refuses every second call. They stand apart, so that the crate isn't proved once more
 //! with them.
 #![tactic(auto)]
 
 #[cfg(test)]
 mod asserts;
-#[cfg(test)]
-mod founding_tests;
 #[cfg(test)]
 mod made;
 #[cfg(test)]

@@ -57,11 +57,6 @@ pub(crate) const CARD_REPLY: &[u8] = b"HTTP/1.1 200 OK\r\nDate: Thu, 01 Jan 1970
     Content-Type: application/json\r\nContent-Length: 32\r\nConnection: close\r\n\r\n\
     {\"lab\":\"aqua\",\"name\":\"Aqua Lab\"}";
 
-pub(crate) const CLOCK_BEHIND_REPLY: &[u8] =
-    b"HTTP/1.1 503 Service Unavailable\r\nDate: Thu, 01 Jan 1970 00:00:49 GMT\r\n\
-    Content-Type: application/json\r\nContent-Length: 36\r\nConnection: close\r\n\r\n\
-    {\"error\":\"clock_behind\",\"number\":41}";
-
 pub(crate) const NO_SUCH_LAB_REPLY: &[u8] =
     b"HTTP/1.1 404 Not Found\r\nDate: Thu, 01 Jan 1970 00:01:40 GMT\r\n\
     Content-Type: application/json\r\nContent-Length: 35\r\nConnection: close\r\n\r\n\

@@ -1,7 +1,8 @@
-//! Tests of `lab_machine`, on whole answers. They stand apart, so that the crate isn't proved once more with them.
+//! Tests of `lab_machine` and `lab_access`, of what no reply shows. They stand apart, so that the crates aren't proved once more
+//! with them.
 #![tactic(auto)]
 
 #[cfg(test)]
-mod birth_tests;
+mod needs_tests;
 #[cfg(test)]
-mod tests;
+mod prints_tests;

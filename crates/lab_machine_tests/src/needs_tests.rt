@@ -1,11 +1,10 @@
-//! What is needed, how far an instruction gets, and what is made, compared with values from outside.
-use lab_access::{Password, Person, Role, Roles, Session};
+//! What a command needs of a laboratory, and that it needs nothing more, compared with values from outside.
 use lab_forms::{Field, Form, Kind};
 use lab_kept::{FormWanted, ListWanted, Need, RecordWanted};
-use lab_machine::{Command, Instruction, Passage, needs, pass};
+use lab_machine::{Command, Instruction, needs};
 use lab_names::{Moment, Ordinal, PersonCode, Rule as TextRule, Text, Tick};
 use lab_rules::{Item, Typed};
-use lab_secrets::{Digest, Token, Verifier};
+use lab_secrets::{Digest, Token};
 use std::process::Abort;
 
 // A code, key, name, note or unit.
@@ -273,98 +272,4 @@ fn a_list_is_needed(rt: HostRuntime) {
     wants(&rt, Case::ReadRecords);
     wants(&rt, Case::ReadTrail);
     wants(&rt, Case::TakeCopy);
-}
-
-fn person(rt: &(impl Abort + AllocGlobal), roles: Roles) -> Person {
-    let verifier = Verifier::from_parts([7; 16], 2, [8; 32]);
-    Person {
-        roles,
-        retired: false,
-        failures: 0,
-        locked: None,
-        password: Password::Chosen {
-            verifier,
-            changed: moment(rt, 500),
-        },
-        ask: None,
-        code: text(rt, "dan"),
-        name: text(rt, "Dan Dorn"),
-    }
-}
-
-fn session(rt: &(impl Abort + AllocGlobal)) -> Session {
-    Session {
-        number: Ordinal::FIRST,
-        token: Digest::from_bytes([9; 32]),
-        opened: moment(rt, 900),
-        last: moment(rt, 900),
-        closed: false,
-        signed: false,
-        person: text(rt, "dan"),
-    }
-}
-
-// How far a command of an analyst gets at a second, whose session had its last request at 900.
-fn passage(rt: &(impl Abort + AllocGlobal), seconds: i64, case: Case) -> Passage {
-    let roles = Roles::none().with(Role::Analyst);
-    let (session, caller) = (Some(session(rt)), Some(person(rt, roles)));
-    let (last, tick) = (moment(rt, 1000), tick(rt, seconds));
-    pass(last, session, caller, &tick, &command(rt, case))
-}
-
-fn is_session(one: &Session) -> bool {
-    one.number == Ordinal::FIRST
-        && one.token == Digest::from_bytes([9; 32])
-        && one.opened.seconds() == 900
-        && one.last.seconds() == 900
-        && !one.closed
-        && !one.signed
-        && one.person.as_str() == "dan"
-}
-
-fn is_dan(one: &Person) -> bool {
-    one.code.as_str() == "dan"
-        && one.name.as_str() == "Dan Dorn"
-        && one.roles == Roles::none().with(Role::Analyst)
-        && !one.retired
-        && one.failures == 0
-        && one.locked.is_none()
-        && one.ask.is_none()
-}
-
-#[test]
-fn the_clock_comes_first(rt: HostRuntime) {
-    assert!(rt; matches!(passage(&rt, 999, Case::Close), Passage::Early));
-    assert!(rt; matches!(passage(&rt, 999, Case::Card), Passage::Early));
-}
-
-#[test]
-fn the_card_asks_for_no_session(rt: HostRuntime) {
-    match &passage(&rt, 7_862_400, Case::Card) {
-        Passage::NeedsNone(Some(session)) => assert!(rt; is_session(session)),
-        _ => assert!(rt; false, "no session is asked for"),
-    }
-}
-
-#[test]
-fn a_live_session_passes(rt: HostRuntime) {
-    match &passage(&rt, 1800, Case::Close) {
-        Passage::Passes(session, caller) => assert!(rt; is_session(session) && is_dan(caller)),
-        _ => assert!(rt; false, "it passes"),
-    }
-}
-
-#[test]
-fn a_lapsed_session_is_a_strangers(rt: HostRuntime) {
-    assert!(rt; matches!(passage(&rt, 1801, Case::Close), Passage::Stranger));
-}
-
-#[test]
-fn a_role_bars(rt: HostRuntime) {
-    match &passage(&rt, 1000, Case::ReadPersons) {
-        Passage::Barred(session, refusal) => {
-            assert!(rt; is_session(session) && refusal.word() == "role_wanted")
-        }
-        _ => assert!(rt; false, "it is barred"),
-    }
 }

@@ -1,7 +1,0 @@
-//! Tests of `lab_rules`, on whole answers. They stand apart, so that the crate isn't proved once more with them.
-#![tactic(auto)]
-
-#[cfg(test)]
-mod record_tests;
-#[cfg(test)]
-mod tests;
