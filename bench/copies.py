@@ -1,5 +1,5 @@
 #!/usr/bin/env python3
-"""Writes what lab_copies_tests compares: the lines of a short day, and copies of the laboratory after it, which Python's csv writes
+"""Writes what lab_walks_tests compares: the lines of a short day, and copies of the laboratory after it, which Python's csv writes
 by docs/COPIES.md of the laboratory of bench/laboratory.py, whose hashes are those of hashlib.
 
     bench/copies.py          prints the day's lines, then the copy of records 1 to 9

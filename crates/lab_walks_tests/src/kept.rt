@@ -1,5 +1,5 @@
 //! Laboratories in a list, after the short day, and with more records.
-use lab_copies_tests::days::DAY;
+use crate::days::DAY;
 use lab_decisions_tests::{Stage, play};
 use lab_kept::{
     Change, Keeper, Lab, LabCode, Moment, Newborn, Ordinal, Password, Person, Record, Roles, Series,

@@ -2,7 +2,7 @@
 //! `csv`.
 
 /// A record released and amended, one rejected, one reviewed whose form wants an approval, and one that is empty.
-pub const DAY: &str = "bare|aqua|0|Aqua Lab\n\
+pub(crate) const DAY: &str = "bare|aqua|0|Aqua Lab\n\
     person|ann|Ann Ames|administrator|correct horse 1\n\
     person|bob|Bob Bell|administrator|correct horse 2\n\
     person|cid|Cid Cole|administrator|correct horse 3\n\
@@ -34,7 +34,7 @@ pub const DAY: &str = "bare|aqua|0|Aqua Lab\n\
     1330|1168|1024|record|water|S4";
 
 /// The copy of records 1 to 9, for `hal` at second 5000.
-pub const COPY: &str =
+pub(crate) const COPY: &str =
     "kind,lab,record,version,key,value,unit,person,name,moment,reason,digest,seal\n\
     copy,aqua,1,9,2,,,hal,Aqua Lab,1970-01-01T01:23:20Z,,,\n\
     record,aqua,1,1,water,S1,,,,,,,\n\
@@ -60,7 +60,7 @@ pub const COPY: &str =
     end,aqua,4,5,5,6,,,,,,,\n";
 
 /// The copy of records 3 and 4, for nobody at second 6000.
-pub const COPY_OF_TWO: &str =
+pub(crate) const COPY_OF_TWO: &str =
     "kind,lab,record,version,key,value,unit,person,name,moment,reason,digest,seal\n\
     copy,aqua,3,4,2,,,,Aqua Lab,1970-01-01T01:40:00Z,,,\n\
     record,aqua,3,2,water,S3,,,,,,,\n\
@@ -73,7 +73,7 @@ pub const COPY_OF_TWO: &str =
     end,aqua,2,2,1,2,,,,,,,\n";
 
 /// The copy of records 7 to 9, of which there is none, for nobody at second 6000.
-pub const COPY_OF_NONE: &str =
+pub(crate) const COPY_OF_NONE: &str =
     "kind,lab,record,version,key,value,unit,person,name,moment,reason,digest,seal\n\
     copy,aqua,7,9,2,,,,Aqua Lab,1970-01-01T01:40:00Z,,,\n\
     end,aqua,0,0,0,0,,,,,,,\n";
