@@ -1,7 +1,7 @@
+use crate::days::{COPY, COPY_OF_NONE, COPY_OF_TWO};
 use crate::failing::{Failing, Pipe};
 use crate::kept::{aqua, day, lists_of, many, moment, ordinal, text};
 use lab_copies::{CopyOrder, copy_rows};
-use crate::days::{COPY, COPY_OF_NONE, COPY_OF_TWO};
 use lab_copy::write_copy;
 use lab_kept::{Keeper, LabCode};
 use lab_lists::Lists;
