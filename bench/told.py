@@ -223,6 +223,8 @@ COPY_OF_NONE = HEADER + "copy,aqua,7,9,2,,,,Aqua Lab,1970-01-01T01:40:00Z,,,\n" 
 AQUA, BRICK = "found aqua 0 1 218\n" + BODY, "found brick 0 1 219\n" + BODY.replace("Aqua", "Brick")
 CARD_EVENT, ZINC_EVENT = "call 100 9 36\n" + CARD, "call 100 17 36\n" + ZINC_CARD
 BOTH = "founded aqua\nfounded brick\n"
+# Two foundings that are refused, which is sooner done.
+REFUSED, BOTH_REFUSED = "found aqua 0 1 218\n" + "{".ljust(218) + "found brick 0 1 219\n" + "{".ljust(219), "refused 88 bad_body\n" * 2
 # What is no event.
 NO_EVENTS = [
     "\n", "found", "call 100 9 0", "lost 100 9 0\n", "Call 100 9 0\n", " call 100 9 0\n", "call  100 9 0\n", "call 100 9 0 \n",
