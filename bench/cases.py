@@ -211,6 +211,14 @@ def a_password_is_due_after_ninety_days(s):
 
 
 @case(setup)
+def a_password_of_the_next_day_is_due_a_day_later(s):
+    s.open(86000, "hal")
+    s.change(86400, "hal", "hal password 2")
+    s.open(7862400, "hal", wants={"due": False})
+    s.get(7862400, "hal", "/records?from=1&to=100")
+
+
+@case(setup)
 def a_one_time_password_takes_two_administrators(s):
     first, second = "00000000000000150000000000000016", "000000000000001f0000000000000020"
     s.open(1200, "ann")
