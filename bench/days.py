@@ -521,7 +521,8 @@ def refusals(day):
     day.do(1208, "dan", "record opened|2|1|", "record", "soil", "S1")
     day.do(1209, "dan", 44, "entry", 3, "lead", "7.5", "mg/L", "misread")
     day.do(1210, "dan", 7, "entry", 2, "lead", "7.5", "mg/L", None)
-    for key, bad in (("amount", "1.5"), ("colour", "green"), ("taken", "1970-1-1"), ("taken", "2023-02-29"), ("clear", "maybe"), ("note", "123456"), ("note", "")):
+    for key, bad in (("amount", "1.5"), ("colour", "green"), ("taken", "1970-1-1"), ("taken", "2023-02-29"), ("clear", "maybe"),
+                     ("note", "123456"), ("note", "")):
         day.do(1211, "dan", 8, "entry", 2, key, bad, "", None)
     day.do(1212, "dan", 9, "entry", 2, "amount", "10", "", None)
     day.do(1213, "dan", 9, "entry", 2, "clear", "yes", "%", None)
