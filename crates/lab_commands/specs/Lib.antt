@@ -1,2 +1,3 @@
 pub mod Done
 pub mod Groups
+pub mod Makings

@@ -1,5 +1,5 @@
 //! What commands on accounts come to.
-ghost use Rattle.std.specs.Prelude.{◌≡◌, [], ◌∷◌, Ok, IfOk};
+ghost use Rattle.std.specs.Prelude.{◌≡◌, [], ◌∷◌, Ok, is_ok, IfOk, IsTrue, OnErr};
 ghost use Rattle.lab_people.specs.Accounts.{changing, enrolling, setting_roles, retiring, unlocking};
 ghost use Rattle.lab_people.specs.Issues.{asking, confirming};
 ghost use Rattle.lab_commands.specs.Done.{then_person_done, changed_done, enrolled_done, person_changes, asked_done, confirmed_done, roles_done, retired_done, unlocked_done};
@@ -18,21 +18,21 @@ use lab_people::{
 use lab_rules::{Refusal, Typed};
 use std::alloc::Global;
 
-/// What a change of the own password comes to. The only error is out of memory.
+/// What a change of the own password comes to. The only error is out of memory, where it is changed.
 pub fn changing_done(
     alloc: Global,
-    caller: &Person,
-    session: &Session,
+    caller: Person,
+    session: Session,
     old: &Typed,
     new: &Typed,
     tick: &Tick,
 ) -> Result<Done, OutOfMemory>
-    ensures { IfOk result (λ done. done ≡ changed_done tick.now.moment
-        (changing caller.now session.now old.now new.now tick.now)) }
+    ensures done { IfOk result (λ done. done ≡ changed_done tick.now.moment
+        (changing caller session old.now new.now tick.now)) }
+    ensures memory { OnErr result
+        (IsTrue (is_ok (changing caller session old.now new.now tick.now))) }
 {
-    let person = caller.copy()?;
-    let session = session.copy()?;
-    match change_password(person, session, old.as_str(), new.as_str(), tick) {
+    match change_password(caller, session, old.as_str(), new.as_str(), tick) {
         Ok(changed) => changed_done(alloc, tick.moment, changed),
         Err(fault) => match fault {
             PeopleFault::Failed(failure) => Ok(Done::Failed(Occasion::Changing, failure)),
@@ -68,7 +68,8 @@ fn changed_done(
     ))
 }
 
-/// What an enrolment comes to, where the laboratory has so many persons. The only error is out of memory.
+/// What an enrolment comes to, where the laboratory has so many persons. The only error is out of memory, where the person is
+/// enrolled.
 pub fn enrolling_done(
     alloc: Global,
     code: PersonCode,
@@ -77,8 +78,10 @@ pub fn enrolling_done(
     holder: &Option<Person>,
     persons: u64,
 ) -> Result<Done, OutOfMemory>
-    ensures { IfOk result (λ done. done
+    ensures done { IfOk result (λ done. done
         ≡ then_person_done (enrolling code name roles holder.now persons) enrolled_done) }
+    ensures memory { OnErr result
+        (IsTrue (is_ok (enrolling code name roles holder.now persons))) }
 {
     match enrol_counted(code, name, roles, holder.as_ref(), persons) {
         Ok(person) => enrolled_done(alloc, person),
@@ -136,17 +139,17 @@ fn closing_changes(
     )
 }
 
-/// What it comes to that a one-time word is asked for. The only error is out of memory.
+/// What it comes to that a one-time word is asked for. The only error is out of memory, where it is given.
 pub fn asking_done(
     alloc: Global,
-    caller: &PersonCode,
+    caller: PersonCode,
     person: Option<Person>,
     tick: &Tick,
 ) -> Result<Done, OutOfMemory>
-    ensures { IfOk result (λ done. done
-        ≡ then_person_done (asking caller.now person tick.now) asked_done) }
+    ensures done { IfOk result (λ done. done
+        ≡ then_person_done (asking caller person tick.now) asked_done) }
+    ensures memory { OnErr result (IsTrue (is_ok (asking caller person tick.now))) }
 {
-    let caller = caller.copy()?;
     match ask_issue(caller, person, tick) {
         Ok(issued) => asked_done(alloc, issued),
         Err(refusal) => Ok(Done::Refused(Refusal::People(refusal))),
@@ -162,15 +165,16 @@ fn asked_done(alloc: Global, issued: Issued) -> Result<Done, OutOfMemory>
     Ok(Done::Made(Reply::HalfTold { half }, Deed::Issue { person }, changes))
 }
 
-/// What it comes to that a one-time word is confirmed. The only error is out of memory.
+/// What it comes to that a one-time word is confirmed. The only error is out of memory, where it is.
 pub fn confirming_done(
     alloc: Global,
     caller: &PersonCode,
     person: Option<Person>,
     tick: &Tick,
 ) -> Result<Done, OutOfMemory>
-    ensures { IfOk result (λ done. done
+    ensures done { IfOk result (λ done. done
         ≡ then_person_done (confirming caller.now person tick.now) confirmed_done) }
+    ensures memory { OnErr result (IsTrue (is_ok (confirming caller.now person tick.now))) }
 {
     match confirm_issue(caller, person, tick) {
         Ok(issued) => confirmed_done(alloc, issued),
@@ -187,15 +191,16 @@ fn confirmed_done(alloc: Global, issued: Issued) -> Result<Done, OutOfMemory>
     Ok(Done::Made(Reply::HalfTold { half }, Deed::Confirm { person }, changes))
 }
 
-/// What it comes to that a person is given roles. The only error is out of memory.
+/// What it comes to that a person is given roles. The only error is out of memory, where they are given.
 pub fn setting_roles_done(
     alloc: Global,
     caller: &PersonCode,
     person: Option<Person>,
     roles: Roles,
 ) -> Result<Done, OutOfMemory>
-    ensures { IfOk result (λ done. done
+    ensures done { IfOk result (λ done. done
         ≡ then_person_done (setting_roles caller.now person roles) roles_done) }
+    ensures memory { OnErr result (IsTrue (is_ok (setting_roles caller.now person roles))) }
 {
     match set_roles(caller, person, roles) {
         Ok(effect) => roles_done(alloc, effect),
@@ -217,14 +222,15 @@ fn roles_done(alloc: Global, effect: Effect) -> Result<Done, OutOfMemory>
     ))
 }
 
-/// What a retirement comes to. The only error is out of memory.
+/// What a retirement comes to. The only error is out of memory, where the person retires.
 pub fn retiring_done(
     alloc: Global,
     caller: &PersonCode,
     person: Option<Person>,
 ) -> Result<Done, OutOfMemory>
-    ensures { IfOk result (λ done. done
+    ensures done { IfOk result (λ done. done
         ≡ then_person_done (retiring caller.now person) retired_done) }
+    ensures memory { OnErr result (IsTrue (is_ok (retiring caller.now person))) }
 {
     match retire(caller, person) {
         Ok(effect) => retired_done(alloc, effect),
@@ -241,14 +247,15 @@ fn retired_done(alloc: Global, effect: Effect) -> Result<Done, OutOfMemory>
     Ok(Done::Made(Reply::PersonDone { code }, Deed::Retire { person }, changes))
 }
 
-/// What it comes to that a lock is taken away. The only error is out of memory.
+/// What it comes to that a lock is taken away. The only error is out of memory, where it is.
 pub fn unlocking_done(
     alloc: Global,
     caller: &PersonCode,
     person: Option<Person>,
 ) -> Result<Done, OutOfMemory>
-    ensures { IfOk result (λ done. done
+    ensures done { IfOk result (λ done. done
         ≡ then_person_done (unlocking caller.now person) unlocked_done) }
+    ensures memory { OnErr result (IsTrue (is_ok (unlocking caller.now person))) }
 {
     match unlock(caller, person) {
         Ok(effect) => unlocked_done(alloc, effect),

@@ -1,7 +1,8 @@
 //! What each command comes to in a session.
-ghost use Rattle.std.specs.Prelude.{◌≡◌, false, IfOk};
+ghost use Rattle.std.specs.Prelude.{◌≡◌, false, IfOk, IsTrue, OnErr};
 ghost use Rattle.lab_commands.specs.Done.{done_of};
 ghost use Rattle.lab_commands.specs.Groups.{is_on_accounts, is_on_records};
+ghost use Rattle.lab_commands.specs.Makings.{is_made};
 
 use crate::accounts::{
     asking_done, changing_done, confirming_done, enrolling_done, retiring_done, setting_roles_done,
@@ -24,18 +25,18 @@ use std::alloc::Global;
 use std::mem;
 
 /// What a command comes to in the session of the caller, on the part of the laboratory that it needs. The only error is out
-/// of memory. What is left of the part isn't said.
-#[tactic(auto, unfolding(crate::specs::Done::done_of))]
+/// of memory, and only where something is made: what is refused is told as it is. What is left of the part isn't said.
+#[tactic(auto, unfolding(crate::specs::Done::done_of, crate::specs::Makings::is_made))]
 pub fn done_of(
     alloc: Global,
     slice: &mut Slice,
     tick: &Tick,
-    session: &Session,
-    caller: &Person,
+    session: Session,
+    caller: Person,
     command: Command,
 ) -> Result<Done, OutOfMemory>
-    ensures { IfOk result
-        (λ done. done ≡ done_of slice.old tick.now session.now caller.now command) }
+    ensures done { IfOk result (λ done. done ≡ done_of slice.old tick.now session caller command) }
+    ensures memory { OnErr result (IsTrue (is_made slice.old tick.now session caller command)) }
 {
     match command {
         Command::Close => closed_done(alloc, session),
@@ -47,7 +48,7 @@ pub fn done_of(
             enrolling_done(alloc, code, name, roles, &slice.person, persons)
         }
         Command::AskIssue { code: _code } => {
-            asking_done(alloc, &caller.code, slice.person.take(), tick)
+            asking_done(alloc, caller.code, slice.person.take(), tick)
         }
         Command::ConfirmIssue { code: _code } => {
             confirming_done(alloc, &caller.code, slice.person.take(), tick)
@@ -66,35 +67,34 @@ pub fn done_of(
 }
 
 // The same of a command that makes something of forms and records, or reads.
-#[tactic(auto, unfolding(crate::specs::Done::done_of))]
+#[tactic(auto, unfolding(crate::specs::Done::done_of, crate::specs::Makings::is_made))]
 fn done_on_records(
     alloc: Global,
     slice: &mut Slice,
     tick: &Tick,
-    session: &Session,
-    caller: &Person,
+    session: Session,
+    caller: Person,
     command: Command,
 ) -> Result<Done, OutOfMemory>
     requires { is_on_accounts command ≡ false }
-    ensures { IfOk result
-        (λ done. done ≡ done_of slice.old tick.now session.now caller.now command) }
+    ensures done { IfOk result (λ done. done ≡ done_of slice.old tick.now session caller command) }
+    ensures memory { OnErr result (IsTrue (is_made slice.old tick.now session caller command)) }
 {
     let moment = tick.moment;
-    let person = &caller.code;
     match command {
         Command::MakeForm { code, form } => making_done(alloc, code, form, slice.form.take()),
         Command::OpenRecord {
             form: _form,
             sample,
-        } => { opening_record_done(alloc, slice, sample, person, moment) }
+        } => { opening_record_done(alloc, slice, sample, caller.code, moment) }
         Command::Enter { item, reason, .. } => {
-            entering_done(alloc, slice, item, reason, person, moment)
+            entering_done(alloc, slice, item, reason, caller.code, moment)
         }
         Command::Amend {
             reason,
             altered,
             ..
-        } => { amending_done(alloc, slice, reason, &altered, person, moment) }
+        } => { amending_done(alloc, slice, reason, &altered, caller.code, moment) }
         Command::Sign {
             version,
             digest,
@@ -112,12 +112,12 @@ fn done_on_records(
                 alloc, slice, moment, session, caller, asked, &password, &code,
             )
         }
-        command => done_reading(alloc, slice, tick, session, caller, &command),
+        command => done_reading(alloc, slice, tick, &session, &caller, &command),
     }
 }
 
 // The same of a command that reads. One that asks for no session is none in a session.
-#[tactic(auto, unfolding(crate::specs::Done::done_of))]
+#[tactic(auto, unfolding(crate::specs::Done::done_of, crate::specs::Makings::is_made))]
 fn done_reading(
     alloc: Global,
     slice: &mut Slice,
@@ -128,8 +128,10 @@ fn done_reading(
 ) -> Result<Done, OutOfMemory>
     requires accounts { is_on_accounts command.now ≡ false }
     requires records { is_on_records command.now ≡ false }
-    ensures { IfOk result
+    ensures done { IfOk result
         (λ done. done ≡ done_of slice.old tick.now session.now caller.now command.now) }
+    ensures memory { OnErr result
+        (IsTrue (is_made slice.old tick.now session.now caller.now command.now)) }
 {
     match command {
         Command::ReadPersons => {

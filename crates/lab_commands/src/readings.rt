@@ -1,5 +1,5 @@
 //! What commands come to that read.
-ghost use Rattle.std.specs.Prelude.{◌≡◌, IfOk, map};
+ghost use Rattle.std.specs.Prelude.{◌≡◌, is_ok, IfOk, IsTrue, OnErr, map};
 ghost use Rattle.lab_rules.specs.Reading.{reading_form, reading_record, reading_version, record_line, person_line};
 ghost use Rattle.lab_copies.specs.CopyLines.{copy_rows};
 ghost use Rattle.lab_machine.specs.Own.{copy_order};
@@ -27,14 +27,15 @@ pub fn form_read_done(form: Option<FormVersion>) -> Done
     }
 }
 
-/// What the reading of a record comes to. The only error is out of memory.
+/// What the reading of a record comes to. The only error is out of memory, where it is read.
 pub fn record_read_done(
     alloc: Global,
     lab: &LabCode,
     filed: Option<Record>,
 ) -> Result<Done, OutOfMemory>
-    ensures { IfOk result (λ done. done
+    ensures done { IfOk result (λ done. done
         ≡ then_read_done (reading_record lab.now filed) Reply.RecordRead) }
+    ensures memory { OnErr result (IsTrue (is_ok (reading_record lab.now filed))) }
 {
     match read_record(alloc, lab, filed) {
         Ok(read) => Ok(Done::Read(Reply::RecordRead(read))),
@@ -45,15 +46,16 @@ pub fn record_read_done(
     }
 }
 
-/// What the reading of a version of a record comes to. The only error is out of memory.
+/// What the reading of a version of a record comes to. The only error is out of memory, where it is read.
 pub fn version_read_done(
     alloc: Global,
     lab: &LabCode,
     filed: Option<Record>,
     version: Ordinal,
 ) -> Result<Done, OutOfMemory>
-    ensures { IfOk result (λ done. done
+    ensures done { IfOk result (λ done. done
         ≡ then_read_done (reading_version lab.now filed version) Reply.VersionRead) }
+    ensures memory { OnErr result (IsTrue (is_ok (reading_version lab.now filed version))) }
 {
     match read_version(alloc, lab, filed, version) {
         Ok(read) => Ok(Done::Read(Reply::VersionRead(read))),

@@ -1,11 +1,12 @@
 //! What commands come to that make something of forms and records.
-ghost use Rattle.std.specs.Prelude.{◌≡◌, ◌∷◌, [], Ok, IfOk, if◌then◌else◌};
+ghost use Rattle.std.specs.Prelude.{◌≡◌, ◌∷◌, [], Ok, false, is_ok, IfOk, IsTrue, OnErr, if◌then◌else◌};
 ghost use Rattle.lab_access.specs.Attempts.{signing_attempt};
 ghost use Rattle.lab_access.specs.Sessions.{signed_session};
 ghost use Rattle.lab_rules.specs.Making.{making, opening_record};
-ghost use Rattle.lab_rules.specs.Entering.{entering, amending};
-ghost use Rattle.lab_rules.specs.Signing.{is_code_wanted};
+ghost use Rattle.lab_rules.specs.Entering.{entering, is_table_made, amending};
+ghost use Rattle.lab_rules.specs.Signing.{is_code_wanted, is_digest_made_at};
 ghost use Rattle.lab_commands.specs.Done.{then_done, form_done, record_done, entry_done, amendment_done, signature_done, signing_done};
+ghost use Rattle.lab_commands.specs.Makings.{is_digest_made_by};
 
 use crate::done::Done;
 use crate::lists::{single, triple};
@@ -21,14 +22,15 @@ use lab_rules::{
 use lab_seal::Digest;
 use std::alloc::Global;
 
-/// What it comes to that a form is made. The only error is out of memory.
+/// What it comes to that a form is made. The only error is out of memory, where it is.
 pub fn making_done(
     alloc: Global,
     code: Key,
     form: Form,
     last: Option<FormVersion>,
 ) -> Result<Done, OutOfMemory>
-    ensures { IfOk result (λ done. done ≡ then_done (making code form last) form_done) }
+    ensures done { IfOk result (λ done. done ≡ then_done (making code form last) form_done) }
+    ensures memory { OnErr result (IsTrue (is_ok (making code form last))) }
 {
     match make_form(code, form, last) {
         Ok(form) => form_done(alloc, form),
@@ -57,18 +59,19 @@ fn form_done(alloc: Global, form: FormVersion) -> Result<Done, OutOfMemory>
     ))
 }
 
-/// What it comes to that a record is opened. The only error is out of memory.
+/// What it comes to that a record is opened. The only error is out of memory, where it is.
 pub fn opening_record_done(
     alloc: Global,
     slice: &mut Slice,
     sample: Name,
-    caller: &PersonCode,
+    caller: PersonCode,
     moment: Moment,
 ) -> Result<Done, OutOfMemory>
-    ensures { IfOk result (λ done. done ≡ then_done (opening_record slice.old.form slice.old.filed
-        sample caller.now moment slice.old.counts.records) record_done) }
+    ensures done { IfOk result (λ done. done ≡ then_done (opening_record slice.old.form
+        slice.old.filed sample caller moment slice.old.counts.records) record_done) }
+    ensures memory { OnErr result (IsTrue (is_ok (opening_record slice.old.form slice.old.filed
+        sample caller moment slice.old.counts.records))) }
 {
-    let caller = caller.copy()?;
     let form = slice.form.take();
     let filed = slice.filed.take();
     let records = slice.counts.records;
@@ -97,20 +100,21 @@ fn record_done(alloc: Global, kept: Record) -> Result<Done, OutOfMemory>
     ))
 }
 
-/// What it comes to that a value is entered. The only error is out of memory.
+/// What it comes to that a value is entered. The only error is out of memory, where it is.
 pub fn entering_done(
     alloc: Global,
     slice: &Slice,
     item: Item,
     reason: Option<Note>,
-    caller: &PersonCode,
+    caller: PersonCode,
     moment: Moment,
 ) -> Result<Done, OutOfMemory>
-    ensures { IfOk result (λ done. done
-        ≡ then_done (entering slice.now.code slice.now.filed item reason caller.now moment)
+    ensures done { IfOk result (λ done. done
+        ≡ then_done (entering slice.now.code slice.now.filed item reason caller moment)
         entry_done) }
+    ensures memory { OnErr result (IsTrue
+        (is_ok (entering slice.now.code slice.now.filed item reason caller moment))) }
 {
-    let caller = caller.copy()?;
     match enter(
         alloc,
         &slice.code,
@@ -160,20 +164,21 @@ fn entry_done(alloc: Global, made: EntryMade) -> Result<Done, OutOfMemory>
     ))
 }
 
-/// What it comes to that a record is amended. The only error is out of memory.
+/// What it comes to that a record is amended. The only error is out of memory, once the values are held against a table.
+#[tactic(auto, using(crate::proofs::MadeBefore::table_was_made))]
 pub fn amending_done(
     alloc: Global,
     slice: &Slice,
     reason: Option<Note>,
     altered: &Altered,
-    caller: &PersonCode,
+    caller: PersonCode,
     moment: Moment,
 ) -> Result<Done, OutOfMemory>
-    ensures { IfOk result (λ done. done
-        ≡ then_done (amending slice.now.code slice.now.filed reason altered.now caller.now moment)
+    ensures done { IfOk result (λ done. done
+        ≡ then_done (amending slice.now.code slice.now.filed reason altered.now caller moment)
         amendment_done) }
+    ensures memory { OnErr result (IsTrue (is_table_made slice.now.filed reason altered.now)) }
 {
-    let caller = caller.copy()?;
     match amend(
         alloc,
         &slice.code,
@@ -231,26 +236,28 @@ pub struct Asked {
 }
 
 /// What it comes to that a version is signed: the first signing of a session wants the code, then the password is looked at.
-/// The only error is out of memory.
+/// The only error is out of memory, once the version's digest is made.
 pub fn asked_signing_done(
     alloc: Global,
     slice: &Slice,
     moment: Moment,
-    session: &Session,
-    caller: &Person,
+    session: Session,
+    caller: Person,
     asked: Asked,
     password: &Typed,
     code: &Option<PersonCode>,
 ) -> Result<Done, OutOfMemory>
-    ensures { IfOk result (λ done. done
-        ≡ (if is_code_wanted session.now code.now then Done.Refused Refusal.CodeWanted
-        else signing_done slice.now moment session.now asked.version asked.digest asked.signing
-        (signing_attempt caller.now code.now password.now moment))) }
+    ensures done { IfOk result (λ done. done
+        ≡ (if is_code_wanted session code.now then Done.Refused Refusal.CodeWanted
+        else signing_done slice.now moment session asked.version asked.digest asked.signing
+        (signing_attempt caller code.now password.now moment))) }
+    ensures memory { OnErr result (IsTrue (if is_code_wanted session code.now then false
+        else is_digest_made_by slice.now.filed asked.version asked.signing
+        (signing_attempt caller code.now password.now moment))) }
 {
-    if is_code_wanted(session, code.as_ref()) {
+    if is_code_wanted(&session, code.as_ref()) {
         return Ok(Done::Refused(Refusal::CodeWanted));
     }
-    let caller = caller.copy()?;
     match attempt_signing(caller, code.as_ref(), password.as_str(), moment) {
         Ok(person) => signing_done(alloc, slice, moment, session, asked, person),
         Err(failure) => Ok(Done::Failed(Occasion::Signing, failure)),
@@ -258,17 +265,20 @@ pub fn asked_signing_done(
 }
 
 // What the signing of a person comes to whose password was accepted.
+#[tactic(auto, using(crate::proofs::MadeBefore::digest_was_made))]
 fn signing_done(
     alloc: Global,
     slice: &Slice,
     moment: Moment,
-    session: &Session,
+    session: Session,
     asked: Asked,
     person: Person,
 ) -> Result<Done, OutOfMemory>
-    ensures { IfOk result (λ done. done
-        ≡ signing_done slice.now moment session.now asked.version asked.digest asked.signing
+    ensures done { IfOk result (λ done. done
+        ≡ signing_done slice.now moment session asked.version asked.digest asked.signing
         (Ok person)) }
+    ensures memory { OnErr result
+        (IsTrue (is_digest_made_at slice.now.filed asked.version asked.signing)) }
 {
     match sign(
         alloc,
@@ -288,42 +298,19 @@ fn signing_done(
     }
 }
 
-// What is told of a signature, and the session that has signed.
-#[derive(Drop)]
-struct Copies {
-    signature: Signature,
-    meaning: Meaning,
-    session: Session,
-}
-
-fn copies_of(session: &Session, signature: &Signature) -> Result<Copies, OutOfMemory>
-    ensures signature { IfOk result (λ copies. copies.signature ≡ signature.now) }
-    ensures meaning { IfOk result (λ copies. copies.meaning ≡ signature.now.meaning) }
-    ensures session { IfOk result (λ copies. copies.session ≡ signed_session session.now) }
-{
-    let meaning = signature.meaning.copy()?;
-    let mut signed = session.copy()?;
-    signed.mark_signed();
-    let signature = signature.copy()?;
-    Ok(Copies {
-        signature,
-        meaning,
-        session: signed,
-    })
-}
-
 // A signature that was given: the session is marked as one that has signed.
 fn signature_done(
     alloc: Global,
-    session: &Session,
+    session: Session,
     person: Person,
     made: SignatureMade,
 ) -> Result<Done, OutOfMemory>
-    ensures { IfOk result (λ done. done ≡ signature_done session.now person made) }
+    ensures { IfOk result (λ done. done ≡ signature_done session person made) }
 {
-    match copies_of(session, &made.signature) {
-        Ok(copies) => signed_done(alloc, person, made, copies),
+    match told_of(&made.signature) {
+        Ok(told) => signed_done(alloc, session, person, made, told),
         Err(fault) => {
+            drop(session);
             drop(person);
             drop(made);
             Err(fault)
@@ -331,22 +318,42 @@ fn signature_done(
     }
 }
 
+// What is told of a signature: itself, and in the trail what it means.
+#[derive(Drop)]
+struct Told {
+    signature: Signature,
+    meaning: Meaning,
+}
+
+fn told_of(signature: &Signature) -> Result<Told, OutOfMemory>
+    ensures signature { IfOk result (λ told. told.signature ≡ signature.now) }
+    ensures meaning { IfOk result (λ told. told.meaning ≡ signature.now.meaning) }
+{
+    let meaning = signature.meaning.copy()?;
+    let signature = signature.copy()?;
+    Ok(Told { signature, meaning })
+}
+
 fn signed_done(
     alloc: Global,
+    session: Session,
     person: Person,
     made: SignatureMade,
-    copies: Copies,
+    told: Told,
 ) -> Result<Done, OutOfMemory>
     ensures { IfOk result (λ done. done ≡ Done.Made
-        (Reply.Signed copies.signature made.state)
-        (Deed.Sign made.number made.version copies.meaning)
-        (Change.PersonSet person ∷ Change.SessionSet copies.session
+        (Reply.Signed told.signature made.state)
+        (Deed.Sign made.number made.version told.meaning)
+        (Change.PersonSet person ∷ Change.SessionSet (signed_session session)
         ∷ Change.SignatureAdded made.number made.version made.signature ∷ [])) }
 {
+    let Told { signature, meaning } = told;
+    let mut signed = session;
+    signed.mark_signed();
     let changes = triple(
         alloc,
         Change::PersonSet(person),
-        Change::SessionSet(copies.session),
+        Change::SessionSet(signed),
         Change::SignatureAdded {
             record: made.number,
             version: made.version,
@@ -355,13 +362,13 @@ fn signed_done(
     )?;
     Ok(Done::Made(
         Reply::Signed {
-            signature: copies.signature,
+            signature,
             state: made.state,
         },
         Deed::Sign {
             record: made.number,
             version: made.version,
-            meaning: copies.meaning,
+            meaning,
         },
         changes,
     ))

@@ -1,5 +1,5 @@
 //! What the opening and the closing of a session come to.
-ghost use Rattle.std.specs.Prelude.{◌≡◌, Ok, IfOk};
+ghost use Rattle.std.specs.Prelude.{◌≡◌, Ok, is_ok, IfOk, IsTrue, OnErr};
 ghost use Rattle.lab_access.specs.Openings.{opening};
 ghost use Rattle.lab_commands.specs.Done.{opened_done, closed_done};
 
@@ -14,7 +14,7 @@ use lab_rules::{Refusal, Typed};
 use std::alloc::Global;
 
 /// What the opening of a session comes to, by a code, whose person was looked up, and a password. The only error is out of
-/// memory.
+/// memory, where it is opened.
 pub fn opening_done(
     alloc: Global,
     code: PersonCode,
@@ -24,8 +24,10 @@ pub fn opening_done(
     sessions: u64,
     repeated: &Option<Session>,
 ) -> Result<Done, OutOfMemory>
-    ensures { IfOk result (λ done. done
+    ensures done { IfOk result (λ done. done
         ≡ opened_done (opening code person password.now tick.now sessions repeated.now)) }
+    ensures memory { OnErr result
+        (IsTrue (is_ok (opening code person password.now tick.now sessions repeated.now))) }
 {
     match open_counted(
         code,
@@ -71,11 +73,11 @@ fn opened_done(alloc: Global, opened: Opened) -> Result<Done, OutOfMemory>
 }
 
 /// What the closing of the session by its person comes to. The only error is out of memory.
-pub fn closed_done(alloc: Global, session: &Session) -> Result<Done, OutOfMemory>
-    ensures { IfOk result (λ done. done ≡ closed_done session.now) }
+pub fn closed_done(alloc: Global, session: Session) -> Result<Done, OutOfMemory>
+    ensures { IfOk result (λ done. done ≡ closed_done session) }
 {
     let number = session.number;
-    let mut closed = session.copy()?;
+    let mut closed = session;
     closed.close();
     let changes = single(alloc, Change::SessionSet(closed))?;
     Ok(Done::Made(

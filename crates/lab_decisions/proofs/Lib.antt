@@ -9,3 +9,4 @@ pub mod OwnCases
 pub mod Passing
 pub mod RuleCases
 pub mod RuleFits
+pub mod Taken

@@ -1,2 +1,3 @@
 pub mod TakenSteps
 pub mod Deciding
+pub mod Makings

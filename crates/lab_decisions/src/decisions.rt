@@ -1,10 +1,10 @@
 //! What is decided on a part of a laboratory.
-ghost use Rattle.std.specs.Prelude.{◌≡◌, ◌++◌, ◌∷◌, [], Some, IfOk};
+ghost use Rattle.std.specs.Prelude.{◌≡◌, ◌++◌, ◌∷◌, [], Some, None, IfOk, IsTrue, OnErr};
 ghost use Rattle.lab_kept.specs.Trails.{row_of};
-ghost use Rattle.lab_machine.specs.Machine.{passage};
 ghost use Rattle.lab_laws.specs.Asking.{IsCommandFormed};
 ghost use Rattle.lab_commands.specs.Done.{done_of};
-ghost use Rattle.lab_decisions.specs.Deciding.{failing, outcome, ended_made, ended_by, ended_done, touching, opening_ended, decided_without, decided_by, decided};
+ghost use Rattle.lab_decisions.specs.Deciding.{failing, outcome, ended_made, ended_by, ended_done, touching, decided_without, decided_by, decided};
+ghost use Rattle.lab_decisions.specs.Makings.{is_made_without, is_made_by, is_made};
 
 use crate::drafts::{fail, next_number, row_of};
 use crate::outcome::Outcome;
@@ -17,7 +17,9 @@ use lab_rules::{Refusal, Typed};
 use std::alloc::Global;
 
 /// What is decided of a command at a tick, on the part of a laboratory that it needs: the reply, and the changes, in order.
-/// The only error is out of memory. If the command makes a form, it is one, as `what_is_decided` wants it.
+/// The only error is out of memory, and only where something is made: a refusal that notes nothing is told as it is. If the
+/// command makes a form, it is one, as `what_is_decided` wants it.
+#[tactic(auto, using(crate::proofs::Taken::same_decided, crate::proofs::Taken::same_made))]
 pub fn decide(
     alloc: Global,
     slice: Slice,
@@ -25,11 +27,14 @@ pub fn decide(
     command: Command,
 ) -> Result<Outcome, OutOfMemory>
     ensures decided { IfOk result (λ outcome. outcome ≡ decided slice tick.now command) }
+    ensures memory { OnErr result (IsTrue (is_made slice tick.now command)) }
     ensures formed { IsCommandFormed command }
 {
     formed(&command);
     let mut slice = slice;
-    let outcome = decide_on(alloc, &mut slice, tick, command);
+    let comer = take_comer(&mut slice);
+    let reached = pass(slice.last, comer.session, comer.caller, tick, &command);
+    let outcome = decide_by(alloc, &mut slice, tick, command, reached);
     drop(slice);
     outcome
 }
@@ -43,53 +48,25 @@ pub fn formed(command: &Command)
     }
 }
 
-// What is left of the part isn't said.
-fn decide_on(
-    alloc: Global,
-    slice: &mut Slice,
-    tick: &Tick,
-    command: Command,
-) -> Result<Outcome, OutOfMemory>
-    ensures { IfOk result (λ outcome. outcome ≡ decided slice.old tick.now command) }
+// Who comes: the session of the token, and its person, where they are there.
+#[derive(Drop)]
+struct Comer {
+    session: Option<Session>,
+    caller: Option<Person>,
+}
+
+// Takes the session and its person out of a part.
+fn take_comer(slice: &mut Slice) -> Comer
+    ensures taken { result ≡ record { session = slice.old.session; caller = slice.old.caller } }
+    ensures left { slice.new ≡ record slice.old { session = None; caller = None } }
 {
-    match passage(slice, tick, &command) {
-        Ok(reached) => decide_by(alloc, slice, tick, command, reached),
-        Err(fault) => {
-            drop(command);
-            Err(fault)
-        }
+    Comer {
+        session: slice.session.take(),
+        caller: slice.caller.take(),
     }
 }
 
-// How far the command gets.
-fn passage(slice: &Slice, tick: &Tick, command: &Command) -> Result<Passage, OutOfMemory>
-    ensures { IfOk result (λ reached. reached ≡ passage slice.now.last slice.now.session
-        slice.now.caller tick.now.moment command.now) }
-{
-    let session = session_copy(&slice.session)?;
-    let caller = person_copy(&slice.caller)?;
-    Ok(pass(slice.last, session, caller, tick, command))
-}
-
-fn session_copy(session: &Option<Session>) -> Result<Option<Session>, OutOfMemory>
-    ensures { IfOk result (λ copy. copy ≡ session.now) }
-{
-    match session {
-        Some(session) => Ok(Some(session.copy()?)),
-        None => Ok(None),
-    }
-}
-
-fn person_copy(person: &Option<Person>) -> Result<Option<Person>, OutOfMemory>
-    ensures { IfOk result (λ copy. copy ≡ person.now) }
-{
-    match person {
-        Some(person) => Ok(Some(person.copy()?)),
-        None => Ok(None),
-    }
-}
-
-// What is decided by how far the command gets.
+// What is decided by how far the command gets. What is left of the part isn't said.
 fn decide_by(
     alloc: Global,
     slice: &mut Slice,
@@ -97,33 +74,20 @@ fn decide_by(
     command: Command,
     reached: Passage,
 ) -> Result<Outcome, OutOfMemory>
-    ensures { IfOk result
+    ensures decided { IfOk result
         (λ outcome. outcome ≡ decided_by slice.old tick.now command reached) }
+    ensures memory { OnErr result (IsTrue (is_made_by slice.old tick.now command reached)) }
 {
     match reached {
-        Passage::Early => {
-            drop(command);
-            Ok(refused(Series::new(alloc), Refusal::ClockBehind))
-        }
-        Passage::NeedsNone(repeated) => {
-            let outcome = decide_without(alloc, slice, tick, &repeated, &command);
-            drop(repeated);
-            drop(command);
-            outcome
-        }
+        Passage::Early => Ok(refused(Series::new(alloc), Refusal::ClockBehind)),
+        Passage::NeedsNone(repeated) => decide_without(alloc, slice, tick, &repeated, command),
         Passage::Stranger => {
-            drop(command);
             let refusal = Refusal::People(PeopleRefusal::NoSession);
             Ok(refused(Series::new(alloc), refusal))
         }
-        Passage::Barred(session, refusal) => {
-            drop(command);
-            barred(alloc, tick.moment, session, refusal)
-        }
+        Passage::Barred(session, refusal) => barred(alloc, tick.moment, session, refusal),
         Passage::Passes(session, caller) => {
-            let outcome = decide_in(alloc, slice, tick, session, &caller, command);
-            drop(caller);
-            outcome
+            decide_in(alloc, slice, tick, session, caller, command)
         }
     }
 }
@@ -138,15 +102,8 @@ fn barred(
     ensures { IfOk result
         (λ told. told ≡ outcome (Reply.Refused refusal) (touching moment session)) }
 {
-    let changes = touching(alloc, moment, &session);
-    drop(session);
-    match changes {
-        Ok(changes) => Ok(refused(changes, refusal)),
-        Err(fault) => {
-            drop(refusal);
-            Err(fault)
-        }
-    }
+    let changes = touching(alloc, moment, session)?;
+    Ok(refused(changes, refusal))
 }
 
 // A command that is refused, with what is changed nevertheless.
@@ -160,10 +117,10 @@ fn refused(changes: Series<Change>, refusal: Refusal) -> Outcome
 }
 
 // That a request came by the session at the moment.
-fn touching(alloc: Global, moment: Moment, session: &Session) -> Result<Series<Change>, OutOfMemory>
-    ensures { IfOk result (λ changes. changes ≡ touching moment session.now) }
+fn touching(alloc: Global, moment: Moment, session: Session) -> Result<Series<Change>, OutOfMemory>
+    ensures { IfOk result (λ changes. changes ≡ touching moment session) }
 {
-    let mut touched = session.copy()?;
+    let mut touched = session;
     touched.touch(moment);
     pair(alloc, Change::Last(moment), Change::SessionSet(touched))
 }
@@ -174,14 +131,16 @@ fn decide_without(
     slice: &mut Slice,
     tick: &Tick,
     repeated: &Option<Session>,
-    command: &Command,
+    command: Command,
 ) -> Result<Outcome, OutOfMemory>
-    ensures { IfOk result (λ outcome. outcome
-        ≡ decided_without slice.old tick.now repeated.now command.now) }
+    ensures decided { IfOk result (λ outcome. outcome
+        ≡ decided_without slice.old tick.now repeated.now command) }
+    ensures memory { OnErr result
+        (IsTrue (is_made_without slice.old tick.now repeated.now command)) }
 {
     match command {
         Command::Open { code, password } => {
-            decide_opening(alloc, slice, tick, repeated, code, password)
+            decide_opening(alloc, slice, tick, repeated, code, &password)
         }
         _ => show_card(alloc, slice),
     }
@@ -199,37 +158,28 @@ fn show_card(alloc: Global, slice: &Slice) -> Result<Outcome, OutOfMemory>
     })
 }
 
+// An opening: its moment is noted where it is accepted, and where the password fails. The code is copied for the trail, and
+// that there is no memory for it counts only where the trail tells of the opening.
+#[tactic(auto, using(crate::proofs::Taken::opened_is_made))]
 fn decide_opening(
     alloc: Global,
     slice: &mut Slice,
     tick: &Tick,
     repeated: &Option<Session>,
-    code: &PersonCode,
+    code: PersonCode,
     password: &Typed,
 ) -> Result<Outcome, OutOfMemory>
-    ensures { IfOk result (λ outcome. outcome ≡ decided_without slice.old tick.now repeated.now
-        (Command.Open code.now password.now)) }
+    ensures decided { IfOk result (λ outcome. outcome
+        ≡ decided_without slice.old tick.now repeated.now (Command.Open code password.now)) }
+    ensures memory { OnErr result (IsTrue
+        (is_made_without slice.old tick.now repeated.now (Command.Open code password.now))) }
 {
-    let named = code.copy()?;
-    let person = slice.person.take();
-    let sessions = slice.counts.sessions;
-    let done = opening_done(alloc, named, person, password, tick, sessions, repeated)?;
-    opening_ended(alloc, slice, tick.moment, code, done)
-}
-
-// The end of an opening: its moment is noted where it is accepted, and where the password fails.
-fn opening_ended(
-    alloc: Global,
-    slice: &Slice,
-    moment: Moment,
-    code: &PersonCode,
-    done: Done,
-) -> Result<Outcome, OutOfMemory>
-    ensures { IfOk result
-        (λ outcome. outcome ≡ opening_ended slice.now moment code.now done) }
-{
+    let moment = tick.moment;
     let rows = slice.counts.trail;
-    match done {
+    let sessions = slice.counts.sessions;
+    let told = code.copy();
+    let person = slice.person.take();
+    match opening_done(alloc, code, person, password, tick, sessions, repeated)? {
         Done::Refused(refusal) => Ok(refused(Series::new(alloc), refusal)),
         Done::Failed(occasion, failure) => {
             opening_failed(alloc, rows, slice.strays, moment, occasion, failure)
@@ -239,7 +189,7 @@ fn opening_ended(
             changes: Series::new(alloc),
         }),
         Done::Made(reply, deed, own) => {
-            opening_made(alloc, rows, moment, code, reply, deed, own)
+            opening_made(alloc, rows, moment, &told?, reply, deed, own)
         }
     }
 }
@@ -319,26 +269,16 @@ fn decide_in(
     slice: &mut Slice,
     tick: &Tick,
     session: Session,
-    caller: &Person,
+    caller: Person,
     command: Command,
 ) -> Result<Outcome, OutOfMemory>
     ensures { IfOk result (λ outcome. outcome
-        ≡ decided_by slice.old tick.now command (Passage.Passes session caller.now)) }
+        ≡ decided_by slice.old tick.now command (Passage.Passes session caller)) }
 {
     let mut session = session;
-    match touching(alloc, tick.moment, &session) {
-        Ok(before) => {
-            session.touch(tick.moment);
-            let outcome = decide_noted(alloc, slice, tick, &session, caller, command, before);
-            drop(session);
-            outcome
-        }
-        Err(fault) => {
-            drop(session);
-            drop(command);
-            Err(fault)
-        }
-    }
+    let before = touching(alloc, tick.moment, session.copy()?)?;
+    session.touch(tick.moment);
+    decide_noted(alloc, slice, tick, session, caller, command, before)
 }
 
 // A command in a session whose request was noted by these changes.
@@ -346,24 +286,20 @@ fn decide_noted(
     alloc: Global,
     slice: &mut Slice,
     tick: &Tick,
-    session: &Session,
-    caller: &Person,
+    session: Session,
+    caller: Person,
     command: Command,
     before: Series<Change>,
 ) -> Result<Outcome, OutOfMemory>
     ensures { IfOk result (λ outcome. outcome
-        ≡ ended_done slice.old tick.now.moment caller.now.code before
-        (done_of slice.old tick.now session.now caller.now command)) }
+        ≡ ended_done slice.old tick.now.moment caller.code before
+        (done_of slice.old tick.now session caller command)) }
 {
     let rows = slice.counts.trail;
     let strays = slice.strays;
-    match done_of(alloc, slice, tick, session, caller, command) {
-        Ok(done) => end(alloc, before, rows, strays, tick.moment, &caller.code, done),
-        Err(fault) => {
-            drop(before);
-            Err(fault)
-        }
-    }
+    let person = caller.code.copy()?;
+    let done = done_of(alloc, slice, tick, session, caller, command)?;
+    end(alloc, before, rows, strays, tick.moment, &person, done)
 }
 
 // The end of a command in a session.

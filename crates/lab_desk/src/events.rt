@@ -4,8 +4,8 @@ ghost use Rattle.std.specs.Prelude.{◌≡◌, IfOk};
 
 use lab_names::{LabCode, OutOfMemory, Series, Tick};
 
-/// One event of an installation.
-#[derive(Clone, Debug, Drop)]
+/// One event of an installation. It isn't printed: it has passwords, tokens, and the words that tokens are made of.
+#[derive(Clone, Drop)]
 pub enum Event {
     /// A laboratory is to be founded.
     Found {

@@ -24,9 +24,8 @@ pub(crate) fn newborn_of(
     // The keeper wasn't asked, so neither that the laboratory exists nor the store is a fault:
     ensures fault { IfErr result (FoundFaultFits ⊥ ⊥ lab.now tick.now (founding_in body.now)) }
 {
-    let code = lab.copy()?;
     match founding_of(alloc, body) {
-        Ok(founding) => Ok(bear(code, founding, tick)?),
+        Ok(founding) => Ok(bear(lab.copy()?, founding, tick)?),
         Err(fault) => Err(FoundFault::from(fault)),
     }
 }

@@ -24,8 +24,8 @@ const MOST_BYTES: u64 = 1_000_000;
 /// bounded.
 const MOST_LINE: usize = 1_000;
 
-/// What the line of an event says.
-#[derive(Debug, Drop)]
+/// What the line of an event says. It isn't printed: tokens are made of its words.
+#[derive(Drop)]
 struct Heading {
     /// The laboratory that is founded; none at a call.
     founded: Option<LabCode>,

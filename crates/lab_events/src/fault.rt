@@ -4,31 +4,40 @@ ghost use Rattle.std.specs.Prelude.{◌≡◌};
 use lab_desk::RunFault;
 use lab_names::{NameFault, OutOfMemory};
 use std::alloc::AllocError;
+use std::fmt;
 use std::io;
 use thiserror::Error;
 
-/// Why a replay stopped before the end of its input.
+/// Why a replay stopped before the end of its input. The fault's own text is its word.
 #[derive(Clone, Copy, Debug, PartialEq, Eq, Error)]
 pub enum ReplayFault {
     /// What comes next in the input is no event.
-    #[error("bad_event")]
     BadEvent,
     /// The input could not be read.
-    #[error("read_fault")]
     ReadFault,
     /// An answer could not be written.
-    #[error("write_fault")]
     WriteFault,
     /// The laboratories could not be kept.
-    #[error("storage")]
     Storage,
     /// There was no memory to go on.
-    #[error("memory")]
     Memory,
 }
 
 impl ReplayFault {
-    ghost use Rattle.lab_events.specs.Fault.{fault_line};
+    ghost use Rattle.lab_events.specs.Fault.{fault_word, fault_line};
+
+    /// The word by which the fault is known.
+    pub fn word(&self) -> &'static str
+        ensures { result.now ≡ fault_word self.now }
+    {
+        match self {
+            ReplayFault::BadEvent => "bad_event",
+            ReplayFault::ReadFault => "read_fault",
+            ReplayFault::WriteFault => "write_fault",
+            ReplayFault::Storage => "storage",
+            ReplayFault::Memory => "memory",
+        }
+    }
 
     /// The line that tells the fault on standard error, with its line feed. No memory is taken for
     /// it.
@@ -42,6 +51,17 @@ impl ReplayFault {
             ReplayFault::Storage => "labdesk: storage\n",
             ReplayFault::Memory => "labdesk: memory\n",
         }
+    }
+}
+
+impl fmt::Display for ReplayFault {
+    ghost use Rattle.std.specs.Prelude.{Some};
+    ghost use Rattle.lab_events.specs.Fault.{fault_word};
+
+    ghost output = { λ fault. Some (fault_word fault) };
+
+    fn fmt<W: fmt::Write>(&self, f: &mut fmt::Formatter<W>) -> fmt::Result {
+        f.write_str(self.word())
     }
 }
 

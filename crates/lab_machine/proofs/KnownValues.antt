@@ -1,32 +1,88 @@
 -- Values from outside, so that a wrong rule in the definitions does not check: by which rule a command is
--- allowed, how far strays are counted, and how many rows a trail has room for.
+-- allowed, what each needs of a laboratory, how far strays are counted, and how many rows a trail has room for.
 use Rattle.std.proofs.Common.{◌≡◌, ℕ, ◌+◌, List, [], ◌∷◌, length, refl, ap, ◌∙◌, false, cond, Some, None}
-use Rattle.std.specs.Prelude.{nat_le}
+use Rattle.std.specs.Prelude.{nat_le, codes, Option}
 use Rattle.std.proofs.lemmas.List.{length-append}
+use Rattle.sha2.specs.Sha256.{sha256}
+use Rattle.lab_names.specs.declared.tick.Tick.{Tick}
+use Rattle.lab_forms.specs.Forms.{FormSheet}
 use Rattle.lab_access.specs.declared.persons.Person.{Person}
 use Rattle.lab_access.specs.declared.policy.Rule.TheVariants.{CloseSession}
 use Rattle.lab_access.specs.declared.refusals.Failure.TheVariants.{Locking}
 use Rattle.lab_access.specs.declared.refusals.PeopleRefusal.TheVariants.{LabFull}
 use Rattle.lab_access.specs.declared.sessions.Closing.TheVariants.{All}
+use Rattle.lab_access.specs.Openings.{token_digest}
 use Rattle.lab_access.specs.Sessions.{sessions_after}
 use Rattle.lab_kept.specs.declared.labs.Lab.{Lab}
+use Rattle.lab_kept.specs.declared.needs.Need.{Need}
+use Rattle.lab_kept.specs.declared.needs.FormWanted.{FormWanted}
+use Rattle.lab_kept.specs.declared.needs.FormWanted.TheVariants.{Last, Exact}
+use Rattle.lab_kept.specs.declared.needs.RecordWanted.{RecordWanted}
+use Rattle.lab_kept.specs.declared.needs.RecordWanted.TheVariants.{Numbered, About}
+use Rattle.lab_kept.specs.declared.needs.ListWanted.{ListWanted}
+use Rattle.lab_kept.specs.declared.needs.ListWanted.TheVariants.{Persons, Records, Trail}
 use Rattle.lab_kept.specs.declared.trails.Deed.{Deed}
 use Rattle.lab_kept.specs.declared.trails.Deed.TheVariants.{Refuse, Lock}
 use Rattle.lab_kept.specs.declared.trails.Occasion.TheVariants.{Opening}
 use Rattle.lab_kept.specs.Changes.{with_person}
 use Rattle.lab_kept.specs.Limits.{count_limit}
 use Rattle.lab_kept.specs.Trails.{row_of}
+use Rattle.lab_rules.specs.declared.items.Item.{Item}
 use Rattle.lab_rules.specs.declared.refusals.Refusal.TheVariants.{People}
-use Rattle.lab_machine.specs.declared.commands.Command.TheVariants.{Card, Close}
+use Rattle.lab_machine.specs.declared.commands.Command.{Command}
+use Rattle.lab_machine.specs.declared.commands.Command.TheVariants.{Card, Open, Close, Retire, MakeForm, ReadForm, OpenRecord, Enter, ReadVersion, ReadPersons, ReadRecords, ReadTrail, TakeCopy}
 use Rattle.lab_machine.specs.declared.replies.Reply.{Reply}
 use Rattle.lab_machine.specs.declared.replies.Reply.TheVariants.{Refused}
 use Rattle.lab_machine.specs.Policy.{rule_of}
 use Rattle.lab_machine.specs.Cases.{more_strays, told, noted, failed}
 use Rattle.lab_machine.specs.Machine.{stays, made}
+use Rattle.lab_machine.specs.Needs.{need_of}
 
 -- the card asks for no rule, and closing for its own
 pub known_rules : (rule_of Card ≡ None) × (rule_of Close ≡ Some CloseSession)
 known_rules = (refl, refl)
+
+-- what an instruction needs: the session, a person, a form, a record and a list
+abbrev wants : Option (List ℕ) → Option (List ℕ) → Option FormWanted → Option RecordWanted → Option ListWanted → Need
+wants session person form filed list = record {
+  token = session;
+  person = person;
+  form = form;
+  filed = filed;
+  list = list;
+}
+
+-- a command that comes with a token, at a tick
+abbrev needs_at : Tick → List ℕ → Command → Need
+needs_at tick token command = need_of tick (record { token = Some token; command = command })
+
+-- the card asks for no session, and an opening for the one that its new token would open; a person is named by the code
+pub known_needs_of_accounts : (tick : Tick) (token password : List ℕ)
+    → (needs_at tick token Card ≡ wants None None None None None)
+    × (needs_at tick token (Open (codes "dan") password) ≡ wants (Some (token_digest tick)) (Some (codes "dan")) None None None)
+    × (needs_at tick token Close ≡ wants (Some (sha256 token)) None None None None)
+    × (needs_at tick token (Retire (codes "dan")) ≡ wants (Some (sha256 token)) (Some (codes "dan")) None None None)
+known_needs_of_accounts tick token password = (refl, refl, refl, refl)
+
+-- an entry needs one record, and no list of anything
+pub known_needs_of_records : (tick : Tick) (token : List ℕ) (form : FormSheet) (item : Item)
+    → (needs_at tick token (MakeForm (codes "water") form)
+    ≡ wants (Some (sha256 token)) None (Some (Last (codes "water"))) None None)
+    × (needs_at tick token (ReadForm (codes "water") 2)
+    ≡ wants (Some (sha256 token)) None (Some (Exact (codes "water") 2)) None None)
+    × (needs_at tick token (OpenRecord (codes "water") (codes "S1"))
+    ≡ wants (Some (sha256 token)) None (Some (Last (codes "water"))) (Some (About (codes "water") (codes "S1"))) None)
+    × (needs_at tick token (Enter 3 item None) ≡ wants (Some (sha256 token)) None None (Some (Numbered 3)) None)
+    × (needs_at tick token (ReadVersion 3 2) ≡ wants (Some (sha256 token)) None None (Some (Numbered 3)) None)
+known_needs_of_records tick token form item = (refl, refl, refl, refl, refl)
+
+-- a list is needed where one is asked for, from a number to a number
+pub known_needs_of_lists : (tick : Tick) (token : List ℕ)
+    → (needs_at tick token ReadPersons ≡ wants (Some (sha256 token)) None None None (Some Persons))
+    × (needs_at tick token (ReadRecords 4 9) ≡ wants (Some (sha256 token)) None None None (Some (Records 4 9)))
+    × (needs_at tick token (ReadTrail 5 8) ≡ wants (Some (sha256 token)) None None None (Some (Trail 5 8)))
+    × (needs_at tick token (TakeCopy 3 5) ≡ wants (Some (sha256 token)) None None None (Some (Records 3 5)))
+known_needs_of_lists tick token = (refl, refl, refl, refl)
 
 -- stray passwords are counted to 9223372036854775807
 pub known_strays : (more_strays 0 ≡ 1)

@@ -1,7 +1,7 @@
 -- Which part of a laboratory an instruction needs: the session of its token, or of the token that
 -- an opening would make, with its person; and the person, the version of a form, the record or the
 -- list that the command names. An entry needs one record, and no list of anything.
-use Rattle.std.specs.Prelude.{ℕ, List, Option, Some, None, option_map}
+use Rattle.std.specs.Prelude.{ℕ, List, Bool, true, false, Option, Some, None, option_map}
 use Rattle.sha2.specs.Sha256.{sha256}
 use Rattle.lab_names.specs.declared.tick.Tick.{Tick}
 use Rattle.lab_access.specs.Openings.{token_digest}
@@ -69,3 +69,18 @@ need_of tick instruction = record {
   filed = record_in instruction.command;
   list = list_in instruction.command;
 }
+
+-- whether a text is copied for the need: the code, the key or the name that the command names. A
+-- number, a token's digest and a list's ends are none
+abbrev pub names_text : Command → Bool
+names_text (Open code password) = true
+names_text (Enrol code name roles) = true
+names_text (AskIssue code) = true
+names_text (ConfirmIssue code) = true
+names_text (SetRoles code roles) = true
+names_text (Retire code) = true
+names_text (Unlock code) = true
+names_text (MakeForm code form) = true
+names_text (ReadForm code version) = true
+names_text (OpenRecord form sample) = true
+names_text _ = false

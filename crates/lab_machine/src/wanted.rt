@@ -1,15 +1,17 @@
 //! Which part of a laboratory an instruction needs.
-ghost use Rattle.std.specs.Prelude.{◌≡◌, IfOk};
-ghost use Rattle.lab_machine.specs.Needs.{token_in, person_in, form_in, record_in, list_in, need_of};
+ghost use Rattle.std.specs.Prelude.{◌≡◌, IfOk, IsTrue, OnErr};
+ghost use Rattle.lab_machine.specs.Needs.{token_in, person_in, form_in, record_in, list_in, need_of, names_text};
 
 use crate::commands::{Command, Instruction};
 use lab_kept::{FormWanted, ListWanted, Need, RecordWanted};
 use lab_names::{OutOfMemory, PersonCode, Tick};
 use lab_secrets::{Digest, Token};
 
-/// Which part of a laboratory is needed to decide an instruction. The only error is out of memory.
+/// Which part of a laboratory is needed to decide an instruction. The only error is out of memory, where the command names a
+/// code, a key or a name, which is copied.
 pub fn needs(tick: &Tick, instruction: &Instruction) -> Result<Need, OutOfMemory>
-    ensures { IfOk result (λ need. need ≡ need_of tick.now instruction.now) }
+    ensures need { IfOk result (λ need. need ≡ need_of tick.now instruction.now) }
+    ensures memory { OnErr result (IsTrue (names_text instruction.now.command)) }
 {
     let command = &instruction.command;
     let token = token_in(tick, &instruction.token, command);
@@ -40,7 +42,8 @@ fn token_in(tick: &Tick, token: &Option<Token>, command: &Command) -> Option<Dig
 
 // The person whom the command is about.
 fn person_in(command: &Command) -> Result<Option<PersonCode>, OutOfMemory>
-    ensures { IfOk result (λ person. person ≡ person_in command.now) }
+    ensures person { IfOk result (λ person. person ≡ person_in command.now) }
+    ensures memory { OnErr result (IsTrue (names_text command.now)) }
 {
     match command {
         Command::Open { code, .. }
@@ -56,7 +59,8 @@ fn person_in(command: &Command) -> Result<Option<PersonCode>, OutOfMemory>
 
 // The version of a form.
 fn form_in(command: &Command) -> Result<Option<FormWanted>, OutOfMemory>
-    ensures { IfOk result (λ form. form ≡ form_in command.now) }
+    ensures form { IfOk result (λ form. form ≡ form_in command.now) }
+    ensures memory { OnErr result (IsTrue (names_text command.now)) }
 {
     match command {
         Command::MakeForm { code, .. } => Ok(Some(FormWanted::Last { code: code.copy()? })),
@@ -71,7 +75,8 @@ fn form_in(command: &Command) -> Result<Option<FormWanted>, OutOfMemory>
 
 // The record.
 fn record_in(command: &Command) -> Result<Option<RecordWanted>, OutOfMemory>
-    ensures { IfOk result (λ wanted. wanted ≡ record_in command.now) }
+    ensures wanted { IfOk result (λ wanted. wanted ≡ record_in command.now) }
+    ensures memory { OnErr result (IsTrue (names_text command.now)) }
 {
     match command {
         Command::OpenRecord { form, sample } => Ok(Some(RecordWanted::About {

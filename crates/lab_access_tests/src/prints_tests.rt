@@ -31,15 +31,10 @@ static TABLE: [(Rule, &str, bool); 23] = [
     (Rule::SignApproval, "P23", true),
 ];
 
-// Whether the rule is known by the word, and barred so.
-fn is_known(rule: Rule, word: &str, is_barred: bool) -> bool {
-    rule.word() == word && rule.is_barred_by_due() == is_barred
-}
-
 #[test]
 fn each_rule_has_its_word_and_its_bar(rt: HostRuntime) {
     for &(rule, word, is_barred) in &TABLE {
-        assert!(rt; is_known(rule, word, is_barred), "{word}");
+        assert_eq!(rt; (rule.word(), rule.is_barred_by_due()), (word, is_barred));
     }
 }
 
@@ -65,22 +60,16 @@ static REFUSALS: [(PeopleRefusal, u32, &str); 14] = [
 fn refusals_print_as_their_words(rt: HostRuntime) {
     for &(refusal, _, word) in &REFUSALS {
         let text = format!(in rt.alloc(); "{refusal}").expect(&rt, "memory");
-        assert!(rt; text.as_str() == word, "{word}");
+        assert_eq!(rt; text.as_str(), word);
     }
-}
-
-// Whether it is told by the number and the word: a refusal, or a fault.
-fn is_told(found: (Option<u32>, &str), number: u32, word: &str) -> bool {
-    found.0 == Some(number) && found.1 == word
 }
 
 #[test]
 fn a_failed_password_is_told_as_credentials(rt: HostRuntime) {
     let failed = PeopleFault::from(Failure::Stray);
-    let found = (failed.number(), failed.word());
-    assert!(rt; is_told(found, 20, "credentials"));
+    assert_eq!(rt; (failed.number(), failed.word()), (Some(20), "credentials"));
     let text = format!(in rt.alloc(); "{failed}").expect(&rt, "memory");
-    assert!(rt; text.as_str() == "credentials");
+    assert_eq!(rt; text.as_str(), "credentials");
 }
 
 // A code or a name.
@@ -115,6 +104,6 @@ fn a_person_prints_as_the_code(rt: HostRuntime) {
     let dan = person(&rt, Roles::none().with(Role::Analyst));
     let text = format!(in rt.alloc(); "{dan:?}").expect(&rt, "memory");
     drop(dan);
-    assert!(rt; text.as_str() == "Person(dan)");
+    assert_eq!(rt; text.as_str(), "Person(dan)");
     drop(text);
 }
