@@ -6,6 +6,10 @@ use Rattle.lab_kept.specs.declared.faults.KeeperFault.TheVariants.{Storage, Memo
 use Rattle.lab_kept.specs.declared.faults.PlacingFault.{PlacingFault}
 use Rattle.lab_kept.specs.declared.faults.PlacingFault.TheVariants.{LabExists, Storage as NotStored, Memory as NoMemory}
 
+-- there is no laboratory of the code: what a request is refused for, and a copy
+abbrev pub no_such_lab_entry : Entry
+no_such_lab_entry = record { number = 40; word = codes "no_such_lab" }
+
 -- the store refused
 abbrev pub storage_entry : Entry
 storage_entry = record { number = 63; word = codes "storage" }

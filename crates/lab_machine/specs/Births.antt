@@ -1,28 +1,32 @@
 -- How a laboratory is born: of three administrators with codes of their own, each with a password
 -- that was chosen at that moment; and why it isn't.
-use Rattle.std.specs.Prelude.{ℕ, Bool, not, ◌||◌, ◌&&◌, List, [], ◌∷◌, codes, Option, Some, None, Result, Ok, Err, bytes_eq, if◌then◌else◌}
+use Rattle.std.specs.Prelude.{ℕ, Bool, not, ◌||◌, ◌&&◌, List, [], ◌∷◌, Option, Some, None, Result, Ok, Err, bytes_eq, if◌then◌else◌}
 use Rattle.lab_names.specs.declared.tick.Tick.{Tick}
 use Rattle.lab_names.specs.Faults.{Entry}
 use Rattle.lab_secrets.specs.Words.{salt_at}
 use Rattle.lab_access.specs.declared.persons.Person.{Person}
+use Rattle.lab_access.specs.declared.refusals.PeopleRefusal.TheVariants.{CodeTaken as IsTaken, BadPassword as IsBad}
 use Rattle.lab_access.specs.declared.roles.Role.TheVariants.{Administrator}
 use Rattle.lab_access.specs.Passwords.{is_password, chosen_password}
+use Rattle.lab_access.specs.Refusals.{people_refusal_entry}
 use Rattle.lab_access.specs.Roles.{no_roles, with_role}
 use Rattle.lab_people.specs.Accounts.{newcomer}
 use Rattle.lab_kept.specs.declared.labs.Lab.{Lab}
+use Rattle.lab_kept.specs.declared.faults.PlacingFault.TheVariants.{LabExists as IsThere}
 use Rattle.lab_kept.specs.declared.trails.Deed.TheVariants.{Found}
 use Rattle.lab_kept.specs.Changes.{added_person}
+use Rattle.lab_kept.specs.Faults.{placing_fault_entry}
 use Rattle.lab_kept.specs.Trails.{row_of}
 use Rattle.lab_machine.specs.declared.births.Founder.{Founder}
 use Rattle.lab_machine.specs.declared.births.Founding.{Founding}
 use Rattle.lab_machine.specs.declared.births.BirthRefusal.{BirthRefusal}
 use Rattle.lab_machine.specs.declared.births.BirthRefusal.TheVariants.{CodeTaken, BadPassword, LabExists}
 
--- the number and the word of a refusal
+-- the number and the word of a refusal: those of the same refusal of a person, and of a keeper
 abbrev pub birth_entry : BirthRefusal → Entry
-birth_entry CodeTaken = record { number = 27; word = codes "code_taken" }
-birth_entry BadPassword = record { number = 25; word = codes "bad_password" }
-birth_entry LabExists = record { number = 64; word = codes "lab_exists" }
+birth_entry CodeTaken = people_refusal_entry IsTaken
+birth_entry BadPassword = people_refusal_entry IsBad
+birth_entry LabExists = placing_fault_entry IsThere
 
 -- two founders have one code
 abbrev pub is_code_shared : Founding → Bool

@@ -1,7 +1,7 @@
 use crate::Moment;
 
-/// What the outside world hands in with each request: the time, and words of chance.
-#[derive(Clone, Copy, Debug)]
+/// What the outside world hands in with each request: the time, and words of chance. It isn't printed: tokens are made of it.
+#[derive(Clone, Copy)]
 pub struct Tick {
     /// When the request came.
     pub moment: Moment,

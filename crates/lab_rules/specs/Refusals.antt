@@ -4,12 +4,13 @@ use Rattle.std.specs.Prelude.{codes}
 use Rattle.lab_names.specs.Faults.{Entry}
 use Rattle.lab_forms.specs.Faults.{form_refusal_entry}
 use Rattle.lab_access.specs.Refusals.{people_refusal_entry}
+use Rattle.lab_kept.specs.Faults.{no_such_lab_entry}
 use Rattle.lab_rules.specs.declared.refusals.Refusal.{Refusal}
 use Rattle.lab_rules.specs.declared.refusals.Refusal.TheVariants.{NoSuchLab, ClockBehind, People, Form, NoSuchForm, RecordExists, NoSuchRecord, NoSuchVersion, NotOpen, ReasonWanted, NothingAltered, NotAltered, AmendmentOpen, EntriesMissing, StaleDigest, AlreadySigned, OwnWork, NotAuthor, NotSigned, CodeWanted, ApprovalNotWanted}
 
 -- the number and the word of a refusal
 abbrev pub refusal_entry : Refusal → Entry
-refusal_entry NoSuchLab = record { number = 40; word = codes "no_such_lab" }
+refusal_entry NoSuchLab = no_such_lab_entry
 refusal_entry ClockBehind = record { number = 41; word = codes "clock_behind" }
 refusal_entry (People refusal) = people_refusal_entry refusal
 refusal_entry (Form refusal) = form_refusal_entry refusal

@@ -3,7 +3,7 @@ use Rattle.std.specs.Prelude.{ℕ, List, Option, Some, None, Result, Ok, Err, co
 use Rattle.lab_names.specs.Faults.{memory_entry}
 use Rattle.lab_kept.specs.declared.faults.KeeperFault.{KeeperFault}
 use Rattle.lab_kept.specs.declared.faults.KeeperFault.TheVariants.{Storage as StoreRefused, Memory as NoMemory}
-use Rattle.lab_kept.specs.Faults.{storage_entry}
+use Rattle.lab_kept.specs.Faults.{no_such_lab_entry, storage_entry}
 use Rattle.lab_copy.specs.declared.faults.CopyOutFault.{CopyOutFault as RowFault}
 use Rattle.lab_copy.specs.declared.faults.CopyOutFault.TheVariants.{Write as RowWrite, Memory as RowMemory}
 use Rattle.lab_walks.specs.declared.faults.CopyOutFault.{CopyOutFault}
@@ -12,13 +12,13 @@ use Rattle.lab_walks.specs.declared.faults.CopyOutFault.TheVariants.{NoSuchLab, 
 -- the number and the word of a fault (docs/REFUSALS.md); a write fault has no number, since no
 -- reply tells of it
 abbrev pub copy_fault_number : CopyOutFault → Option ℕ
-copy_fault_number NoSuchLab = Some 40
+copy_fault_number NoSuchLab = Some no_such_lab_entry.number
 copy_fault_number Storage = Some storage_entry.number
 copy_fault_number Memory = Some memory_entry.number
 copy_fault_number Write = None
 
 abbrev pub copy_fault_word : CopyOutFault → List ℕ
-copy_fault_word NoSuchLab = codes "no_such_lab"
+copy_fault_word NoSuchLab = no_such_lab_entry.word
 copy_fault_word Storage = storage_entry.word
 copy_fault_word Memory = memory_entry.word
 copy_fault_word Write = codes "write_fault"
