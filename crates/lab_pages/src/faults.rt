@@ -1,16 +1,17 @@
 //! Why a page wasn't read.
 
-ghost use Rattle.lab_walks.specs.Faults.{CopyFaultFits};
+ghost use Rattle.std.specs.Prelude.{◌≡◌};
+ghost use Rattle.lab_reading.specs.Faults.{kept_fault};
+ghost use Rattle.lab_walks.specs.Faults.{CopyFaultFits, keeper_told};
 
+use lab_kept::KeeperFault;
 use lab_reading::ReadFault;
 use lab_walks::CopyOutFault;
 
-/// What is told of a copy whose page wasn't read.
+/// What is told of a copy whose page wasn't read: what a keeper's fault is told as.
 pub(crate) fn told(fault: ReadFault) -> CopyOutFault
-    ensures { CopyFaultFits ⊥ (Unit {0}) ⊥ result }
+    ensures told { result ≡ keeper_told (kept_fault fault) }
+    ensures fits { CopyFaultFits ⊥ (Unit {0}) ⊥ result }
 {
-    match fault {
-        ReadFault::Storage => CopyOutFault::Storage,
-        ReadFault::Memory => CopyOutFault::Memory,
-    }
+    CopyOutFault::from(KeeperFault::from(fault))
 }
