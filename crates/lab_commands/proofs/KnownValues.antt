@@ -50,6 +50,7 @@ use Rattle.lab_commands.specs.declared.done.Done.{Done}
 use Rattle.lab_commands.specs.declared.done.Done.TheVariants.{Refused, Failed, Read, Made}
 use Rattle.lab_commands.specs.Done.{opened_done, changed_done, asked_done, confirmed_done, signature_done, signing_done, done_of}
 use Rattle.lab_commands.specs.Groups.{is_on_accounts, is_on_records}
+use Rattle.lab_commands.specs.Makings.{is_digest_made_by, is_made}
 
 -- ---- a part of a laboratory, and who asks
 
@@ -391,6 +392,47 @@ pub known_copy : (tick : Tick)
     ∷ []))
 unfolding done_of digits moment_text year_of month_of day_of_month hour_of minute_of second_of span_of place_of place_in_year
 known_copy tick = refl
+
+-- ---- where something is made, so that memory may run out
+
+abbrev made_by : Slice → Tick → ℕ → Person → Command → Bool
+made_by part tick moment person command =
+    is_made part (record tick { moment = moment }) (session person.code) person command
+
+-- closing makes its changes, and a list its lines; a form is read as it stands, and what isn't asked in a session makes nothing
+pub known_makings : (tick : Tick) (password : List ℕ)
+    → (made_by slice tick 1200 dan Close ≡ true) × (made_by slice tick 1200 ann ReadPersons ≡ true)
+    × (made_by (with_form (water 1 false)) tick 1200 dan (ReadForm (codes "water") 1) ≡ false)
+    × (made_by slice tick 1200 dan (Open (codes "dan") password) ≡ false)
+unfolding is_made
+known_makings tick password = (refl, refl, refl, refl)
+
+-- a code that is there is refused with nothing made, and somebody new is made; so it is with a lock and a password, with one's
+-- own roles and another's, and with a form
+pub known_makings_of_accounts : (tick : Tick) (old new : List ℕ) (verifier : VerifierParts)
+    → (made_by (with_person dan) tick 1200 ann (Enrol (codes "dan") (codes "Dan Dean") no_roles) ≡ false)
+    × (made_by slice tick 1200 ann (Enrol (codes "eve") (codes "Eve Ems") no_roles) ≡ true)
+    × (made_by slice tick 3099 (locked verifier) (ChangePassword old new) ≡ false)
+    × (made_by (with_person ann) tick 1200 ann (SetRoles (codes "ann") no_roles) ≡ false)
+    × (made_by (with_person dan) tick 1200 ann (SetRoles (codes "dan") no_roles) ≡ true)
+    × (made_by slice tick 800 gus (MakeForm (codes "water") (record { fields = lead ∷ []; approval = false })) ≡ true)
+    × (made_by (with_form (water 1 false)) tick 800 gus (MakeForm (codes "water") (record { fields = lead ∷ []; approval = false }))
+    ≡ false)
+unfolding is_made changing attempt_by enrolling setting_roles
+known_makings_of_accounts tick old new verifier = (refl, refl, refl, refl, refl, refl, refl)
+
+-- an open version isn't amended, so no table is made; a signing without its code is refused before its password is looked at,
+-- and one whose password fails before a digest is made; the digest is made of an open version that is signed, and not where it
+-- is reviewed
+pub known_makings_of_records : (tick : Tick) (password digest : List ℕ) (verifier : VerifierParts)
+    → (made_by with_record tick 1200 dan (Amend 1 (Some (codes "one decimal is meant")) (seven_five ∷ [])) ≡ false)
+    × (made_by with_record tick 1300 dan (Sign 1 1 digest Authorship password None) ≡ false)
+    × (made_by with_record tick 1300 (failing verifier 0) (Sign 1 1 digest Authorship password (Some (codes "eve"))) ≡ false)
+    × (is_digest_made_by (Some (about first)) 1 Authorship (Ok dan) ≡ true)
+    × (is_digest_made_by (Some (about first)) 1 Review (Ok dan) ≡ false)
+    × (made_by slice tick 1200 dan (ReadRecord 9) ≡ false) × (made_by with_record tick 1200 dan (ReadRecord 1) ≡ true)
+unfolding is_made attempt_by
+known_makings_of_records tick password digest verifier = (refl, refl, refl, refl, refl, refl, refl)
 
 -- ---- groups
 

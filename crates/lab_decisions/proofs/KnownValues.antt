@@ -1,6 +1,7 @@
 -- Values from outside, so that a wrong rule in the definitions does not check: what a trail of a
--- thousand million rows has no room for.
-use Rattle.std.proofs.Common.{◌≡◌, ℕ, List, [], ◌∷◌, codes, refl, Some}
+-- thousand million rows has no room for, and where nothing is made, so that memory can't run out.
+use Rattle.std.proofs.Common.{◌≡◌, ℕ, true, false, List, [], ◌∷◌, codes, refl, Some, None}
+use Rattle.lab_names.specs.declared.tick.Tick.{Tick}
 use Rattle.lab_access.specs.declared.persons.Person.{Person}
 use Rattle.lab_access.specs.declared.refusals.Failure.TheVariants.{Counted, Locking, AlreadyLocked, Stray}
 use Rattle.lab_access.specs.declared.refusals.PeopleRefusal.TheVariants.{LabFull}
@@ -9,10 +10,17 @@ use Rattle.lab_kept.specs.declared.changes.Change.{Change}
 use Rattle.lab_kept.specs.declared.changes.Change.TheVariants.{Strays, PersonSet, SessionsClosed, TrailAdded}
 use Rattle.lab_kept.specs.declared.trails.Deed.TheVariants.{Open, Refuse, Lock}
 use Rattle.lab_kept.specs.declared.trails.Occasion.TheVariants.{Opening}
+use Rattle.lab_access.specs.declared.sessions.Session.{Session}
+use Rattle.lab_access.specs.Openings.{opening}
+use Rattle.lab_kept.specs.declared.needs.Slice.{Slice}
 use Rattle.lab_kept.specs.Trails.{row_of}
 use Rattle.lab_rules.specs.declared.refusals.Refusal.TheVariants.{People}
+use Rattle.lab_machine.specs.declared.commands.Command.{Command}
+use Rattle.lab_machine.specs.declared.commands.Command.TheVariants.{Card, Open}
+use Rattle.lab_machine.specs.declared.passages.Passage.TheVariants.{Early, NeedsNone, Stranger, Barred}
 use Rattle.lab_machine.specs.declared.replies.Reply.TheVariants.{Refused, Closed}
 use Rattle.lab_decisions.specs.Deciding.{failing, outcome, ended_made}
+use Rattle.lab_decisions.specs.Makings.{is_made_by}
 
 -- the row of that number, that the person's password was refused, or that the account was locked
 abbrev refused_row : ℕ → Person → Change
@@ -50,3 +58,14 @@ pub known_ends : (before own : Change)
     × (ended_made (before ∷ []) 1000000000 500 (codes "dan") (Closed 3) (Open 3) (own ∷ [])
     ≡ outcome (Refused (People LabFull)) (before ∷ []))
 known_ends before own = (refl, refl)
+
+-- a clock that is behind and a stranger are refused with nothing made; who is barred has come, which is noted; the card is
+-- copied, and an unknown code is a stray password, which is counted
+pub known_makings : (slice : Slice) (tick : Tick) (command : Command) (session : Session) (password : List ℕ)
+    → (is_made_by slice tick command Early ≡ false)
+    × (is_made_by slice tick command Stranger ≡ false)
+    × (is_made_by slice tick command (Barred session (People LabFull)) ≡ true)
+    × (is_made_by slice tick Card (NeedsNone None) ≡ true)
+    × (is_made_by (record slice { person = None }) tick (Open (codes "zed") password) (NeedsNone None) ≡ true)
+unfolding opening
+known_makings slice tick command session password = (refl, refl, refl, refl, refl)
