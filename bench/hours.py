@@ -1,5 +1,5 @@
 """A short hour of requests, in which each command is done at least once, and what each event of it is answered, as the laboratory of
-bench/laboratory.py does it, where one of them is refused for want of memory: the others are answered as if it had never come.
+bench/laboratory.py does it, where one of them is refused for memory: the others are answered as if it had never come.
 
     bench/hours.py             prints the hour as `labdesk replay` reads it
     bench/hours.py --answers   prints what its events are answered
@@ -207,7 +207,7 @@ def stored_day():
 
 
 def answers(steps, refused=None):
-    """What the steps are answered, where the one at that place is refused for want of memory."""
+    """What the steps are answered, where the one at that place is refused for memory."""
     labs = {}
     return [step.refused if place == refused else step.answer(labs) for place, step in enumerate(steps)]
 

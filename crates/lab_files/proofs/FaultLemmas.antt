@@ -1,4 +1,4 @@
--- An error of the store is told as the store's refusal or as want of memory.
+-- An error of the store is told as the store's refusal or as out of memory.
 use Rattle.std.proofs.Common.{◌≡◌, ◌⊎◌, inl, inr, Bool, true, false, Ok, Err, Result, refl, ap, sym, ◌∙◌}
 use Rattle.std.specs.Prelude.{if◌then◌else◌}
 use Rattle.sqlite.specs.declared.error.Error.{Error}

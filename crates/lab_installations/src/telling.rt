@@ -12,7 +12,7 @@ use lab_serving::tell;
 use std::alloc::Global;
 use std::io::Write;
 
-/// Tells a word and a value, or, for want of memory, that memory ran out.
+/// Tells a word and a value, or, where there is no memory for the line, that it ran out.
 fn tell_valued<E: Write>(
     alloc: Global,
     errors: &mut E,

@@ -41,7 +41,7 @@ pub fn request_bytes(alloc: Global, lab: &LabCode) -> Result<Vec<u8>, OutOfMemor
 /// All the bytes that a reader gives.
 ///
 /// # Errors
-/// `ServerFault` where it can't be read, or for want of memory.
+/// `ServerFault` where it can't be read, or where memory runs out.
 pub fn read_all<R: Read>(alloc: Global, reader: &mut R) -> Result<Vec<u8>, ServerFault>
     ensures bytes { IfOk result (λ bytes.
         IfSome (R.remaining reader.old) (λ all. bytes.items ≡ all)) }

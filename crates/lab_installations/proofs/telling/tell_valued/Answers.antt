@@ -1,4 +1,4 @@
--- The line of word and value is told, or, for want of memory to make it, that memory ran out.
+-- The line of word and value is told, or, where there is no memory for it, that it ran out.
 use Rattle.std.proofs.Common.{◌∙◌, append_assoc, codes, decimal, inl, inr, sym}
 use Rattle.lab_installations.proofs.telling.tell_valued.Goals as goal
 
