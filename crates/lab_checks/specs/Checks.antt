@@ -18,7 +18,8 @@ use Rattle.lab_checks.specs.declared.faults.CheckFault.TheVariants.{Flawed, Read
 abbrev pub rows_of : List ℕ → List (List (List ℕ))
 rows_of bytes = records default_config (strip_bom bytes)
 
--- yes, with the counts, or the first flaw; that the input failed, or memory ran out, says nothing of the copy
+-- yes, with the counts, or the first flaw; that the input failed, or memory ran out, says nothing
+-- of the copy
 abbrev pub IsAnswer : Result Counts Flaw → Result Counts CheckFault → Type 0
 IsAnswer verdict (Ok counts) = verdict ≡ Ok counts
 IsAnswer verdict (Err (Flawed flaw)) = verdict ≡ Err flaw
