@@ -1,8 +1,9 @@
 -- What was made before a command gave what it was asked for: the table of the rows that an amendment
 -- is held against, and the digest that a signature is given for.
-use Rattle.std.proofs.Common.{◌≡◌, ℕ, Bool, true, false, List, [], ◌∷◌, length, Option, Some, None, refl}
-use Rattle.std.specs.Prelude.{IsTrue, Result, Ok, Err, is_some, is_none, not, ◌&&◌, ◌==◌, if◌then◌else◌}
+use Rattle.std.proofs.Common.{◌≡◌, ℕ, Bool, true, false, List, [], ◌∷◌, length, Option, Some, None, refl, arith}
+use Rattle.std.specs.Prelude.{IsTrue, Ok, Err, is_some, is_none, not, ◌&&◌, ◌==◌, if◌then◌else◌}
 use Rattle.std.specs.Option.{option_map_or}
+use Rattle.std.proofs.lemmas.Bool.Decides.{nat_tests}
 use Rattle.lab_access.specs.declared.persons.Person.{Person}
 use Rattle.lab_kept.specs.declared.records.Record.{Record}
 use Rattle.lab_kept.specs.declared.records.Version.{Version}
@@ -15,7 +16,7 @@ use Rattle.lab_rules.specs.declared.outcomes.Signing.{Signing}
 use Rattle.lab_rules.specs.declared.refusals.Refusal.{Refusal}
 use Rattle.lab_rules.specs.declared.refusals.Refusal.TheVariants.{AmendmentOpen}
 use Rattle.lab_rules.specs.Entering.{has_settled, amending_by, amending_of, is_table_made, amending}
-use Rattle.lab_rules.specs.Signing.{approval_refusal, state_refusal, or_else, version_refusal, is_digest_made, is_digest_made_at, signature_made, new_signature, signing_version, signing_record}
+use Rattle.lab_rules.specs.Signing.{approval_refusal, state_refusal, or_else, is_digest_made, is_digest_made_at, signature_made, new_signature, signing_version, signing_record}
 
 -- by whether the last version is released or rejected
 settled_by : (settled : Bool) (lab : List ℕ) (kept : Record) (last : Version)
@@ -27,7 +28,8 @@ settled_by : (settled : Bool) (lab : List ℕ) (kept : Record) (last : Version)
 settled_by false lab kept last reason altered caller moment made is = absurd (cc)
 settled_by true lab kept last None altered caller moment made is = absurd (cc)
 settled_by true lab kept last (Some reason) [] caller moment made is = absurd (cc)
-settled_by true lab kept last (Some reason) (one ∷ others) caller moment made is = refl
+settled_by true lab kept last (Some reason) (one ∷ others) caller moment made is =
+    grind (arith, nat_tests)
 
 last_by : (last : Option Version) (lab : List ℕ) (kept : Record) (reason : Option (List ℕ))
     (altered : List Item) (caller : List ℕ) (moment : ℕ) (made : AmendmentMade)

@@ -2,7 +2,7 @@
 -- for. A refusal makes nothing, and is told as it is. Two commands make something before their last
 -- refusals are found: an amendment is held against a table of the rows that stand, and a signature
 -- against the version's digest.
-use Rattle.std.specs.Prelude.{ℕ, List, Bool, true, false, Option, Result, Ok, Err, is_ok, if◌then◌else◌}
+use Rattle.std.specs.Prelude.{ℕ, Bool, true, false, Option, Result, Ok, Err, is_ok, if◌then◌else◌}
 use Rattle.lab_names.specs.declared.tick.Tick.{Tick}
 use Rattle.lab_access.specs.declared.persons.Person.{Person}
 use Rattle.lab_access.specs.declared.sessions.Session.{Session}

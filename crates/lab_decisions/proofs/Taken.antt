@@ -1,6 +1,6 @@
 -- What is decided by how far an instruction gets asks the part for neither the session nor its person,
 -- which were taken out of it; and what an opening makes is no refusal.
-use Rattle.std.proofs.Common.{◌≡◌, Bool, true, Option, Some, None, refl}
+use Rattle.std.proofs.Common.{◌≡◌, None, refl}
 use Rattle.std.specs.Prelude.{IsTrue, is_ok, not, Result, Ok, Err}
 use Rattle.lab_names.specs.declared.tick.Tick.{Tick}
 use Rattle.lab_access.specs.declared.openings.Opened.{Opened}

@@ -87,7 +87,9 @@ fn decide_by(
         }
         Passage::Barred(session, refusal) => barred(alloc, tick.moment, session, refusal),
         Passage::Passes(session, caller) => {
-            decide_in(alloc, slice, tick, session, caller, command)
+            let outcome = decide_in(alloc, slice, tick, session, &caller, command);
+            drop(caller);
+            outcome
         }
     }
 }
@@ -102,7 +104,7 @@ fn barred(
     ensures { IfOk result
         (λ told. told ≡ outcome (Reply.Refused refusal) (touching moment session)) }
 {
-    let changes = touching(alloc, moment, session)?;
+    let changes = touching(alloc, moment, &session)?;
     Ok(refused(changes, refusal))
 }
 
@@ -117,10 +119,10 @@ fn refused(changes: Series<Change>, refusal: Refusal) -> Outcome
 }
 
 // That a request came by the session at the moment.
-fn touching(alloc: Global, moment: Moment, session: Session) -> Result<Series<Change>, OutOfMemory>
-    ensures { IfOk result (λ changes. changes ≡ touching moment session) }
+fn touching(alloc: Global, moment: Moment, session: &Session) -> Result<Series<Change>, OutOfMemory>
+    ensures { IfOk result (λ changes. changes ≡ touching moment session.now) }
 {
-    let mut touched = session;
+    let mut touched = session.copy()?;
     touched.touch(moment);
     pair(alloc, Change::Last(moment), Change::SessionSet(touched))
 }
@@ -142,7 +144,10 @@ fn decide_without(
         Command::Open { code, password } => {
             decide_opening(alloc, slice, tick, repeated, code, &password)
         }
-        _ => show_card(alloc, slice),
+        command => {
+            drop(command);
+            show_card(alloc, slice)
+        }
     }
 }
 
@@ -269,16 +274,24 @@ fn decide_in(
     slice: &mut Slice,
     tick: &Tick,
     session: Session,
-    caller: Person,
+    caller: &Person,
     command: Command,
 ) -> Result<Outcome, OutOfMemory>
     ensures { IfOk result (λ outcome. outcome
-        ≡ decided_by slice.old tick.now command (Passage.Passes session caller)) }
+        ≡ decided_by slice.old tick.now command (Passage.Passes session caller.now)) }
 {
     let mut session = session;
-    let before = touching(alloc, tick.moment, session.copy()?)?;
-    session.touch(tick.moment);
-    decide_noted(alloc, slice, tick, session, caller, command, before)
+    match touching(alloc, tick.moment, &session) {
+        Ok(before) => {
+            session.touch(tick.moment);
+            decide_noted(alloc, slice, tick, session, caller, command, before)
+        }
+        Err(fault) => {
+            drop(session);
+            drop(command);
+            Err(fault)
+        }
+    }
 }
 
 // A command in a session whose request was noted by these changes.
@@ -287,19 +300,19 @@ fn decide_noted(
     slice: &mut Slice,
     tick: &Tick,
     session: Session,
-    caller: Person,
+    caller: &Person,
     command: Command,
     before: Series<Change>,
 ) -> Result<Outcome, OutOfMemory>
     ensures { IfOk result (λ outcome. outcome
-        ≡ ended_done slice.old tick.now.moment caller.code before
-        (done_of slice.old tick.now session caller command)) }
+        ≡ ended_done slice.old tick.now.moment caller.now.code before
+        (done_of slice.old tick.now session caller.now command)) }
 {
     let rows = slice.counts.trail;
     let strays = slice.strays;
-    let person = caller.code.copy()?;
-    let done = done_of(alloc, slice, tick, session, caller, command)?;
-    end(alloc, before, rows, strays, tick.moment, &person, done)
+    let giver = caller.copy()?;
+    let done = done_of(alloc, slice, tick, session, giver, command)?;
+    end(alloc, before, rows, strays, tick.moment, &caller.code, done)
 }
 
 // The end of a command in a session.
