@@ -3,10 +3,8 @@
 
 ghost use Rattle.std.specs.Prelude.{◌≡◌, ◌≢◌, [], Some, Ok, IsTrue, IsFalse, IfOk, IfErr, OnOk, OnErr};
 ghost use Rattle.lab_kept.specs.Changes.{ChangesFit};
-ghost use Rattle.lab_kept.specs.Parts.{part_of};
 ghost use Rattle.lab_kept.specs.Worlds.{Changes as MadeOf, Passes, Given, Lives, Leaves, Quiet, CommitsAs, IsDurable, StaysSafe, KeeperFaultFits};
 ghost use Rattle.lab_laws.specs.Asking.{IsCommandFormed};
-ghost use Rattle.lab_machine.specs.Needs.{need_of};
 ghost use Rattle.lab_decisions.specs.Deciding.{decided};
 ghost use Rattle.lab_wire.specs.declared.replies.Answer.TheVariants.{Replied};
 ghost use Rattle.lab_wire.specs.Replies.{reply_text};
@@ -71,7 +69,10 @@ pub(crate) fn answer_asked<S: Keeper>(
     ensures passes { Passes (S.world keeper.old) (S.world keeper.new) }
 {
     formed(&asked.instruction.command);
-    match part_for(keeper, tick, &asked) {
+    let need = needs(tick, &asked.instruction)?;
+    let loaded = keeper.load(&asked.lab, &need);
+    drop(need);
+    match loaded {
         Ok(Some(slice)) => answer_on(alloc, keeper, slice, tick, asked),
         Ok(None) => {
             drop(asked);
@@ -82,36 +83,6 @@ pub(crate) fn answer_asked<S: Keeper>(
             Err(fault)
         }
     }
-}
-
-// The part that is needed of the laboratory that is asked.
-fn part_for<S: Keeper>(
-    keeper: &mut S,
-    tick: &Tick,
-    asked: &Asked,
-) -> Result<Option<Slice>, KeeperFault>
-    ensures part { Given (S.world keeper.old) (S.world keeper.new)
-        (IfOk result (λ found. found ≡ part_of (need_of tick.now asked.now.instruction)
-        ((S.world keeper.old).meaning asked.now.lab))) }
-    ensures same { Given (S.world keeper.old) (S.world keeper.new)
-        (Leaves (S.world keeper.old) (S.world keeper.new)) }
-    ensures rows { Given (S.world keeper.old) (S.world keeper.new)
-        ((S.world keeper.new).is_live → S.rests keeper.old keeper.new) }
-    ensures lives { Given (S.world keeper.old) (S.world keeper.new)
-        (OnOk result (Lives (S.world keeper.old) (S.world keeper.new))) }
-    ensures fault { IfErr result (KeeperFaultFits (S.world keeper.old).may_refuse) }
-    ensures crash { Given (S.world keeper.old) (S.world keeper.new)
-        (Quiet (S.world keeper.old) (S.world keeper.new)) }
-    ensures safe { Given (S.world keeper.old) (S.world keeper.new)
-        (StaysSafe (S.world keeper.old) (S.world keeper.new)) }
-    ensures reached { Given (S.world keeper.old) (S.world keeper.new)
-        (S.world keeper.new).is_reached }
-    ensures passes { Passes (S.world keeper.old) (S.world keeper.new) }
-{
-    let need = needs(tick, &asked.instruction)?;
-    let loaded = keeper.load(&asked.lab, &need);
-    drop(need);
-    loaded
 }
 
 // The reply where there is no laboratory of the code.
