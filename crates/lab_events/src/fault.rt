@@ -4,8 +4,7 @@ ghost use Rattle.std.specs.Prelude.{◌≡◌};
 use lab_desk::RunFault;
 use lab_names::{NameFault, OutOfMemory};
 use std::alloc::AllocError;
-use std::fmt;
-use std::io;
+use std::{fmt, io};
 use thiserror::Error;
 
 /// Why a replay stopped before the end of its input. The fault's own text is its word.
