@@ -1,8 +1,8 @@
 -- a line out of its place, or one that shows a flaw, is told; every other one is kept
 use Rattle.std.proofs.Common.{sym, ◌∙◌}
 use Rattle.std.proofs.lemmas.Result.{err_from_is_err_and}
-use Rattle.lab_checks.proofs.KeptLemmas.{told_order, told_shown, taken_by, may_begin}
-use Rattle.lab_checks.proofs.kept.Kept.take.Goals as goal
+use Rattle.lab_checks_lines.proofs.KeptLemmas.{told_order, told_shown, taken_by, may_begin}
+use Rattle.lab_checks_lines.proofs.kept.Kept.take.Goals as goal
 
 pub returns-then-not-is_in_place : goal.returns-then-not-is_in_place
 returns-then-not-is_in_place c = λ lines row_is is.

@@ -18,11 +18,11 @@ use Rattle.lab_rows.specs.declared.lines.Line.TheVariants.{Copy, Record, Version
 use Rattle.lab_rows.specs.declared.lines.RecordLine.{RecordLine}
 use Rattle.lab_rows.specs.declared.lines.SignatureLine.{SignatureLine}
 use Rattle.lab_rows.specs.declared.lines.VersionLine.{VersionLine}
-use Rattle.lab_checks.specs.Hands.{hand_of, amendment_behind, begun, with_entry, with_signature, has_numbers, is_next, flaw_of_hand}
-use Rattle.lab_checks.specs.declared.hands.VersionAtHand.{VersionAtHand}
-use Rattle.lab_checks.specs.declared.faults.CheckFault.{CheckFault}
-use Rattle.lab_checks.specs.declared.faults.CheckFault.TheVariants.{Flawed, Read, Memory}
-use Rattle.lab_checks.specs.declared.kept.Kept.{Kept}
+use Rattle.lab_checks_versions.specs.Hands.{hand_of, amendment_behind, begun, with_entry, with_signature, has_numbers, is_next, flaw_of_hand}
+use Rattle.lab_checks_versions.specs.declared.hands.VersionAtHand.{VersionAtHand}
+use Rattle.lab_checks_versions.specs.declared.faults.CheckFault.{CheckFault}
+use Rattle.lab_checks_versions.specs.declared.faults.CheckFault.TheVariants.{Flawed, Read, Memory}
+use Rattle.lab_checks_lines.specs.declared.kept.Kept.{Kept}
 use Rattle.lab_lines.specs.Kinds.{kind_of, may_come_after, is_end_kind}
 use Rattle.lab_lines.specs.declared.kinds.Kind.{Kind}
 
@@ -196,22 +196,9 @@ pub record IsAt (kept : Kept) (lines : List Line) : Type 0 where
 
 -- ---- what the code answers
 
--- yes where there is no flaw, and else the flaw; other faults say nothing
-abbrev pub IsShown : Option Flaw → Result (Unit {0}) CheckFault → Type 0
-IsShown shown (Ok _) = shown ≡ None
-IsShown shown (Err (Flawed told)) = shown ≡ Some told
-IsShown shown (Err Read) = Unit {0}
-IsShown shown (Err (Memory _)) = Unit {0}
-
 -- a line that shows no flaw was taken, and else its flaw was told
 abbrev pub IsTaken : List Line → Line → Kept → Result (Unit {0}) CheckFault → Type 0
 IsTaken lines line kept (Ok _) = (flaw_of_line lines line ≡ None) × IsAt kept (lines ++ (line ∷ []))
 IsTaken lines line kept (Err (Flawed told)) = flaw_of_line lines line ≡ Some told
 IsTaken lines line kept (Err Read) = Unit {0}
 IsTaken lines line kept (Err (Memory _)) = Unit {0}
-
--- a fault that says nothing of the copy
-abbrev pub IsNoFlaw : CheckFault → Type 0
-IsNoFlaw (Flawed _) = ⊥
-IsNoFlaw Read = Unit {0}
-IsNoFlaw (Memory _) = Unit {0}

@@ -5,9 +5,9 @@ ghost use Rattle.std.specs.Str.{bytes_eq};
 ghost use Rattle.lab_versions.specs.Origins.{AmendsUnlessFirst};
 ghost use Rattle.lab_versions.specs.declared.rows.EntryRow.{EntryRow};
 ghost use Rattle.lab_rows.specs.Copies.{wants_approval};
-ghost use Rattle.lab_checks.specs.Hands.{amendment_behind, amendment_by, begun, with_entry, with_row, with_signature, has_numbers, is_next, has_digest_at_hand, has_signatures_at_hand, has_persons_at_hand, flaw_of_hand};
-ghost use Rattle.lab_checks.specs.Kept.{IsShown};
-ghost use Rattle.lab_checks.specs.declared.hands.VersionAtHand.{VersionAtHand};
+ghost use Rattle.lab_checks_versions.specs.Hands.{amendment_behind, amendment_by, begun, with_entry, with_row, with_signature, has_numbers, is_next, has_digest_at_hand, has_signatures_at_hand, has_persons_at_hand, flaw_of_hand};
+ghost use Rattle.lab_checks_versions.specs.Faults.{IsShown};
+ghost use Rattle.lab_checks_versions.specs.declared.hands.VersionAtHand.{VersionAtHand};
 
 use crate::CheckFault;
 use lab_names::Series;
@@ -22,7 +22,7 @@ use std::mem;
 /// The version whose rows are coming: the number of its row, the version as its digest covers it, the state and the digest in its
 /// row, and the meanings and signers of its signatures.
 #[derive(Drop)]
-pub(crate) struct VersionAtHand {
+pub struct VersionAtHand {
     row: u64,
     parts: VersionParts,
     state: State,
@@ -33,7 +33,7 @@ pub(crate) struct VersionAtHand {
 
 impl VersionAtHand {
     /// The version that begins in the row, of the record and behind the version before.
-    pub(crate) fn begin(
+    pub fn begin(
         alloc: Global,
         row: u64,
         about: &RecordLine,
@@ -68,14 +68,14 @@ impl VersionAtHand {
     }
 
     /// Keeps an entry.
-    pub(crate) fn enter(&mut self, alloc: Global, row: EntryRow) -> Result<(), OutOfMemory>
+    pub fn enter(&mut self, alloc: Global, row: EntryRow) -> Result<(), OutOfMemory>
         ensures { OnOk result (self.new ≡ with_entry row self.old) }
     {
         enter_row(&mut self.parts, alloc, row)
     }
 
     /// Keeps a signature.
-    pub(crate) fn sign(&mut self, person: PersonCode, meaning: Meaning) -> Result<(), OutOfMemory>
+    pub fn sign(&mut self, person: PersonCode, meaning: Meaning) -> Result<(), OutOfMemory>
         ensures { OnOk result (self.new ≡ with_signature person meaning self.old) }
     {
         self.meanings.push(meaning)?;
@@ -84,21 +84,21 @@ impl VersionAtHand {
     }
 
     /// The digest in the version's row.
-    pub(crate) fn digest(&self) -> Digest
+    pub fn digest(&self) -> Digest
         ensures { result ≡ self.now.digest }
     {
         self.digest
     }
 
     /// Whether an entry or a signature has the numbers of the version.
-    pub(crate) fn has_numbers(&self, record_number: Ordinal, number: Ordinal) -> bool
+    pub fn has_numbers(&self, record_number: Ordinal, number: Ordinal) -> bool
         ensures { result ≡ has_numbers record_number number self.now }
     {
         record_number == self.parts.record_number && number == self.parts.origin.number()
     }
 
     /// Whether a version row is that of the next version, and this one is settled.
-    pub(crate) fn is_followed_by(&self, line: &VersionLine) -> bool
+    pub fn is_followed_by(&self, line: &VersionLine) -> bool
         ensures { result ≡ is_next line.now self.now }
     {
         line.record_number == self.parts.record_number
@@ -107,7 +107,7 @@ impl VersionAtHand {
     }
 
     /// Finds what is wrong with the version, once its rows have come.
-    pub(crate) fn check(&self, alloc: Global) -> Result<(), CheckFault>
+    pub fn check(&self, alloc: Global) -> Result<(), CheckFault>
         ensures { IsShown (flaw_of_hand self.now) result }
     {
         if !self.has_digest(alloc)? {

@@ -15,7 +15,7 @@ use Rattle.lab_rows.specs.declared.flaws.Flaw.TheVariants.{Digest, OnePerson}
 use Rattle.lab_rows.specs.declared.lines.RecordLine.{RecordLine}
 use Rattle.lab_rows.specs.declared.lines.SignatureLine.{SignatureLine}
 use Rattle.lab_rows.specs.declared.lines.VersionLine.{VersionLine}
-use Rattle.lab_checks.specs.declared.hands.VersionAtHand.{VersionAtHand}
+use Rattle.lab_checks_versions.specs.declared.hands.VersionAtHand.{VersionAtHand}
 
 -- what is kept of a version that a copy tells of
 abbrev pub hand_of : ℕ → Told → VersionAtHand

@@ -1,8 +1,7 @@
 //! Why a copy wasn't found sound.
 ghost use Rattle.std.specs.Prelude.{◌≡◌};
-ghost use Rattle.lab_checks.specs.Checks.{fault_number, fault_word, fault_at};
+ghost use Rattle.lab_checks_versions.specs.Faults.{fault_number, fault_word};
 
-use lab_lines::RowFault;
 use lab_rows::{Flaw, OutOfMemory};
 use std::fmt;
 use thiserror::Error;
@@ -45,7 +44,7 @@ impl CheckFault {
 
 impl fmt::Display for CheckFault {
     ghost use Rattle.std.specs.Prelude.{Some};
-    ghost use Rattle.lab_checks.specs.Checks.{fault_word};
+    ghost use Rattle.lab_checks_versions.specs.Faults.{fault_word};
 
     ghost output = { λ fault. Some (fault_word fault) };
 
@@ -56,21 +55,11 @@ impl fmt::Display for CheckFault {
 
 impl From<OutOfMemory> for CheckFault {
     ghost use Rattle.std.specs.Prelude.{◌≡◌};
-    ghost use Rattle.lab_checks.specs.declared.faults.CheckFault.TheVariants.{Memory};
+    ghost use Rattle.lab_checks_versions.specs.declared.faults.CheckFault.TheVariants.{Memory};
 
     ghost from_gives = { λ fault e. e ≡ Memory fault };
 
     fn from(fault: OutOfMemory) -> CheckFault {
         CheckFault::Memory(fault)
-    }
-}
-
-/// The fault of a check that meets this one in a row.
-pub(crate) fn fault_at(row: u64, fault: RowFault) -> CheckFault
-    ensures { result ≡ fault_at row fault }
-{
-    match fault {
-        RowFault::BadRow => CheckFault::Flawed(Flaw::BadRow(row)),
-        RowFault::Memory(fault) => CheckFault::Memory(fault),
     }
 }

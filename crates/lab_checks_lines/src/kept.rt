@@ -4,15 +4,14 @@ ghost use Rattle.std.specs.Str.{bytes_eq};
 ghost use Rattle.lab_versions.specs.Origins.{AmendsUnlessFirst};
 ghost use Rattle.lab_rows.specs.Copies.{lab_of, was_asked, is_first_version, are_same_counts, is_some_and};
 ghost use Rattle.lab_rows.specs.declared.lines.Line.{Line};
-ghost use Rattle.lab_checks.specs.Checks.{IsAnswer};
+ghost use Rattle.lab_checks_versions.specs.Faults.{IsAnswer, IsNoFlaw, IsShown};
 ghost use Rattle.lab_lines.specs.Fields.{IsReasoned};
-ghost use Rattle.lab_checks.specs.Hands.{amendment_behind, begun, has_numbers, with_entry, with_signature};
-ghost use Rattle.lab_checks.specs.Kept.{IsAt, IsNoFlaw, IsShown, IsTaken, MayBegin, counts_with, edition_by, flaw_kept, flaw_of_signature_kept, flaw_of_version_kept, has_kept_numbers, is_first_line, is_in_place_kept, is_next_record, is_version_behind, kept_none, kept_with, may_come, verdict_kept, with_parts};
-ghost use Rattle.lab_checks.specs.declared.hands.VersionAtHand.{VersionAtHand};
+ghost use Rattle.lab_checks_versions.specs.Hands.{amendment_behind, begun, has_numbers, with_entry, with_signature};
+ghost use Rattle.lab_checks_lines.specs.Kept.{IsAt, IsTaken, MayBegin, counts_with, edition_by, flaw_kept, flaw_of_signature_kept, flaw_of_version_kept, has_kept_numbers, is_first_line, is_in_place_kept, is_next_record, is_version_behind, kept_none, kept_with, may_come, verdict_kept, with_parts};
+ghost use Rattle.lab_checks_versions.specs.declared.hands.VersionAtHand.{VersionAtHand};
 ghost use Rattle.lab_lines.specs.Kinds.{is_end_kind};
 
-use crate::CheckFault;
-use crate::hands::VersionAtHand;
+use lab_checks_versions::{CheckFault, VersionAtHand};
 use lab_lines::Kind;
 use lab_rows::{
     CopyLine, Counts, Digest, Edition, EntryLine, EntryRow, Flaw, LabCode, Line, Meaning, Ordinal,
@@ -24,7 +23,7 @@ use std::alloc::Global;
 /// What is kept of the lines so far: the copy row, the last record's row, the version whose rows are coming, the kind of the last
 /// line, and how many lines of each kind there are.
 #[derive(Drop)]
-pub(crate) struct Kept {
+pub struct Kept {
     copy: Option<CopyLine>,
     about: Option<RecordLine>,
     version: Option<VersionAtHand>,
@@ -34,7 +33,7 @@ pub(crate) struct Kept {
 
 impl Kept {
     /// Nothing, since no line came.
-    pub(crate) fn none() -> Kept
+    pub fn none() -> Kept
         ensures { result ≡ kept_none }
     {
         Kept {
@@ -52,7 +51,7 @@ impl Kept {
     }
 
     /// The edition of the copy.
-    pub(crate) fn edition(&self) -> Edition
+    pub fn edition(&self) -> Edition
         ensures { result ≡ edition_by self.now.copy }
     {
         match &self.copy {
@@ -62,7 +61,7 @@ impl Kept {
     }
 
     /// Takes the line in the row, and keeps of it what the next ones are compared with; or else tells what it shows.
-    pub(crate) fn take(&mut self, alloc: Global, row: u64, line: Line) -> Result<(), CheckFault>
+    pub fn take(&mut self, alloc: Global, row: u64, line: Line) -> Result<(), CheckFault>
         requires { IsReasoned line }
         ensures { (lines : List Line) → row ≡ length lines + 2 → IsAt self.old lines
             → IsTaken lines line self.new result }
@@ -75,7 +74,7 @@ impl Kept {
     }
 
     /// What is found at the end of the input.
-    pub(crate) fn finish(&self, alloc: Global) -> Result<Counts, CheckFault>
+    pub fn finish(&self, alloc: Global) -> Result<Counts, CheckFault>
         ensures { IsAnswer (verdict_kept self.now) result }
     {
         if self.has_ended() {

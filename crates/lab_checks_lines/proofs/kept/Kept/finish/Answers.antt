@@ -1,8 +1,8 @@
 -- at the end stands the end row, or the last version's flaw is told before the missing end
 use Rattle.std.proofs.Common.{sym, ◌∙◌}
 use Rattle.std.proofs.lemmas.Result.{err_from_is_err_and}
-use Rattle.lab_checks.proofs.KeptLemmas.{ended_at_end, shown_at_end, none_at_end}
-use Rattle.lab_checks.proofs.kept.Kept.finish.Goals as goal
+use Rattle.lab_checks_lines.proofs.KeptLemmas.{ended_at_end, shown_at_end, none_at_end}
+use Rattle.lab_checks_lines.proofs.kept.Kept.finish.Goals as goal
 
 pub returns-then-has_ended : goal.returns-then-has_ended
 returns-then-has_ended c = ended_at_end c.args.self.now (sym c.has_ended.ensures ∙ c.if-has_ended.true)
