@@ -1,4 +1,5 @@
-//! A keeper of laboratories in memory: a list of them, in which each is found by its code, read in part, changed and founded.
+//! A keeper of laboratories in memory: a list of them, in which each is found by its code, read in
+//! part, changed and founded.
 #![tactic(auto)]
 
 mod held;

@@ -9,8 +9,8 @@ use Rattle.lab_kept.specs.Keeping.{IsPrefix, KeepsRows, KeepsVersion, KeepsRecor
 use Rattle.lab_kept.specs.Worlds.{World}
 use Rattle.lab_laws.proofs.KeepLists.{extends_on, prefix_on}
 use Rattle.lab_laws.proofs.KeepPersons.{persons_on, sessions_on}
-use Rattle.lab_desk.specs.Keeping.{Follows, KeptFrom, Retains, RetainedFrom}
-use Rattle.lab_desk.proofs.Keeping.{keeps_itself}
+use Rattle.lab_requests.specs.Keeping.{Follows, KeptFrom, Retains, RetainedFrom}
+use Rattle.lab_runs.proofs.Keeping.{keeps_itself}
 
 -- ---- records
 

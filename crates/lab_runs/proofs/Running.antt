@@ -25,16 +25,16 @@ use Rattle.lab_routes.specs.declared.commands.Asked.{Asked}
 use Rattle.lab_wire.specs.declared.replies.Answer.TheVariants.{Replied, Storage}
 use Rattle.lab_wire.specs.Asked.{asked}
 use Rattle.lab_wire.specs.Replies.{reply_text, memory_text}
-use Rattle.lab_desk.specs.declared.events.Event.{Event}
-use Rattle.lab_desk.specs.declared.events.Event.TheVariants.{Found, Call}
-use Rattle.lab_desk.specs.Requests.{Asks, TakesRequest, RefusesRequest}
-use Rattle.lab_desk.specs.Foundings.{Bears, founding_in, born_of, after_birth, line_of, TakesFounding, RefusesFounding, memory_line, storage_line}
-use Rattle.lab_desk.specs.Keeping.{AreWithin, AreReleasing, Follows}
-use Rattle.lab_desk.proofs.Bearing.{born_seen}
-use Rattle.lab_desk.proofs.Keeping.{follows_itself, step_follows, birth_follows}
-use Rattle.lab_desk.proofs.Staying.{step_there, step_releasing, birth_releasing}
-use Rattle.lab_desk.specs.Alone.{Own, Founds, Obeys, own_call, after_own, answer_own, alone_after, alone_answers}
-use Rattle.lab_desk.specs.Runs.{Handled, IsRun, IsTold, IsAnswer, IsAnswerBy, IsAnswerToNobody, AreAlone, KeepsAlong, own_in, own_events, own_answers, after_run, answers_of, Sends, Runs, RunsCut}
+use Rattle.lab_runs.specs.declared.events.Event.{Event}
+use Rattle.lab_runs.specs.declared.events.Event.TheVariants.{Found, Call}
+use Rattle.lab_requests.specs.Requests.{Asks, TakesRequest, RefusesRequest}
+use Rattle.lab_foundings.specs.Foundings.{Bears, founding_in, born_of, after_birth, line_of, TakesFounding, RefusesFounding, memory_line, storage_line}
+use Rattle.lab_requests.specs.Keeping.{AreWithin, AreReleasing, Follows}
+use Rattle.lab_foundings.proofs.Bearing.{born_seen}
+use Rattle.lab_runs.proofs.Keeping.{follows_itself, step_follows, birth_follows}
+use Rattle.lab_runs.proofs.Staying.{step_there, step_releasing, birth_releasing}
+use Rattle.lab_runs.specs.Alone.{Own, Founds, Obeys, own_call, after_own, answer_own, alone_after, alone_answers}
+use Rattle.lab_runs.specs.Runs.{Handled, IsRun, IsTold, IsAnswer, IsAnswerBy, IsAnswerToNobody, AreAlone, KeepsAlong, own_in, own_events, own_answers, after_run, answers_of, Sends, Runs, RunsCut}
 
 -- ---- runs join
 

@@ -14,10 +14,10 @@ use Rattle.lab_machine.specs.declared.births.BirthRefusal.{BirthRefusal}
 use Rattle.lab_machine.specs.declared.births.BirthRefusal.TheVariants.{CodeTaken, BadPassword, LabExists}
 use Rattle.lab_machine.specs.Births.{is_code_shared, are_passwords, birth_entry, born, born_at, newborn}
 use Rattle.lab_kept.specs.Worlds.{World, SameMeaning, Places, Given, Lives, Leaves}
-use Rattle.lab_desk.specs.declared.faults.FoundFault.{FoundFault}
-use Rattle.lab_desk.specs.declared.faults.FoundFault.TheVariants.{Body as OfBody, Birth as OfBirth, Placing}
-use Rattle.lab_desk.specs.Faults.{FoundFaultFits, OnBody, OnKept, found_fault_entry, is_taken}
-use Rattle.lab_desk.specs.Foundings.{Body, Bears, BearsNone, IsNewborn, Founds, TakesFounding, after_birth, birth, born_of, founded_line, line_of, refused_line}
+use Rattle.lab_foundings.specs.declared.faults.FoundFault.{FoundFault}
+use Rattle.lab_foundings.specs.declared.faults.FoundFault.TheVariants.{Body as OfBody, Birth as OfBirth, Placing}
+use Rattle.lab_foundings.specs.Faults.{FoundFaultFits, OnBody, OnKept, found_fault_entry, is_taken}
+use Rattle.lab_foundings.specs.Foundings.{Body, Bears, BearsNone, IsNewborn, Founds, TakesFounding, after_birth, birth, born_of, founded_line, line_of, refused_line}
 
 -- a founding, by its two refusals
 abbrev born_by : Bool → Bool → Result Lab BirthRefusal → Result Lab BirthRefusal

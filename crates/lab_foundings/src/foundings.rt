@@ -2,8 +2,8 @@
 
 ghost use Rattle.std.specs.Prelude.{◌≡◌, ◌⊎◌, IfOk, IfErr, None, Ok, true, false, option_map};
 ghost use Rattle.lab_kept.specs.Births.{newborn_lab};
-ghost use Rattle.lab_desk.specs.Faults.{found_fault_entry, is_taken, FoundFaultFits};
-ghost use Rattle.lab_desk.specs.Foundings.{IsNewborn, founding_in, founded_line, refused_line, memory_line, shown};
+ghost use Rattle.lab_foundings.specs.Faults.{found_fault_entry, is_taken, FoundFaultFits};
+ghost use Rattle.lab_foundings.specs.Foundings.{IsNewborn, founding_in, founded_line, refused_line, memory_line, shown};
 
 use crate::faults::FoundFault;
 use lab_bodies::founding_of;
@@ -13,7 +13,7 @@ use lab_names::{LabCode, OutOfMemory, Tick};
 use std::alloc::Global;
 
 /// What a keeper founds the laboratory of the code from, by its body.
-pub(crate) fn newborn_of(
+pub fn newborn_of(
     alloc: Global,
     lab: &LabCode,
     tick: &Tick,
@@ -31,7 +31,7 @@ pub(crate) fn newborn_of(
 }
 
 /// The line that tells of a founding.
-pub(crate) fn founded(alloc: Global, lab: &LabCode) -> Result<Vec<u8>, OutOfMemory>
+pub fn founded(alloc: Global, lab: &LabCode) -> Result<Vec<u8>, OutOfMemory>
     ensures { IfOk result (λ line. line.items ≡ founded_line lab.now) }
 {
     let code = lab.as_str();
@@ -39,7 +39,7 @@ pub(crate) fn founded(alloc: Global, lab: &LabCode) -> Result<Vec<u8>, OutOfMemo
 }
 
 /// The line that tells of a refused founding.
-pub(crate) fn refused(alloc: Global, fault: &FoundFault) -> Result<Vec<u8>, OutOfMemory>
+fn refused(alloc: Global, fault: &FoundFault) -> Result<Vec<u8>, OutOfMemory>
     ensures { IfOk result (λ line. line.items ≡ refused_line (found_fault_entry fault.now)) }
 {
     let number = fault.number().unwrap();
@@ -48,7 +48,7 @@ pub(crate) fn refused(alloc: Global, fault: &FoundFault) -> Result<Vec<u8>, OutO
 }
 
 /// The line that tells of a founding that failed, and whether it was taken all the same.
-pub(crate) fn unfounded(alloc: Global, fault: &FoundFault) -> Line
+pub fn unfounded(alloc: Global, fault: &FoundFault) -> Line
     ensures taken { result.taken ≡ true → (is_taken fault.now ≡ true)
         × (shown (option_map (λ line. line.items) result.text)
         ≡ refused_line (found_fault_entry fault.now)) }
@@ -68,20 +68,20 @@ pub(crate) fn unfounded(alloc: Global, fault: &FoundFault) -> Line
 }
 
 /// The line that answers a founding for lack of memory; no memory is taken for it.
-pub(crate) const MEMORY_LINE: &[u8] = b"refused 90 memory\n";
+const MEMORY_LINE: &[u8] = b"refused 90 memory\n";
 
 /// The line that answers a founding, and whether the founding was taken.
 #[derive(Drop)]
-pub(crate) struct Line {
+pub struct Line {
     /// Whether the founding was taken: it was, unless memory ran out or the store refused.
-    pub(crate) taken: bool,
+    pub taken: bool,
     /// The line; where there is none, it is that for lack of memory.
-    pub(crate) text: Option<Vec<u8>>,
+    pub text: Option<Vec<u8>>,
 }
 
 impl Line {
     /// The line for lack of memory.
-    pub(crate) fn of_memory() -> Line
+    pub fn of_memory() -> Line
         ensures { result ≡ record { taken = false; text = None } }
     {
         Line {
@@ -91,7 +91,7 @@ impl Line {
     }
 
     /// The bytes of the line.
-    pub(crate) fn bytes(&self) -> &[u8]
+    pub fn bytes(&self) -> &[u8]
         ensures { result.now ≡ shown (option_map (λ line. line.items) self.now.text) }
     {
         match &self.text {

@@ -10,12 +10,12 @@ use Rattle.lab_kept.specs.Worlds.{World, Meaning, Tells}
 use Rattle.lab_wire.specs.declared.replies.Answer.TheVariants.{Refused}
 use Rattle.lab_wire.specs.Asked.{asked}
 use Rattle.lab_wire.specs.Replies.{reply_text}
-use Rattle.lab_desk.specs.declared.events.Event.{Event}
-use Rattle.lab_desk.specs.declared.events.Event.TheVariants.{Found, Call}
-use Rattle.lab_desk.specs.Requests.{Asks, IsRefusedReply}
-use Rattle.lab_desk.specs.Foundings.{founding_in, Bears, IsRefusedLine}
-use Rattle.lab_desk.specs.Keeping.{EachFollows}
-use Rattle.lab_desk.specs.Alone.{Own, own_of, alone_after, alone_answers}
+use Rattle.lab_runs.specs.declared.events.Event.{Event}
+use Rattle.lab_runs.specs.declared.events.Event.TheVariants.{Found, Call}
+use Rattle.lab_requests.specs.Requests.{Asks, IsRefusedReply}
+use Rattle.lab_foundings.specs.Foundings.{founding_in, Bears, IsRefusedLine}
+use Rattle.lab_requests.specs.Keeping.{EachFollows}
+use Rattle.lab_runs.specs.Alone.{Own, own_of, alone_after, alone_answers}
 
 -- an event, whether it was taken, and what was answered to it: it is taken unless memory ran out or
 -- the store refused

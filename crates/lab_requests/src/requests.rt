@@ -8,8 +8,8 @@ ghost use Rattle.lab_laws.specs.Asking.{IsCommandFormed};
 ghost use Rattle.lab_decisions.specs.Deciding.{decided};
 ghost use Rattle.lab_wire.specs.declared.replies.Answer.TheVariants.{Replied};
 ghost use Rattle.lab_wire.specs.Replies.{reply_text};
-ghost use Rattle.lab_desk.specs.Keeping.{AreWithin};
-ghost use Rattle.lab_desk.specs.Requests.{answer_to, is_idle, MovesBy, Steps};
+ghost use Rattle.lab_requests.specs.Keeping.{AreWithin};
+ghost use Rattle.lab_requests.specs.Requests.{answer_to, is_idle, MovesBy, Steps};
 
 use lab_decisions::{Outcome, decide, formed};
 use lab_kept::{Change, Keeper, KeeperFault, Slice};
@@ -21,7 +21,7 @@ use lab_wire::{Answer, reply_bytes};
 use std::alloc::Global;
 
 /// Answers what a laboratory was asked. After an error every laboratory means what it meant.
-pub(crate) fn answer_asked<S: Keeper>(
+pub fn answer_asked<S: Keeper>(
     alloc: Global,
     keeper: &mut S,
     tick: &Tick,
