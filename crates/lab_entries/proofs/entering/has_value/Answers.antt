@@ -6,8 +6,8 @@ use Rattle.std.proofs.lemmas.List.Folds.{list_any_at}
 use Rattle.lab_versions.specs.declared.rows.EntryRow.{EntryRow}
 use Rattle.lab_kept.specs.declared.records.Version.{Version}
 use Rattle.lab_kept.specs.Values.{has_key}
-use Rattle.lab_rules.proofs.ValueLemmas.{value_found}
-use Rattle.lab_rules.proofs.entering.has_value.Goals as goal
+use Rattle.lab_entries.proofs.ValueLemmas.{value_found}
+use Rattle.lab_entries.proofs.entering.has_value.Goals as goal
 
 pub returns-then-is_entered : goal.returns-then-is_entered
 returns-then-is_entered c =

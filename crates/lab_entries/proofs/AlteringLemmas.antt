@@ -12,7 +12,7 @@ use Rattle.lab_rules.specs.declared.refusals.Refusal.{Refusal}
 use Rattle.lab_rules.specs.declared.faults.CommandFault.{CommandFault}
 use Rattle.lab_rules.specs.declared.faults.CommandFault.TheVariants.{Refused, Memory}
 use Rattle.lab_rules.specs.Following.{IsReadWhere}
-use Rattle.lab_rules.specs.Entering.{altered_refusal, first_altered_refusal, amending_by, amendment_made, next_version}
+use Rattle.lab_entries.specs.Entering.{altered_refusal, first_altered_refusal, amending_by, amendment_made, next_version}
 
 or_next : (one other next : Option Refusal)
     → option_map_or Some (option_map_or Some one other) next

@@ -1,8 +1,8 @@
 use Rattle.std.proofs.Common.{◌≡◌, false, take}
 use Rattle.std.specs.List.{list_any}
 use Rattle.lab_kept.specs.Values.{rows_to}
-use Rattle.lab_rules.specs.Signing.{is_missing}
-use Rattle.lab_rules.proofs.signing.is_any_missing.Given as goal
+use Rattle.lab_signatures.specs.Signing.{is_missing}
+use Rattle.lab_signatures.proofs.signing.is_any_missing.Given as goal
 
 -- of the first fields none is missing
 abbrev pub invariant-loop-field : goal.invariant-loop-field

@@ -5,8 +5,6 @@ use Rattle.std.specs.Option.{option_map_or}
 use Rattle.std.specs.List.{list_any}
 use Rattle.lab_forms.specs.declared.forms.Field.{Field}
 use Rattle.lab_access.specs.declared.persons.Person.{Person}
-use Rattle.lab_access.specs.declared.policy.Rule.{Rule}
-use Rattle.lab_access.specs.declared.policy.Rule.TheVariants.{SignAuthorship, SignReview, SignRejection, SignApproval}
 use Rattle.lab_access.specs.declared.sessions.Session.{Session}
 use Rattle.lab_versions.specs.declared.rows.EntryRow.{EntryRow}
 use Rattle.lab_seal.specs.declared.seals.Meaning.{Meaning}
@@ -26,13 +24,6 @@ use Rattle.lab_rules.specs.declared.outcomes.Signing.{Signing}
 use Rattle.lab_rules.specs.declared.outcomes.Signing.TheVariants.{Authorship, Review, Rejection, Approval}
 use Rattle.lab_rules.specs.declared.refusals.Refusal.{Refusal}
 use Rattle.lab_rules.specs.declared.refusals.Refusal.TheVariants.{NoSuchRecord, NoSuchVersion, ReasonWanted, NothingAltered, EntriesMissing, StaleDigest, AlreadySigned, OwnWork, NotAuthor, NotSigned, ApprovalNotWanted}
-
--- by which rule of the policy a person signs so
-abbrev pub signing_rule : Signing → Rule
-signing_rule Authorship = SignAuthorship
-signing_rule Review = SignReview
-signing_rule (Rejection reason) = SignRejection
-signing_rule Approval = SignApproval
 
 -- the first signing of a session wants the code too: without it and without the session's mark, no
 -- password is looked at (21 CFR 11.200(a)(1)(i))

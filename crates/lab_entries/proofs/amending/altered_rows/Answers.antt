@@ -2,9 +2,9 @@
 use Rattle.std.proofs.Common.{map, Some, arith}
 use Rattle.std.specs.Prelude.{is_none}
 use Rattle.std.proofs.lemmas.Grind.{common_steps}
-use Rattle.lab_rules.specs.Entering.{entered_row, item_refusal}
-use Rattle.lab_rules.proofs.AlteringLemmas.{read_more, fault_at}
-use Rattle.lab_rules.proofs.amending.altered_rows.Goals as goal
+use Rattle.lab_entries.specs.Entering.{entered_row, item_refusal}
+use Rattle.lab_entries.proofs.AlteringLemmas.{read_more, fault_at}
+use Rattle.lab_entries.proofs.amending.altered_rows.Goals as goal
 
 pub loop-item-preserved : goal.loop-item-preserved
 loop-item-preserved c = record {

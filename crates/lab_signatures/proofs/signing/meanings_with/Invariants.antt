@@ -1,6 +1,6 @@
 use Rattle.std.proofs.Common.{◌≡◌, map, take}
 use Rattle.lab_kept.specs.Values.{meaning_of}
-use Rattle.lab_rules.proofs.signing.meanings_with.Given as goal
+use Rattle.lab_signatures.proofs.signing.meanings_with.Given as goal
 
 -- what the first signatures mean
 abbrev pub invariant-loop-signature : goal.invariant-loop-signature

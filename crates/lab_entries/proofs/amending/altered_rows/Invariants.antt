@@ -1,6 +1,6 @@
 use Rattle.std.proofs.Common.{◌≡◌, map, take, Some, None}
-use Rattle.lab_rules.specs.Entering.{first_altered_refusal, entered_row}
-use Rattle.lab_rules.proofs.amending.altered_rows.Given as goal
+use Rattle.lab_entries.specs.Entering.{first_altered_refusal, entered_row}
+use Rattle.lab_entries.proofs.amending.altered_rows.Given as goal
 
 -- the first items are refused for nothing, and their rows stand
 abbrev pub invariant-loop-item : goal.invariant-loop-item

@@ -4,16 +4,13 @@ ghost use Rattle.lab_kept.specs.Latest.{noted};
 ghost use Rattle.lab_kept.specs.Limits.{version_limit};
 ghost use Rattle.lab_kept.specs.Values.{all_rows, value_of};
 ghost use Rattle.lab_rules.specs.Following.{Follows, FollowsWhere, IsReadWhere};
-ghost use Rattle.lab_rules.specs.Entering.{has_settled, is_same_value, item_refusal, altered_refusal, first_altered_refusal, entered_row, next_origin, opened_version, amendment_made, amending_by, is_table_made, amending};
+ghost use Rattle.lab_entries.specs.Entering.{has_settled, is_same_value, item_refusal, altered_refusal, first_altered_refusal, entered_row, next_origin, opened_version, amendment_made, amending_by, is_table_made, amending};
 
 use crate::entering::read_item;
-use crate::faults::CommandFault;
-use crate::items::{Altered, Item};
-use crate::outcomes::AmendmentMade;
-use crate::refusals::Refusal;
 use lab_access::PeopleRefusal;
 use lab_kept::{ROWS_LIMIT, Record, VERSIONS_LIMIT, Version, latest, noted};
 use lab_names::{LabCode, Moment, Note, Ordinal, OutOfMemory, PersonCode, Series};
+use lab_rules::{Altered, AmendmentMade, CommandFault, Item, Refusal};
 use lab_seal::{Amendment, EntryRow, EntryRows, Format, Origin, State};
 use std::alloc::Global;
 use std::collections::BTreeMap;

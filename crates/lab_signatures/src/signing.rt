@@ -5,11 +5,8 @@ ghost use Rattle.lab_kept.specs.Digests.{signature_of};
 ghost use Rattle.lab_kept.specs.Latest.{noted};
 ghost use Rattle.lab_kept.specs.Values.{meaning_of, rows_to};
 ghost use Rattle.lab_rules.specs.Following.{FollowsWhere};
-ghost use Rattle.lab_rules.specs.Signing.{is_missing, content_refusal, reason_refusal, version_refusal, is_digest_made, is_digest_made_at, is_table_made, signed_meaning, signed_parts, signature_made, signing_record};
+ghost use Rattle.lab_signatures.specs.Signing.{is_missing, content_refusal, reason_refusal, version_refusal, is_digest_made, is_digest_made_at, is_table_made, signed_meaning, signed_parts, signature_made, signing_record};
 
-use crate::faults::{CommandFault, fail};
-use crate::outcomes::{SignatureMade, Signing};
-use crate::refusals::Refusal;
 use crate::signatures::{
     approval_refusal, digest_refusal, reason_refusal, signer_refusal, state_refusal,
 };
@@ -17,6 +14,7 @@ use lab_access::Person;
 use lab_forms::Field;
 use lab_kept::{Record, Signature, Version, first_versions, latest, noted};
 use lab_names::{LabCode, Moment, Ordinal, OutOfMemory, PersonCode};
+use lab_rules::{CommandFault, Refusal, SignatureMade, Signing, fail};
 use lab_seal::{Digest, EntryRow, Meaning, SealParts, state_of};
 use std::alloc::Global;
 use std::collections::BTreeMap;

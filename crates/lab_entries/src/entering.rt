@@ -6,16 +6,13 @@ ghost use Rattle.lab_kept.specs.Changes.{with_row};
 ghost use Rattle.lab_kept.specs.Digests.{digest_of};
 ghost use Rattle.lab_kept.specs.Values.{has_key};
 ghost use Rattle.lab_rules.specs.Following.{Follows, IsReadWhere};
-ghost use Rattle.lab_rules.specs.Entering.{is_open, has_value, item_refusal, entry_made, entering_last, entering};
+ghost use Rattle.lab_entries.specs.Entering.{is_open, has_value, item_refusal, entry_made, entering_last, entering};
 
-use crate::faults::{CommandFault, fail};
-use crate::items::Item;
-use crate::outcomes::EntryMade;
-use crate::refusals::Refusal;
 use lab_access::PeopleRefusal;
 use lab_forms::FormFault;
 use lab_kept::{ROWS_LIMIT, Record, Version};
 use lab_names::{Key, LabCode, Moment, Note, OutOfMemory, PersonCode};
+use lab_rules::{CommandFault, EntryMade, Item, Refusal, fail};
 use lab_seal::{Digest, EntryRow, EntryRows, State};
 use std::alloc::Global;
 

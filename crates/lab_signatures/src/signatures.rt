@@ -1,12 +1,11 @@
 //! Who may sign a version, as what, and when: each refusal by itself, in the order in which they are asked.
 ghost use Rattle.std.specs.Prelude.{◌≡◌, option_copied};
-ghost use Rattle.lab_rules.specs.Signing.{is_code_wanted, approval_refusal, state_refusal, digest_refusal, is_second, signer_refusal, reason_refusal};
+ghost use Rattle.lab_signatures.specs.Signing.{is_code_wanted, approval_refusal, state_refusal, digest_refusal, is_second, signer_refusal, reason_refusal};
 
-use crate::outcomes::Signing;
-use crate::refusals::Refusal;
 use lab_access::Session;
 use lab_kept::{Signature, Version};
 use lab_names::PersonCode;
+use lab_rules::{Refusal, Signing};
 use lab_seal::{Digest, State};
 
 /// Whether the code is wanted beside the password: at the first signing of a session, where none is given.
