@@ -5,7 +5,8 @@ use crate::results::{both, made_of, print_made, print_word, text};
 use crate::versions::{text_of, version, version_text};
 use anyhow::{Context, Result};
 use lab_names::{Moment, Ordinal};
-use lab_seal::{Amendment, Meaning, Origin, SealParts, VersionParts, digest, read_version};
+use lab_seal::{Amendment, Meaning, Origin, SealParts, VersionParts, digest};
+use lab_versions_read::read_version;
 use std::alloc::Global;
 use std::io::{self, Print};
 

@@ -3,10 +3,8 @@
 use crate::results::{both, made_of, text};
 use anyhow::{Result, bail};
 use lab_names::{Moment, Ordinal, OutOfMemory};
-use lab_seal::{
-    EntryRow, EntryRows, Format, Origin, TextFault, VersionParts, digest, pbkdf2, read_version,
-    write_version,
-};
+use lab_seal::{EntryRow, EntryRows, Format, Origin, VersionParts, digest, pbkdf2, write_version};
+use lab_versions_read::{TextFault, read_version};
 use std::alloc::Global;
 
 fn row(alloc: Global, place: u32) -> Result<EntryRow> {

@@ -8,9 +8,8 @@ mod states;
 
 pub use lab_versions::{
     Amendment, Digest, EntryRow, EntryRows, Format, Half, Key, LabCode, Moment, Name, NameFault,
-    Note, Ordinal, Origin, OriginParts, OutOfMemory, PersonCode, TextFault, Tick, Token, Unit,
-    Verifier, VerifierParts, VersionParts, digest, founder_salts, hmac, one_spelling, pbkdf2,
-    read_version, salt, write_version,
+    Note, Ordinal, Origin, OriginParts, OutOfMemory, PersonCode, Tick, Token, Unit, Verifier,
+    VerifierParts, VersionParts, digest, founder_salts, hmac, pbkdf2, salt, write_version,
 };
 pub use sealing::seal;
 pub use seals::{Meaning, Seal, SealParts};

@@ -1,8 +1,2 @@
 pub mod KnownValues
-pub mod ItemLemmas
-pub mod ReadLemmas
-pub mod TextLemmas
-pub mod PartLemmas
-pub mod SpellingLemmas
 pub mod RowLemmas
-pub mod VersionLemmas

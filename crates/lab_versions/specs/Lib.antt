@@ -1,4 +1,2 @@
-pub mod Faults
 pub mod Origins
-pub mod Reading
 pub mod Versions

@@ -81,7 +81,8 @@ impl Origin {
         })
     }
 
-    pub(crate) fn of(parts: OriginParts) -> Origin
+    /// The origin that has these parts.
+    pub fn of(parts: OriginParts) -> Origin
         requires { AmendsUnlessFirst parts.number parts.amendment }
         ensures { result ≡ parts }
     {

@@ -1,0 +1,7 @@
+pub mod ItemLemmas
+pub mod ReadLemmas
+pub mod TextLemmas
+pub mod PartLemmas
+pub mod SpellingLemmas
+pub mod RowLemmas
+pub mod VersionLemmas

@@ -1,0 +1,385 @@
+//! The reading of a version's text: of every text that `write_version` gives, and of no other bytes.
+//! The rows are made while they are read; where memory runs out for one, what is left is read before
+//! that is told.
+ghost use Rattle.std.specs.Prelude.{◌≡◌, [], ◌∷◌, ◌++◌, IsTrue, IfOk, IfErr, OnOk, Some, option_map};
+ghost use Rattle.lab_names.specs.Moment.{is_moment};
+ghost use Rattle.lab_names.specs.Names.{is_lab_code, is_key, is_name, is_person_code};
+ghost use Rattle.lab_names.specs.Ordinals.{is_ordinal};
+ghost use Rattle.lab_versions_read.specs.Faults.{TextFaultFits};
+ghost use Rattle.lab_versions.specs.Versions.{version_text, IsRow, IsOrigin, IsFront, IsVersion, IsNoVersion, IsSomeVersion, OneSpelling};
+ghost use Rattle.lab_versions_read.specs.Reading.{first_heading, first_format, first_subject, first_no_amendment, first_amendment, first_origin, first_opening, first_front, first_row, first_rows, heading_of, subject_of, amendment_of, amends_of, opening_of, front_of, row_of, version_of, AreAllRows};
+
+use crate::{TextFault, fields};
+use lab_names::{
+    Key, Keys, LabCode, LabCodes, Moment, Name, Names, Notes, Ordinal, OutOfMemory, PersonCode,
+    PersonCodes, Units,
+};
+use lab_secrets::Digest;
+use lab_versions::{Amendment, EntryRow, EntryRows, Format, Origin, OriginParts, VersionParts};
+use std::alloc::Global;
+
+/// The fewest bytes of a row's text. Room for no more rows than a text can have is made at once.
+const SHORTEST_ROW: usize = 43;
+
+// Which version it is.
+#[derive(Clone, Copy)]
+struct Heading<'a> {
+    is_newer: bool,
+    lab: &'a str,
+    record_number: u32,
+    number: u32,
+}
+
+// What the record is about, and the format of its text.
+#[derive(Clone, Copy)]
+struct Subject<'a> {
+    form: &'a str,
+    form_version: u32,
+    format: Format,
+    sample: &'a str,
+}
+
+// What a later version amends, and why.
+#[derive(Clone, Copy)]
+struct Reason<'a> {
+    previous: [u8; 32],
+    reason: &'a str,
+}
+
+// Who opened the version and when, and how many rows it has.
+#[derive(Clone, Copy)]
+struct Opening<'a> {
+    opener: &'a str,
+    opened: u64,
+    rows: usize,
+}
+
+// All that stands before the rows.
+#[derive(Clone, Copy)]
+struct Front<'a> {
+    heading: Heading<'a>,
+    subject: Subject<'a>,
+    amendment: Option<Reason<'a>>,
+    opening: Opening<'a>,
+}
+
+// A row.
+#[derive(Clone, Copy)]
+struct Row<'a> {
+    key: &'a str,
+    value: &'a str,
+    unit: &'a str,
+    person: &'a str,
+    moment: u64,
+    reason: Option<&'a str>,
+}
+
+/// Reads the text of a version. `BadText` where the bytes are not the whole text of a version; memory runs out only where
+/// they are.
+pub fn read_version(alloc: Global, bytes: &[u8]) -> Result<VersionParts, TextFault>
+    ensures read { IfOk result (λ parts. IsVersion parts × (version_text parts ≡ bytes.now)) }
+    ensures fault { IfErr result (TextFaultFits (IsNoVersion bytes.now) (IsSomeVersion bytes.now)) }
+{
+    let (front, rest) = first_front(bytes).ok_or(TextFault::BadText)?;
+    let rows = all_rows(alloc, front.opening.rows, rest)?;
+    Ok(owned(alloc, &front, rows)?)
+}
+
+#[tactic(auto, unfolding(crate::specs::Reading::first_front))]
+fn first_front(text: &[u8]) -> Option<(Front<'_>, &[u8])>
+    ensures { option_map (λ found. (front_of found.0, found.1.now)) result ≡ first_front text.now }
+{
+    let (heading, rest) = first_heading(text)?;
+    let (subject, rest) = first_subject(heading.is_newer, rest)?;
+    let (amendment, rest) = first_origin(heading.number, rest)?;
+    let (opening, rest) = first_opening(rest)?;
+    let front = Front {
+        heading,
+        subject,
+        amendment,
+        opening,
+    };
+    Some((front, rest))
+}
+
+#[tactic(auto, unfolding(crate::specs::Reading::first_heading))]
+fn first_heading<'a>(text: &'a [u8]) -> Option<(Heading<'a>, &'a [u8])>
+    ensures { option_map (λ found. (heading_of found.0, found.1.now)) result
+        ≡ first_heading text.now }
+{
+    let (is_newer, rest) = fields::choice(text, b"labrecord 2", b"labrecord 1")?;
+    let (lab, rest) = fields::text::<LabCodes>(rest)?;
+    let (record_number, rest) = fields::ordinal(rest)?;
+    let (number, rest) = fields::ordinal(rest)?;
+    let heading = Heading {
+        is_newer,
+        lab,
+        record_number,
+        number,
+    };
+    Some((heading, rest))
+}
+
+#[tactic(auto, unfolding(crate::specs::Reading::first_subject))]
+fn first_subject(is_newer: bool, text: &[u8]) -> Option<(Subject<'_>, &[u8])>
+    ensures { option_map (λ found. (subject_of found.0, found.1.now)) result
+        ≡ first_subject is_newer text.now }
+{
+    let (form, rest) = fields::text::<Keys>(text)?;
+    let (form_version, rest) = fields::ordinal(rest)?;
+    let (format, rest) = first_format(is_newer, rest)?;
+    let (sample, rest) = fields::text::<Names>(rest)?;
+    let subject = Subject {
+        form,
+        form_version,
+        format,
+        sample,
+    };
+    Some((subject, rest))
+}
+
+// The format, of which the newer one says whether an approval is wanted.
+#[tactic(auto, unfolding(crate::specs::Reading::first_format))]
+fn first_format(is_newer: bool, text: &[u8]) -> Option<(Format, &[u8])>
+    ensures { option_map (λ found. (found.0, found.1.now)) result ≡ first_format is_newer text.now }
+{
+    if !is_newer {
+        return Some((Format::One, text));
+    }
+    let (approval, rest) = fields::choice(text, b"yes", b"no")?;
+    Some((Format::Two { approval }, rest))
+}
+
+// What the version with this number amends, and why.
+#[tactic(auto, unfolding(crate::specs::Reading::first_origin))]
+fn first_origin(number: u32, text: &[u8]) -> Option<(Option<Reason<'_>>, &[u8])>
+    ensures { option_map (λ found. (amends_of found.0, found.1.now)) result
+        ≡ first_origin number text.now }
+{
+    if number == Ordinal::FIRST.get() {
+        let rest = first_no_amendment(text)?;
+        Some((None, rest))
+    } else {
+        let (amendment, rest) = first_amendment(text)?;
+        Some((Some(amendment), rest))
+    }
+}
+
+#[tactic(auto, unfolding(crate::specs::Reading::first_no_amendment))]
+fn first_no_amendment(text: &[u8]) -> Option<&[u8]>
+    ensures { option_map (λ rest. (tt, rest.now)) result ≡ first_no_amendment text.now }
+{
+    let rest = fields::after(text, b"-")?;
+    fields::after(rest, b"")
+}
+
+#[tactic(auto, unfolding(crate::specs::Reading::first_amendment))]
+fn first_amendment(text: &[u8]) -> Option<(Reason<'_>, &[u8])>
+    ensures { option_map (λ found. (amendment_of found.0, found.1.now)) result
+        ≡ first_amendment text.now }
+{
+    let (previous, rest) = fields::digest(text)?;
+    let (reason, rest) = fields::text::<Notes>(rest)?;
+    Some((Reason { previous, reason }, rest))
+}
+
+#[tactic(auto, unfolding(crate::specs::Reading::first_opening))]
+fn first_opening(text: &[u8]) -> Option<(Opening<'_>, &[u8])>
+    ensures { option_map (λ found. (opening_of found.0, found.1.now)) result
+        ≡ first_opening text.now }
+{
+    let (opener, rest) = fields::text::<PersonCodes>(text)?;
+    let (opened, rest) = fields::moment(rest)?;
+    let (rows, rest) = fields::count(rest)?;
+    let opening = Opening {
+        opener,
+        opened,
+        rows,
+    };
+    Some((opening, rest))
+}
+
+#[tactic(auto, unfolding(crate::specs::Reading::first_row))]
+fn first_row(text: &[u8]) -> Option<(Row<'_>, &[u8])>
+    ensures { option_map (λ found. (row_of found.0, found.1.now)) result ≡ first_row text.now }
+{
+    let (key, rest) = fields::text::<Keys>(text)?;
+    let (value, rest) = fields::text::<Notes>(rest)?;
+    let (unit, rest) = fields::text::<Units>(rest)?;
+    let (person, rest) = fields::text::<PersonCodes>(rest)?;
+    let (moment, rest) = fields::moment(rest)?;
+    let (reason, rest) = fields::reason(rest)?;
+    let row = Row {
+        key,
+        value,
+        unit,
+        person,
+        moment,
+        reason,
+    };
+    Some((row, rest))
+}
+
+// What follows so many rows.
+fn after_rows(count: usize, text: &[u8]) -> Option<&[u8]>
+    ensures { option_map (λ rest. rest.now) result
+        ≡ option_map (λ found. found.1) (first_rows count text.now) }
+{
+    let mut rest = text;
+    for _ in 0..count {
+        let (_, after) = first_row(rest)?;
+        rest = after;
+    }
+    Some(rest)
+}
+
+// Why a row is not made that memory has run out for, where so many rows are left with it.
+fn fault_of_memory(left: usize, text: &[u8]) -> TextFault
+    ensures { TextFaultFits (AreAllRows left text.now → ⊥) (AreAllRows left text.now) result }
+{
+    match after_rows(left, text) {
+        Some([]) => TextFault::Memory(OutOfMemory),
+        _ => TextFault::BadText,
+    }
+}
+
+// All rows of a text that has so many, copied.
+fn all_rows(alloc: Global, count: usize, text: &[u8]) -> Result<EntryRows, TextFault>
+    ensures rows { IfOk result (λ rows. first_rows count text.now ≡ Some (rows, [])) }
+    ensures fault { IfErr result
+        (TextFaultFits (AreAllRows count text.now → ⊥) (AreAllRows count text.now)) }
+{
+    let room = count.min(text.len() / SHORTEST_ROW);
+    let Ok(mut rows) = Vec::with_capacity(alloc, room) else {
+        return Err(fault_of_memory(count, text));
+    };
+    let mut rest = text;
+    for at in 0..count {
+        let Some((row, after)) = first_row(rest) else {
+            return Err(TextFault::BadText);
+        };
+        if let Err(_) = push_row(alloc, &mut rows, &row) {
+            return Err(fault_of_memory(count - at, rest));
+        }
+        rest = after;
+    }
+    if !rest.is_empty() {
+        return Err(TextFault::BadText);
+    }
+    Ok(EntryRows::new(rows))
+}
+
+// Adds a row, copied.
+fn push_row(alloc: Global, rows: &mut Vec<EntryRow>, row: &Row<'_>) -> Result<(), OutOfMemory>
+    requires { IsRow (row_of row.now) }
+    ensures { OnOk result (rows.new.items ≡ rows.old.items ++ row_of row.now ∷ []) }
+{
+    rows.push(owned_row(alloc, row)?)?;
+    Ok(())
+}
+
+fn owned_row(alloc: Global, row: &Row<'_>) -> Result<EntryRow, OutOfMemory>
+    requires { IsRow (row_of row.now) }
+    ensures { IfOk result (λ owned. owned ≡ row_of row.now) }
+{
+    let reason = match &row.reason {
+        Some(reason) => Some(fields::own(alloc, reason)?),
+        None => None,
+    };
+    Ok(EntryRow {
+        key: fields::own(alloc, row.key)?,
+        value: fields::own(alloc, row.value)?,
+        unit: fields::own(alloc, row.unit)?,
+        person: fields::own(alloc, row.person)?,
+        moment: owned_moment(row.moment),
+        reason,
+    })
+}
+
+// The version that has what stands before its rows, copied, and these rows.
+fn owned(alloc: Global, front: &Front<'_>, rows: EntryRows) -> Result<VersionParts, OutOfMemory>
+    requires { IsFront (version_of (front_of front.now) rows) }
+    ensures { IfOk result (λ parts. parts ≡ version_of (front_of front.now) rows) }
+{
+    let origin = owned_origin(alloc, front.heading.number, &front.amendment)?;
+    let (lab, form, sample, opener) = owned_texts(alloc, front)?;
+    Ok(VersionParts {
+        format: front.subject.format,
+        lab,
+        record_number: owned_ordinal(front.heading.record_number),
+        origin,
+        form,
+        form_version: owned_ordinal(front.subject.form_version),
+        sample,
+        opener,
+        opened: owned_moment(front.opening.opened),
+        rows,
+    })
+}
+
+// The texts before the rows, copied.
+fn owned_texts(
+    alloc: Global,
+    front: &Front<'_>,
+) -> Result<(LabCode, Key, Name, PersonCode), OutOfMemory>
+    requires lab { IsTrue (is_lab_code front.now.heading.lab.now) }
+    requires form { IsTrue (is_key front.now.subject.form.now) }
+    requires sample { IsTrue (is_name front.now.subject.sample.now) }
+    requires opener { IsTrue (is_person_code front.now.opening.opener.now) }
+    ensures lab { IfOk result (λ texts. texts.0 ≡ front.now.heading.lab.now) }
+    ensures form { IfOk result (λ texts. texts.1 ≡ front.now.subject.form.now) }
+    ensures sample { IfOk result (λ texts. texts.2 ≡ front.now.subject.sample.now) }
+    ensures opener { IfOk result (λ texts. texts.3 ≡ front.now.opening.opener.now) }
+{
+    let lab = fields::own(alloc, front.heading.lab)?;
+    let form = fields::own(alloc, front.subject.form)?;
+    let sample = fields::own(alloc, front.subject.sample)?;
+    let opener = fields::own(alloc, front.opening.opener)?;
+    Ok((lab, form, sample, opener))
+}
+
+fn owned_origin(
+    alloc: Global,
+    number: u32,
+    amendment: &Option<Reason<'_>>,
+) -> Result<Origin, OutOfMemory>
+    requires number { IsTrue (is_ordinal number) }
+    requires origin { IsOrigin (record { number = number; amendment = amends_of amendment.now }) }
+    ensures { IfOk result (λ origin. origin
+        ≡ record { number = number; amendment = amends_of amendment.now }) }
+{
+    let amendment = match amendment {
+        Some(found) => Some(Amendment {
+            previous: Digest::from_bytes(found.previous),
+            reason: fields::own(alloc, found.reason)?,
+        }),
+        None => None,
+    };
+    let number = owned_ordinal(number);
+    Ok(Origin::of(OriginParts { number, amendment }))
+}
+
+fn owned_ordinal(number: u32) -> Ordinal
+    requires { IsTrue (is_ordinal number) }
+    ensures { result ≡ number }
+{
+    match Ordinal::new(number) {
+        Some(ordinal) => ordinal,
+        None => unreachable!(),
+    }
+}
+
+fn owned_moment(seconds: u64) -> Moment
+    requires { IsTrue (is_moment seconds) }
+    ensures { result ≡ seconds }
+{
+    match Moment::from_seconds(seconds as i64) {
+        Ok(moment) => moment,
+        Err(_) => unreachable!(),
+    }
+}
+
+/// Law: no text of a version is the front of another, and a version has one text.
+pub fn one_spelling()
+    ensures { OneSpelling }
+{}
