@@ -1,9 +1,9 @@
 //! The changes that are made of a laboratory.
-use crate::records::{FormVersion, Record, Signature, Version};
-use crate::trails::TrailRow;
 use lab_access::{Closing, Person, Session};
 use lab_names::{Moment, Ordinal, PersonCode};
+use lab_records::{FormVersion, Record, Signature, Version};
 use lab_seal::EntryRow;
+use lab_trails::TrailRow;
 
 /// One change of a laboratory.
 #[derive(Drop)]

@@ -1,10 +1,10 @@
 //! One laboratory, whole.
 ghost use Rattle.std.specs.Prelude.{◌≡◌, IfOk};
 
-use crate::records::{FormVersion, Record};
-use crate::trails::TrailRow;
 use lab_access::{Person, Session};
 use lab_names::{LabCode, Moment, Name, OutOfMemory, Series};
+use lab_records::{FormVersion, Record};
+use lab_trails::TrailRow;
 
 /// One laboratory, whole.
 #[derive(Clone, Drop)]

@@ -1,9 +1,9 @@
 //! Which part of a laboratory is needed, and that part.
-use crate::records::{FormVersion, Record};
-use crate::trails::TrailRow;
 use lab_access::{Person, Session};
 use lab_names::{Key, LabCode, Moment, Name, Ordinal, PersonCode, Series};
+use lab_records::{FormVersion, Record};
 use lab_seal::Digest;
+use lab_trails::TrailRow;
 
 /// Which version of a form is needed.
 #[derive(Drop)]

@@ -1,0 +1,4 @@
+pub mod Lookups
+pub mod Values
+pub mod Digests
+pub mod Latest
