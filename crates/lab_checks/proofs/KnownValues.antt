@@ -11,7 +11,7 @@ use Rattle.lab_names.specs.Calendar.{days_of_spans, span_of, place_of, place_in_
 use Rattle.lab_names.specs.Moment.{moment_of, moment_text}
 use Rattle.lab_names.specs.Names.{is_lab_code, is_person_code, is_key, is_name, is_note, is_unit}
 use Rattle.lab_names.specs.declared.faults.OutOfMemory.{OutOfMemory}
-use Rattle.lab_versions_read.specs.Reading.{number_of}
+use Rattle.lab_items.specs.Reading.{number_of}
 use Rattle.lab_versions.specs.declared.versions.Format.TheVariants as format
 use Rattle.lab_seal.specs.declared.seals.Meaning.TheVariants.{Authorship}
 use Rattle.lab_seal.specs.declared.states.State.TheVariants.{Signed}

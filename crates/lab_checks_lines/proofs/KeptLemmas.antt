@@ -7,7 +7,7 @@ use Rattle.std.specs.Str.{bytes_eq}
 use Rattle.std.proofs.lemmas.Bool.{eqb-true}
 use Rattle.std.proofs.lemmas.List.{length_push, map-append}
 use Rattle.lab_versions.specs.Origins.{first_number, AmendsUnlessFirst}
-use Rattle.lab_versions_read.specs.Reading.{◌>>=◌}
+use Rattle.lab_items.specs.Reading.{◌>>=◌}
 use Rattle.lab_versions.specs.declared.rows.EntryRow.{EntryRow}
 use Rattle.lab_seal.specs.Seals.{seal_of}
 use Rattle.lab_rows.specs.Copies.{Told, lab_of, may_follow, was_asked, is_later_record, is_first_version, is_next_version, is_version_after, is_version_numbered, has_its_numbers, is_in_place, is_some_and, is_none_or, is_of_version, is_version, is_end, last_of, record_in, version_in, entry_in, signature_in, last_record, last_version, last_told, counts_of, amendment_told, parts_told, flaw_of_version, flaw_of_last_version, flaw_of_signature, flaw_shown, flaw_of_line, flaw_at_end, verdict_or, edition_of}

@@ -4,7 +4,7 @@ use Rattle.std.specs.Prelude.{◌≡◌, ◌⊎◌, ℕ, ◌+◌, Bool, true, fa
 use Rattle.std.specs.List.{before_last}
 use Rattle.std.specs.Str.{bytes_eq}
 use Rattle.lab_versions.specs.Origins.{AmendsUnlessFirst}
-use Rattle.lab_versions_read.specs.Reading.{◌>>=◌}
+use Rattle.lab_items.specs.Reading.{◌>>=◌}
 use Rattle.lab_seal.specs.Seals.{seal_of}
 use Rattle.lab_rows.specs.Copies.{Told, lab_of, was_asked, is_later_record, is_first_version, are_same_counts, is_some_and, is_none_or, is_of_version, is_version, last_of, last_record, last_told, counts_of, flaw_of_line, edition_of}
 use Rattle.lab_rows.specs.declared.flaws.Flaw.{Flaw}

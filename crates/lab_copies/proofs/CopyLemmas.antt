@@ -11,7 +11,7 @@ use Rattle.lab_kept.specs.Bound.{IsBound, IsBoundRecord}
 use Rattle.lab_kept.specs.Dual.{IsDual, IsDualRecord}
 use Rattle.lab_kept.specs.Limits.{IsWithin, AreNumberedAfter, IsOrderly}
 use Rattle.lab_kept.specs.Lookups.{is_within, records_within}
-use Rattle.lab_versions_read.specs.Reading.{◌>>=◌}
+use Rattle.lab_items.specs.Reading.{◌>>=◌}
 use Rattle.lab_rows.specs.Copies.{AreFlawless, StandFor, IsSoundCopy, edition_of, is_end, is_of_edition, line_in, may_follow, is_some_and, is_none_or, is_of_version, was_asked, is_later_record, has_its_numbers, last_of, last_record, counts_of, are_same_counts, record_in, version_in, entry_in, signature_in, is_in_place, flaw_shown, flaw_of_last_version, flaw_of_line}
 use Rattle.lab_rows.specs.Lines.{IsLine}
 use Rattle.lab_rows.specs.Reading.{columns_of, line_of}

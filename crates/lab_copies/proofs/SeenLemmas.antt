@@ -1,7 +1,7 @@
 -- What lines tell of the version whose rows stand last in them, as its rows come one by one.
 use Rattle.std.proofs.Common.{◌≡◌, ℕ, Bool, true, false, List, [], ◌∷◌, ◌++◌, Option, Some, None, refl, sym, ap, ◌∙◌}
 use Rattle.std.specs.List.{before_last, after_last, filter_map}
-use Rattle.lab_versions_read.specs.Reading.{◌>>=◌}
+use Rattle.lab_items.specs.Reading.{◌>>=◌}
 use Rattle.lab_versions.specs.declared.rows.EntryRow.{EntryRow}
 use Rattle.lab_rows.specs.Copies.{Told, is_of_version, is_version, last_of, record_in, version_in, entry_in, signature_in, last_record, last_version, last_told}
 use Rattle.lab_rows.specs.declared.lines.EntryLine.{EntryLine}

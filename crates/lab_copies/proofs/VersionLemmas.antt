@@ -4,7 +4,7 @@ use Rattle.std.specs.Prelude.{◌&&◌, not, if◌then◌else◌, bytes_eq, All,
 use Rattle.std.specs.List.{list_any, before_last}
 use Rattle.std.proofs.lemmas.List.Elements.{All-head, All-tail}
 use Rattle.sha2.specs.Sha256.{sha256}
-use Rattle.lab_versions_read.specs.Reading.{◌>>=◌}
+use Rattle.lab_items.specs.Reading.{◌>>=◌}
 use Rattle.lab_versions.specs.Versions.{version_text}
 use Rattle.lab_versions.specs.declared.origins.Amendment.{Amendment}
 use Rattle.lab_versions.specs.declared.rows.EntryRow.{EntryRow}

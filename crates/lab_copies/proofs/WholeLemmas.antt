@@ -5,7 +5,7 @@ use Rattle.std.specs.List.{before_last, flat_map, filter_map}
 use Rattle.std.proofs.lemmas.Bool.Decides.{Decides-ltb}
 use Rattle.std.proofs.lemmas.List.Elements.{All-head, All-tail}
 use Rattle.lab_versions.specs.Origins.{first_number}
-use Rattle.lab_versions_read.specs.Reading.{◌>>=◌}
+use Rattle.lab_items.specs.Reading.{◌>>=◌}
 use Rattle.lab_seal.specs.States.{is_settled}
 use Rattle.lab_seal.specs.declared.states.State.{State}
 use Rattle.lab_seal.specs.declared.states.State.TheVariants.{Open}

@@ -9,7 +9,7 @@ use Rattle.csv.specs.Records.{field_at}
 use Rattle.lab_names.specs.Calendar.{days_of_spans, span_of, place_of, place_in_year, year_of, month_of, day_of_month, hour_of, minute_of, second_of}
 use Rattle.lab_names.specs.Moment.{moment_of, moment_text}
 use Rattle.lab_names.specs.Names.{is_lab_code, is_person_code, is_key, is_name, is_note, is_unit}
-use Rattle.lab_versions_read.specs.Reading.{number_of}
+use Rattle.lab_items.specs.Reading.{number_of}
 use Rattle.lab_rows.specs.Reading.{line_of, copy_line, record_line, version_line, entry_line, signature_line, end_line}
 use Rattle.lab_rows.specs.declared.lines.Edition.TheVariants.{Two}
 use Rattle.lab_rows.specs.declared.lines.Line.TheVariants as line

@@ -6,7 +6,7 @@ use Rattle.std.specs.Str.{bytes_eq}
 use Rattle.std.specs.Cmp.Lexicographic.{pointwise, unequal}
 use Rattle.std.proofs.lemmas.List.Folds.{list_all-map}
 use Rattle.csv.specs.Records.{field_at}
-use Rattle.lab_versions_read.proofs.ReadLemmas.{some_same}
+use Rattle.lab_items.proofs.ReadLemmas.{some_same}
 use Rattle.lab_rows.specs.Rows.{Columns, fields_in, header_row}
 use Rattle.lab_rows.specs.Copies.{is_header}
 use Rattle.lab_rows.specs.Reading.{all_empty, columns_of}

@@ -5,7 +5,7 @@ use Rattle.std.specs.Str.{bytes_eq}
 use Rattle.std.specs.Cmp.Lexicographic.{pointwise}
 use Rattle.csv.specs.Records.{field_at}
 use Rattle.lab_versions.specs.Origins.{first_number}
-use Rattle.lab_versions_read.specs.Reading.{◌>>=◌}
+use Rattle.lab_items.specs.Reading.{◌>>=◌}
 use Rattle.lab_rows.specs.Rows.{Columns, fields_in, header_row}
 use Rattle.lab_rows.specs.Reading.{columns_of, line_of}
 use Rattle.lab_rows.specs.Copies.{is_of_edition}

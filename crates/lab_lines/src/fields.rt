@@ -4,7 +4,7 @@ ghost use Rattle.std.specs.List.{list_all};
 ghost use Rattle.std.specs.Str.{bytes_eq, is_utf8};
 ghost use Rattle.lab_secrets.specs.Digits.{bytes_of_digits};
 ghost use Rattle.lab_names.specs.Moment.{moment_of};
-ghost use Rattle.lab_versions_read.specs.Reading.{number_of, text_where, ordinal_in, reason_in, moment_in};
+ghost use Rattle.lab_items.specs.Reading.{number_of, text_where, ordinal_in, reason_in, moment_in};
 ghost use Rattle.lab_rows.specs.Reading.{all_empty, person_in, count_in, edition_in, format_in, state_in, meaning_in, version_reason_in};
 ghost use Rattle.lab_lines.specs.Fields.{HasReasonUnlessFirst};
 ghost use Rattle.lab_lines.specs.Parts.{IsMeaningText, IsNoteOrNone, IsPersonOrNone, meaning_of};

@@ -10,7 +10,7 @@ use Rattle.std.proofs.lemmas.Str.Ascii.{IsAscii-nil, IsAscii-cons}
 use Rattle.hex.specs.Hex.{encode_lower, lower_digits}
 use Rattle.hex.proofs.HexLemmas.{IsAscii-encode_with}
 use Rattle.lab_names.specs.Moment.{is_moment, moment_text}
-use Rattle.lab_versions_read.proofs.TextLemmas.{moment_utf8}
+use Rattle.lab_items.proofs.TextLemmas.{moment_utf8}
 
 pub moment_is_text : (n : ℕ) → IsTrue (is_moment n) → IsUtf8 (moment_text n)
 moment_is_text n h = moment_utf8 n h

@@ -4,7 +4,7 @@ use Rattle.std.specs.Prelude.{◌&&◌}
 use Rattle.std.specs.Str.Parse.{digits_value}
 use Rattle.std.proofs.lemmas.Grind.{common_steps}
 use Rattle.lab_names.specs.Ordinals.{ordinal_of}
-use Rattle.lab_versions_read.specs.Reading.{number_of}
+use Rattle.lab_items.specs.Reading.{number_of}
 use Rattle.lab_routes.specs.Numbers.{ordinal_in}
 
 some_spelled : (v n : ℕ) (b s : Bool) → cond (b && s) (Some v) None ≡ Some n → cond s (ordinal_of v) None ≡ ordinal_of n

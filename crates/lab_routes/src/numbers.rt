@@ -1,6 +1,6 @@
 //! The numbers of a path and of a query.
 ghost use Rattle.std.specs.Prelude.{◌≡◌};
-ghost use Rattle.lab_versions_read.specs.Reading.{number_of};
+ghost use Rattle.lab_items.specs.Reading.{number_of};
 ghost use Rattle.lab_routes.specs.Numbers.{ordinal_in};
 
 use itoa::Buffer;

@@ -13,7 +13,7 @@ use Rattle.lab_names.specs.Calendar.{days_of_spans, span_of, place_of, place_in_
 use Rattle.lab_names.specs.Moment.{moment_of, moment_text}
 use Rattle.lab_names.specs.Names.{is_lab_code, is_person_code, is_key, is_name, is_note, is_unit}
 use Rattle.lab_secrets.specs.Digits.{bytes_of_digits}
-use Rattle.lab_versions_read.specs.Reading.{number_of}
+use Rattle.lab_items.specs.Reading.{number_of}
 use Rattle.lab_versions.specs.Versions.{item, heading_text, subject_text, origin_text, opening_text, row_text, front_text, version_text}
 use Rattle.lab_seal.specs.Seals.{signer_text, signing_text, seal_text}
 use Rattle.lab_rows.specs.Copies.{verdict, verdict_after, flaw_of_line, flaw_at_end, flaw_of_signature, flaw_of_last_version, last_told, is_in_place}

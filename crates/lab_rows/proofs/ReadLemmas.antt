@@ -4,12 +4,12 @@ use Rattle.std.specs.Prelude.{nat_le, ◌==◌, if◌then◌else◌, option_map}
 use Rattle.std.proofs.lemmas.Bool.{cond-true, cond-false}
 use Rattle.lab_names.specs.Names.{is_lab_code, is_person_code, is_key, is_name, is_note, is_unit}
 use Rattle.lab_versions.specs.Origins.{first_number}
-use Rattle.lab_versions_read.specs.Reading.{◌>>=◌, text_where}
+use Rattle.lab_items.specs.Reading.{◌>>=◌, text_where}
 use Rattle.lab_versions.specs.declared.versions.Format.{Format}
 use Rattle.lab_versions.specs.declared.versions.Format.TheVariants.{One, Two}
-use Rattle.lab_versions_read.proofs.ReadLemmas.{number_complete}
-use Rattle.lab_versions_read.proofs.SpellingLemmas.{text_complete, ordinal_spelling, moment_spelling, digest_spelling, reason_complete}
-use Rattle.lab_versions_read.proofs.TextLemmas.{lab_code_utf8, person_code_utf8, key_utf8, name_utf8, note_utf8, unit_utf8}
+use Rattle.lab_items.proofs.ReadLemmas.{number_complete}
+use Rattle.lab_items.proofs.SpellingLemmas.{text_complete, ordinal_spelling, moment_spelling, digest_spelling, reason_complete}
+use Rattle.lab_items.proofs.TextLemmas.{lab_code_utf8, person_code_utf8, key_utf8, name_utf8, note_utf8, unit_utf8}
 use Rattle.lab_seal.specs.declared.seals.Meaning.{Meaning}
 use Rattle.lab_seal.specs.declared.seals.Meaning.TheVariants.{Authorship, Review, Rejection, Approval}
 use Rattle.lab_seal.specs.declared.states.State.{State}

@@ -11,7 +11,7 @@ use Rattle.csv.specs.Records.{field_at}
 use Rattle.hex.specs.Hex.{encode_lower, lower_digits}
 use Rattle.hex.proofs.HexLemmas.{IsAscii-encode_with}
 use Rattle.lab_names.specs.Moment.{is_moment, moment_text}
-use Rattle.lab_versions_read.proofs.TextLemmas.{moment_utf8}
+use Rattle.lab_items.proofs.TextLemmas.{moment_utf8}
 use Rattle.lab_rows.specs.Rows.{kind_in}
 
 pub moment_is_text : (n : ℕ) → IsTrue (is_moment n) → IsUtf8 (moment_text n)

@@ -10,7 +10,7 @@ use Rattle.std.specs.Str.{bytes_eq}
 use Rattle.std.specs.Cmp.Lexicographic.{pointwise}
 use Rattle.sha2.specs.Sha256.{sha256}
 use Rattle.lab_versions.specs.Origins.{first_number}
-use Rattle.lab_versions_read.specs.Reading.{◌>>=◌}
+use Rattle.lab_items.specs.Reading.{◌>>=◌}
 use Rattle.lab_versions.specs.Versions.{version_text}
 use Rattle.lab_versions.specs.declared.origins.Amendment.{Amendment}
 use Rattle.lab_versions.specs.declared.rows.EntryRow.{EntryRow}

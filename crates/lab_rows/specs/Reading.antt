@@ -6,7 +6,7 @@ use Rattle.std.specs.Str.{bytes_eq}
 use Rattle.lab_names.specs.Names.{is_lab_code, is_person_code, is_key, is_name, is_note, is_unit}
 use Rattle.lab_secrets.specs.Digits.{bytes_of_digits}
 use Rattle.lab_versions.specs.Origins.{first_number}
-use Rattle.lab_versions_read.specs.Reading.{◌>>=◌, number_of, text_where, ordinal_in, reason_in, moment_in}
+use Rattle.lab_items.specs.Reading.{◌>>=◌, number_of, text_where, ordinal_in, reason_in, moment_in}
 use Rattle.lab_versions.specs.declared.versions.Format.{Format}
 use Rattle.lab_versions.specs.declared.versions.Format.TheVariants as format
 use Rattle.lab_seal.specs.declared.seals.Meaning.{Meaning}

@@ -1,7 +1,2 @@
-pub mod ItemLemmas
-pub mod ReadLemmas
-pub mod TextLemmas
-pub mod PartLemmas
-pub mod SpellingLemmas
-pub mod RowLemmas
+pub mod WholeLemmas
 pub mod VersionLemmas

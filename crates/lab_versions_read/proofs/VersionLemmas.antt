@@ -10,7 +10,8 @@ use Rattle.lab_names.specs.Moment.{moment_text}
 use Rattle.lab_names.specs.Names.{is_lab_code, is_person_code, is_key, is_name, is_note, is_unit}
 use Rattle.lab_versions.specs.Origins.{first_number, AmendsUnlessFirst}
 use Rattle.lab_versions.specs.Versions.{item, format_word, approval_text, reason_text, row_text, heading_text, subject_text, origin_text, opening_text, front_text, version_text, IsAmendment, IsRow, IsFront, IsVersion, IsNoVersion, IsSomeVersion, OneSpelling}
-use Rattle.lab_versions_read.specs.Reading.{first_as, first_heading, first_format, first_subject, first_no_amendment, first_amendment, first_origin, first_opening, first_front, first_row, first_rows, HeadingValue, SubjectValue, OpeningValue, FrontValue, version_of, AreAllRows, ◌>>=◌}
+use Rattle.lab_items.specs.Reading.{first_as, ◌>>=◌}
+use Rattle.lab_versions_parts.specs.Parts.{first_heading, first_format, first_subject, first_no_amendment, first_amendment, first_origin, first_opening, first_front, first_row, first_rows, HeadingValue, SubjectValue, OpeningValue, FrontValue, version_of, AreAllRows}
 use Rattle.lab_versions_read.specs.Faults.{TextFaultFits}
 use Rattle.lab_versions_read.specs.declared.faults.TextFault.{TextFault}
 use Rattle.lab_versions_read.specs.declared.faults.TextFault.TheVariants.{BadText, Memory}
@@ -19,10 +20,10 @@ use Rattle.lab_versions.specs.declared.rows.EntryRow.{EntryRow}
 use Rattle.lab_versions.specs.declared.versions.Format.{Format}
 use Rattle.lab_versions.specs.declared.versions.Format.TheVariants.{One, Two}
 use Rattle.lab_versions.specs.declared.versions.VersionParts.{VersionParts}
-use Rattle.lab_versions_read.proofs.PartLemmas.{Spelling, Reader, Part, item_reader, part, behind, reader}
-use Rattle.lab_versions_read.proofs.ReadLemmas.{bind_some, some_same}
-use Rattle.lab_versions_read.proofs.SpellingLemmas.{text_spelling, word_spelling, picked, choice_spelling, count_spelling, ordinal_spelling, moment_spelling, digest_spelling, reason_spelling}
-use Rattle.lab_versions_read.proofs.TextLemmas.{lab_code_utf8, person_code_utf8, key_utf8, name_utf8, note_utf8, unit_utf8, lab_code_short, person_code_short, key_short, name_short, note_short, unit_short}
+use Rattle.lab_items.proofs.PartLemmas.{Spelling, Reader, Part, item_reader, part, behind, reader}
+use Rattle.lab_items.proofs.ReadLemmas.{bind_some, some_same}
+use Rattle.lab_items.proofs.SpellingLemmas.{text_spelling, word_spelling, picked, choice_spelling, count_spelling, ordinal_spelling, moment_spelling, digest_spelling, reason_spelling}
+use Rattle.lab_items.proofs.TextLemmas.{lab_code_utf8, person_code_utf8, key_utf8, name_utf8, note_utf8, unit_utf8, lab_code_short, person_code_short, key_short, name_short, note_short, unit_short}
 
 -- ---- the same texts, grouped otherwise
 

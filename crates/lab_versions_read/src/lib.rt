@@ -2,7 +2,6 @@
 #![tactic(auto)]
 
 mod faults;
-mod fields;
 mod reading;
 
 pub use faults::TextFault;

@@ -1,78 +1,24 @@
 //! The reading of a version's text: of every text that `write_version` gives, and of no other bytes.
 //! The rows are made while they are read; where memory runs out for one, what is left is read before
 //! that is told.
-ghost use Rattle.std.specs.Prelude.{◌≡◌, [], ◌∷◌, ◌++◌, IsTrue, IfOk, IfErr, OnOk, Some, option_map};
+ghost use Rattle.std.specs.Prelude.{◌≡◌, [], ◌∷◌, ◌++◌, IsTrue, IfOk, IfErr, OnOk, Some};
 ghost use Rattle.lab_names.specs.Moment.{is_moment};
 ghost use Rattle.lab_names.specs.Names.{is_lab_code, is_key, is_name, is_person_code};
 ghost use Rattle.lab_names.specs.Ordinals.{is_ordinal};
 ghost use Rattle.lab_versions_read.specs.Faults.{TextFaultFits};
 ghost use Rattle.lab_versions.specs.Versions.{version_text, IsRow, IsOrigin, IsFront, IsVersion, IsNoVersion, IsSomeVersion, OneSpelling};
-ghost use Rattle.lab_versions_read.specs.Reading.{first_heading, first_format, first_subject, first_no_amendment, first_amendment, first_origin, first_opening, first_front, first_row, first_rows, heading_of, subject_of, amendment_of, amends_of, opening_of, front_of, row_of, version_of, AreAllRows};
+ghost use Rattle.lab_versions_parts.specs.Parts.{first_rows, amends_of, front_of, row_of, version_of, AreAllRows};
 
-use crate::{TextFault, fields};
-use lab_names::{
-    Key, Keys, LabCode, LabCodes, Moment, Name, Names, Notes, Ordinal, OutOfMemory, PersonCode,
-    PersonCodes, Units,
-};
+use crate::TextFault;
+use lab_items::fields;
+use lab_names::{Key, LabCode, Moment, Name, Ordinal, OutOfMemory, PersonCode};
 use lab_secrets::Digest;
-use lab_versions::{Amendment, EntryRow, EntryRows, Format, Origin, OriginParts, VersionParts};
+use lab_versions::{Amendment, EntryRow, EntryRows, Origin, OriginParts, VersionParts};
+use lab_versions_parts::parts::{Front, Reason, Row, after_rows, first_front, first_row};
 use std::alloc::Global;
 
 /// The fewest bytes of a row's text. Room for no more rows than a text can have is made at once.
 const SHORTEST_ROW: usize = 43;
-
-// Which version it is.
-#[derive(Clone, Copy)]
-struct Heading<'a> {
-    is_newer: bool,
-    lab: &'a str,
-    record_number: u32,
-    number: u32,
-}
-
-// What the record is about, and the format of its text.
-#[derive(Clone, Copy)]
-struct Subject<'a> {
-    form: &'a str,
-    form_version: u32,
-    format: Format,
-    sample: &'a str,
-}
-
-// What a later version amends, and why.
-#[derive(Clone, Copy)]
-struct Reason<'a> {
-    previous: [u8; 32],
-    reason: &'a str,
-}
-
-// Who opened the version and when, and how many rows it has.
-#[derive(Clone, Copy)]
-struct Opening<'a> {
-    opener: &'a str,
-    opened: u64,
-    rows: usize,
-}
-
-// All that stands before the rows.
-#[derive(Clone, Copy)]
-struct Front<'a> {
-    heading: Heading<'a>,
-    subject: Subject<'a>,
-    amendment: Option<Reason<'a>>,
-    opening: Opening<'a>,
-}
-
-// A row.
-#[derive(Clone, Copy)]
-struct Row<'a> {
-    key: &'a str,
-    value: &'a str,
-    unit: &'a str,
-    person: &'a str,
-    moment: u64,
-    reason: Option<&'a str>,
-}
 
 /// Reads the text of a version. `BadText` where the bytes are not the whole text of a version; memory runs out only where
 /// they are.
@@ -83,154 +29,6 @@ pub fn read_version(alloc: Global, bytes: &[u8]) -> Result<VersionParts, TextFau
     let (front, rest) = first_front(bytes).ok_or(TextFault::BadText)?;
     let rows = all_rows(alloc, front.opening.rows, rest)?;
     Ok(owned(alloc, &front, rows)?)
-}
-
-#[tactic(auto, unfolding(crate::specs::Reading::first_front))]
-fn first_front(text: &[u8]) -> Option<(Front<'_>, &[u8])>
-    ensures { option_map (λ found. (front_of found.0, found.1.now)) result ≡ first_front text.now }
-{
-    let (heading, rest) = first_heading(text)?;
-    let (subject, rest) = first_subject(heading.is_newer, rest)?;
-    let (amendment, rest) = first_origin(heading.number, rest)?;
-    let (opening, rest) = first_opening(rest)?;
-    let front = Front {
-        heading,
-        subject,
-        amendment,
-        opening,
-    };
-    Some((front, rest))
-}
-
-#[tactic(auto, unfolding(crate::specs::Reading::first_heading))]
-fn first_heading<'a>(text: &'a [u8]) -> Option<(Heading<'a>, &'a [u8])>
-    ensures { option_map (λ found. (heading_of found.0, found.1.now)) result
-        ≡ first_heading text.now }
-{
-    let (is_newer, rest) = fields::choice(text, b"labrecord 2", b"labrecord 1")?;
-    let (lab, rest) = fields::text::<LabCodes>(rest)?;
-    let (record_number, rest) = fields::ordinal(rest)?;
-    let (number, rest) = fields::ordinal(rest)?;
-    let heading = Heading {
-        is_newer,
-        lab,
-        record_number,
-        number,
-    };
-    Some((heading, rest))
-}
-
-#[tactic(auto, unfolding(crate::specs::Reading::first_subject))]
-fn first_subject(is_newer: bool, text: &[u8]) -> Option<(Subject<'_>, &[u8])>
-    ensures { option_map (λ found. (subject_of found.0, found.1.now)) result
-        ≡ first_subject is_newer text.now }
-{
-    let (form, rest) = fields::text::<Keys>(text)?;
-    let (form_version, rest) = fields::ordinal(rest)?;
-    let (format, rest) = first_format(is_newer, rest)?;
-    let (sample, rest) = fields::text::<Names>(rest)?;
-    let subject = Subject {
-        form,
-        form_version,
-        format,
-        sample,
-    };
-    Some((subject, rest))
-}
-
-// The format, of which the newer one says whether an approval is wanted.
-#[tactic(auto, unfolding(crate::specs::Reading::first_format))]
-fn first_format(is_newer: bool, text: &[u8]) -> Option<(Format, &[u8])>
-    ensures { option_map (λ found. (found.0, found.1.now)) result ≡ first_format is_newer text.now }
-{
-    if !is_newer {
-        return Some((Format::One, text));
-    }
-    let (approval, rest) = fields::choice(text, b"yes", b"no")?;
-    Some((Format::Two { approval }, rest))
-}
-
-// What the version with this number amends, and why.
-#[tactic(auto, unfolding(crate::specs::Reading::first_origin))]
-fn first_origin(number: u32, text: &[u8]) -> Option<(Option<Reason<'_>>, &[u8])>
-    ensures { option_map (λ found. (amends_of found.0, found.1.now)) result
-        ≡ first_origin number text.now }
-{
-    if number == Ordinal::FIRST.get() {
-        let rest = first_no_amendment(text)?;
-        Some((None, rest))
-    } else {
-        let (amendment, rest) = first_amendment(text)?;
-        Some((Some(amendment), rest))
-    }
-}
-
-#[tactic(auto, unfolding(crate::specs::Reading::first_no_amendment))]
-fn first_no_amendment(text: &[u8]) -> Option<&[u8]>
-    ensures { option_map (λ rest. (tt, rest.now)) result ≡ first_no_amendment text.now }
-{
-    let rest = fields::after(text, b"-")?;
-    fields::after(rest, b"")
-}
-
-#[tactic(auto, unfolding(crate::specs::Reading::first_amendment))]
-fn first_amendment(text: &[u8]) -> Option<(Reason<'_>, &[u8])>
-    ensures { option_map (λ found. (amendment_of found.0, found.1.now)) result
-        ≡ first_amendment text.now }
-{
-    let (previous, rest) = fields::digest(text)?;
-    let (reason, rest) = fields::text::<Notes>(rest)?;
-    Some((Reason { previous, reason }, rest))
-}
-
-#[tactic(auto, unfolding(crate::specs::Reading::first_opening))]
-fn first_opening(text: &[u8]) -> Option<(Opening<'_>, &[u8])>
-    ensures { option_map (λ found. (opening_of found.0, found.1.now)) result
-        ≡ first_opening text.now }
-{
-    let (opener, rest) = fields::text::<PersonCodes>(text)?;
-    let (opened, rest) = fields::moment(rest)?;
-    let (rows, rest) = fields::count(rest)?;
-    let opening = Opening {
-        opener,
-        opened,
-        rows,
-    };
-    Some((opening, rest))
-}
-
-#[tactic(auto, unfolding(crate::specs::Reading::first_row))]
-fn first_row(text: &[u8]) -> Option<(Row<'_>, &[u8])>
-    ensures { option_map (λ found. (row_of found.0, found.1.now)) result ≡ first_row text.now }
-{
-    let (key, rest) = fields::text::<Keys>(text)?;
-    let (value, rest) = fields::text::<Notes>(rest)?;
-    let (unit, rest) = fields::text::<Units>(rest)?;
-    let (person, rest) = fields::text::<PersonCodes>(rest)?;
-    let (moment, rest) = fields::moment(rest)?;
-    let (reason, rest) = fields::reason(rest)?;
-    let row = Row {
-        key,
-        value,
-        unit,
-        person,
-        moment,
-        reason,
-    };
-    Some((row, rest))
-}
-
-// What follows so many rows.
-fn after_rows(count: usize, text: &[u8]) -> Option<&[u8]>
-    ensures { option_map (λ rest. rest.now) result
-        ≡ option_map (λ found. found.1) (first_rows count text.now) }
-{
-    let mut rest = text;
-    for _ in 0..count {
-        let (_, after) = first_row(rest)?;
-        rest = after;
-    }
-    Some(rest)
 }
 
 // Why a row is not made that memory has run out for, where so many rows are left with it.

@@ -1,7 +1,7 @@
 use Rattle.std.proofs.Common.{ap, ◌∙◌}
 use Rattle.std.specs.Result.{result_ok}
 use Rattle.lab_names.specs.Moment.{moment_of}
-use Rattle.lab_versions_read.proofs.ReadLemmas.{ok_again}
+use Rattle.lab_items.proofs.ReadLemmas.{ok_again}
 use Rattle.lab_lines.proofs.fields.moment_of.Goals as goal
 
 pub returns : goal.returns

@@ -1,5 +1,5 @@
 use Rattle.std.proofs.Common.{◌<◌, ◌^◌, sym, ◌∙◌, arith}
-use Rattle.lab_versions_read.proofs.ReadLemmas.{ok_said, err_said, number_not_text, number_unparsed, number_other, number_read}
+use Rattle.lab_items.proofs.ReadLemmas.{ok_said, err_said, number_not_text, number_unparsed, number_other, number_read}
 use Rattle.lab_lines.proofs.fields.number.Goals as goal
 
 pub returns-in_err-text : goal.returns-in_err-text

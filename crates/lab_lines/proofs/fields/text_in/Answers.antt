@@ -1,6 +1,6 @@
 use Rattle.std.proofs.Common.{ap, ◌∙◌}
 use Rattle.std.specs.Prelude.{option_map}
-use Rattle.lab_versions_read.proofs.ReadLemmas.{read_as_text}
+use Rattle.lab_items.proofs.ReadLemmas.{read_as_text}
 use Rattle.lab_lines.proofs.fields.text_in.Goals as goal
 
 pub returns : goal.returns

@@ -1,5 +1,5 @@
 use Rattle.std.proofs.Common.{◌<◌, ◌^◌, refl, sym, ◌∙◌, arith}
-use Rattle.lab_versions_read.proofs.ReadLemmas.{number_unparsed, number_other, number_read}
+use Rattle.lab_items.proofs.ReadLemmas.{number_unparsed, number_other, number_read}
 use Rattle.lab_routes.proofs.numbers.number_of.Goals as goal
 
 pub returns-in_err-value : goal.returns-in_err-value

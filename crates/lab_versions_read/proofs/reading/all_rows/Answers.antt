@@ -1,6 +1,7 @@
 use Rattle.std.proofs.Common.{◌-◌, arith, sym, ◌∙◌}
-use Rattle.lab_versions_read.specs.Reading.{row_of}
-use Rattle.lab_versions_read.proofs.RowLemmas.{rows_more, rows_none, rows_end, left_fault, no_rows, longer_rows, whole_rows}
+use Rattle.lab_versions_parts.specs.Parts.{row_of}
+use Rattle.lab_versions_parts.proofs.RowLemmas.{rows_more, rows_none, rows_end}
+use Rattle.lab_versions_read.proofs.WholeLemmas.{left_fault, no_rows, longer_rows, whole_rows}
 use Rattle.lab_versions_read.proofs.VersionLemmas.{row_sound}
 use Rattle.lab_versions_read.proofs.reading.all_rows.Goals as goal
 

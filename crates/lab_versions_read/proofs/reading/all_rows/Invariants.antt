@@ -1,5 +1,5 @@
 use Rattle.std.proofs.Common.{◌-◌}
-use Rattle.lab_versions_read.proofs.RowLemmas.{IsRowsSoFar}
+use Rattle.lab_versions_parts.proofs.RowLemmas.{IsRowsSoFar}
 use Rattle.lab_versions_read.proofs.reading.all_rows.Given as goal
 
 abbrev pub invariant-loop-at : goal.invariant-loop-at

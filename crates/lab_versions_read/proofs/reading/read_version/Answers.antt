@@ -1,8 +1,8 @@
 use Rattle.std.proofs.Common.{sym}
 use Rattle.std.proofs.lemmas.Result.{err_from_is_err_and}
-use Rattle.lab_versions_read.specs.Reading.{front_of}
+use Rattle.lab_versions_parts.specs.Parts.{front_of}
 use Rattle.lab_versions_read.specs.declared.faults.TextFault.TheVariants.{BadText}
-use Rattle.lab_versions_read.proofs.ReadLemmas.{missing, found}
+use Rattle.lab_items.proofs.ReadLemmas.{missing, found}
 use Rattle.lab_versions_read.proofs.VersionLemmas.{no_front, read_whole, some_version, rows_fault}
 use Rattle.lab_versions_read.proofs.reading.read_version.Goals as goal
 

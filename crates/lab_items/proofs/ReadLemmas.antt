@@ -13,8 +13,8 @@ use Rattle.std.proofs.lemmas.List.{take-append-drop, drop_more, get_or_at, take_
 use Rattle.std.proofs.lemmas.Slice.Eq.{bytes_eq-Decides}
 use Rattle.std.proofs.lemmas.Str.{IsUtf8-from_ascii, is_utf8-from_IsUtf8, IsUtf8-from_is_utf8}
 use Rattle.lab_versions.specs.Versions.{item}
-use Rattle.lab_versions_read.specs.Reading.{number_if_spelled, number_of, line_of, first_item, ◌>>=◌}
-use Rattle.lab_versions_read.proofs.ItemLemmas.{item_text, first_colon, around_colon}
+use Rattle.lab_items.specs.Reading.{number_if_spelled, number_of, line_of, first_item, ◌>>=◌}
+use Rattle.lab_items.proofs.ItemLemmas.{item_text, first_colon, around_colon}
 
 -- the steps of a reader that came to something
 pub bind_some : {A B : Type 0} (o : Option A) (f : A → Option B) (y : B) → o >>= f ≡ Some y

@@ -15,10 +15,10 @@ use Rattle.lab_names.proofs.MomentLemmas.{moment_complete, moment_sound}
 use Rattle.lab_secrets.specs.Digits.{bytes_of_digits}
 use Rattle.lab_secrets.proofs.DigitsLemmas.{digits_complete, digits_sound}
 use Rattle.lab_versions.specs.Versions.{reason_text, IsDigest, IsReason}
-use Rattle.lab_versions_read.specs.Reading.{text_where, this_word, which_word, number_of, ordinal_in, reason_in, moment_in, ◌>>=◌}
-use Rattle.lab_versions_read.proofs.PartLemmas.{Spelling}
-use Rattle.lab_versions_read.proofs.ReadLemmas.{bind_some, when_some, some_same, number_sound, number_complete, decimal_short}
-use Rattle.lab_versions_read.proofs.TextLemmas.{note_utf8, note_short, moment_utf8, moment_short}
+use Rattle.lab_items.specs.Reading.{text_where, this_word, which_word, number_of, ordinal_in, reason_in, moment_in, ◌>>=◌}
+use Rattle.lab_items.proofs.PartLemmas.{Spelling}
+use Rattle.lab_items.proofs.ReadLemmas.{bind_some, when_some, some_same, number_sound, number_complete, decimal_short}
+use Rattle.lab_items.proofs.TextLemmas.{note_utf8, note_short, moment_utf8, moment_short}
 
 -- ---- texts
 

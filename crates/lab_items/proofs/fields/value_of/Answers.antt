@@ -1,6 +1,6 @@
 use Rattle.std.proofs.Common.{◌<◌, arith}
-use Rattle.lab_versions_read.proofs.ReadLemmas.{one_digit, two_digits}
-use Rattle.lab_versions_read.proofs.fields.value_of.Goals as goal
+use Rattle.lab_items.proofs.ReadLemmas.{one_digit, two_digits}
+use Rattle.lab_items.proofs.fields.value_of.Goals as goal
 
 pub returns-in-48-to-57 : goal.returns-in-48-to-57
 returns-in-48-to-57 c =

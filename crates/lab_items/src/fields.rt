@@ -4,7 +4,7 @@ ghost use Rattle.std.specs.Prelude.{◌≡◌, ◌==◌, ◌+◌, ◌<◌, ◌�
 ghost use Rattle.std.specs.List.{position};
 ghost use Rattle.std.specs.Str.{is_utf8};
 ghost use Rattle.lab_secrets.specs.Digits.{bytes_of_digits};
-ghost use Rattle.lab_versions_read.specs.Reading.{number_of, line_of, first_item, first_as, text_where, this_word, which_word, ordinal_in, reason_in, moment_in};
+ghost use Rattle.lab_items.specs.Reading.{number_of, line_of, first_item, first_as, text_where, this_word, which_word, ordinal_in, reason_in, moment_in};
 ghost use Rattle.lab_names.specs.Moment.{moment_of};
 
 use itoa::Buffer;
@@ -12,8 +12,8 @@ use lab_names::{Moment, NameFault, Notes, Ordinal, OutOfMemory, Rule, Text};
 use lab_secrets::Digest;
 use std::alloc::Global;
 
-// A copy of a text that the rule admits.
-pub(crate) fn own<R: Rule>(alloc: Global, text: &str) -> Result<Text<R>, OutOfMemory>
+/// A copy of a text that the rule admits.
+pub fn own<R: Rule>(alloc: Global, text: &str) -> Result<Text<R>, OutOfMemory>
     requires { IsTrue (R.admits text.now) }
     ensures { IfOk result (λ copy. copy ≡ text.now) }
 {
@@ -77,9 +77,9 @@ fn line_of(text: &[u8], count: usize) -> Option<(&[u8], &[u8])>
     Some((&text[..count], &text[count + 1..]))
 }
 
-// The bytes of the item at the front.
+/// The bytes of the item at the front.
 #[tactic(auto, unfolding(crate::specs::Reading::first_item))]
-pub(crate) fn bytes(text: &[u8]) -> Option<(&[u8], &[u8])>
+pub fn bytes(text: &[u8]) -> Option<(&[u8], &[u8])>
     ensures { option_map (λ parts. (parts.0.now, parts.1.now)) result ≡ first_item text.now }
 {
     let colon = first_colon(text)?;
@@ -87,9 +87,9 @@ pub(crate) fn bytes(text: &[u8]) -> Option<(&[u8], &[u8])>
     line_of(&text[colon + 1..], count)
 }
 
-// A text that the rule admits.
+/// A text that the rule admits.
 #[tactic(auto, unfolding(crate::specs::Reading::first_as))]
-pub(crate) fn text<R: Rule>(front: &[u8]) -> Option<(&str, &[u8])>
+pub fn text<R: Rule>(front: &[u8]) -> Option<(&str, &[u8])>
     ensures { option_map (λ found. (found.0.now, found.1.now)) result
         ≡ first_as (text_where R.admits) front.now }
 {
@@ -111,9 +111,9 @@ fn text_in(bytes: &[u8]) -> Option<&str>
     str::from_utf8(bytes).ok()
 }
 
-// What follows an item that has these bytes.
+/// What follows an item that has these bytes.
 #[tactic(auto, unfolding(crate::specs::Reading::first_as))]
-pub(crate) fn after<'a>(text: &'a [u8], expected: &[u8]) -> Option<&'a [u8]>
+pub fn after<'a>(text: &'a [u8], expected: &[u8]) -> Option<&'a [u8]>
     ensures { option_map (λ rest. (tt, rest.now)) result
         ≡ first_as (this_word expected.now) text.now }
 {
@@ -121,9 +121,9 @@ pub(crate) fn after<'a>(text: &'a [u8], expected: &[u8]) -> Option<&'a [u8]>
     if bytes == expected { Some(rest) } else { None }
 }
 
-// Which of two words the item at the front is.
+/// Which of two words the item at the front is.
 #[tactic(auto, unfolding(crate::specs::Reading::first_as))]
-pub(crate) fn choice<'a>(text: &'a [u8], yes: &[u8], no: &[u8]) -> Option<(bool, &'a [u8])>
+pub fn choice<'a>(text: &'a [u8], yes: &[u8], no: &[u8]) -> Option<(bool, &'a [u8])>
     ensures { option_map (λ found. (found.0, found.1.now)) result
         ≡ first_as (which_word yes.now no.now) text.now }
 {
@@ -137,9 +137,9 @@ pub(crate) fn choice<'a>(text: &'a [u8], yes: &[u8], no: &[u8]) -> Option<(bool,
     }
 }
 
-// The number of a list's elements.
+/// The number of a list's elements.
 #[tactic(auto, unfolding(crate::specs::Reading::first_as))]
-pub(crate) fn count(text: &[u8]) -> Option<(usize, &[u8])>
+pub fn count(text: &[u8]) -> Option<(usize, &[u8])>
     ensures { option_map (λ found. (found.0, found.1.now)) result ≡ first_as number_of text.now }
 {
     let (digits, rest) = bytes(text)?;
@@ -147,9 +147,9 @@ pub(crate) fn count(text: &[u8]) -> Option<(usize, &[u8])>
     Some((count, rest))
 }
 
-// The number of a record, a version or a form's version.
+/// The number of a record, a version or a form's version.
 #[tactic(auto, unfolding(crate::specs::Reading::first_as))]
-pub(crate) fn ordinal(text: &[u8]) -> Option<(u32, &[u8])>
+pub fn ordinal(text: &[u8]) -> Option<(u32, &[u8])>
     ensures { option_map (λ found. (found.0, found.1.now)) result ≡ first_as ordinal_in text.now }
 {
     let (digits, rest) = bytes(text)?;
@@ -166,9 +166,9 @@ fn ordinal_in(digits: &[u8]) -> Option<u32>
     }
 }
 
-// A note, or nothing where the item is empty.
+/// A note, or nothing where the item is empty.
 #[tactic(auto, unfolding(crate::specs::Reading::first_as))]
-pub(crate) fn reason(text: &[u8]) -> Option<(Option<&str>, &[u8])>
+pub fn reason(text: &[u8]) -> Option<(Option<&str>, &[u8])>
     ensures { option_map (λ found. (option_map (λ note. note.now) found.0, found.1.now)) result
         ≡ first_as reason_in text.now }
 {
@@ -200,16 +200,18 @@ fn moment_in(bytes: &[u8]) -> Option<u64>
     Some(moment.seconds() as u64)
 }
 
+/// A moment.
 #[tactic(auto, unfolding(crate::specs::Reading::first_as))]
-pub(crate) fn moment(text: &[u8]) -> Option<(u64, &[u8])>
+pub fn moment(text: &[u8]) -> Option<(u64, &[u8])>
     ensures { option_map (λ found. (found.0, found.1.now)) result ≡ first_as moment_in text.now }
 {
     let (bytes, rest) = bytes(text)?;
     Some((moment_in(bytes)?, rest))
 }
 
+/// A digest.
 #[tactic(auto, unfolding(crate::specs::Reading::first_as))]
-pub(crate) fn digest(text: &[u8]) -> Option<([u8; 32], &[u8])>
+pub fn digest(text: &[u8]) -> Option<([u8; 32], &[u8])>
     ensures { option_map (λ found. (found.0, found.1.now)) result
         ≡ first_as (bytes_of_digits 32) text.now }
 {

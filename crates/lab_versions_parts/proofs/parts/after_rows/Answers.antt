@@ -1,7 +1,7 @@
 use Rattle.std.proofs.Common.{arith, sym, ap, ◌∙◌}
 use Rattle.std.specs.Prelude.{option_map}
-use Rattle.lab_versions_read.proofs.RowLemmas.{rest_more, rest_none, rest_end}
-use Rattle.lab_versions_read.proofs.reading.after_rows.Goals as goal
+use Rattle.lab_versions_parts.proofs.RowLemmas.{rest_more, rest_none, rest_end}
+use Rattle.lab_versions_parts.proofs.parts.after_rows.Goals as goal
 
 pub returns-in_err-after : goal.returns-in_err-after
 returns-in_err-after c =

@@ -1,6 +1,6 @@
 use Rattle.std.proofs.Common.{◌<◌, ◌^◌, sym, ◌∙◌, arith}
-use Rattle.lab_versions_read.proofs.ReadLemmas.{ok_said, err_said, number_not_text, number_unparsed, number_other, number_read}
-use Rattle.lab_versions_read.proofs.fields.parsed_value_of.Goals as goal
+use Rattle.lab_items.proofs.ReadLemmas.{ok_said, err_said, number_not_text, number_unparsed, number_other, number_read}
+use Rattle.lab_items.proofs.fields.parsed_value_of.Goals as goal
 
 pub returns-in_err-text : goal.returns-in_err-text
 returns-in_err-text c =

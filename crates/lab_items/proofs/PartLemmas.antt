@@ -2,8 +2,8 @@
 -- behind another, so does what they write and read together.
 use Rattle.std.proofs.Common.{◌≡◌, ℕ, ◌<◌, ◌^◌, List, ◌++◌, length, Option, Some, refl, sym, ap, subst, ◌∙◌, append_assoc}
 use Rattle.lab_versions.specs.Versions.{item}
-use Rattle.lab_versions_read.specs.Reading.{first_item, first_as, ◌>>=◌}
-use Rattle.lab_versions_read.proofs.ReadLemmas.{bind_some, some_same, item_sound, item_complete}
+use Rattle.lab_items.specs.Reading.{first_item, first_as, ◌>>=◌}
+use Rattle.lab_items.proofs.ReadLemmas.{bind_some, some_same, item_sound, item_complete}
 
 -- what the bytes of an item stand for
 pub record Spelling (A : Type 0) : Type 1 where
