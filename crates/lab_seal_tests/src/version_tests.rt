@@ -1,7 +1,10 @@
 //! The texts of versions, which `lab_versions` writes and reads.
 use crate::tests::{bytes_of, same, text};
+use lab_versions::{
+    Amendment, EntryRow, EntryRows, Format, Moment, Note, Ordinal, Origin, OutOfMemory,
+    VersionParts, digest, write_version,
+};
 use lab_versions_read::{TextFault, one_spelling, read_version};
-use lab_versions::{Amendment, EntryRow, EntryRows, Format, Moment, Note, Ordinal, Origin, OutOfMemory, VersionParts, digest, write_version};
 use std::process::Abort;
 
 fn moment(rt: &impl Abort, seconds: i64) -> Moment {
