@@ -36,8 +36,8 @@ use Rattle.lab_records.specs.declared.records.FormVersion.{FormVersion}
 use Rattle.lab_records.specs.declared.records.Record.{Record}
 use Rattle.lab_records.specs.declared.records.Version.{Version}
 use Rattle.lab_records.specs.declared.records.Signature.{Signature}
-use Rattle.lab_trails.specs.declared.trails.Deed.TheVariants as deed
-use Rattle.lab_trails.specs.declared.trails.Occasion.TheVariants as occasion
+use Rattle.lab_deeds.specs.declared.trails.Deed.TheVariants as deed
+use Rattle.lab_deeds.specs.declared.trails.Occasion.TheVariants as occasion
 use Rattle.lab_records.specs.Digests.{digest_of}
 use Rattle.lab_rules.specs.declared.items.Item.{Item}
 use Rattle.lab_rules.specs.declared.outcomes.Signing.TheVariants.{Authorship, Review}

@@ -24,10 +24,10 @@ use Rattle.lab_records.specs.declared.records.FormVersion.{FormVersion}
 use Rattle.lab_records.specs.declared.records.Record.{Record}
 use Rattle.lab_records.specs.declared.records.Version.{Version}
 use Rattle.lab_records.specs.declared.records.Signature.{Signature}
-use Rattle.lab_trails.specs.declared.trails.Action.{Action}
-use Rattle.lab_trails.specs.declared.trails.Action.TheVariants as action
-use Rattle.lab_trails.specs.declared.trails.Deed.TheVariants as deed
-use Rattle.lab_trails.specs.declared.trails.TrailRow.{TrailRow}
+use Rattle.lab_deeds.specs.declared.trails.Action.{Action}
+use Rattle.lab_deeds.specs.declared.trails.Action.TheVariants as action
+use Rattle.lab_deeds.specs.declared.trails.Deed.TheVariants as deed
+use Rattle.lab_deeds.specs.declared.trails.TrailRow.{TrailRow}
 use Rattle.lab_kept.specs.declared.labs.Lab.{Lab}
 use Rattle.lab_records.specs.Digests.{digest_of, signature_of, seal_for}
 use Rattle.lab_records.specs.Values.{version_state, all_rows}

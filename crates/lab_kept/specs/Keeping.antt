@@ -10,10 +10,10 @@ use Rattle.lab_records.specs.declared.records.FormVersion.{FormVersion}
 use Rattle.lab_records.specs.declared.records.Record.{Record as KeptRecord}
 use Rattle.lab_records.specs.declared.records.Version.{Version}
 use Rattle.lab_records.specs.declared.records.Signature.{Signature}
-use Rattle.lab_trails.specs.declared.trails.Deed.{Deed}
-use Rattle.lab_trails.specs.declared.trails.Deed.TheVariants.{Record, Entry, Amend, Sign}
+use Rattle.lab_deeds.specs.declared.trails.Deed.{Deed}
+use Rattle.lab_deeds.specs.declared.trails.Deed.TheVariants.{Record, Entry, Amend, Sign}
 use Rattle.lab_kept.specs.declared.labs.Lab.{Lab}
-use Rattle.lab_trails.specs.Trails.{row_of}
+use Rattle.lab_deeds.specs.Trails.{row_of}
 use Rattle.lab_records.specs.Lookups.{exact_form, record_of, last_of, version_of}
 use Rattle.lab_kept.specs.Changes.{SamePerson, SameSession, IsKnown, in_record, entered_in, opened_in, signed_in}
 

@@ -9,7 +9,7 @@ use Rattle.lab_access.specs.Sessions.{session_of}
 use Rattle.lab_records.specs.declared.records.Record.{Record}
 use Rattle.lab_records.specs.declared.records.Version.{Version}
 use Rattle.lab_records.specs.Lookups.{last_of, record_of, version_of}
-use Rattle.lab_trails.specs.declared.trails.TrailRow.{TrailRow}
+use Rattle.lab_deeds.specs.declared.trails.TrailRow.{TrailRow}
 use Rattle.lab_kept.specs.declared.labs.Lab.{Lab}
 
 -- one text comes before another in the order of their bytes

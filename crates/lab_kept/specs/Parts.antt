@@ -4,7 +4,7 @@ use Rattle.std.specs.Prelude.{List, [], length, Option, Some, None, option_and_t
 use Rattle.lab_access.specs.declared.persons.Person.{Person}
 use Rattle.lab_records.specs.declared.records.FormVersion.{FormVersion}
 use Rattle.lab_records.specs.declared.records.Record.{Record}
-use Rattle.lab_trails.specs.declared.trails.TrailRow.{TrailRow}
+use Rattle.lab_deeds.specs.declared.trails.TrailRow.{TrailRow}
 use Rattle.lab_kept.specs.declared.labs.Lab.{Lab}
 use Rattle.lab_kept.specs.declared.needs.Need.{Need}
 use Rattle.lab_kept.specs.declared.needs.Slice.{Slice}

@@ -3,7 +3,7 @@ use lab_access::{Closing, Person, Session};
 use lab_names::{Moment, Ordinal, PersonCode};
 use lab_records::{FormVersion, Record, Signature, Version};
 use lab_seal::EntryRow;
-use lab_trails::TrailRow;
+use lab_deeds::TrailRow;
 
 /// One change of a laboratory.
 #[derive(Drop)]

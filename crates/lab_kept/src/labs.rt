@@ -4,7 +4,7 @@ ghost use Rattle.std.specs.Prelude.{◌≡◌, IfOk};
 use lab_access::{Person, Session};
 use lab_names::{LabCode, Moment, Name, OutOfMemory, Series};
 use lab_records::{FormVersion, Record};
-use lab_trails::TrailRow;
+use lab_deeds::TrailRow;
 
 /// One laboratory, whole.
 #[derive(Clone, Drop)]

@@ -26,7 +26,7 @@ pub use lab_seal::{
     Ordinal, Origin, OriginParts, OutOfMemory, PersonCode, Seal, SealParts, State, Unit,
     VersionParts,
 };
-pub use lab_trails::{Action, Deed, Occasion, Subject, TrailRow};
+pub use lab_deeds::{Action, Deed, Occasion, Subject, TrailRow};
 pub use labs::Lab;
 pub use laws::what_is_released;
 pub use limits::{COUNT_LIMIT, FORM_VERSIONS_LIMIT, RECORDS_LIMIT, ROWS_LIMIT, VERSIONS_LIMIT};

@@ -3,7 +3,7 @@ use lab_access::{Person, Session};
 use lab_names::{Key, LabCode, Moment, Name, Ordinal, PersonCode, Series};
 use lab_records::{FormVersion, Record};
 use lab_seal::Digest;
-use lab_trails::TrailRow;
+use lab_deeds::TrailRow;
 
 /// Which version of a form is needed.
 #[derive(Drop)]

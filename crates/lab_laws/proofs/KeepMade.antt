@@ -17,8 +17,8 @@ use Rattle.lab_kept.specs.declared.labs.Lab.{Lab}
 use Rattle.lab_records.specs.declared.records.FormVersion.{FormVersion}
 use Rattle.lab_records.specs.declared.records.Record.{Record as KeptRecord}
 use Rattle.lab_records.specs.declared.records.Version.{Version}
-use Rattle.lab_trails.specs.declared.trails.Deed.{Deed}
-use Rattle.lab_trails.specs.declared.trails.Deed.TheVariants.{Record as RecordDeed, Entry as EntryDeed, Amend as AmendDeed}
+use Rattle.lab_deeds.specs.declared.trails.Deed.{Deed}
+use Rattle.lab_deeds.specs.declared.trails.Deed.TheVariants.{Record as RecordDeed, Entry as EntryDeed, Amend as AmendDeed}
 use Rattle.lab_kept.specs.Limits.{AreFormsNumbered, form_version_limit, record_limit, row_limit, version_limit}
 use Rattle.lab_records.specs.Lookups.{last_form, next_form_version, record_of, version_of, is_numbered, last_of}
 use Rattle.lab_records.specs.Values.{version_state}

@@ -21,9 +21,9 @@ use Rattle.lab_people.specs.Issues.{asking, confirming}
 use Rattle.lab_kept.specs.declared.labs.Lab.{Lab}
 use Rattle.lab_records.specs.declared.records.FormVersion.{FormVersion}
 use Rattle.lab_records.specs.declared.records.Record.{Record}
-use Rattle.lab_trails.specs.declared.trails.Deed.{Deed}
-use Rattle.lab_trails.specs.declared.trails.Deed.TheVariants.{Refuse, Lock}
-use Rattle.lab_trails.specs.declared.trails.Occasion.{Occasion}
+use Rattle.lab_deeds.specs.declared.trails.Deed.{Deed}
+use Rattle.lab_deeds.specs.declared.trails.Deed.TheVariants.{Refuse, Lock}
+use Rattle.lab_deeds.specs.declared.trails.Occasion.{Occasion}
 use Rattle.lab_kept.specs.Limits.{count_limit}
 use Rattle.lab_records.specs.Lookups.{record_of, record_about, last_form, exact_form}
 use Rattle.lab_kept.specs.Lookups.{caller_of, person_at, session_at}

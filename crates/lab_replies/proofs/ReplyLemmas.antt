@@ -12,7 +12,7 @@ use Rattle.lab_forms.specs.declared.kinds.Kind.TheVariants.{Number, Text, Choice
 use Rattle.lab_forms.specs.declared.forms.Field.{Field}
 use Rattle.lab_records.specs.declared.records.FormVersion.{FormVersion}
 use Rattle.lab_records.specs.declared.records.Signature.{Signature}
-use Rattle.lab_trails.specs.declared.trails.TrailRow.{TrailRow}
+use Rattle.lab_deeds.specs.declared.trails.TrailRow.{TrailRow}
 use Rattle.lab_seal.specs.declared.states.State.{State}
 use Rattle.lab_versions.specs.declared.rows.EntryRow.{EntryRow}
 use Rattle.lab_rules.specs.declared.readings.PersonLine.{PersonLine}

@@ -14,8 +14,8 @@ use Rattle.lab_seal.specs.declared.seals.Meaning.TheVariants.{Rejection, Approva
 use Rattle.lab_records.specs.declared.records.FormVersion.{FormVersion}
 use Rattle.lab_records.specs.declared.records.Version.{Version}
 use Rattle.lab_records.specs.declared.records.Signature.{Signature}
-use Rattle.lab_trails.specs.declared.trails.Action.TheVariants as action
-use Rattle.lab_trails.specs.declared.trails.TrailRow.{TrailRow as Told}
+use Rattle.lab_deeds.specs.declared.trails.Action.TheVariants as action
+use Rattle.lab_deeds.specs.declared.trails.TrailRow.{TrailRow as Told}
 use Rattle.lab_kept.specs.declared.changes.Change.{Change}
 use Rattle.lab_kept.specs.declared.changes.Change.TheVariants.{Last, Strays, PersonAdded, PersonSet, SessionAdded, SessionSet, SessionsClosed, FormAdded, RecordAdded, RowAdded, VersionOpened, SignatureAdded, TrailAdded}
 use Rattle.lab_kept.specs.Changes.{change}

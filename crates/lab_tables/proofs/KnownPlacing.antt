@@ -12,7 +12,7 @@ use Rattle.lab_kept.specs.declared.births.Newborn.{Newborn}
 use Rattle.lab_records.specs.declared.records.FormVersion.{FormVersion}
 use Rattle.lab_records.specs.declared.records.Version.{Version}
 use Rattle.lab_kept.specs.declared.labs.Lab.{Lab}
-use Rattle.lab_trails.specs.declared.trails.Action.TheVariants as action
+use Rattle.lab_deeds.specs.declared.trails.Action.TheVariants as action
 use Rattle.lab_kept.specs.Births.{newborn_lab}
 use Rattle.lab_tables.specs.Rows.{LabRow, Tables}
 use Rattle.lab_tables.specs.Meaning.{meaning}

@@ -16,9 +16,9 @@ use Rattle.lab_seal.specs.declared.seals.Meaning.TheVariants.{Authorship, Review
 use Rattle.lab_records.specs.declared.records.FormVersion.{FormVersion}
 use Rattle.lab_records.specs.declared.records.Record.{Record}
 use Rattle.lab_records.specs.declared.records.Version.{Version}
-use Rattle.lab_trails.specs.declared.trails.Action.{Action}
-use Rattle.lab_trails.specs.declared.trails.Action.TheVariants as action
-use Rattle.lab_trails.specs.declared.trails.TrailRow.{TrailRow as Told}
+use Rattle.lab_deeds.specs.declared.trails.Action.{Action}
+use Rattle.lab_deeds.specs.declared.trails.Action.TheVariants as action
+use Rattle.lab_deeds.specs.declared.trails.TrailRow.{TrailRow as Told}
 use Rattle.lab_kept.specs.declared.labs.Lab.{Lab}
 use Rattle.lab_records.specs.Digests.{digest_of}
 use Rattle.lab_tables.specs.Rows.{DeskRow, LabRow, PersonRow, SessionRow, FormRow, FieldRow, ChoiceRow, RecordRow, VersionRow, EntryRow, SignatureRow, TrailRow, Tables, natural}

@@ -23,7 +23,7 @@ use Rattle.lab_records.specs.declared.records.FormVersion.{FormVersion}
 use Rattle.lab_records.specs.declared.records.Record.{Record}
 use Rattle.lab_records.specs.declared.records.Version.{Version}
 use Rattle.lab_records.specs.declared.records.Signature.{Signature}
-use Rattle.lab_trails.specs.declared.trails.TrailRow.{TrailRow as Told}
+use Rattle.lab_deeds.specs.declared.trails.TrailRow.{TrailRow as Told}
 use Rattle.lab_kept.specs.declared.labs.Lab.{Lab}
 use Rattle.lab_records.specs.Digests.{digest_of}
 use Rattle.lab_tables.specs.Rows.{LabRow, PersonRow, AskColumns, SessionRow, FormRow, FieldRow, ChoiceRow, RecordRow, VersionRow, EntryRow, SignatureRow, TrailRow, Tables, person_id, form_id}

@@ -4,9 +4,9 @@ use Rattle.std.specs.Prelude.{codes}
 use Rattle.std.specs.Fmt.{digits}
 use Rattle.lab_access.specs.declared.roles.Roles.{Roles}
 use Rattle.lab_seal.specs.declared.seals.Meaning.TheVariants.{Authorship}
-use Rattle.lab_trails.specs.declared.trails.Occasion.TheVariants.{Signing}
-use Rattle.lab_trails.specs.declared.trails.Deed.TheVariants.{Found, Open, Refuse, Lock, Enrol, Form, Record, Entry, Amend, Sign}
-use Rattle.lab_trails.specs.Trails.{action_of, action_word, roles_text, subject_text}
+use Rattle.lab_deeds.specs.declared.trails.Occasion.TheVariants.{Signing}
+use Rattle.lab_deeds.specs.declared.trails.Deed.TheVariants.{Found, Open, Refuse, Lock, Enrol, Form, Record, Entry, Amend, Sign}
+use Rattle.lab_deeds.specs.Trails.{action_of, action_word, roles_text, subject_text}
 
 -- dan is an analyst and a reviewer
 abbrev roles : Roles

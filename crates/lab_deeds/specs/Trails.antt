@@ -8,13 +8,13 @@ use Rattle.lab_access.specs.declared.roles.Role.{Role}
 use Rattle.lab_access.specs.declared.roles.Roles.{Roles}
 use Rattle.lab_access.specs.Roles.{role_list, role_word}
 use Rattle.lab_seal.specs.Seals.{meaning_word}
-use Rattle.lab_trails.specs.declared.trails.Action.{Action}
-use Rattle.lab_trails.specs.declared.trails.Action.TheVariants.{Found, Open, Close, Refuse, Lock, Password, Enrol, Issue, Confirm, Roles as GiveRoles, Retire, Unlock, Form, Record, Entry, Amend, Sign}
-use Rattle.lab_trails.specs.declared.trails.Occasion.{Occasion}
-use Rattle.lab_trails.specs.declared.trails.Occasion.TheVariants.{Opening, Changing, Signing}
-use Rattle.lab_trails.specs.declared.trails.Deed.{Deed}
-use Rattle.lab_trails.specs.declared.trails.Deed.TheVariants.{Found as IsFounded, Open as IsOpened, Close as IsClosed, Refuse as IsRefused, Lock as IsLocked, Password as IsRenewed, Enrol as IsEnrolled, Issue as IsIssued, Confirm as IsConfirmed, Roles as HasRoles, Retire as IsRetired, Unlock as IsUnlocked, Form as FormIsMade, Record as RecordIsOpened, Entry as IsEntered, Amend as IsAmended, Sign as IsSigned}
-use Rattle.lab_trails.specs.declared.trails.TrailRow.{TrailRow}
+use Rattle.lab_deeds.specs.declared.trails.Action.{Action}
+use Rattle.lab_deeds.specs.declared.trails.Action.TheVariants.{Found, Open, Close, Refuse, Lock, Password, Enrol, Issue, Confirm, Roles as GiveRoles, Retire, Unlock, Form, Record, Entry, Amend, Sign}
+use Rattle.lab_deeds.specs.declared.trails.Occasion.{Occasion}
+use Rattle.lab_deeds.specs.declared.trails.Occasion.TheVariants.{Opening, Changing, Signing}
+use Rattle.lab_deeds.specs.declared.trails.Deed.{Deed}
+use Rattle.lab_deeds.specs.declared.trails.Deed.TheVariants.{Found as IsFounded, Open as IsOpened, Close as IsClosed, Refuse as IsRefused, Lock as IsLocked, Password as IsRenewed, Enrol as IsEnrolled, Issue as IsIssued, Confirm as IsConfirmed, Roles as HasRoles, Retire as IsRetired, Unlock as IsUnlocked, Form as FormIsMade, Record as RecordIsOpened, Entry as IsEntered, Amend as IsAmended, Sign as IsSigned}
+use Rattle.lab_deeds.specs.declared.trails.TrailRow.{TrailRow}
 
 -- the word of an action
 abbrev pub action_word : Action → List ℕ

@@ -1,6 +1,6 @@
 //! The trail: what it tells of each action, by which word and with which subject.
 ghost use Rattle.std.specs.Prelude.{◌≡◌, IfOk, string_bytes};
-ghost use Rattle.lab_trails.specs.Trails.{action_word, action_of};
+ghost use Rattle.lab_deeds.specs.Trails.{action_word, action_of};
 
 use lab_access::Roles;
 use lab_names::{Key, LabCode, Moment, Ordinal, OutOfMemory, PersonCode};

@@ -1,7 +1,7 @@
 //! Subjects of the trail, as they are written.
 ghost use Rattle.std.specs.Prelude.{◌≡◌, ◌++◌, OnOk, IfOk, codes, decimal, string_bytes};
 ghost use Rattle.std.specs.List.{flat_map};
-ghost use Rattle.lab_trails.specs.Trails.{occasion_word, spaced_role, slashed, subject_text};
+ghost use Rattle.lab_deeds.specs.Trails.{occasion_word, spaced_role, slashed, subject_text};
 
 use crate::trails::{Deed, Occasion, Subject};
 use itoa::Buffer;
