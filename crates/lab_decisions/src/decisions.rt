@@ -1,6 +1,6 @@
 //! What is decided on a part of a laboratory.
 ghost use Rattle.std.specs.Prelude.{◌≡◌, ◌++◌, ◌∷◌, [], Some, None, IfOk, IsTrue, OnErr};
-ghost use Rattle.lab_deeds.specs.Trails.{row_of};
+ghost use Rattle.lab_kept_trail.specs.Trails.{row_of};
 ghost use Rattle.lab_laws.specs.Asking.{IsCommandFormed};
 ghost use Rattle.lab_commands.specs.Done.{done_of};
 ghost use Rattle.lab_decisions.specs.Deciding.{failing, outcome, ended_made, ended_by, ended_done, touching, decided_without, decided_by, decided};

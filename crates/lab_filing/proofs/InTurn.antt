@@ -4,9 +4,9 @@ use Rattle.sqlite_keyed.specs.Keyed.{next_key}
 use Rattle.sqlite_keyed.proofs.KeyedLemmas.{next_key_is_free}
 use Rattle.sqlite.specs.State.{State}
 use Rattle.lab_forms.specs.declared.forms.Field.{Field}
-use Rattle.lab_records.specs.declared.records.FormVersion.{FormVersion}
-use Rattle.lab_records.specs.declared.records.Record.{Record}
-use Rattle.lab_records.specs.declared.records.Version.{Version}
+use Rattle.lab_kept_records.specs.declared.records.FormVersion.{FormVersion}
+use Rattle.lab_kept_records.specs.declared.records.Record.{Record}
+use Rattle.lab_kept_records.specs.declared.records.Version.{Version}
 use Rattle.lab_tables.specs.Rows.{LabRow, Tables, form_id, field_id, choice_id, record_id, version_id}
 use Rattle.lab_tables.specs.Columns.{kind_names}
 use Rattle.lab_tables.specs.Changes.{in_lab, person_named, form_named, record_named, InTurn, IsFree, put_form, form_row_of, put_field, put_choice, put_record, record_row_of, put_version, version_row_of, set_current, AddsChoice, AddsField, AddsForm, AddsEntry, AddsSignature, AddsVersion, AddsRecord, OpensVersion}

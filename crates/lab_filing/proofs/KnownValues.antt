@@ -8,8 +8,8 @@ use Rattle.lab_forms.specs.declared.forms.Field.{Field}
 use Rattle.lab_forms.specs.declared.kinds.Kind.TheVariants.{YesNo}
 use Rattle.lab_seal.specs.declared.seals.Meaning.TheVariants.{Rejection}
 use Rattle.lab_versions.specs.declared.rows.EntryRow.{EntryRow as Entry}
-use Rattle.lab_records.specs.declared.records.FormVersion.{FormVersion}
-use Rattle.lab_records.specs.declared.records.Signature.{Signature}
+use Rattle.lab_kept_records.specs.declared.records.FormVersion.{FormVersion}
+use Rattle.lab_kept_records.specs.declared.records.Signature.{Signature}
 use Rattle.lab_tables.proofs.KnownFile.{filled, file, plainly, form, field, choice, filed, version, entry, signature}
 use Rattle.lab_tables.proofs.KnownValues.{aqua_record, older_version}
 use Rattle.lab_filing.specs.Added.{with_entry, with_signature, with_choice, with_field, with_form, with_record, with_version}

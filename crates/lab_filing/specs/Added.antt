@@ -2,11 +2,11 @@
 use Rattle.std.specs.Prelude.{ℕ, ℤ, List}
 use Rattle.sqlite_keyed.specs.Keyed.{next_key}
 use Rattle.lab_versions.specs.declared.rows.EntryRow.{EntryRow as Entry}
-use Rattle.lab_records.specs.declared.records.Signature.{Signature}
+use Rattle.lab_kept_records.specs.declared.records.Signature.{Signature}
 use Rattle.lab_forms.specs.declared.forms.Field.{Field}
-use Rattle.lab_records.specs.declared.records.FormVersion.{FormVersion}
-use Rattle.lab_records.specs.declared.records.Record.{Record}
-use Rattle.lab_records.specs.declared.records.Version.{Version}
+use Rattle.lab_kept_records.specs.declared.records.FormVersion.{FormVersion}
+use Rattle.lab_kept_records.specs.declared.records.Record.{Record}
+use Rattle.lab_kept_records.specs.declared.records.Version.{Version}
 use Rattle.lab_seal.specs.Seals.{meaning_word}
 use Rattle.lab_tables.specs.Columns.{reason_column, kind_columns}
 use Rattle.lab_tables.specs.Rows.{ChoiceRow, FieldRow, EntryRow, SignatureRow, Tables, form_id, field_id, choice_id, record_id, version_id, entry_id, signature_id}

@@ -6,10 +6,10 @@ use Rattle.lab_access.specs.declared.persons.Person.{Person}
 use Rattle.lab_access.specs.declared.sessions.Session.{Session}
 use Rattle.lab_access.specs.Persons.{person_of}
 use Rattle.lab_access.specs.Sessions.{session_of}
-use Rattle.lab_records.specs.declared.records.Record.{Record}
-use Rattle.lab_records.specs.declared.records.Version.{Version}
-use Rattle.lab_records.specs.Lookups.{last_of, record_of, version_of}
-use Rattle.lab_deeds.specs.declared.trails.TrailRow.{TrailRow}
+use Rattle.lab_kept_records.specs.declared.records.Record.{Record}
+use Rattle.lab_kept_records.specs.declared.records.Version.{Version}
+use Rattle.lab_kept_records.specs.Lookups.{last_of, record_of, version_of}
+use Rattle.lab_kept_trail.specs.declared.trails.TrailRow.{TrailRow}
 use Rattle.lab_kept.specs.declared.labs.Lab.{Lab}
 
 -- one text comes before another in the order of their bytes

@@ -1,9 +1,9 @@
 //! The changes that are made of a laboratory.
 use lab_access::{Closing, Person, Session};
+use lab_kept_records::{FormVersion, Record, Signature, Version};
+use lab_kept_trail::TrailRow;
 use lab_names::{Moment, Ordinal, PersonCode};
-use lab_records::{FormVersion, Record, Signature, Version};
 use lab_seal::EntryRow;
-use lab_deeds::TrailRow;
 
 /// One change of a laboratory.
 #[derive(Drop)]

@@ -2,9 +2,9 @@
 ghost use Rattle.std.specs.Prelude.{◌≡◌, IfOk};
 
 use lab_access::{Person, Session};
+use lab_kept_records::{FormVersion, Record};
+use lab_kept_trail::TrailRow;
 use lab_names::{LabCode, Moment, Name, OutOfMemory, Series};
-use lab_records::{FormVersion, Record};
-use lab_deeds::TrailRow;
 
 /// One laboratory, whole.
 #[derive(Clone, Drop)]

@@ -19,14 +19,16 @@ pub use faults::{KeeperFault, PlacingFault};
 pub use keeper::Keeper;
 pub use lab_access::{Ask, Closing, Password, Person, Role, Roles, Session};
 pub use lab_forms::{Bound, Choices, Field, Form, FormRefusal, Kind, Value};
+pub use lab_kept_records::{
+    FormVersion, Record, Signature, Version, first_versions, latest, noted,
+};
+pub use lab_kept_trail::{Action, Deed, Occasion, Subject, TrailRow};
 pub use lab_names::Series;
-pub use lab_records::{FormVersion, Record, Signature, Version, first_versions, latest, noted};
 pub use lab_seal::{
     Amendment, Digest, EntryRow, EntryRows, Format, Key, LabCode, Meaning, Moment, Name, Note,
     Ordinal, Origin, OriginParts, OutOfMemory, PersonCode, Seal, SealParts, State, Unit,
     VersionParts,
 };
-pub use lab_deeds::{Action, Deed, Occasion, Subject, TrailRow};
 pub use labs::Lab;
 pub use laws::what_is_released;
 pub use limits::{COUNT_LIMIT, FORM_VERSIONS_LIMIT, RECORDS_LIMIT, ROWS_LIMIT, VERSIONS_LIMIT};

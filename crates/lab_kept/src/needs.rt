@@ -1,9 +1,9 @@
 //! Which part of a laboratory is needed, and that part.
 use lab_access::{Person, Session};
+use lab_kept_records::{FormVersion, Record};
+use lab_kept_trail::TrailRow;
 use lab_names::{Key, LabCode, Moment, Name, Ordinal, PersonCode, Series};
-use lab_records::{FormVersion, Record};
 use lab_seal::Digest;
-use lab_deeds::TrailRow;
 
 /// Which version of a form is needed.
 #[derive(Drop)]

@@ -4,7 +4,7 @@ use Rattle.std.proofs.Common.{◌≡◌, refl, pos, [], ◌∷◌, Some, None, o
 use Rattle.std.specs.Prelude.{codes, length}
 use Rattle.lab_access.specs.declared.persons.Ask.{Ask}
 use Rattle.lab_access.specs.declared.sessions.Session.{Session}
-use Rattle.lab_deeds.specs.declared.trails.TrailRow.{TrailRow as Told}
+use Rattle.lab_kept_trail.specs.declared.trails.TrailRow.{TrailRow as Told}
 use Rattle.lab_tables.proofs.KnownFile.{filled, file}
 use Rattle.lab_lookups.specs.declared.heads.PersonHead.{PersonHead}
 use Rattle.lab_lookups.specs.declared.heads.ToldHead.{ToldHead}

@@ -8,7 +8,7 @@ use Rattle.lab_tables.specs.Columns.{meaning_in}
 use Rattle.lab_tables.specs.Meaning.{has_code, code_of, entry_in, entries_of, signature_in, signatures_of}
 use Rattle.lab_reading.specs.Heads.{lab_head, is_record, record_head, version_head, versions_of}
 use Rattle.lab_versions.specs.declared.rows.EntryRow.{EntryRow as Entry}
-use Rattle.lab_records.specs.declared.records.Signature.{Signature}
+use Rattle.lab_kept_records.specs.declared.records.Signature.{Signature}
 use Rattle.lab_tables.specs.Meaning.{Leaf}
 use Rattle.lab_reading.specs.declared.heads.VersionHead.{VersionHead}
 use Rattle.lab_reading.specs.Leaves.{leaf_by}

@@ -4,7 +4,7 @@ use Rattle.sqlite_keyed.specs.Keyed.{next_key}
 use Rattle.sqlite_keyed.proofs.KeyedLemmas.{next_key_is_free}
 use Rattle.sqlite.specs.State.{State}
 use Rattle.lab_access.specs.declared.sessions.Session.{Session}
-use Rattle.lab_deeds.specs.declared.trails.TrailRow.{TrailRow as Told}
+use Rattle.lab_kept_trail.specs.declared.trails.TrailRow.{TrailRow as Told}
 use Rattle.lab_tables.specs.Rows.{LabRow, Tables, session_id, trail_id}
 use Rattle.lab_tables.specs.Changes.{in_lab, person_named, is_session, IsNamedIfAny, session_row_of, set_session, AddsSession, SetsSession, AddsTold}
 use Rattle.lab_tables.specs.Ready.{tables_of}

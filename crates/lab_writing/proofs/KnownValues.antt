@@ -7,8 +7,8 @@ use Rattle.sqlite_value.specs.declared.value.Value.TheVariants.{Null, Int, Text,
 use Rattle.sqlite_value.specs.Order.{Row}
 use Rattle.lab_access.specs.declared.sessions.Closing.TheVariants.{Nothing, All, Others}
 use Rattle.lab_access.specs.declared.sessions.Session.{Session}
-use Rattle.lab_deeds.specs.declared.trails.Action.TheVariants.{Lock}
-use Rattle.lab_deeds.specs.declared.trails.TrailRow.{TrailRow as Told}
+use Rattle.lab_kept_trail.specs.declared.trails.Action.TheVariants.{Lock}
+use Rattle.lab_kept_trail.specs.declared.trails.TrailRow.{TrailRow as Told}
 use Rattle.lab_tables.specs.Rows.{Tables}
 use Rattle.lab_tables.proofs.KnownFile.{filled, file, session, told}
 use Rattle.lab_tables.proofs.KnownValues.{eve}

@@ -2,7 +2,7 @@
 use Rattle.std.specs.Prelude.{ℤ, Option}
 use Rattle.sqlite_keyed.specs.Keyed.{next_key}
 use Rattle.lab_access.specs.declared.sessions.Session.{Session}
-use Rattle.lab_deeds.specs.declared.trails.TrailRow.{TrailRow as Told}
+use Rattle.lab_kept_trail.specs.declared.trails.TrailRow.{TrailRow as Told}
 use Rattle.lab_tables.specs.Rows.{Tables, session_id, trail_id}
 use Rattle.lab_tables.specs.Changes.{put_session, session_row_of, put_told, told_row_of}
 
