@@ -15,8 +15,8 @@ use Rattle.lab_rules.specs.declared.outcomes.SignatureMade.{SignatureMade}
 use Rattle.lab_rules.specs.declared.outcomes.Signing.{Signing}
 use Rattle.lab_rules.specs.declared.refusals.Refusal.{Refusal}
 use Rattle.lab_rules.specs.declared.refusals.Refusal.TheVariants.{AmendmentOpen}
-use Rattle.lab_rules.specs.Entering.{has_settled, amending_by, amending_of, is_table_made, amending}
-use Rattle.lab_rules.specs.Signing.{approval_refusal, state_refusal, or_else, is_digest_made, is_digest_made_at, signature_made, new_signature, signing_version, signing_record}
+use Rattle.lab_entries.specs.Entering.{has_settled, amending_by, amending_of, is_table_made, amending}
+use Rattle.lab_signatures.specs.Signing.{approval_refusal, state_refusal, or_else, is_digest_made, is_digest_made_at, signature_made, new_signature, signing_version, signing_record}
 
 -- by whether the last version is released or rejected
 settled_by : (settled : Bool) (lab : List ℕ) (kept : Record) (last : Version)

@@ -14,8 +14,8 @@ use Rattle.lab_kept.specs.declared.needs.Slice.{Slice}
 use Rattle.lab_kept.specs.declared.records.Record.{Record}
 use Rattle.lab_rules.specs.declared.outcomes.Signing.{Signing}
 use Rattle.lab_rules.specs.Making.{making, opening_record}
-use Rattle.lab_rules.specs.Entering.{entering, is_table_made}
-use Rattle.lab_rules.specs.Signing.{is_code_wanted, is_digest_made_at}
+use Rattle.lab_entries.specs.Entering.{entering, is_table_made}
+use Rattle.lab_signatures.specs.Signing.{is_code_wanted, is_digest_made_at}
 use Rattle.lab_rules.specs.Reading.{reading_record, reading_version}
 use Rattle.lab_machine.specs.declared.commands.Command.{Command}
 use Rattle.lab_machine.specs.declared.commands.Command.TheVariants.{Card, Open, Close, ChangePassword, Enrol, ReadPersons, AskIssue, ConfirmIssue, SetRoles, Retire, Unlock, MakeForm, ReadForm, OpenRecord, Enter, Amend, Sign, ReadRecord, ReadVersion, ReadRecords, ReadTrail, TakeCopy}

@@ -11,10 +11,7 @@ use lab_copies::{CopyOrder, CopyRow, copy_rows};
 use lab_kept::{FormVersion, Record, Slice};
 use lab_machine::Reply;
 use lab_names::{LabCode, Moment, Ordinal, OutOfMemory, PersonCode, Series};
-use lab_rules::{
-    CommandFault, PersonLine, RecordState, person_line, read_form, read_record, read_version,
-    record_line,
-};
+use lab_rules::{CommandFault, PersonLine, RecordState, person_line, read_form, read_record, read_version, record_line};
 use std::alloc::Global;
 
 /// What the reading of a version of a form comes to.

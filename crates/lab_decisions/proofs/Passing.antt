@@ -16,7 +16,7 @@ use Rattle.lab_access.specs.Sessions.{session_of, is_live, touched_session}
 use Rattle.lab_kept.specs.declared.labs.Lab.{Lab}
 use Rattle.lab_kept.specs.Limits.{stray_limit}
 use Rattle.lab_kept.specs.Lookups.{session_at, person_at, caller_of}
-use Rattle.lab_rules.specs.Signing.{signing_rule}
+use Rattle.lab_rules.specs.SigningRules.{signing_rule}
 use Rattle.lab_machine.specs.declared.commands.Command.{Command}
 use Rattle.lab_machine.specs.declared.commands.Command.TheVariants.{Card, Open, Close, ChangePassword, Enrol, ReadPersons, AskIssue, ConfirmIssue, SetRoles, Retire, Unlock, MakeForm, ReadForm, OpenRecord, Enter, Amend, Sign, ReadRecord, ReadVersion, ReadRecords, ReadTrail, TakeCopy}
 use Rattle.lab_machine.specs.declared.passages.Passage.{Passage}

@@ -1,8 +1,8 @@
 //! Laboratories with which a day begins.
 use lab_access::{Password, Person, Role, Roles};
 use lab_asked::{Halt, Words, chance, moment, roles, text};
+use lab_changes::change;
 use lab_kept::{Action, Change, Lab, Subject, TrailRow};
-use lab_lists::change;
 use lab_names::{Moment, Ordinal, Series};
 use lab_secrets::{Verifier, founder_salts};
 use std::alloc::Global;

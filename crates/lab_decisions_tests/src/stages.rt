@@ -2,11 +2,12 @@
 use crate::foundings::{bare, bare_lab, founded, with_person};
 use crate::lines::{answered, echoed, repeated, shown, summed};
 use lab_asked::{Halt, Words, instruction, number, tick};
+use lab_changes::change;
 use lab_decisions::{Outcome, decide};
 use lab_kept::{Change, Counts, Lab, Slice};
-use lab_lists::{change, part};
 use lab_machine::{Instruction, Reply, needs};
 use lab_names::{Moment, OutOfMemory, Tick};
+use lab_parts::part;
 use lab_replies::reply_body;
 use lab_told::lab_text;
 use std::alloc::Global;

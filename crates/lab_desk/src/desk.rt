@@ -6,18 +6,17 @@ ghost use Rattle.lab_wire.specs.declared.refusals.RequestRefusal.{RequestRefusal
 ghost use Rattle.lab_wire.specs.declared.replies.Answer.TheVariants.{Refused as RefusedAnswer};
 ghost use Rattle.lab_wire.specs.Asked.{asked};
 ghost use Rattle.lab_wire.specs.Replies.{reply_text, memory_text};
-ghost use Rattle.lab_desk.specs.Requests.{TakesRequest, RefusesRequest, TellsFault, MovesFor, Steps, is_idle_request};
-ghost use Rattle.lab_desk.specs.Keeping.{AreWithin, AreReleasing, KeptFrom};
-ghost use Rattle.lab_desk.specs.Foundings.{founding_in, Founds, Births, TakesFounding, RefusesFounding, shown};
-ghost use Rattle.lab_desk.specs.Faults.{FoundFaultFits, OnBody, OnKept, OnUncommitted};
+ghost use Rattle.lab_requests.specs.Requests.{TakesRequest, RefusesRequest, TellsFault, MovesFor, Steps, is_idle_request};
+ghost use Rattle.lab_requests.specs.Keeping.{AreWithin, AreReleasing, KeptFrom};
+ghost use Rattle.lab_foundings.specs.Foundings.{founding_in, Founds, Births, TakesFounding, RefusesFounding, shown};
+ghost use Rattle.lab_foundings.specs.Faults.{FoundFaultFits, OnBody, OnKept, OnUncommitted};
 ghost use Rattle.std.specs.Prelude.{IsSome};
 
-use crate::events::Event;
-use crate::faults::FoundFault;
-use crate::foundings::{Line, founded, newborn_of, unfounded};
-use crate::requests::answer_asked;
+use lab_foundings::{FoundFault, Line, founded, newborn_of, unfounded};
 use lab_kept::{Keeper, KeeperFault};
 use lab_names::{LabCode, OutOfMemory, Tick};
+use lab_requests::answer_asked;
+use lab_runs::Event;
 use lab_wire::{Answer, RequestFault, RequestRefusal, ask, memory_reply, reply_bytes};
 use std::alloc::Global;
 use std::marker::Model;

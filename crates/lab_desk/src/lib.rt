@@ -3,17 +3,15 @@
 #![tactic(auto)]
 
 mod desk;
-mod events;
 mod faults;
-mod foundings;
-mod requests;
 mod runs;
 mod serving;
 
 pub use crate::desk::Desk;
-pub use crate::events::Event;
-pub use crate::faults::{FoundFault, RunFault, ServeFault};
+pub use crate::faults::{RunFault, ServeFault};
+pub use lab_foundings::FoundFault;
 pub use lab_kept::{Keeper, PlacingFault};
 pub use lab_machine::BirthRefusal;
 pub use lab_members::BodyRefusal;
 pub use lab_names::{LabCode, OutOfMemory, Series, Tick};
+pub use lab_runs::Event;

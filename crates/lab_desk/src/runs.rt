@@ -4,15 +4,15 @@
 ghost use Rattle.std.specs.Prelude.{◌≡◌, ℕ, List, [], ◌∷◌, IfOk, IfErr};
 ghost use Rattle.std.specs.Io.KnownBytes.{Keeps};
 ghost use Rattle.lab_kept.specs.Worlds.{Passes, Given};
-ghost use Rattle.lab_desk.specs.Keeping.{AreWithin, AreReleasing, KeptFrom, RetainedFrom, ReleasedFrom};
-ghost use Rattle.lab_desk.specs.Runs.{IsRun, Runs, RunsCut, Sends};
+ghost use Rattle.lab_requests.specs.Keeping.{AreWithin, AreReleasing, KeptFrom, RetainedFrom, ReleasedFrom};
+ghost use Rattle.lab_runs.specs.Runs.{IsRun, Runs, RunsCut, Sends};
 ghost use Rattle.lab_desk.specs.Faults.{IfWrite, IfMemory};
 
 use crate::desk::Desk;
-use crate::events::Event;
 use crate::faults::RunFault;
 use lab_kept::Keeper;
 use lab_messages::{WriteFault, write_reply};
+use lab_runs::Event;
 use std::io::Write;
 
 /// How one event was answered.

@@ -8,11 +8,11 @@ use Rattle.std.proofs.KnownBytes.{Appends-nil, Appends-trans, Appends-kept, Keep
 use Rattle.std.proofs.lemmas.List.Folds.{concat-append}
 use Rattle.lab_messages.specs.declared.sending.WriteFault.{WriteFault as Untold}
 use Rattle.lab_kept.specs.Worlds.{World}
-use Rattle.lab_desk.specs.declared.events.Event.{Event}
+use Rattle.lab_runs.specs.declared.events.Event.{Event}
 use Rattle.lab_desk.specs.declared.faults.RunFault.{RunFault}
 use Rattle.lab_desk.specs.declared.faults.RunFault.TheVariants.{Memory as RunMemory, Write}
 use Rattle.std.proofs.lemmas.List.{map-append}
-use Rattle.lab_desk.specs.Runs.{Handled, IsRun, Runs, RunsCut, answers_of}
+use Rattle.lab_runs.specs.Runs.{Handled, IsRun, Runs, RunsCut, answers_of}
 use Rattle.lab_desk.specs.Faults.{IfWrite, IfMemory}
 use Rattle.lab_events.specs.declared.fault.ReplayFault.{ReplayFault}
 use Rattle.lab_events.specs.declared.fault.ReplayFault.TheVariants.{BadEvent, ReadFault, WriteFault, Storage, Memory}
@@ -20,7 +20,7 @@ use Rattle.lab_events.specs.Event.{next_event}
 use Rattle.lab_events.specs.Fault.{IsInputFault, fault_of_run, fault_line}
 use Rattle.lab_events.specs.Reading.{TakesNext}
 use Rattle.lab_events.specs.Replay.{BeginsWith, Stops, IsTold, IsWritten, Replays, events_of}
-use Rattle.lab_desk.proofs.Running.{run_then, no_run}
+use Rattle.lab_runs.proofs.Running.{run_then, no_run}
 
 -- the events so far were run, and the rest of the input is left
 pub record SoFar (old new : World) (input now before after : Option (List ℕ)) : Type 0 where

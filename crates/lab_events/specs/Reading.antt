@@ -5,8 +5,8 @@ use Rattle.std.specs.Io.KnownBytes.{Consumes}
 use Rattle.lab_events.specs.declared.fault.ReplayFault.{ReplayFault}
 use Rattle.lab_events.specs.declared.fault.ReplayFault.TheVariants.{BadEvent, WriteFault, Memory}
 use Rattle.lab_events.specs.declared.event.Heading.{Heading as HeadingRead}
-use Rattle.lab_desk.specs.declared.events.Event.{Event as EventRead}
-use Rattle.lab_desk.specs.declared.events.Event.TheVariants.{Found, Call}
+use Rattle.lab_runs.specs.declared.events.Event.{Event as EventRead}
+use Rattle.lab_runs.specs.declared.events.Event.TheVariants.{Found, Call}
 use Rattle.lab_events.specs.Event.{line_at, Heading, Event, Next, End, Bad, Taken}
 
 -- a text was refused with this fault

@@ -4,8 +4,8 @@ use Rattle.std.specs.Prelude.{◌≡◌, ◌<◌, ℕ, List, [], ◌∷◌, ◌+
 use Rattle.std.specs.Io.KnownBytes.{Keeps, Appends}
 use Rattle.lab_messages.specs.declared.sending.WriteFault.{WriteFault as Untold}
 use Rattle.lab_kept.specs.Worlds.{World}
-use Rattle.lab_desk.specs.declared.events.Event.{Event as EventRead}
-use Rattle.lab_desk.specs.Runs.{Handled, IsRun, answers_of}
+use Rattle.lab_runs.specs.declared.events.Event.{Event as EventRead}
+use Rattle.lab_runs.specs.Runs.{Handled, IsRun, answers_of}
 use Rattle.lab_events.specs.declared.fault.ReplayFault.{ReplayFault}
 use Rattle.lab_events.specs.declared.fault.ReplayFault.TheVariants.{BadEvent, ReadFault, WriteFault, Storage, Memory}
 use Rattle.lab_events.specs.Event.{Next, End, Bad, Taken, next_event}

@@ -5,9 +5,9 @@ use Rattle.std.specs.Io.KnownBytes.{Keeps}
 use Rattle.lab_names.specs.declared.tick.Tick.{Tick}
 use Rattle.lab_kept.specs.declared.labs.Lab.{Lab}
 use Rattle.lab_kept.specs.Worlds.{Given, IsDurable, Leaves, World}
-use Rattle.lab_desk.specs.declared.faults.FoundFault.{FoundFault}
-use Rattle.lab_desk.specs.Faults.{FoundFaultFits}
-use Rattle.lab_desk.specs.Foundings.{Founds, founding_in}
+use Rattle.lab_foundings.specs.declared.faults.FoundFault.{FoundFault}
+use Rattle.lab_foundings.specs.Faults.{FoundFaultFits}
+use Rattle.lab_foundings.specs.Foundings.{Founds, founding_in}
 use Rattle.lab_serving.specs.declared.faults.ServerFault.{ServerFault}
 use Rattle.lab_serving.specs.declared.faults.ServerFault.TheVariants.{Memory, Read, Write}
 use Rattle.lab_serving.specs.Faults.{IsReaderFault}

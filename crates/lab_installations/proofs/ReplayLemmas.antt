@@ -13,10 +13,10 @@ use Rattle.lab_kept.specs.Worlds.{Meaning, World}
 use Rattle.lab_laws.specs.Runs.{IsReleasing}
 use Rattle.lab_laws.specs.Stepping.{WhereThere}
 use Rattle.lab_store.specs.StoreWorlds.{world_of}
-use Rattle.lab_desk.specs.Alone.{alone_after}
-use Rattle.lab_desk.specs.Keeping.{AreWithin, OfAll}
-use Rattle.lab_desk.specs.Runs.{Handled, IsRun, after_run, own_events}
-use Rattle.lab_desk.proofs.Running.{run_releasing}
+use Rattle.lab_runs.specs.Alone.{alone_after}
+use Rattle.lab_requests.specs.Keeping.{AreWithin, OfAll}
+use Rattle.lab_runs.specs.Runs.{Handled, IsRun, after_run, own_events}
+use Rattle.lab_runs.proofs.Running.{run_releasing}
 use Rattle.lab_events.specs.declared.fault.ReplayFault.{ReplayFault}
 use Rattle.lab_events.specs.declared.fault.ReplayFault.TheVariants.{BadEvent, ReadFault, WriteFault, Storage, Memory}
 use Rattle.lab_events.specs.Event.{next_event}

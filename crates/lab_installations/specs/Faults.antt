@@ -5,7 +5,7 @@ use Rattle.lab_names.specs.Faults.{memory_entry}
 use Rattle.lab_messages.specs.declared.sending.WriteFault.{WriteFault as Untold}
 use Rattle.lab_files.specs.declared.faults.FileFault.TheVariants.{Memory as FileMemory}
 use Rattle.lab_files.specs.Faults.{file_fault_entry, file_fault_value}
-use Rattle.lab_desk.specs.Faults.{found_fault_entry}
+use Rattle.lab_foundings.specs.Faults.{found_fault_entry}
 use Rattle.lab_walks.specs.Faults.{copy_fault_word}
 use Rattle.lab_serving.specs.Faults.{IsTold, server_fault_word, told_line}
 use Rattle.lab_installations.specs.declared.faults.TaskFault.{TaskFault}

@@ -6,8 +6,8 @@ use Rattle.lab_names.specs.declared.tick.Tick.{Tick}
 use Rattle.lab_messages.specs.declared.sending.WriteFault.{WriteFault as Untold}
 use Rattle.lab_kept.specs.declared.labs.Lab.{Lab}
 use Rattle.lab_kept.specs.Worlds.{World, Given, Leaves, IsDurable}
-use Rattle.lab_desk.specs.Faults.{FoundFaultFits}
-use Rattle.lab_desk.specs.Foundings.{Founds, founded_line, founding_in}
+use Rattle.lab_foundings.specs.Faults.{FoundFaultFits}
+use Rattle.lab_foundings.specs.Foundings.{Founds, founded_line, founding_in}
 use Rattle.lab_serving.specs.Sources.{Gives}
 use Rattle.lab_serving.specs.declared.faults.ServerFault.TheVariants.{Read, Write, Memory}
 use Rattle.lab_installations.specs.declared.faults.TaskFault.{TaskFault}

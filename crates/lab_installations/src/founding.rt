@@ -1,6 +1,6 @@
 //! `labdesk found`: a laboratory is founded in a file.
 
-ghost use Rattle.lab_desk.specs.Foundings.{founded_line};
+ghost use Rattle.lab_foundings.specs.Foundings.{founded_line};
 ghost use Rattle.lab_installations.specs.Files.{IsOpened, file_places, file_world};
 ghost use Rattle.lab_installations.specs.Foundings.{Ends, EndsInFile, IsFounding, Prints, drawing_of};
 ghost use Rattle.std.specs.Prelude.{◌≡◌, IfErr, IfOk};

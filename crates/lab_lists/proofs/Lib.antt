@@ -1,4 +1,2 @@
-pub mod Finds
-pub mod Replacing
 pub mod Listing
 pub mod KnownValues

@@ -4,8 +4,7 @@ ghost use Rattle.lab_kept.specs.Changes.{changed};
 ghost use Rattle.lab_kept.specs.Parts.{part};
 ghost use Rattle.lab_lists.specs.Lists.{has_code};
 
-use crate::changes::change;
-use crate::parts;
+use lab_changes::change;
 use lab_kept::{Change, Lab, LabCode, Need, OutOfMemory, Series, Slice};
 use std::alloc::Global;
 use std::marker::Model;
@@ -54,7 +53,7 @@ impl Held {
         ensures same { self.new ≡ self.old }
     {
         settle(alloc, &mut self.lab, &mut self.left)?;
-        parts::part(alloc, &self.lab, need)
+        lab_parts::part(alloc, &self.lab, need)
     }
 
     /// Takes the changes, all or none. The only error is out of memory, for changes that were left; the laboratory is then as before.

@@ -1,13 +1,8 @@
-//! Laboratories in memory: the part of one that is needed, the changes that are made of it, and a keeper of them.
+//! A keeper of laboratories in memory: a list of them, in which each is found by its code, read in
+//! part, changed and founded.
 #![tactic(auto)]
 
-mod changes;
 mod held;
 mod lists;
-mod lookups;
-mod parts;
-mod places;
 
-pub use changes::change;
 pub use lists::Lists;
-pub use parts::part;

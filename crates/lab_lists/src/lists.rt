@@ -8,8 +8,8 @@ ghost use Rattle.lab_kept.specs.Trails.{row_of};
 ghost use Rattle.lab_kept.specs.Worlds.{Changes};
 ghost use Rattle.lab_lists.specs.Lists.{has_code, lab_of, ChangesInPlace};
 
-use crate::changes::insert_person;
 use crate::held::Held;
+use lab_changes::insert_person;
 use lab_kept::{
     Action, Change, Keeper, KeeperFault, Lab, LabCode, Need, Newborn, Ordinal, OutOfMemory, Person,
     PlacingFault, Series, Slice, Subject, TrailRow,

@@ -11,10 +11,10 @@ use Rattle.lab_kept.specs.Worlds.{World}
 use Rattle.lab_kept.specs.declared.faults.PlacingFault.TheVariants.{LabExists, Storage, Memory}
 use Rattle.lab_machine.specs.Births.{newborn}
 use Rattle.lab_lists.specs.Lists.{lab_of, world_of}
-use Rattle.lab_desk.specs.declared.faults.FoundFault.{FoundFault}
-use Rattle.lab_desk.specs.declared.faults.FoundFault.TheVariants.{Body as OfBody, Birth as OfBirth, Placing}
-use Rattle.lab_desk.specs.Faults.{FoundFaultFits}
-use Rattle.lab_desk.specs.Foundings.{Body, Founds, founding_in}
+use Rattle.lab_foundings.specs.declared.faults.FoundFault.{FoundFault}
+use Rattle.lab_foundings.specs.declared.faults.FoundFault.TheVariants.{Body as OfBody, Birth as OfBirth, Placing}
+use Rattle.lab_foundings.specs.Faults.{FoundFaultFits}
+use Rattle.lab_foundings.specs.Foundings.{Body, Founds, founding_in}
 use Rattle.lab_serving.specs.declared.faults.RehearsalFault.{RehearsalFault}
 use Rattle.lab_serving.specs.declared.faults.RehearsalFault.TheVariants.{Founding, Server}
 use Rattle.lab_serving.specs.declared.faults.ServerFault.{ServerFault}

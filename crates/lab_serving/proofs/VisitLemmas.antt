@@ -3,10 +3,10 @@ use Rattle.std.proofs.Common.{arith, ◌≡◌, ◌+◌, length, ℕ, List, [], 
 use Rattle.std.proofs.lemmas.List.{length-append, map-append}
 use Rattle.lab_kept.specs.declared.changes.Change.{Change}
 use Rattle.lab_kept.specs.Worlds.{World}
-use Rattle.lab_desk.specs.Keeping.{AreWithin}
-use Rattle.lab_desk.proofs.Keeping.{still_keeps}
-use Rattle.lab_desk.proofs.Releasing.{released_stay}
-use Rattle.lab_desk.proofs.Retaining.{retained_on, still_retained}
+use Rattle.lab_requests.specs.Keeping.{AreWithin}
+use Rattle.lab_runs.proofs.Keeping.{still_keeps}
+use Rattle.lab_runs.proofs.Releasing.{released_stay}
+use Rattle.lab_runs.proofs.Retaining.{retained_on, still_retained}
 use Rattle.lab_desk.specs.declared.faults.ServeFault.TheVariants.{Read, Interim, Reply}
 use Rattle.lab_serving.specs.declared.faults.ConnectionFault.TheVariants.{Serving, Memory}
 use Rattle.lab_serving.specs.Sources.{Gives}

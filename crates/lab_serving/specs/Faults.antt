@@ -7,7 +7,7 @@ use Rattle.lab_names.specs.Faults.{memory_entry}
 use Rattle.lab_messages.specs.declared.sending.WriteFault.{WriteFault as Untold}
 use Rattle.lab_desk.specs.declared.faults.ServeFault.{ServeFault}
 use Rattle.lab_desk.specs.declared.faults.ServeFault.TheVariants.{Read as Unread, Interim, Reply}
-use Rattle.lab_desk.specs.Faults.{found_fault_entry}
+use Rattle.lab_foundings.specs.Faults.{found_fault_entry}
 use Rattle.lab_serving.specs.declared.faults.ServerFault.{ServerFault}
 use Rattle.lab_serving.specs.declared.faults.ServerFault.TheVariants.{Read, Write, Memory}
 use Rattle.lab_serving.specs.declared.faults.ConnectionFault.{ConnectionFault}

@@ -4,9 +4,9 @@ use Rattle.std.specs.Prelude.{◌≡◌, ◌⊎◌, ℕ, List, [], ◌∷◌, Op
 use Rattle.std.specs.Io.KnownBytes.{Appends}
 use Rattle.lab_names.specs.declared.tick.Tick.{Tick}
 use Rattle.lab_kept.specs.declared.labs.Lab.{Lab}
-use Rattle.lab_desk.specs.Faults.{FoundFaultFits}
-use Rattle.lab_desk.specs.Foundings.{IsNewborn, founding_in}
-use Rattle.lab_desk.specs.declared.faults.FoundFault.{FoundFault}
+use Rattle.lab_foundings.specs.Faults.{FoundFaultFits}
+use Rattle.lab_foundings.specs.Foundings.{IsNewborn, founding_in}
+use Rattle.lab_foundings.specs.declared.faults.FoundFault.{FoundFault}
 use Rattle.lab_serving.specs.Visits.{Visit}
 use Rattle.lab_serving.specs.declared.faults.RehearsalFault.{RehearsalFault}
 use Rattle.lab_serving.specs.declared.faults.RehearsalFault.TheVariants.{Founding, Server}

@@ -14,7 +14,7 @@ use Rattle.lab_messages.specs.declared.sending.WriteFault.{WriteFault as Untold}
 use Rattle.lab_kept.specs.declared.labs.Lab.{Lab}
 use Rattle.lab_kept.specs.declared.changes.Change.{Change}
 use Rattle.lab_kept.specs.Worlds.{World}
-use Rattle.lab_desk.specs.Runs.{IsAnswer}
+use Rattle.lab_runs.specs.Runs.{IsAnswer}
 use Rattle.lab_events.specs.declared.fault.ReplayFault.TheVariants.{Memory as ReplayMemory}
 use Rattle.lab_events.specs.Event.{next_event}
 use Rattle.lab_events.specs.Replay.{BeginsWith, Stops, Tells as TellsReplay}

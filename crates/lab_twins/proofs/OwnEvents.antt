@@ -1,9 +1,9 @@
 -- A laboratory's own events rest on the events alone, and on which of them were taken.
 use Rattle.std.proofs.Common.{◌≡◌, ℕ, Bool, List, [], ◌∷◌, Option, Some, None, refl, sym, ◌∙◌, ap, cond, map}
 use Rattle.std.specs.List.{cons_option}
-use Rattle.lab_desk.specs.declared.events.Event.{Event}
-use Rattle.lab_desk.specs.Alone.{Own, own_of}
-use Rattle.lab_desk.specs.Runs.{Handled, IsTold, own_in, own_events}
+use Rattle.lab_runs.specs.declared.events.Event.{Event}
+use Rattle.lab_runs.specs.Alone.{Own, own_of}
+use Rattle.lab_runs.specs.Runs.{Handled, IsTold, own_in, own_events}
 
 -- the own events among these, of which these were taken
 abbrev own_told : List ℕ → List Event → List Bool → List Own

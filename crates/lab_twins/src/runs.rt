@@ -2,8 +2,8 @@
 
 ghost use Rattle.std.specs.Prelude.{◌≡◌, ℕ, List, Bool};
 ghost use Rattle.lab_kept.specs.Worlds.{Meaning};
-ghost use Rattle.lab_desk.specs.declared.events.Event.{Event};
-ghost use Rattle.lab_desk.specs.Runs.{Handled, IsTold, AreAlone, own_events, own_answers, after_run};
+ghost use Rattle.lab_runs.specs.declared.events.Event.{Event};
+ghost use Rattle.lab_runs.specs.Runs.{Handled, IsTold, AreAlone, own_events, own_answers, after_run};
 ghost use Rattle.lab_twins.specs.Twins.{Agree};
 
 /// Law: two runs that agree on a laboratory at their starts, and in which the same events of its own

@@ -2,7 +2,7 @@
 use Rattle.std.proofs.Common.{◌∙◌}
 use Rattle.std.proofs.KnownBytes.{Keeps-refl}
 use Rattle.std.proofs.lemmas.Result.{err_from_is_err_and}
-use Rattle.lab_desk.specs.Foundings.{founded_line}
+use Rattle.lab_foundings.specs.Foundings.{founded_line}
 use Rattle.lab_serving.specs.declared.faults.ServerFault.TheVariants.{Memory, Read}
 use Rattle.lab_installations.proofs.FoundingLemmas.{ends_founded, ends_idle, ends_refused, prints_idle, undrawn}
 use Rattle.lab_installations.proofs.founding.found_over.Goals as goal

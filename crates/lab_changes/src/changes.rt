@@ -1,0 +1,283 @@
+//! The changes that are made of a laboratory in memory. Where memory runs out, the laboratory is as before.
+ghost use Rattle.std.specs.Prelude.{◌≡◌, OnOk, OnErr};
+ghost use Rattle.lab_access.specs.Sessions.{session_after, sessions_after};
+ghost use Rattle.lab_kept.specs.Changes.{change, added_person, added_form, with_person, with_session, in_record, entered_in, opened_in, signed_in};
+
+use lab_kept::{
+    Change, Closing, EntryRow, FormVersion, Lab, Ordinal, OutOfMemory, Person, PersonCode, Record,
+    Series, Session, Signature, Version,
+};
+use lab_places::{
+    enter, open, place_for_form, place_for_person, place_of_person, place_of_record,
+    place_of_session, sign,
+};
+use std::alloc::Global;
+use std::mem;
+
+/// Makes the change of the laboratory, by copies of what it brings. The only error is out of memory; the laboratory is then as
+/// before.
+pub fn change(alloc: Global, lab: &mut Lab, one: &Change) -> Result<(), OutOfMemory>
+    ensures ok { OnOk result (lab.new ≡ change lab.old one.now) }
+    ensures err { OnErr result (lab.new ≡ lab.old) }
+{
+    match one {
+        Change::Last(last) => lab.last = *last,
+        Change::Strays(strays) => lab.strays = *strays,
+        Change::PersonAdded(person) => add_person(alloc, &mut lab.persons, person)?,
+        Change::PersonSet(person) => set_person(alloc, &mut lab.persons, person)?,
+        Change::SessionAdded(session) => lab.sessions.push(session.copy()?)?,
+        Change::SessionSet(session) => set_session(alloc, &mut lab.sessions, session)?,
+        Change::SessionsClosed { person, closing } => {
+            close_sessions(alloc, &mut lab.sessions, person, *closing)
+        }
+        Change::FormAdded(form) => add_form(alloc, &mut lab.forms, form)?,
+        Change::RecordAdded(kept) => lab.records.push(kept.copy()?)?,
+        Change::RowAdded { record, row } => add_row(alloc, &mut lab.records, *record, row)?,
+        Change::VersionOpened { record, version } => {
+            open_version(alloc, &mut lab.records, *record, version)?
+        }
+        Change::SignatureAdded {
+            record,
+            version,
+            signature,
+        } => add_signature(alloc, &mut lab.records, *record, *version, signature)?,
+        Change::TrailAdded(row) => lab.trail.push(row.copy()?)?,
+    }
+    Ok(())
+}
+
+fn add_person(
+    alloc: Global,
+    persons: &mut Series<Person>,
+    person: &Person,
+) -> Result<(), OutOfMemory>
+    ensures ok { OnOk result (persons.new ≡ added_person person.now persons.old) }
+    ensures err { OnErr result (persons.new ≡ persons.old) }
+{
+    insert_person(alloc, persons, person.copy()?)
+}
+
+/// Adds the person, in the order of codes. The only error is out of memory; the persons are then as before.
+pub fn insert_person(
+    alloc: Global,
+    persons: &mut Series<Person>,
+    person: Person,
+) -> Result<(), OutOfMemory>
+    ensures ok { OnOk result (persons.new ≡ added_person person persons.old) }
+    ensures err { OnErr result (persons.new ≡ persons.old) }
+{
+    let mut list = mem::replace(persons, Series::new(alloc)).into_vec();
+    let place = place_for_person(&list, &person.code);
+    let done = list.insert(place, person);
+    *persons = Series::from_vec(list);
+    done?;
+    Ok(())
+}
+
+fn set_person(
+    alloc: Global,
+    persons: &mut Series<Person>,
+    person: &Person,
+) -> Result<(), OutOfMemory>
+    ensures ok { OnOk result (persons.new ≡ with_person person.now persons.old) }
+    ensures err { OnErr result (persons.new ≡ persons.old) }
+{
+    let person = person.copy()?;
+    let before = mem::replace(persons, Series::new(alloc));
+    *persons = with_person(before, person);
+    Ok(())
+}
+
+fn set_session(
+    alloc: Global,
+    sessions: &mut Series<Session>,
+    session: &Session,
+) -> Result<(), OutOfMemory>
+    ensures ok { OnOk result (sessions.new ≡ with_session session.now sessions.old) }
+    ensures err { OnErr result (sessions.new ≡ sessions.old) }
+{
+    let session = session.copy()?;
+    let before = mem::replace(sessions, Series::new(alloc));
+    *sessions = with_session(before, session);
+    Ok(())
+}
+
+fn close_sessions(
+    alloc: Global,
+    sessions: &mut Series<Session>,
+    person: &PersonCode,
+    closing: Closing,
+)
+    ensures { sessions.new ≡ sessions_after closing person.now sessions.old }
+{
+    let before = mem::replace(sessions, Series::new(alloc));
+    *sessions = sessions_after(before, person, closing);
+}
+
+fn add_form(
+    alloc: Global,
+    forms: &mut Series<FormVersion>,
+    form: &FormVersion,
+) -> Result<(), OutOfMemory>
+    ensures ok { OnOk result (forms.new ≡ added_form form.now forms.old) }
+    ensures err { OnErr result (forms.new ≡ forms.old) }
+{
+    let form = form.copy()?;
+    let mut list = mem::replace(forms, Series::new(alloc)).into_vec();
+    let place = place_for_form(&list, &form.code);
+    let done = list.insert(place, form);
+    *forms = Series::from_vec(list);
+    done?;
+    Ok(())
+}
+
+fn add_row(
+    alloc: Global,
+    records: &mut Series<Record>,
+    number: Ordinal,
+    row: &EntryRow,
+) -> Result<(), OutOfMemory>
+    ensures ok { OnOk result (records.new ≡ in_record number (entered_in row.now) records.old) }
+    ensures err { OnErr result (records.new ≡ records.old) }
+{
+    let row = row.copy()?;
+    let mut list = mem::replace(records, Series::new(alloc)).into_vec();
+    let done = enter_in(&mut list, alloc, number, row);
+    *records = Series::from_vec(list);
+    done?;
+    Ok(())
+}
+
+fn open_version(
+    alloc: Global,
+    records: &mut Series<Record>,
+    number: Ordinal,
+    version: &Version,
+) -> Result<(), OutOfMemory>
+    ensures ok { OnOk result (records.new ≡ in_record number (opened_in version.now) records.old) }
+    ensures err { OnErr result (records.new ≡ records.old) }
+{
+    let version = version.copy()?;
+    let mut list = mem::replace(records, Series::new(alloc)).into_vec();
+    let done = open_in(&mut list, number, version);
+    *records = Series::from_vec(list);
+    done?;
+    Ok(())
+}
+
+fn add_signature(
+    alloc: Global,
+    records: &mut Series<Record>,
+    number: Ordinal,
+    version: Ordinal,
+    signature: &Signature,
+) -> Result<(), OutOfMemory>
+    ensures ok { OnOk result
+        (records.new ≡ in_record number (signed_in version signature.now) records.old) }
+    ensures err { OnErr result (records.new ≡ records.old) }
+{
+    let signature = signature.copy()?;
+    let mut list = mem::replace(records, Series::new(alloc)).into_vec();
+    let done = sign_in(&mut list, alloc, number, version, signature);
+    *records = Series::from_vec(list);
+    done?;
+    Ok(())
+}
+
+/// The person takes the place of the one of the same code.
+fn with_person(persons: Series<Person>, person: Person) -> Series<Person>
+    ensures { result ≡ with_person person persons }
+{
+    let mut list = persons.into_vec();
+    let Some(place) = place_of_person(&list, &person.code) else {
+        return Series::from_vec(list);
+    };
+    list[place] = person;
+    Series::from_vec(list)
+}
+
+/// The session takes the place of the one of the same token.
+fn with_session(sessions: Series<Session>, session: Session) -> Series<Session>
+    ensures { result ≡ with_session session sessions }
+{
+    let mut list = sessions.into_vec();
+    let Some(place) = place_of_session(&list, &session.token) else {
+        return Series::from_vec(list);
+    };
+    list[place] = session;
+    Series::from_vec(list)
+}
+
+/// The sessions after some of the person's are closed.
+fn sessions_after(
+    sessions: Series<Session>,
+    person: &PersonCode,
+    closing: Closing,
+) -> Series<Session>
+    ensures { result ≡ sessions_after closing person.now sessions }
+{
+    let mut list = sessions.into_vec();
+    close_each(&mut list, person, &closing);
+    Series::from_vec(list)
+}
+
+fn close_each(sessions: &mut [Session], person: &PersonCode, closing: &Closing)
+    ensures { sessions.new ≡ sessions_after closing.now person.now sessions.old }
+{
+    for session in sessions.iter_mut() {
+        close_one(session, person, closing);
+    }
+}
+
+fn close_one(session: &mut Session, person: &PersonCode, closing: &Closing)
+    ensures { session.new ≡ session_after closing.now person.now session.old }
+{
+    if closing.closes(person, session) {
+        session.close();
+    }
+}
+
+/// The row is added to the last version of the record of the number.
+fn enter_in(
+    records: &mut [Record],
+    alloc: Global,
+    number: Ordinal,
+    row: EntryRow,
+) -> Result<(), OutOfMemory>
+    ensures ok { OnOk result (records.new ≡ in_record number (entered_in row) records.old) }
+    ensures err { OnErr result (records.new ≡ records.old) }
+{
+    let Some(place) = place_of_record(records, number) else {
+        return Ok(());
+    };
+    enter(&mut records[place], alloc, row)
+}
+
+/// The version is added to the record of the number.
+fn open_in(records: &mut [Record], number: Ordinal, version: Version) -> Result<(), OutOfMemory>
+    ensures ok { OnOk result (records.new ≡ in_record number (opened_in version) records.old) }
+    ensures err { OnErr result (records.new ≡ records.old) }
+{
+    let Some(place) = place_of_record(records, number) else {
+        return Ok(());
+    };
+    open(&mut records[place], version)
+}
+
+/// The signature is added to the version of a number of the record of the number.
+fn sign_in(
+    records: &mut [Record],
+    alloc: Global,
+    number: Ordinal,
+    version: Ordinal,
+    signature: Signature,
+) -> Result<(), OutOfMemory>
+    ensures ok { OnOk result
+        (records.new ≡ in_record number (signed_in version signature) records.old) }
+    ensures err { OnErr result (records.new ≡ records.old) }
+{
+    let Some(place) = place_of_record(records, number) else {
+        return Ok(());
+    };
+    sign(&mut records[place], alloc, version, signature)
+}

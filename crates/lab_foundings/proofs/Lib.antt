@@ -1,0 +1,2 @@
+pub mod Bearing
+mod KnownValues

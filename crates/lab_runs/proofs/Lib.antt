@@ -1,0 +1,5 @@
+pub mod Staying
+pub mod Keeping
+pub mod Retaining
+pub mod Releasing
+pub mod Running
