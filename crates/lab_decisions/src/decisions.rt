@@ -2,14 +2,16 @@
 ghost use Rattle.std.specs.Prelude.{◌≡◌, ◌++◌, ◌∷◌, [], Some, None, IfOk, IsTrue, OnErr};
 ghost use Rattle.lab_kept.specs.Trails.{row_of};
 ghost use Rattle.lab_laws.specs.Asking.{IsCommandFormed};
-ghost use Rattle.lab_commands.specs.Done.{done_of};
+ghost use Rattle.lab_effects.specs.Done.{done_of};
 ghost use Rattle.lab_decisions.specs.Deciding.{failing, outcome, ended_made, ended_by, ended_done, touching, decided_without, decided_by, decided};
 ghost use Rattle.lab_decisions.specs.Makings.{is_made_without, is_made_by, is_made};
 
 use crate::drafts::{fail, next_number, row_of};
 use crate::outcome::Outcome;
 use lab_access::{Failure, PeopleRefusal, Person, Session};
-use lab_commands::{Done, done_of, joined, opening_done, pair, single};
+use lab_account_commands::opening_done;
+use lab_commands::done_of;
+use lab_effects::{Done, joined, pair, single};
 use lab_kept::{Change, Deed, Occasion, Slice};
 use lab_machine::{Command, Passage, Reply, pass};
 use lab_names::{Moment, Ordinal, OutOfMemory, PersonCode, Series, Tick};
