@@ -43,8 +43,8 @@ use Rattle.lab_machine.specs.declared.commands.Command.TheVariants.{Card, Open, 
 use Rattle.lab_machine.specs.declared.replies.Reply.{Reply}
 use Rattle.lab_machine.specs.declared.replies.Reply.TheVariants.{Opened as TellsOpened, Closed, PasswordChanged as TellsChanged, PersonDone, HalfTold, RolesSet, Persons, FormMade, FormRead, RecordOpened, Entered, Amended, Signed as TellsSigned, RecordRead, VersionRead, Records, Trail, Copied}
 use Rattle.lab_machine.specs.Own.{copy_order}
-use Rattle.lab_commands.specs.declared.done.Done.{Done}
-use Rattle.lab_commands.specs.declared.done.Done.TheVariants.{Refused, Failed, Read, Made}
+use Rattle.lab_effects.specs.declared.done.Done.{Done}
+use Rattle.lab_effects.specs.declared.done.Done.TheVariants.{Refused, Failed, Read, Made}
 
 -- ---- what each command comes to by its own case
 
