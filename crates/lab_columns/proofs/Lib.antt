@@ -1,0 +1,9 @@
+pub mod KnownValues
+pub mod Texts
+pub mod Lists
+pub mod Sorted
+pub mod Orders
+pub mod Keys
+pub mod Exact
+pub mod Finds
+pub mod Found
