@@ -13,10 +13,9 @@ use Rattle.lab_tables.specs.Schema.{lab_schema}
 use Rattle.lab_tables.specs.Rows.{PersonRow, tables_in, person_row, person_id}
 use Rattle.lab_tables.specs.Ready.{IsKept}
 use Rattle.lab_tables.specs.Changes.{is_person}
-use Rattle.lab_reading.proofs.Texts.{is_param}
-use Rattle.lab_reading.proofs.Sorted.{equal_ints, equal_texts, and_true, only_answer}
+use Rattle.lab_columns.proofs.Texts.{is_param}
+use Rattle.lab_columns.proofs.Sorted.{equal_ints, equal_texts, and_true, only_answer, own_rows}
 use Rattle.lab_columns.specs.Shown.{code_shown}
-use Rattle.lab_columns.proofs.Sorted.{own_rows}
 use Rattle.lab_accounts.specs.Shown.{person_shown, person_shown_by, persons_shown, all_codes_shown}
 use Rattle.lab_accounts.proofs.Keys.{persons_apart}
 use Rattle.lab_accounts.proofs.Texts.{person_text, person_query, person_means, persons_text, person_columns, persons_means, all_codes_text, all_codes_means}

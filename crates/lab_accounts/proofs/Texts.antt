@@ -4,8 +4,7 @@ use Rattle.sqlite_tied.specs.Compute.{everything}
 use Rattle.sqlite.specs.Listing.{understood}
 use Rattle.sqlite_sql.specs.Query.{Query, inner, end}
 use Rattle.sqlite_sql.specs.Term.{Term, col}
-use Rattle.lab_reading.proofs.Texts.{Means, is_param, record_query}
-use Rattle.lab_columns.proofs.Texts.{own_query}
+use Rattle.lab_columns.proofs.Texts.{Means, is_param, record_query, own_query}
 
 -- ---- a person by the code, and all persons
 

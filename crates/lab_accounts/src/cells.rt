@@ -4,9 +4,9 @@ ghost use Rattle.std.specs.Prelude.{◌≡◌, [], IfOk, unwrap_or};
 ghost use Rattle.sqlite_value.specs.Order.{column, bytes};
 ghost use Rattle.lab_tables.specs.Rows.{number_in, optional_in};
 
+use lab_columns::ReadFault;
 use lab_columns::cells::{moment_of, small_if};
 use lab_names::Moment;
-use lab_reading::ReadFault;
 use sqlite::Row;
 use sqlite::types::ValueRef;
 

@@ -11,8 +11,8 @@ ghost use Rattle.lab_accounts.specs.Shown.{password_cells, ask_cells};
 use crate::cells::{bytes_due, moment_due, salt_due, small_due};
 use crate::heads::AskHead;
 use lab_access::{Password, Roles};
+use lab_columns::ReadFault;
 use lab_columns::cells::{id_if, small_of};
-use lab_reading::ReadFault;
 use lab_secrets::Verifier;
 use sqlite::Row;
 

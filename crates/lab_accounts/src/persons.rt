@@ -15,9 +15,8 @@ use crate::passwords::{ask_of_row, password_of_row, roles_of};
 use lab_access::{Ask, Person};
 use lab_columns::asking::{rows_by_code, rows_by_one};
 use lab_columns::cells::{flag_of, small_of, text_of};
-use lab_columns::code_at;
+use lab_columns::{ReadFault, code_at};
 use lab_names::PersonCode;
-use lab_reading::ReadFault;
 use sqlite::{Alter, Connection, Error, Row};
 use std::alloc::Global;
 

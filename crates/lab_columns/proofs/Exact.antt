@@ -11,7 +11,7 @@ use Rattle.lab_tables.specs.Rows.{PersonRow, tables_in, person_row, person_id}
 use Rattle.lab_tables.specs.Ready.{IsKept}
 use Rattle.std.specs.Ordering.{int_eq}
 use Rattle.sqlite_keyed.proofs.RuleLemmas.{at_most_one}
-use Rattle.lab_reading.proofs.Sorted.{equal_ints, and_true, only_answer}
+use Rattle.lab_columns.proofs.Sorted.{equal_ints, and_true, only_answer}
 use Rattle.lab_columns.specs.Shown.{codes_shown}
 use Rattle.lab_columns.proofs.Texts.{code_text, code_query, code_means}
 

@@ -5,7 +5,7 @@ use Rattle.std.proofs.lemmas.List.Sorted.{length_permutation}
 use Rattle.sqlite_keyed.specs.Lists.{sort_by}
 use Rattle.sqlite_keyed.proofs.ListLemmas.{filter-map, slice_get-filter, IsPermutation-filter}
 use Rattle.sqlite_keyed.proofs.SortLemmas.{IsPermutation-sort_by}
-use Rattle.lab_reading.proofs.Sorted.{short_permutation}
+use Rattle.lab_columns.proofs.Sorted.{short_permutation}
 use Rattle.lab_columns.proofs.Lists.{both_filtered}
 
 first_mapped : {X Y : Type 0} (f : X → Y) (xs : List X) → slice_get (map f xs) 0 ≡ option_map f (slice_get xs 0)

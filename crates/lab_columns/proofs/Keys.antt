@@ -25,5 +25,8 @@ left a b h = (and_parts a b h).0
 pub right : (a b : Bool) → (a && b) ≡ true → b ≡ true
 right a b h = (and_parts a b h).1
 
+pub two : (a b c : Bool) → ((a && b) && c) ≡ true → a ≡ true
+two a b c h = left a b (left (a && b) c h)
+
 pub four : (a b c d e : Bool) → ((((a && b) && c) && d) && e) ≡ true → a ≡ true
 four a b c d e h = left a b (left (a && b) c (left ((a && b) && c) d (left (((a && b) && c) && d) e h)))

@@ -1,4 +1,5 @@
 pub mod KnownValues
+pub mod Queries
 pub mod Texts
 pub mod Lists
 pub mod Sorted

@@ -5,9 +5,9 @@ ghost use Rattle.sqlite_value.specs.Order.{column, bytes};
 ghost use Rattle.sqlite_rules.specs.Edit.{id_in};
 ghost use Rattle.lab_tables.specs.Rows.{number_in, flag_in, optional_in};
 
-use lab_forms::Bound;
+use crate::faults::ReadFault;
 use lab_names::{Moment, Ordinal, Rule, Text};
-use lab_reading::ReadFault;
+use lab_secrets::Digest;
 use sqlite::Row;
 use sqlite::types::ValueRef;
 use std::alloc::Global;
@@ -108,23 +108,17 @@ pub fn text_if<R: Rule>(alloc: Global, row: &Row, at: usize) -> Result<Option<Te
     }
 }
 
-/// The bytes of a text, which may be a bound.
-fn bound_of(alloc: Global, text: &[u8]) -> Result<Bound, ReadFault>
-    ensures { IfOk result (λ bound. bound ≡ text.now) }
-{
-    match std::str::from_utf8(text) {
-        Ok(text) => Ok(Bound::new(String::from_str(alloc, text)?)),
-        Err(_) => Err(ReadFault::Storage),
-    }
-}
-
-/// The least or the greatest amount of a number, or none.
-pub fn bound_if(alloc: Global, row: &Row, at: usize) -> Result<Option<Bound>, ReadFault>
-    ensures { IfOk result (λ bound. bound ≡ optional_in bytes (column row.now at)) }
+/// A digest of 32 bytes.
+pub fn digest_of(row: &Row, at: usize) -> Result<Digest, ReadFault>
+    ensures { IfOk result (λ digest. digest ≡ bytes (column row.now at)) }
 {
     match row.get_ref(at)? {
-        ValueRef::Null => Ok(None),
-        ValueRef::Text(text) => Ok(Some(bound_of(alloc, text)?)),
-        ValueRef::Int(_) | ValueRef::Real(_) | ValueRef::Blob(_) => Err(ReadFault::Storage),
+        ValueRef::Blob(blob) => match <[u8; 32]>::try_from(blob) {
+            Ok(sum) => Ok(Digest::from_bytes(sum)),
+            Err(_) => Err(ReadFault::Storage),
+        },
+        ValueRef::Null | ValueRef::Int(_) | ValueRef::Real(_) | ValueRef::Text(_) => {
+            Err(ReadFault::Storage)
+        }
     }
 }

@@ -9,8 +9,8 @@ ghost use Rattle.lab_columns.specs.Shown.{codes_shown, code_read};
 
 use crate::asking::rows_by_one;
 use crate::cells::text_of;
+use crate::faults::ReadFault;
 use lab_names::PersonCode;
-use lab_reading::ReadFault;
 use sqlite::{Alter, Connection, Error, Row};
 use std::alloc::Global;
 

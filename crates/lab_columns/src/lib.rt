@@ -5,5 +5,7 @@
 pub mod asking;
 pub mod cells;
 mod codes;
+mod faults;
 
 pub use codes::{code_at, code_if};
+pub use faults::ReadFault;

@@ -12,13 +12,12 @@ use Rattle.lab_tables.specs.Rows.{FormRow, FieldRow, ChoiceRow, tables_in, form_
 use Rattle.lab_tables.specs.Ready.{IsKept}
 use Rattle.std.specs.Ordering.{int_eq, nat_cmp}
 use Rattle.sqlite_keyed.proofs.RuleLemmas.{at_most_one}
-use Rattle.lab_reading.proofs.Lists.{untied_in}
-use Rattle.lab_reading.proofs.Sorted.{equal_ints, and_true, by_one, only_answer}
-use Rattle.lab_reading.proofs.Texts.{is_param}
+use Rattle.lab_columns.proofs.Lists.{untied_in}
+use Rattle.lab_columns.proofs.Sorted.{equal_ints, and_true, by_one, only_answer, own_rows}
+use Rattle.lab_columns.proofs.Texts.{is_param}
 use Rattle.lab_form_versions.specs.Shown.{forms_shown, field_shown, fields_shown, name_shown, names_shown}
 use Rattle.lab_form_versions.proofs.Keys.{fields_apart, choices_apart}
 use Rattle.lab_form_versions.proofs.Texts.{form_text, form_query, form_means, field_text, field_columns, field_means, name_text, name_means}
-use Rattle.lab_columns.proofs.Sorted.{own_rows}
 
 pub forms_read : (old new : State) (id : ℤ) (rows : List Row) → IsKept old.now → Shown form_text (Int id ∷ []) old new rows → rows ≡ forms_shown (tables_in old.now.trees) id
 forms_read old new id rows kept h =

@@ -7,10 +7,10 @@ ghost use Rattle.lab_tables.specs.Ready.{IsReady, PassesBy, tables_of};
 ghost use Rattle.lab_tables.specs.Meaning.{names_of};
 ghost use Rattle.lab_form_versions.specs.Shown.{names_shown, name_read};
 
+use lab_columns::ReadFault;
 use lab_columns::asking::rows_by_one;
 use lab_columns::cells::text_of;
 use lab_names::Name;
-use lab_reading::ReadFault;
 use sqlite::{Alter, Connection, Error, Row};
 use std::alloc::Global;
 

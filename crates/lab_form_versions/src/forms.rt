@@ -12,11 +12,11 @@ ghost use Rattle.lab_form_versions.specs.Shown.{forms_shown, form_read};
 
 use crate::fields::fields_at;
 use crate::heads::FormHead;
+use lab_columns::ReadFault;
 use lab_columns::asking::rows_by_one;
 use lab_columns::cells::{flag_of, id_of, ordinal_of, text_of};
 use lab_forms::{Field, Form};
 use lab_kept::FormVersion;
-use lab_reading::ReadFault;
 use sqlite::{Alter, Connection, Error, Row};
 use std::alloc::Global;
 

@@ -6,10 +6,11 @@ ghost use Rattle.lab_forms.specs.declared.kinds.Kind.TheVariants.{Text as text_k
 ghost use Rattle.lab_form_versions.specs.Forms.{number_kind, is_choice, kind_with};
 ghost use Rattle.lab_form_versions.specs.Shown.{kind_cells};
 
-use lab_columns::cells::{bound_if, small_if, text_if, text_of};
+use crate::cells::bound_if;
+use lab_columns::ReadFault;
+use lab_columns::cells::{small_if, text_if, text_of};
 use lab_forms::{Choices, Kind};
 use lab_names::{Keys, Name, Text};
-use lab_reading::ReadFault;
 use sqlite::Row;
 use std::alloc::Global;
 

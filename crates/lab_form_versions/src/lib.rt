@@ -2,6 +2,7 @@
 //! retrieval of records; 21 CFR 11.10(c)). Nothing is written.
 #![tactic(auto)]
 
+mod cells;
 mod choices;
 mod fields;
 mod forms;

@@ -11,11 +11,11 @@ ghost use Rattle.lab_form_versions.specs.Shown.{form_read};
 ghost use Rattle.lab_lookups.specs.Forms.{exact_shown, form_versions_shown};
 
 use crate::asking::rows_by_version;
+use lab_columns::ReadFault;
 use lab_columns::asking::rows_by_code;
 use lab_form_versions::{FormHead, first_form, form_of_row, form_whole};
 use lab_kept::FormVersion;
 use lab_names::{Key, Ordinal};
-use lab_reading::ReadFault;
 use sqlite::{Alter, Connection, Error, Row};
 use std::alloc::Global;
 

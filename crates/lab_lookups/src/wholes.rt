@@ -7,10 +7,11 @@ ghost use Rattle.lab_tables.specs.Ready.{IsReady, PassesBy, tables_of};
 ghost use Rattle.lab_reading.specs.Leaves.{leaf_of};
 ghost use Rattle.lab_lookups.specs.Wholes.{record_with, record_by};
 
+use lab_columns::ReadFault;
 use lab_form_versions::form_at;
 use lab_kept::{FormVersion, Record};
 use lab_names::{LabCode, Series};
-use lab_reading::{ReadFault, RecordHead, VersionLeaf};
+use lab_reading::{RecordHead, VersionLeaf};
 use lab_retrieval::{chain, leaves_at};
 use sqlite::{Alter, Connection};
 use std::alloc::Global;

@@ -7,8 +7,8 @@ use Rattle.lab_kept.specs.declared.faults.KeeperFault.TheVariants as kept
 use Rattle.lab_names.specs.declared.faults.NameFault.TheVariants as name
 use Rattle.lab_tables.specs.Meaning.{leaves_of}
 use Rattle.lab_tables.proofs.KnownFile.{filed, file}
-use Rattle.lab_reading.specs.declared.faults.ReadFault.TheVariants.{Storage, Memory}
-use Rattle.lab_reading.specs.Faults.{name_fault, kept_fault}
+use Rattle.lab_columns.specs.declared.faults.ReadFault.TheVariants.{Storage, Memory}
+use Rattle.lab_columns.specs.Faults.{name_fault, kept_fault}
 use Rattle.lab_reading.specs.Heads.{record_head, versions_of}
 use Rattle.lab_reading.specs.Leaves.{leaf_by}
 use Rattle.lab_reading.specs.Shown.{labs_shown, entries_shown, records_shown, record_read, versions_shown, version_read}

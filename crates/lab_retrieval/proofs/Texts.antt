@@ -4,8 +4,8 @@ use Rattle.sqlite_tied.specs.Compute.{everything}
 use Rattle.sqlite.specs.Listing.{understood}
 use Rattle.sqlite_sql.specs.Query.{Query}
 use Rattle.sqlite_sql.specs.Term.{Term, col}
-use Rattle.lab_reading.proofs.Texts.{Means, is_param, record_query, record_names}
-use Rattle.lab_columns.proofs.Texts.{own_query, range_tests}
+use Rattle.lab_columns.proofs.Texts.{Means, is_param, record_query, own_query, range_tests}
+use Rattle.lab_reading.proofs.Texts.{record_names}
 
 -- ---- a record by its form and its sample
 

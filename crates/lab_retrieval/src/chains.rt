@@ -7,9 +7,10 @@ ghost use Rattle.lab_tables.specs.Meaning.{version_after, chained};
 ghost use Rattle.lab_reading.specs.Leaves.{leaf_of};
 ghost use Rattle.lab_retrieval.specs.Chains.{origin_after, before_next};
 
+use lab_columns::ReadFault;
 use lab_kept::{Record, Version};
 use lab_names::{LabCode, Note, Ordinal, Series};
-use lab_reading::{ReadFault, VersionLeaf};
+use lab_reading::VersionLeaf;
 use lab_secrets::Digest;
 use lab_versions::{Amendment, Format, Origin};
 use std::alloc::Global;

@@ -15,13 +15,12 @@ use Rattle.lab_tables.specs.Schema.{lab_schema}
 use Rattle.lab_tables.specs.Rows.{PersonRow, SessionRow, tables_in, person_row, person_id, session_row, session_id, number, flag}
 use Rattle.lab_tables.specs.Ready.{IsKept}
 use Rattle.lab_tables.specs.Changes.{is_session}
-use Rattle.lab_reading.proofs.Sorted.{equal_ints, and_true, only_answer}
-use Rattle.lab_reading.proofs.Lists.{at_id, joined}
+use Rattle.lab_columns.proofs.Sorted.{equal_ints, and_true, only_answer}
+use Rattle.lab_columns.proofs.Lists.{at_id, joined, alone_texts}
 use Rattle.lab_sessions.specs.Shown.{sessions_shown}
 use Rattle.lab_sessions.proofs.Keys.{tokens_apart, workers}
 use Rattle.lab_sessions.proofs.Texts.{session_text, session_query, session_columns, session_means}
 use Rattle.lab_sessions.proofs.Lists.{equal_blobs, and_moved}
-use Rattle.lab_columns.proofs.Lists.{alone_texts}
 
 -- a session is shown with the code of its person
 abbrev no_person : PersonRow

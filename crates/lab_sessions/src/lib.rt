@@ -3,7 +3,6 @@
 #![tactic(auto)]
 
 mod asking;
-mod cells;
 mod sessions;
 
 pub use sessions::session_at;

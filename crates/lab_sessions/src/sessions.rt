@@ -9,10 +9,9 @@ ghost use Rattle.lab_tables.specs.Meaning.{sessions_of};
 ghost use Rattle.lab_sessions.specs.Shown.{sessions_shown, session_read};
 
 use crate::asking::rows_by_token;
-use crate::cells::digest_of;
 use lab_access::Session;
-use lab_columns::cells::{flag_of, moment_of, ordinal_of, text_of};
-use lab_reading::ReadFault;
+use lab_columns::ReadFault;
+use lab_columns::cells::{digest_of, flag_of, moment_of, ordinal_of, text_of};
 use lab_secrets::Digest;
 use sqlite::{Alter, Connection, Error, Row};
 use std::alloc::Global;

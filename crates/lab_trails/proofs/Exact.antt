@@ -9,12 +9,10 @@ use Rattle.sqlite.proofs.Callers.{reads_as}
 use Rattle.lab_tables.specs.Schema.{lab_schema}
 use Rattle.lab_tables.specs.Rows.{TrailRow, tables_in, trail_row, trail_id, number}
 use Rattle.lab_tables.specs.Ready.{IsKept}
-use Rattle.lab_reading.proofs.Texts.{is_param}
+use Rattle.lab_columns.proofs.Texts.{is_param, range_tests}
 use Rattle.lab_kept.specs.Lookups.{is_within}
-use Rattle.lab_columns.proofs.Texts.{range_tests}
 use Rattle.lab_columns.proofs.Lists.{untied_also}
-use Rattle.lab_reading.proofs.Sorted.{equal_ints, and_true, by_one}
-use Rattle.lab_columns.proofs.Sorted.{from_number, to_number, own_rows}
+use Rattle.lab_columns.proofs.Sorted.{equal_ints, and_true, by_one, from_number, to_number, own_rows}
 use Rattle.lab_trails.specs.Shown.{told_shown, told_shown_within}
 use Rattle.lab_trails.specs.Trails.{is_told_within}
 use Rattle.lab_trails.proofs.Keys.{told_apart}

@@ -3,8 +3,7 @@ use Rattle.std.proofs.Common.{ℕ, List, [], ◌∷◌, codes, refl}
 use Rattle.sqlite_tied.specs.Compute.{everything}
 use Rattle.sqlite.specs.Listing.{understood}
 use Rattle.sqlite_sql.specs.Term.{Term, col}
-use Rattle.lab_reading.proofs.Texts.{Means, is_param}
-use Rattle.lab_columns.proofs.Texts.{own_query, range_tests}
+use Rattle.lab_columns.proofs.Texts.{Means, is_param, own_query, range_tests}
 
 -- ---- the rows of the trail of a range of numbers
 

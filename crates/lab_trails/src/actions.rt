@@ -3,8 +3,8 @@
 ghost use Rattle.std.specs.Prelude.{◌≡◌, IfOk};
 ghost use Rattle.lab_tables.specs.Columns.{action_in};
 
+use lab_columns::ReadFault;
 use lab_kept::Action;
-use lab_reading::ReadFault;
 
 /// The action of the word. A word that none is written as is a fault of the store.
 pub(crate) fn action_by(word: &str) -> Result<Action, ReadFault>

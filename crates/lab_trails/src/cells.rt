@@ -3,8 +3,8 @@
 ghost use Rattle.std.specs.Prelude.{◌≡◌, IfOk};
 ghost use Rattle.sqlite_value.specs.Order.{column, bytes};
 
+use lab_columns::ReadFault;
 use lab_kept::Subject;
-use lab_reading::ReadFault;
 use sqlite::Row;
 use sqlite::types::ValueRef;
 use std::alloc::Global;

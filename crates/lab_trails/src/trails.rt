@@ -14,10 +14,9 @@ use crate::cells::subject_of;
 use crate::heads::ToldHead;
 use lab_columns::asking::rows_by_range;
 use lab_columns::cells::{id_if, moment_of, ordinal_of, text_of};
-use lab_columns::code_if;
+use lab_columns::{ReadFault, code_if};
 use lab_kept::TrailRow;
 use lab_names::{Keys, Ordinal, Text};
-use lab_reading::ReadFault;
 use sqlite::{Alter, Connection, Error, Row};
 use std::alloc::Global;
 

@@ -6,7 +6,7 @@ use Rattle.lab_access.specs.Persons.{person_of}
 use Rattle.lab_tables.specs.Rows.{tables_in}
 use Rattle.lab_tables.specs.Meaning.{persons_of}
 use Rattle.lab_tables.specs.Ready.{tables_of}
-use Rattle.lab_reading.proofs.Queries.{if_then}
+use Rattle.lab_columns.proofs.Queries.{if_then}
 use Rattle.lab_accounts.specs.Heads.{person_by}
 use Rattle.lab_accounts.specs.Shown.{person_read}
 use Rattle.lab_accounts.proofs.Found.{person_found}

@@ -2,7 +2,7 @@ use Rattle.std.proofs.Common.{w64, ◌∙◌, ap, option_map, slice_get}
 use Rattle.std.proofs.lemmas.Int.{to_z-of_z}
 use Rattle.sqlite.specs.Held.{state}
 use Rattle.lab_tables.specs.Ready.{tables_of}
-use Rattle.lab_reading.proofs.Queries.{if_then}
+use Rattle.lab_columns.proofs.Queries.{if_then}
 use Rattle.lab_columns.specs.Shown.{code_read}
 use Rattle.lab_columns.proofs.Found.{code_is}
 use Rattle.lab_columns.proofs.codes.code_at.Goals as goal

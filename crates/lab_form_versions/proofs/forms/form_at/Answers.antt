@@ -4,7 +4,7 @@ use Rattle.sqlite.specs.Effect.{Database}
 use Rattle.sqlite.specs.Held.{state}
 use Rattle.lab_tables.specs.Rows.{tables_in}
 use Rattle.lab_tables.specs.Ready.{tables_of}
-use Rattle.lab_reading.proofs.Queries.{if_then}
+use Rattle.lab_columns.proofs.Queries.{if_then}
 use Rattle.lab_form_versions.specs.Forms.{form_by}
 use Rattle.lab_form_versions.proofs.FormsFound.{form_is}
 use Rattle.lab_form_versions.proofs.forms.form_at.Goals as goal

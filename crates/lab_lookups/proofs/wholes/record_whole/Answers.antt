@@ -3,7 +3,7 @@ use Rattle.std.proofs.lemmas.Int.{to_z-of_z}
 use Rattle.sqlite.specs.Effect.{Database}
 use Rattle.lab_tables.specs.Rows.{tables_in}
 use Rattle.lab_tables.specs.Meaning.{leaves_of}
-use Rattle.lab_reading.proofs.Queries.{if_then}
+use Rattle.lab_columns.proofs.Queries.{if_then}
 use Rattle.lab_lookups.specs.Wholes.{record_with}
 use Rattle.lab_lookups.proofs.wholes.record_whole.Goals as goal
 

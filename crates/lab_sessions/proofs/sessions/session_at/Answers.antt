@@ -4,7 +4,7 @@ use Rattle.sqlite.specs.Held.{state}
 use Rattle.lab_access.specs.Sessions.{session_of}
 use Rattle.lab_tables.specs.Meaning.{sessions_of}
 use Rattle.lab_tables.specs.Ready.{tables_of}
-use Rattle.lab_reading.proofs.Queries.{if_then}
+use Rattle.lab_columns.proofs.Queries.{if_then}
 use Rattle.lab_sessions.specs.Shown.{session_read}
 use Rattle.lab_sessions.proofs.Found.{session_found}
 use Rattle.lab_sessions.proofs.sessions.session_at.Goals as goal

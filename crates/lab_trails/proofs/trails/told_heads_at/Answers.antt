@@ -2,7 +2,7 @@ use Rattle.std.proofs.Common.{w64, ◌∙◌, ap, ap₂, map}
 use Rattle.std.proofs.lemmas.Int.{to_z-of_z}
 use Rattle.sqlite.specs.Held.{state}
 use Rattle.lab_tables.specs.Ready.{tables_of}
-use Rattle.lab_reading.proofs.Queries.{if_then}
+use Rattle.lab_columns.proofs.Queries.{if_then}
 use Rattle.lab_trails.specs.Trails.{told_heads_within}
 use Rattle.lab_trails.specs.Shown.{told_read}
 use Rattle.lab_trails.proofs.TrailsFound.{told_found}

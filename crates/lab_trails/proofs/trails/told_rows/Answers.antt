@@ -2,7 +2,7 @@ use Rattle.std.proofs.Common.{w64, arith}
 use Rattle.std.proofs.lemmas.Int.{to_z-of_z}
 use Rattle.sqlite.specs.State.{HasCleanDisk}
 use Rattle.sqlite.specs.Held.{state}
-use Rattle.lab_reading.proofs.Queries.{passes, same, exactly}
+use Rattle.lab_columns.proofs.Queries.{passes, same, exactly}
 use Rattle.lab_trails.proofs.Texts.{told_text, told_means}
 use Rattle.lab_trails.proofs.Exact.{told_rows_read}
 use Rattle.lab_trails.proofs.trails.told_rows.Goals as goal

@@ -1,7 +1,7 @@
 //! Why nothing was read.
 
 ghost use Rattle.std.specs.Prelude.{◌≡◌};
-ghost use Rattle.lab_reading.specs.Faults.{is_out_of_memory, store_fault, name_fault, kept_fault};
+ghost use Rattle.lab_columns.specs.Faults.{is_out_of_memory, store_fault, name_fault, kept_fault};
 
 use lab_kept::KeeperFault;
 use lab_names::NameFault;
@@ -52,7 +52,7 @@ impl From<NameFault> for ReadFault {
 }
 
 impl From<AllocError> for ReadFault {
-    ghost use Rattle.lab_reading.specs.declared.faults.ReadFault.TheVariants.{Memory};
+    ghost use Rattle.lab_columns.specs.declared.faults.ReadFault.TheVariants.{Memory};
 
     ghost from_gives = { λ _ fault. fault ≡ Memory };
 
@@ -62,7 +62,7 @@ impl From<AllocError> for ReadFault {
 }
 
 impl<T: Drop> From<AllocFailed<T>> for ReadFault {
-    ghost use Rattle.lab_reading.specs.declared.faults.ReadFault.TheVariants.{Memory};
+    ghost use Rattle.lab_columns.specs.declared.faults.ReadFault.TheVariants.{Memory};
 
     ghost from_gives = { λ _ fault. fault ≡ Memory };
 

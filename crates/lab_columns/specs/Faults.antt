@@ -8,8 +8,8 @@ use Rattle.sqlite.specs.declared.error.Error.{Error}
 use Rattle.sqlite.specs.declared.error.Error.TheVariants.{SqliteFailure, SqlInputError}
 use Rattle.sqlite.specs.declared.error.ErrorCode.TheVariants as code
 use Rattle.sqlite_resolve.specs.declared.error.CompileError.TheVariants as compile
-use Rattle.lab_reading.specs.declared.faults.ReadFault.{ReadFault}
-use Rattle.lab_reading.specs.declared.faults.ReadFault.TheVariants.{Storage, Memory}
+use Rattle.lab_columns.specs.declared.faults.ReadFault.{ReadFault}
+use Rattle.lab_columns.specs.declared.faults.ReadFault.TheVariants.{Storage, Memory}
 
 -- whether an error of the store is that memory ran out
 abbrev pub is_out_of_memory : Error → Bool
