@@ -1,5 +1,5 @@
 -- What was read of the rows that a query shows, as what the tables have.
-use Rattle.std.proofs.Common.{Option, Some, unwrap_or, ◌≡◌, ℕ, ℤ, List, [], ◌∷◌, map, filter, slice_get, option_map, refl, ap, ◌∙◌, Bool, true, false, None, int_eq}
+use Rattle.std.proofs.Common.{Option, Some, unwrap_or, ◌≡◌, ℕ, ℤ, List, [], ◌∷◌, map, filter, slice_get, option_map, refl, ap, ◌∙◌, Bool, true, false, None}
 use Rattle.sqlite_keyed.proofs.ListLemmas.{slice_get-filter}
 use Rattle.std.specs.Ordering.{int_eq}
 use Rattle.sqlite_keyed.specs.Keyed.{get_by}

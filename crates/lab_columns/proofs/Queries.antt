@@ -1,5 +1,5 @@
 -- What a query leaves, however it ends and whatever the schema of the file is: all as it was.
-use Rattle.std.proofs.Common.{◌≡◌, ◌⊎◌, inl, inr, ℕ, List, [], ◌∷◌, ◌+◌, Bool, true, false, Some, None, Option, Ok, Err, Result, IfOk, IfErr, OnOk, IsTrue, refl, sym, ap, subst, ◌∙◌}
+use Rattle.std.proofs.Common.{◌≡◌, ◌⊎◌, inl, inr, ℕ, List, ◌+◌, Bool, true, false, Some, None, Option, Ok, Err, Result, IfOk, IfErr, OnOk, IsTrue, refl, sym, ap, subst, ◌∙◌}
 use Rattle.std.specs.Prelude.{Vec, if◌then◌else◌}
 use Rattle.std.specs.declared.alloc.Global.{Global}
 use Rattle.sqlite_value.specs.Order.{Row}
@@ -19,7 +19,7 @@ use Rattle.sqlite.specs.declared.error.Error.{Error}
 use Rattle.sqlite.specs.Clock as clock
 use Rattle.sqlite.specs.Listing.{understood, if_select, is_select, listing_schema, reads_listing}
 use Rattle.sqlite.specs.State.{State, HasCleanDisk, IsUnchanged, IsRolledBack, IsNotRun, Shown, ShowsRows, FailsToQuery, FailsToShow, Survives, CommitsShowing}
-use Rattle.lab_tables.specs.Ready.{IsAtRest, IsReady, IsKept, LeavesNoMore, PassesBy, WhereShown}
+use Rattle.lab_tables.specs.Ready.{IsAtRest, IsReady, IsKept, PassesBy}
 
 -- ---- the text is a query without RETURNING, under any schema
 

@@ -6,7 +6,6 @@ ghost use Rattle.lab_tables.specs.Rows.{optional_in};
 
 use lab_columns::ReadFault;
 use lab_forms::Bound;
-use lab_names::Text;
 use sqlite::Row;
 use sqlite::types::ValueRef;
 use std::alloc::Global;
