@@ -12,8 +12,8 @@ use Rattle.sqlite.specs.State.{State, Shown}
 use Rattle.lab_tables.specs.Rows.{FormRow, FieldRow, ChoiceRow, RecordRow, VersionRow, EntryRow, SignatureRow, Tables, tables_in, form_row, form_id, field_row, field_id, choice_row, choice_id, record_row, record_id, version_row, version_id, entry_row, entry_id, signature_row, signature_id, number}
 use Rattle.lab_tables.specs.Changes.{is_form_row, form_named, is_record_row, record_named, is_version_row, version_named}
 use Rattle.lab_tables.specs.Held.{IsTyped}
-use Rattle.lab_reading.proofs.Texts.{Means, is_param}
-use Rattle.lab_reading.proofs.Sorted.{equal_ints, equal_texts, equal_numbers, and_true}
+use Rattle.lab_columns.proofs.Texts.{Means, is_param}
+use Rattle.lab_columns.proofs.Sorted.{equal_ints, equal_texts, equal_numbers, and_true}
 use Rattle.lab_writing.specs.Calls.{Steps, Finds}
 use Rattle.lab_writing.specs.Ids.{id_read}
 use Rattle.lab_writing.proofs.Inside.{steps_weaker}

@@ -25,9 +25,9 @@ use Rattle.lab_tables.specs.Rows.{SessionRow, Tables, tables_in, session_row, se
 use Rattle.lab_tables.specs.Changes.{InTurn, person_named}
 use Rattle.lab_tables.specs.Held.{IsTyped}
 use Rattle.lab_tables.specs.Ready.{tables_of}
-use Rattle.lab_reading.proofs.Texts.{Means, is_param}
-use Rattle.lab_reading.proofs.Sorted.{truth_is, equal_ints, and_true}
-use Rattle.lab_reading.proofs.Lists.{int_alike}
+use Rattle.lab_columns.proofs.Texts.{Means, is_param}
+use Rattle.lab_columns.proofs.Sorted.{truth_is, equal_ints, and_true}
+use Rattle.lab_columns.proofs.Lists.{int_alike}
 use Rattle.lab_writing.specs.Calls.{Steps, Finds}
 use Rattle.lab_writing.specs.Ids.{id_read}
 use Rattle.lab_writing.specs.Closings.{is_meant, closed_row, ClosesRow, close_of, is_open_of, opened_shown, ClosesOf}

@@ -5,7 +5,7 @@ use Rattle.sqlite.specs.Values.{bound}
 use Rattle.sqlite.specs.State.{ExecutesInside}
 use Rattle.sqlite.specs.Held.{state}
 use Rattle.sqlite_keyed.specs.Keyed.{next_key}
-use Rattle.lab_reading.proofs.Queries.{if_then}
+use Rattle.lab_columns.proofs.Queries.{if_then}
 use Rattle.lab_tables.specs.Ready.{tables_of}
 use Rattle.lab_filing.proofs.Placed.{placed_exactly}
 use Rattle.lab_tables.specs.Rows.{Tables, field_id}

@@ -1,6 +1,6 @@
 use Rattle.std.proofs.Common.{refl}
 use Rattle.sqlite.specs.Held.{state}
-use Rattle.lab_reading.proofs.Queries.{if_then}
+use Rattle.lab_columns.proofs.Queries.{if_then}
 use Rattle.lab_filing.proofs.KeyLemmas.{version_found}
 use Rattle.lab_filing.proofs.named.version_id_at.Goals as goal
 
