@@ -1,0 +1,5 @@
+pub mod SessionWrites
+pub mod ClosingLemmas
+pub mod ClosedAlike
+pub mod Added
+pub mod KnownValues

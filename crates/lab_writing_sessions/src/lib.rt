@@ -1,0 +1,9 @@
+//! The calls that add, set and close sessions in the tables of a file, each inside a transaction (21 CFR 11.10(e) and
+//! 11.300).
+#![tactic(auto)]
+
+mod closings;
+mod sessions;
+
+pub use closings::close_sessions;
+pub use sessions::{add_session, set_session};
