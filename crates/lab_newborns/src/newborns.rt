@@ -7,7 +7,7 @@ ghost use Rattle.lab_kept.specs.Births.{newborn_lab};
 ghost use Rattle.lab_kept.specs.Changes.{added_person};
 ghost use Rattle.lab_kept.specs.Lookups.{comes_before};
 ghost use Rattle.lab_kept.specs.Trails.{row_of};
-ghost use Rattle.lab_founding.specs.Founding.{is_asked};
+ghost use Rattle.lab_newborns.specs.Newborns.{is_asked};
 
 use lab_kept::{
     Action, Lab, Newborn, Ordinal, OutOfMemory, Person, PersonCode, Series, Subject, TrailRow,
@@ -17,7 +17,7 @@ use std::alloc::Global;
 use std::cmp::Ordering;
 
 /// Whether something was asked for a founder.
-pub(crate) fn is_asked(newborn: &Newborn) -> bool
+pub fn is_asked(newborn: &Newborn) -> bool
     ensures { result ≡ is_asked newborn.now }
 {
     newborn.first.ask.is_some() || newborn.second.ask.is_some() || newborn.third.ask.is_some()
@@ -96,7 +96,7 @@ fn first_trail(alloc: Global, newborn: &Newborn) -> Result<Series<TrailRow>, Out
 }
 
 /// The laboratory that is founded. The only error is out of memory.
-pub(crate) fn laboratory(alloc: Global, newborn: Newborn) -> Result<Lab, OutOfMemory>
+pub fn laboratory(alloc: Global, newborn: Newborn) -> Result<Lab, OutOfMemory>
     ensures { IfOk result (λ lab. lab ≡ newborn_lab newborn) }
 {
     let trail = first_trail(alloc, &newborn)?;
