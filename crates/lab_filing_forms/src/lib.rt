@@ -1,5 +1,4 @@
-//! The call that files a version of a form in the tables of a file, inside a transaction (21 CFR 11.10(e); ISO/IEC
-//! 17025:2017, 7.5.1).
+//! The call that files a version of a form in the tables of a file, inside a transaction (21 CFR 11.10(e)).
 #![tactic(auto)]
 
 mod forms;

@@ -1,5 +1,5 @@
 //! The calls that add, set and close sessions in the tables of a file, each inside a transaction (21 CFR 11.10(e) and
-//! 11.300).
+//! 11.300(b) and (d)).
 #![tactic(auto)]
 
 mod closings;
