@@ -5,7 +5,6 @@ use Rattle.std.specs.Prelude.{codes}
 use Rattle.sqlite_value.specs.declared.value.Value.TheVariants.{Int}
 use Rattle.sqlite_value.specs.Order.{Row}
 use Rattle.lab_tables.proofs.KnownFile.{filled, file}
-use Rattle.lab_tables.proofs.KnownValues.{eve}
 use Rattle.lab_writing.specs.Ids.{id_read}
 use Rattle.lab_writing.specs.Shown.{labs_shown, persons_shown, sessions_shown}
 
