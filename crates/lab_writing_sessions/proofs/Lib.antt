@@ -1,5 +1,3 @@
 pub mod SessionWrites
-pub mod ClosingLemmas
-pub mod ClosedAlike
 pub mod Added
 pub mod KnownValues

@@ -1,5 +1,5 @@
 -- What each statement on sessions means, and what it makes of the tables.
-use Rattle.std.proofs.Common.{◌≡◌, ℕ, ℤ, pos, true, List, [], ◌∷◌, codes, Ok, refl, ap, subst, int_eq}
+use Rattle.std.proofs.Common.{◌≡◌, ℕ, ℤ, pos, List, [], ◌∷◌, codes, Ok, refl, ap, subst, int_eq}
 use Rattle.sqlite_value.specs.declared.value.Value.TheVariants.{Null, Int, Blob}
 use Rattle.sqlite_value.specs.Order.{Row}
 use Rattle.sqlite_schema.specs.declared.command.Command.TheVariants.{Insert, Update}
@@ -94,32 +94,3 @@ sets_session row old new count typed did =
           (rising_sessions t rows typed.rising (IsKeyedBy-update_where session_id mine next (λ _. refl) t.sessions typed.rising.sessions));
       sound = it.sound;
     })
-
--- ---- a session closed
-
-abbrev pub close_text : List ℕ
-close_text = codes "UPDATE sessions SET closed = 1 WHERE id = ?1"
-
-abbrev close_shown : List Term
-close_shown = col 1 0 ∷ col 1 0 ∷ lit Null ∷ col 1 2 ∷ col 1 3 ∷ col 1 4 ∷ col 1 5 ∷ col 1 6 ∷ col 1 7 ∷ lit (Int (pos 1)) ∷ col 1 9 ∷ []
-
-close_plain : IsPlain (understood lab_schema close_text)
-unfolding understood everything
-close_plain = (refl, refl)
-
-close_is : command_of (understood lab_schema close_text) ≡ Update 3 (record { lets = []; body = by_id_query 5 close_shown })
-unfolding understood everything
-close_is = refl
-
-pub sets_close : (id : ℤ) (old new : State) (count : ℕ) → IsTyped old.now → Executes close_text (Int id ∷ []) old new (Ok count)
-    → Wrote (record (tables_in old.now.trees) { sessions = update_where (λ (one : SessionRow). int_eq one.id id) (λ (one : SessionRow). record one { closed = true }) (tables_in old.now.trees).sessions }) new.now
-sets_close id old new count typed did =
-    let t = tables_in old.now.trees in
-    let next = λ (one : SessionRow). record one { closed = true } in
-    let rows = update_where (λ (one : SessionRow). int_eq one.id id) next t.sessions in
-    let it = set_by_id schema.sessions session_id session_row (λ _. (refl, refl)) session_stays 3 refl (λ _. refl) close_text close_shown close_plain close_is id ([]) next (λ _. refl) (λ _. refl) old new count t.sessions typed.schema typed.sessions typed.rising.sessions did in
-    record {
-      held = held_if_stored new.now (record t { sessions = rows }) it.schema (stored_sessions old.now.trees new.now.trees t rows (stored_if_typed old.now typed) it.spared it.rows)
-          (rising_sessions t rows typed.rising (IsKeyedBy-update_where session_id (λ (one : SessionRow). int_eq one.id id) next (λ _. refl) t.sessions typed.rising.sessions));
-      sound = it.sound;
-    }

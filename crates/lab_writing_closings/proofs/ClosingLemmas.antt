@@ -30,7 +30,7 @@ use Rattle.lab_reading.proofs.Sorted.{truth_is, equal_ints, and_true}
 use Rattle.lab_reading.proofs.Lists.{int_alike}
 use Rattle.lab_writing.specs.Calls.{Steps, Finds}
 use Rattle.lab_writing.specs.Ids.{id_read}
-use Rattle.lab_writing_sessions.specs.Closings.{is_meant, closed_row, ClosesRow, close_of, is_open_of, opened_shown, ClosesOf}
+use Rattle.lab_writing_closings.specs.Closings.{is_meant, closed_row, ClosesRow, close_of, is_open_of, opened_shown, ClosesOf}
 use Rattle.lab_writing.proofs.Inside.{steps_then}
 use Rattle.lab_writing.proofs.Lookups.{by_key_query, rows_by_key}
 

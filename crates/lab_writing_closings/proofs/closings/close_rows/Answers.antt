@@ -3,9 +3,9 @@ use Rattle.sqlite_value.specs.Order.{Row}
 use Rattle.sqlite.specs.State.{HasCleanDisk}
 use Rattle.sqlite.specs.Held.{state}
 use Rattle.lab_writing.specs.Calls.{Steps}
-use Rattle.lab_writing_sessions.specs.Closings.{close_one, ClosesRow}
+use Rattle.lab_writing_closings.specs.Closings.{close_one, ClosesRow}
 use Rattle.lab_writing.proofs.Inside.{none_then, keeps_then, turns_more}
-use Rattle.lab_writing_sessions.proofs.closings.close_rows.Goals as goal
+use Rattle.lab_writing_closings.proofs.closings.close_rows.Goals as goal
 
 pub loop-row-preserved : goal.loop-row-preserved
 loop-row-preserved g c =

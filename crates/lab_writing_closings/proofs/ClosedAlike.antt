@@ -18,7 +18,7 @@ use Rattle.lab_tables.specs.Changes.{is_person, person_named, is_to_close, close
 use Rattle.lab_tables.specs.WellKept.{is_same, is_session_within, same_person, IsWellKept}
 use Rattle.lab_tables_laws.proofs.Bridges.{apart_from_test}
 use Rattle.lab_reading.proofs.Lists.{int_alike, text_is, text_alike}
-use Rattle.lab_writing_sessions.specs.Closings.{is_meant, closed_row, ClosesOf}
+use Rattle.lab_writing_closings.specs.Closings.{is_meant, closed_row, ClosesOf}
 
 bool_same : (a b : Bool) → (a ≡ true → b ≡ true) → (b ≡ true → a ≡ true) → a ≡ b
 bool_same true b f g = sym (f refl)

@@ -3,8 +3,8 @@ use Rattle.sqlite.specs.State.{HasCleanDisk, KeepsCommit, Survives}
 use Rattle.sqlite.specs.Held.{state}
 use Rattle.lab_tables.specs.Changes.{InTurn}
 use Rattle.lab_writing.specs.Calls.{Steps}
-use Rattle.lab_writing_sessions.specs.Closings.{ClosesRow}
-use Rattle.lab_writing_sessions.proofs.closings.close_rows.Given as goal
+use Rattle.lab_writing_closings.specs.Closings.{ClosesRow}
+use Rattle.lab_writing_closings.proofs.closings.close_rows.Given as goal
 
 -- those so far were closed
 abbrev pub invariant-loop-row : goal.invariant-loop-row

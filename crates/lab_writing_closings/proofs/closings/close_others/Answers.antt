@@ -2,8 +2,8 @@ use Rattle.std.proofs.Common.{arith}
 use Rattle.sqlite.specs.State.{HasCleanDisk}
 use Rattle.sqlite.specs.Held.{state}
 use Rattle.lab_access.specs.declared.sessions.Closing.TheVariants.{Others}
-use Rattle.lab_writing_sessions.proofs.ClosingLemmas.{sessions_closed}
-use Rattle.lab_writing_sessions.proofs.closings.close_others.Goals as goal
+use Rattle.lab_writing_closings.proofs.ClosingLemmas.{sessions_closed}
+use Rattle.lab_writing_closings.proofs.closings.close_others.Goals as goal
 
 pub returns-clause-made : goal.returns-clause-made
 returns-clause-made g c clean =

@@ -5,10 +5,10 @@ use Rattle.sqlite.specs.Values.{bound}
 use Rattle.sqlite.specs.State.{HasCleanDisk, Shown}
 use Rattle.sqlite.specs.Held.{state}
 use Rattle.lab_access.specs.declared.sessions.Closing.TheVariants.{All}
-use Rattle.lab_writing_sessions.specs.Closings.{opened_shown}
+use Rattle.lab_writing_closings.specs.Closings.{opened_shown}
 use Rattle.lab_writing.proofs.Lookups.{looked, looked_keeps}
-use Rattle.lab_writing_sessions.proofs.ClosingLemmas.{all_text, all_means, all_read}
-use Rattle.lab_writing_sessions.proofs.closings.all_rows.Goals as goal
+use Rattle.lab_writing_closings.proofs.ClosingLemmas.{all_text, all_means, all_read}
+use Rattle.lab_writing_closings.proofs.closings.all_rows.Goals as goal
 
 pub returns-clause-rows : goal.returns-clause-rows
 returns-clause-rows g c clean =

@@ -4,10 +4,10 @@ use Rattle.sqlite_value.specs.Order.{Row}
 use Rattle.sqlite.specs.Values.{bound}
 use Rattle.sqlite.specs.State.{ExecutesInside}
 use Rattle.sqlite.specs.Held.{state}
-use Rattle.lab_writing_sessions.specs.Closings.{close_one}
+use Rattle.lab_writing_closings.specs.Closings.{close_one}
 use Rattle.lab_writing.proofs.Inside.{made_exactly}
-use Rattle.lab_writing_sessions.proofs.SessionWrites.{close_text, sets_close}
-use Rattle.lab_writing_sessions.proofs.closings.close_session.Goals as goal
+use Rattle.lab_writing_closings.proofs.SessionWrites.{close_text, sets_close}
+use Rattle.lab_writing_closings.proofs.closings.close_session.Goals as goal
 
 pub returns-clause-made : goal.returns-clause-made
 returns-clause-made g c clean =

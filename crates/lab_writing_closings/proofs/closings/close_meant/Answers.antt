@@ -2,9 +2,9 @@ use Rattle.std.proofs.Common.{◌≡◌, sym, subst}
 use Rattle.sqlite.specs.Held.{state}
 use Rattle.lab_access.specs.declared.sessions.Closing.{Closing}
 use Rattle.lab_writing.specs.Calls.{Steps}
-use Rattle.lab_writing_sessions.specs.Closings.{close_of}
-use Rattle.lab_writing_sessions.proofs.ClosingLemmas.{nothing_closed}
-use Rattle.lab_writing_sessions.proofs.closings.close_meant.Goals as goal
+use Rattle.lab_writing_closings.specs.Closings.{close_of}
+use Rattle.lab_writing_closings.proofs.ClosingLemmas.{nothing_closed}
+use Rattle.lab_writing_closings.proofs.closings.close_meant.Goals as goal
 
 pub returns-in-Nothing-clause-made : goal.returns-in-Nothing-clause-made
 returns-in-Nothing-clause-made g c clean =

@@ -6,7 +6,7 @@ ghost use Rattle.sqlite.specs.State.{HasCleanDisk, KeepsCommit, Survives};
 ghost use Rattle.lab_access.specs.declared.sessions.Closing.TheVariants.{All, Others};
 ghost use Rattle.lab_tables.specs.Changes.{InTurn};
 ghost use Rattle.lab_writing.specs.Calls.{IsInside, Makes, Answers, Finds};
-ghost use Rattle.lab_writing_sessions.specs.Closings.{close_one, close_of, ClosesRow, ClosesOf, opened_shown};
+ghost use Rattle.lab_writing_closings.specs.Closings.{close_one, close_of, ClosesRow, ClosesOf, opened_shown};
 
 use lab_access::Closing;
 use lab_names::{Ordinal, PersonCode};

@@ -1,8 +1,8 @@
 use Rattle.std.proofs.Common.{arith}
 use Rattle.sqlite.specs.State.{HasCleanDisk}
 use Rattle.sqlite.specs.Held.{state}
-use Rattle.lab_writing_sessions.proofs.ClosingLemmas.{closes_of}
-use Rattle.lab_writing_sessions.proofs.closings.close_sessions.Goals as goal
+use Rattle.lab_writing_closings.proofs.ClosingLemmas.{closes_of}
+use Rattle.lab_writing_closings.proofs.closings.close_sessions.Goals as goal
 
 pub returns-clause-made : goal.returns-clause-made
 returns-clause-made g c clean =
