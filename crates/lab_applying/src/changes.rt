@@ -9,8 +9,9 @@ ghost use Rattle.lab_tables.specs.Changes.{AppliesIn, InTurn};
 ghost use Rattle.lab_tables_changes.specs.Steps.{AppliesWhereKept, StepsBy};
 ghost use Rattle.lab_writing.specs.Calls.{IsInside, Makes, Steps};
 
+use lab_filing_entries::{enter_row, sign_version};
 use lab_filing_forms::add_form;
-use lab_filing_records::{add_record, enter_row, open_version, sign_version};
+use lab_filing_records::{add_record, open_version};
 use lab_kept::{Change, Closing};
 use lab_names::{Moment, PersonCode};
 use lab_writing::{RowId, set_last, set_strays};

@@ -9,9 +9,9 @@ use Rattle.lab_tables.specs.Rows.{LabRow, Tables, record_id, version_id}
 use Rattle.lab_tables.specs.Changes.{in_lab, person_named, form_named, record_named, InTurn, IsFree, put_record, record_row_of, put_version, version_row_of, set_current, AddsEntry, AddsSignature, AddsVersion, AddsRecord, OpensVersion}
 use Rattle.lab_tables.specs.Ready.{tables_of}
 use Rattle.lab_writing.specs.Calls.{Steps, Finds}
-use Rattle.lab_filing_records.specs.Shown.{record_pair}
+use Rattle.lab_filing_entries.specs.Shown.{record_pair}
 use Rattle.lab_filing_records.specs.Added.{with_record, with_version}
-use Rattle.lab_filing_records.proofs.Added.{pair_of}
+use Rattle.lab_filing_entries.proofs.Added.{pair_of}
 
 pub version_added : (lab kept : ℤ) (version : Version) (opener id : ℤ) (a b c d e : State)
     → Steps (Finds (λ t. person_named t lab version.opener ≡ Some opener)) a b

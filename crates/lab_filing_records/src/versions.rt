@@ -11,10 +11,8 @@ ghost use Rattle.lab_tables.specs.Changes.{AppliesIn, InTurn, AddsEntry, AddsSig
 ghost use Rattle.lab_writing.specs.Calls.{IsInside, Makes, Answers};
 ghost use Rattle.lab_filing_records.specs.Added.{with_version};
 
-use crate::entries::add_entry;
-use crate::named::record_at;
-use crate::signatures::add_signature;
 use crate::texts::cause_or_null;
+use lab_filing_entries::{add_entry, add_signature, record_at};
 use lab_kept::{Signature, Version};
 use lab_names::Ordinal;
 use lab_seal::{EntryRow, Format};
