@@ -3,7 +3,7 @@ use Rattle.sqlite.specs.State.{HasCleanDisk, KeepsCommit, Survives}
 use Rattle.sqlite.specs.Held.{state}
 use Rattle.lab_tables.specs.Changes.{InTurn, AddsTold}
 use Rattle.lab_writing.specs.Calls.{Steps}
-use Rattle.lab_founding.proofs.rows.add_trail.Given as goal
+use Rattle.lab_writing_newborns.proofs.rows.add_trail.Given as goal
 
 -- those so far were added
 abbrev pub invariant-loop-told : goal.invariant-loop-told

@@ -7,7 +7,7 @@ ghost use Rattle.sqlite.specs.State.{HasCleanDisk, KeepsCommit, Survives};
 ghost use Rattle.lab_tables.specs.Changes.{InTurn, AddsPerson, AddsTold};
 ghost use Rattle.lab_tables.specs.Held.{IsTyped};
 ghost use Rattle.lab_writing.specs.Calls.{IsInside, Makes, Answers};
-ghost use Rattle.lab_founding.specs.Founding.{AddsLab, AddsRows};
+ghost use Rattle.lab_writing_newborns.specs.Founding.{AddsLab, AddsRows};
 
 use lab_access::Person;
 use lab_kept::{Lab, TrailRow};
@@ -94,7 +94,7 @@ fn add_trail<S: Alter>(
 }
 
 /// Adds all of it.
-pub(crate) fn add_rows<S: Alter>(tx: &mut Transaction<'_, S>, lab: &Lab) -> Result<(), Error>
+pub fn add_rows<S: Alter>(tx: &mut Transaction<'_, S>, lab: &Lab) -> Result<(), Error>
     requires inside { IsInside (state S.Store tx.old.conn.now) }
     ensures same_reference { tx.new.conn.ghost_name ≡ tx.old.conn.ghost_name }
     ensures made { Makes result (AddsRows lab.now)

@@ -4,8 +4,8 @@ use Rattle.sqlite_value.specs.Order.{Row}
 use Rattle.sqlite.specs.Values.{bound}
 use Rattle.sqlite.specs.State.{ExecutesInside}
 use Rattle.sqlite.specs.Held.{state}
-use Rattle.lab_founding.proofs.LabMore.{add_lab_text, lab_given, lab_added, lab_sound}
-use Rattle.lab_founding.proofs.rows.add_lab.Goals as goal
+use Rattle.lab_writing_newborns.proofs.LabMore.{add_lab_text, lab_given, lab_added, lab_sound}
+use Rattle.lab_writing_newborns.proofs.rows.add_lab.Goals as goal
 
 pub returns-clause-made : goal.returns-clause-made
 returns-clause-made g c clean =
