@@ -1,5 +1,5 @@
--- Values from outside, so that a wrong rule in the definitions does not check: texts as Python's csv reads them, what is kept
--- of lines and told by it, and the numbers of docs/REFUSALS.md.
+-- Values from outside, so that a wrong rule in the definitions does not check: texts as Python's csv reads them, what is found
+-- of copies, and the fault of a row that wasn't read.
 use Rattle.std.proofs.Common.{◌≡◌, refl, ℕ, true, false, List, [], ◌∷◌, ◌++◌, Option, Some, None, Ok, Err}
 use Rattle.std.specs.Prelude.{codes}
 use Rattle.std.specs.Fmt.{digits}
@@ -25,12 +25,11 @@ use Rattle.lab_rows.specs.declared.lines.Line.{Line}
 use Rattle.lab_rows.specs.declared.lines.Line.TheVariants as line
 use Rattle.lab_rows.specs.declared.lines.SignatureLine.{SignatureLine}
 use Rattle.lab_lines.specs.declared.faults.RowFault.TheVariants as row_fault
-use Rattle.lab_checks.specs.Checks.{IsAnswer, fault_at, fault_number, fault_word, rows_of}
-use Rattle.lab_checks.specs.Kept.{flaw_of_signature_kept, is_in_place_kept, kept_none, kept_of, kept_with, verdict_kept}
-use Rattle.lab_checks.specs.declared.faults.CheckFault.TheVariants.{Flawed, Read, Memory}
-use Rattle.lab_checks.specs.declared.kept.Kept.{Kept}
-
--- ---- texts
+use Rattle.lab_checks_versions.specs.Faults.{IsAnswer, fault_number, fault_word}
+use Rattle.lab_checks.specs.Checks.{fault_at, rows_of}
+use Rattle.lab_checks_lines.specs.Kept.{flaw_of_signature_kept, is_in_place_kept, kept_none, kept_of, kept_with, verdict_kept}
+use Rattle.lab_checks_versions.specs.declared.faults.CheckFault.TheVariants.{Flawed, Read, Memory}
+use Rattle.lab_checks_lines.specs.declared.kept.Kept.{Kept}
 
 -- a byte order mark in front, lines that end in CR LF, LF, CR or with the text, an empty line, and quotes where none are needed
 pub known_rows : rows_of (0xEF ∷ 0xBB ∷ 0xBF ∷ codes "kind,lab\r\n\"entry\",\"a, \"\"b\"\"\nc\"\n\n,\rend,aqua")
@@ -51,112 +50,7 @@ pub known_found : (verdict (rows_of (header ++ codes "copy,aqua,3,5,2,,,hal,Aqua
 unfolding strip_bom records_from next_record verdict verdict_after flaw_of_line flaw_at_end flaw_of_signature flaw_of_last_version last_told is_in_place line_of copy_line record_line version_line entry_line signature_line end_line number_of moment_of days_of_spans moment_text year_of place_in_year month_of day_of_month hour_of minute_of second_of span_of place_of is_lab_code is_person_code is_key is_name is_note is_unit is_utf8 chars encode digits
 known_found = (refl, refl, refl, refl)
 
--- ---- what is kept
-
-abbrev copy : ℕ → ℕ → Line
-copy from to = line.Copy (record {
-  edition = edition.Two;
-  lab = codes "aqua";
-  from = from;
-  to = to;
-  person = None;
-  name = codes "Aqua Lab";
-  moment = 5000;
-})
-
-abbrev about : List ℕ → ℕ → Line
-about lab number = line.Record (record {
-  lab = lab;
-  record_number = number;
-  form_version = 1;
-  form = codes "water";
-  sample = codes "S1";
-})
-
-abbrev version : ℕ → Option (List ℕ) → Line
-version number reason = line.Version (record {
-  lab = codes "aqua";
-  record_number = 4;
-  number = number;
-  format = format.Two false;
-  state = Signed;
-  opener = codes "dan";
-  opened = 1000;
-  reason = reason;
-  digest = 7 ∷ [];
-})
-
-abbrev entry : ℕ → Line
-entry number = line.Entry (record {
-  lab = codes "aqua";
-  record_number = 4;
-  version = number;
-  row = record {
-    key = codes "lead";
-    value = codes "7.50";
-    unit = codes "mg/L";
-    person = codes "dan";
-    moment = 1100;
-    reason = None;
-  };
-})
-
-abbrev signature : List ℕ → SignatureLine
-signature digest = record {
-  record_number = 4;
-  version = 1;
-  parts = record {
-    version = digest;
-    lab = codes "aqua";
-    person = codes "dan";
-    name = codes "Dan Day";
-    meaning = Authorship;
-    moment = 1200;
-  };
-  seal = [];
-}
-
--- what is kept of each line behind the others is what is kept of all, with the row at which the version stands
-abbrev behind_copy : Kept
-behind_copy = kept_with 2 kept_none (copy 1 5)
-
-abbrev behind_version : Kept
-behind_version = kept_with 4 (kept_with 3 behind_copy (about (codes "aqua") 4)) (version 1 None)
-
-pub known_kept : kept_with 6 (kept_with 5 behind_version (entry 1)) (line.Signature (signature (7 ∷ [])))
-    ≡ kept_of (copy 1 5 ∷ about (codes "aqua") 4 ∷ version 1 None ∷ entry 1 ∷ line.Signature (signature (7 ∷ [])) ∷ [])
-unfolding last_told
-known_kept = refl
-
--- the copy row comes first, and its range isn't backwards; a record is of the laboratory and of the range, its first version
--- has number 1, no version comes behind one that isn't settled, and an entry has the number of its version
-pub known_places : (is_in_place_kept kept_none (copy 5 5) ≡ true) × (is_in_place_kept kept_none (copy 5 4) ≡ false)
-    × (is_in_place_kept kept_none (about (codes "aqua") 4) ≡ false) × (is_in_place_kept behind_copy (about (codes "aqua") 5) ≡ true)
-    × (is_in_place_kept behind_copy (about (codes "aqua") 6) ≡ false) × (is_in_place_kept behind_copy (about (codes "brick") 4) ≡ false)
-    × (is_in_place_kept behind_copy (version 1 None) ≡ false)
-    × (is_in_place_kept (kept_with 3 behind_copy (about (codes "aqua") 4)) (version 2 (Some (codes "misread"))) ≡ false)
-    × (is_in_place_kept behind_version (version 2 (Some (codes "misread"))) ≡ false)
-    × (is_in_place_kept behind_version (entry 1) ≡ true) × (is_in_place_kept behind_version (entry 2) ≡ false)
-known_places = (refl, refl, refl, refl, refl, refl, refl, refl, refl, refl, refl)
-
--- another digest than the version's is told at the signature, before its seal is looked at
-pub known_signature : (flaw_of_signature_kept 6 behind_version.version (signature (8 ∷ [])) ≡ Some (Digest 6))
-    × (flaw_of_signature_kept 6 None (signature (7 ∷ [])) ≡ Some (Digest 6)) × (verdict_kept kept_none ≡ Err NoEnd)
-known_signature = (refl, refl, refl)
-
--- ---- what is answered
-
--- a reader's fault has a word and no number
+-- a row that is none is told with its number, and of one that memory didn't suffice for nothing is told
 pub known_faults : (fault : OutOfMemory)
-    → (fault_number (Flawed (OnePerson 4)) ≡ Some 75) × (fault_word (Flawed (OnePerson 4)) ≡ codes "one_person")
-    × (fault_number Read ≡ None) × (fault_word Read ≡ codes "read_fault")
-    × (fault_number (Memory fault) ≡ Some 90) × (fault_word (fault_at 5 (row_fault.Memory fault)) ≡ codes "memory")
-    × (fault_at 5 row_fault.BadRow ≡ Flawed (BadRow 5))
-known_faults fault = (refl, refl, refl, refl, refl, refl, refl)
-
-flawed_is : (flaw : Flaw) (counts : Counts) → Err flaw ≡ Ok counts → ⊥
-flawed_is flaw counts wrong = absurd cc
-
--- yes is no answer to a copy that has a flaw; a fault of the reader is one to any copy
-pub known_answers : (counts : Counts) → (IsAnswer (Err (Digest 4)) (Ok counts) → ⊥) × IsAnswer (Err (Digest 4)) (Err Read)
-known_answers counts = (λ same. flawed_is (Digest 4) counts same, tt)
+    → (fault_at 5 (row_fault.Memory fault) ≡ Memory fault) × (fault_at 5 row_fault.BadRow ≡ Flawed (BadRow 5))
+known_faults fault = (refl, refl)

@@ -1,5 +1,3 @@
 pub mod CheckLemmas
-pub mod KeptLemmas
-pub mod ListLemmas
 pub mod ReadLemmas
 pub mod KnownValues

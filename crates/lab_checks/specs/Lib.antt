@@ -1,4 +1,2 @@
 pub mod Checks
-pub mod Hands
-pub mod Kept
 pub mod Left

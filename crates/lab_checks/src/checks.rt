@@ -5,17 +5,17 @@ ghost use Rattle.csv.specs.Records.{fields_of};
 ghost use Rattle.csv.specs.declared.parser.State.TheVariants as st;
 ghost use Rattle.csv.specs.declared.reader.Trim.TheVariants as trim;
 ghost use Rattle.lab_rows.specs.Copies.{verdict};
-ghost use Rattle.lab_checks.specs.Checks.{IsAnswer, rows_of};
-ghost use Rattle.lab_checks.specs.Kept.{IsNoFlaw, kept_none};
+ghost use Rattle.lab_checks_versions.specs.Faults.{IsAnswer, IsNoFlaw};
+ghost use Rattle.lab_checks.specs.Checks.{fault_at, rows_of};
+ghost use Rattle.lab_checks_lines.specs.Kept.{kept_none};
 ghost use Rattle.lab_checks.specs.Left.{AnswersRest};
 ghost use Rattle.lab_checks.specs.declared.asks.AskedReader.{AskedReader};
 
-use crate::CheckFault;
 use crate::asks::AskedReader;
-use crate::faults::fault_at;
-use crate::kept::Kept;
 use csv::{ByteRecord, ErrorKind, Reader, ReaderBuilder};
-use lab_lines::{is_header, read_line};
+use lab_checks_lines::Kept;
+use lab_checks_versions::CheckFault;
+use lab_lines::{RowFault, is_header, read_line};
 use lab_rows::{Counts, Flaw, OutOfMemory};
 use std::alloc::Global;
 use std::io::Read;
@@ -109,5 +109,15 @@ fn read_row<R: Read>(rows: &mut Reader<R>, row: &mut ByteRecord) -> Result<bool,
             ErrorKind::OutOfMemory => Err(CheckFault::Memory(OutOfMemory)),
             _ => Err(CheckFault::Read),
         },
+    }
+}
+
+// The fault of a check that meets this one in a row.
+fn fault_at(row: u64, fault: RowFault) -> CheckFault
+    ensures { result ≡ fault_at row fault }
+{
+    match fault {
+        RowFault::BadRow => CheckFault::Flawed(Flaw::BadRow(row)),
+        RowFault::Memory(fault) => CheckFault::Memory(fault),
     }
 }

@@ -3,10 +3,7 @@
 
 mod asks;
 mod checks;
-mod faults;
-mod hands;
-mod kept;
 
 pub use checks::check_copy;
-pub use faults::CheckFault;
+pub use lab_checks_versions::CheckFault;
 pub use lab_rows::{Counts, Flaw, OutOfMemory};

@@ -16,7 +16,7 @@ use Rattle.lab_access.specs.Sessions.{session_of, is_live, touched_session}
 use Rattle.lab_kept.specs.declared.labs.Lab.{Lab}
 use Rattle.lab_kept.specs.Limits.{stray_limit}
 use Rattle.lab_kept.specs.Lookups.{session_at, person_at, caller_of}
-use Rattle.lab_rules.specs.Signing.{signing_rule}
+use Rattle.lab_rules.specs.SigningRules.{signing_rule}
 use Rattle.lab_machine.specs.declared.commands.Command.{Command}
 use Rattle.lab_machine.specs.declared.commands.Command.TheVariants.{Card, Open, Close, ChangePassword, Enrol, ReadPersons, AskIssue, ConfirmIssue, SetRoles, Retire, Unlock, MakeForm, ReadForm, OpenRecord, Enter, Amend, Sign, ReadRecord, ReadVersion, ReadRecords, ReadTrail, TakeCopy}
 use Rattle.lab_machine.specs.declared.passages.Passage.{Passage}
@@ -26,7 +26,7 @@ use Rattle.lab_machine.specs.Machine.{named_session, allowed_passage, session_pa
 use Rattle.lab_laws.specs.Asking.{IsCommandFormed}
 use Rattle.lab_laws.proofs.FitAccounts.{own_code}
 use Rattle.lab_laws.proofs.LimitParts.{session_set, session_token}
-use Rattle.lab_commands.specs.Done.{done_of, opened_done}
+use Rattle.lab_effects.specs.Done.{done_of, opened_done}
 use Rattle.lab_decisions.specs.Deciding.{ended_done, opening_ended, touching, decided_by}
 use Rattle.lab_decisions.proofs.OwnCases.{slice_for, opened_is}
 use Rattle.lab_decisions.proofs.RuleCases.{own_is}

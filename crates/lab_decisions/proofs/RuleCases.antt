@@ -13,15 +13,15 @@ use Rattle.lab_kept.specs.Lookups.{person_at, last_form, exact_form, record_of, 
 use Rattle.lab_rules.specs.declared.outcomes.Signing.{Signing}
 use Rattle.lab_rules.specs.declared.refusals.Refusal.TheVariants.{CodeWanted}
 use Rattle.lab_rules.specs.Making.{making, opening_record}
-use Rattle.lab_rules.specs.Entering.{entering, amending}
+use Rattle.lab_entries.specs.Entering.{entering, amending}
 use Rattle.lab_rules.specs.Reading.{reading_form, reading_record, reading_version}
-use Rattle.lab_rules.specs.Signing.{is_code_wanted, signing_record}
+use Rattle.lab_signatures.specs.Signing.{is_code_wanted, signing_record}
 use Rattle.lab_machine.specs.declared.commands.Command.{Command}
 use Rattle.lab_machine.specs.declared.commands.Command.TheVariants.{Card, Open, Close, ChangePassword, Enrol, ReadPersons, AskIssue, ConfirmIssue, SetRoles, Retire, Unlock, MakeForm, ReadForm, OpenRecord, Enter, Amend, Sign, ReadRecord, ReadVersion, ReadRecords, ReadTrail, TakeCopy}
 use Rattle.lab_machine.specs.declared.replies.Reply.TheVariants.{HalfTold, RolesSet, PersonDone, FormRead, RecordRead, VersionRead}
 use Rattle.lab_machine.specs.Own.{own, enrolled_case, asked_case, confirmed_case, roles_case, retired_case, unlocked_case, form_case, record_case, entry_case, amendment_case, signature_case, signing_by}
 use Rattle.lab_machine.specs.Machine.{touched}
-use Rattle.lab_commands.specs.Done.{done_of, enrolled_done, asked_done, confirmed_done, roles_done, retired_done, unlocked_done, form_done, record_done, entry_done, amendment_done, signature_done, signing_done}
+use Rattle.lab_effects.specs.Done.{done_of, enrolled_done, asked_done, confirmed_done, roles_done, retired_done, unlocked_done, form_done, record_done, entry_done, amendment_done, signature_done, signing_done}
 use Rattle.lab_decisions.proofs.OwnCases.{case_of, slice_for, then_case_is, then_person_is, then_read_is, wanted_is, person_is, changed_is}
 
 -- what follows the password of a signing

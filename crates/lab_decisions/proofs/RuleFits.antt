@@ -21,9 +21,9 @@ use Rattle.lab_kept.specs.Lookups.{person_at, last_form, exact_form, record_of, 
 use Rattle.lab_rules.specs.declared.outcomes.Signing.{Signing}
 use Rattle.lab_rules.specs.declared.refusals.Refusal.TheVariants.{CodeWanted}
 use Rattle.lab_rules.specs.Making.{making, opening_record}
-use Rattle.lab_rules.specs.Entering.{entering, amending}
+use Rattle.lab_entries.specs.Entering.{entering, amending}
 use Rattle.lab_rules.specs.Reading.{reading_form, reading_record, reading_version}
-use Rattle.lab_rules.specs.Signing.{is_code_wanted, signing_record}
+use Rattle.lab_signatures.specs.Signing.{is_code_wanted, signing_record}
 use Rattle.lab_machine.specs.declared.commands.Command.{Command}
 use Rattle.lab_machine.specs.declared.commands.Command.TheVariants.{Card, Open, Close, ChangePassword, Enrol, ReadPersons, AskIssue, ConfirmIssue, SetRoles, Retire, Unlock, MakeForm, ReadForm, OpenRecord, Enter, Amend, Sign, ReadRecord, ReadVersion, ReadRecords, ReadTrail, TakeCopy}
 use Rattle.lab_machine.specs.declared.replies.Reply.TheVariants.{FormRead, RecordRead, VersionRead}
@@ -34,7 +34,7 @@ use Rattle.lab_laws.proofs.FitSignatures.{signature_fits}
 use Rattle.lab_laws.proofs.FitPersons.{enrolled_fits, session_fits, closed_fits, signed_fits}
 use Rattle.lab_laws.proofs.FitAccounts.{roles_fit, retired_fits, unlocked_fits, asked_fits, confirmed_fits}
 use Rattle.lab_laws.proofs.FitAttempts.{FitsAttempt, attempt_fits}
-use Rattle.lab_commands.specs.Done.{done_of, changed_done, enrolled_done, asked_done, confirmed_done, roles_done, retired_done, unlocked_done, form_done, record_done, entry_done, amendment_done, signature_done, signing_done}
+use Rattle.lab_effects.specs.Done.{done_of, changed_done, enrolled_done, asked_done, confirmed_done, roles_done, retired_done, unlocked_done, form_done, record_done, entry_done, amendment_done, signature_done, signing_done}
 use Rattle.lab_decisions.proofs.Joining.{set_known, change_knows}
 use Rattle.lab_decisions.proofs.OwnCases.{slice_for}
 use Rattle.lab_decisions.proofs.CaseFits.{FitsDone, then_done_fits, then_person_fits, then_read_fits, wanted_fits, person_adds, renewed_fits}

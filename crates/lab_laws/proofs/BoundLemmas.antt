@@ -17,8 +17,8 @@ use Rattle.lab_kept.specs.Bound.{IsBoundTo, IsSealed, IsChain, IsBoundRecord}
 use Rattle.lab_rules.specs.declared.items.Item.{Item}
 use Rattle.lab_rules.specs.declared.outcomes.Signing.{Signing}
 use Rattle.lab_rules.specs.Making.{new_record}
-use Rattle.lab_rules.specs.Entering.{has_settled, next_version}
-use Rattle.lab_rules.specs.Signing.{version_refusal, new_signature}
+use Rattle.lab_entries.specs.Entering.{has_settled, next_version}
+use Rattle.lab_signatures.specs.Signing.{version_refusal, new_signature}
 use Rattle.lab_laws.proofs.SigningFrame.{with_versions, StaysTrue, each_in_version}
 use Rattle.lab_laws.proofs.SigningStates.{one_last, later_last, open_none, given_digest}
 

@@ -23,8 +23,8 @@ use Rattle.lab_rules.specs.declared.outcomes.Signing.{Signing}
 use Rattle.lab_rules.specs.declared.outcomes.Signing.TheVariants.{Authorship, Review, Rejection, Approval}
 use Rattle.lab_rules.specs.declared.refusals.Refusal.TheVariants.{OwnWork, NotAuthor}
 use Rattle.lab_rules.specs.Making.{new_record, first_version}
-use Rattle.lab_rules.specs.Entering.{has_settled, next_version}
-use Rattle.lab_rules.specs.Signing.{is_second, state_refusal, signer_refusal, signed_meaning, version_refusal, new_signature}
+use Rattle.lab_entries.specs.Entering.{has_settled, next_version}
+use Rattle.lab_signatures.specs.Signing.{is_second, state_refusal, signer_refusal, signed_meaning, version_refusal, new_signature}
 use Rattle.lab_laws.proofs.SigningFrame.{with_versions, StaysTrue, each_in_version}
 use Rattle.lab_laws.proofs.SigningStates.{one_last, later_last, taken_said, IsAuthored, IsReviewed, are_in, open_none}
 

@@ -14,7 +14,7 @@ use Rattle.lab_rules.specs.declared.items.Item.{Item}
 use Rattle.lab_rules.specs.declared.outcomes.EntryMade.{EntryMade}
 use Rattle.lab_rules.specs.declared.outcomes.AmendmentMade.{AmendmentMade}
 use Rattle.lab_rules.specs.Making.{making, opening_record, new_record, first_version}
-use Rattle.lab_rules.specs.Entering.{entering, amending, entered_row, next_version}
+use Rattle.lab_entries.specs.Entering.{entering, amending, entered_row, next_version}
 use Rattle.lab_laws.proofs.LimitLast.{last_code}
 use Rattle.lab_laws.proofs.LimitRules.{IsFormMade, form_made_by, IsRecordOpened, record_opened_by, IsEntryMade, entry_made_by, IsAmendmentMade, amendment_made_by}
 use Rattle.lab_laws.proofs.LimitCases.{own_number}

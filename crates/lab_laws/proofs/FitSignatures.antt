@@ -21,7 +21,7 @@ use Rattle.lab_rules.specs.declared.outcomes.Signing.{Signing}
 use Rattle.lab_rules.specs.declared.outcomes.Signing.TheVariants.{Authorship, Review, Rejection, Approval}
 use Rattle.lab_rules.specs.declared.outcomes.SignatureMade.{SignatureMade}
 use Rattle.lab_rules.specs.declared.refusals.Refusal.{Refusal}
-use Rattle.lab_rules.specs.Signing.{approval_refusal, state_refusal, or_else, signed_meaning, new_signature, signing_record}
+use Rattle.lab_signatures.specs.Signing.{approval_refusal, state_refusal, or_else, signed_meaning, new_signature, signing_record}
 use Rattle.lab_laws.proofs.LimitLast.{found_passes}
 use Rattle.lab_laws.proofs.LimitRules.{IsSignatureMade, signature_made_by}
 use Rattle.lab_laws.proofs.LimitCases.{own_number}

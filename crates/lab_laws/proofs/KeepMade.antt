@@ -32,8 +32,8 @@ use Rattle.lab_rules.specs.declared.outcomes.SignatureMade.{SignatureMade}
 use Rattle.lab_rules.specs.declared.refusals.Refusal.{Refusal}
 use Rattle.lab_rules.specs.declared.refusals.Refusal.TheVariants.{People, NothingAltered, NotOpen, ReasonWanted, AmendmentOpen, CodeWanted}
 use Rattle.lab_rules.specs.Making.{form_version, making, new_record, opening_record}
-use Rattle.lab_rules.specs.Entering.{is_open, has_settled, entered_row, item_refusal, has_value, entry_made, entering_of, entering, next_version, amendment_made, first_altered_refusal, amending_by, amending_of, amending}
-use Rattle.lab_rules.specs.Signing.{is_code_wanted, version_refusal, new_signature, signature_made, signing_version, signing_record}
+use Rattle.lab_entries.specs.Entering.{is_open, has_settled, entered_row, item_refusal, has_value, entry_made, entering_of, entering, next_version, amendment_made, first_altered_refusal, amending_by, amending_of, amending}
+use Rattle.lab_signatures.specs.Signing.{is_code_wanted, version_refusal, new_signature, signature_made, signing_version, signing_record}
 use Rattle.lab_machine.specs.Cases.{Case, Refuses}
 use Rattle.lab_machine.specs.Own.{form_case, record_case, entry_case, amendment_case, signature_case, signing_by}
 use Rattle.lab_laws.proofs.LimitLast.{found_passes}

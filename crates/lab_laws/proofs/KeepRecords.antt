@@ -13,7 +13,7 @@ use Rattle.lab_kept.specs.Values.{meaning_of, version_state}
 use Rattle.lab_kept.specs.Lookups.{has_number, is_numbered, record_of, last_of}
 use Rattle.lab_kept.specs.Changes.{in_record, in_version, in_last, with_row, with_signature, entered_in, signed_in, opened_in}
 use Rattle.lab_kept.specs.Keeping.{Extends, KeepsRows, KeepsVersion, KeepsRecord}
-use Rattle.lab_rules.specs.Entering.{is_open}
+use Rattle.lab_entries.specs.Entering.{is_open}
 use Rattle.lab_laws.proofs.KeepLists.{extends_itself, extends_more, prefix_itself, prefix_more}
 
 -- ---- versions

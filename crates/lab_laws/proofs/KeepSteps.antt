@@ -26,7 +26,7 @@ use Rattle.lab_kept.specs.Trails.{row_of}
 use Rattle.lab_kept.specs.Changes.{SameSession, IsKnown, with_person, with_session}
 use Rattle.lab_kept.specs.Keeping.{Extends, IsPrefix, KeepsPersons, KeepsRecord, IsToldOnce, Keeps}
 use Rattle.lab_rules.specs.Making.{making, opening_record}
-use Rattle.lab_rules.specs.Entering.{entering, amending}
+use Rattle.lab_entries.specs.Entering.{entering, amending}
 use Rattle.lab_rules.specs.Reading.{reading_form, reading_record, reading_version}
 use Rattle.lab_rules.specs.declared.refusals.Refusal.TheVariants.{People}
 use Rattle.lab_machine.specs.declared.commands.Command.{Command}

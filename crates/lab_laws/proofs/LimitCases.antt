@@ -33,8 +33,8 @@ use Rattle.lab_rules.specs.declared.outcomes.AmendmentMade.{AmendmentMade}
 use Rattle.lab_rules.specs.declared.outcomes.SignatureMade.{SignatureMade}
 use Rattle.lab_rules.specs.declared.refusals.Refusal.{Refusal}
 use Rattle.lab_rules.specs.Making.{making, opening_record, new_record, first_version}
-use Rattle.lab_rules.specs.Entering.{entering, amending, entered_row, next_version}
-use Rattle.lab_rules.specs.Signing.{signing_record, new_signature}
+use Rattle.lab_entries.specs.Entering.{entering, amending, entered_row, next_version}
+use Rattle.lab_signatures.specs.Signing.{signing_record, new_signature}
 use Rattle.lab_machine.specs.declared.replies.Reply.{Reply}
 use Rattle.lab_machine.specs.Cases.{Case, Makes}
 use Rattle.lab_machine.specs.Own.{then_case, then_person, then_read, opened_case, closing_case, changed_case, enrolled_case, with_person_closed, form_case, record_case, entry_case, amendment_case, signature_case, signing_by}

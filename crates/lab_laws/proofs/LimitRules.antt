@@ -20,8 +20,8 @@ use Rattle.lab_rules.specs.declared.outcomes.SignatureMade.{SignatureMade}
 use Rattle.lab_rules.specs.declared.outcomes.Signing.{Signing}
 use Rattle.lab_rules.specs.declared.refusals.Refusal.TheVariants.{People, NothingAltered}
 use Rattle.lab_rules.specs.Making.{making, form_version, opening_record, new_record}
-use Rattle.lab_rules.specs.Entering.{is_open, has_settled, entered_row, item_refusal, has_value, entry_made, entering, entering_of, first_altered_refusal, next_version, amendment_made, amending, amending_of, amending_by, amending_last}
-use Rattle.lab_rules.specs.Signing.{version_refusal, new_signature, signature_made, signing_record, signing_version}
+use Rattle.lab_entries.specs.Entering.{is_open, has_settled, entered_row, item_refusal, has_value, entry_made, entering, entering_of, first_altered_refusal, next_version, amendment_made, amending, amending_of, amending_by, amending_last}
+use Rattle.lab_signatures.specs.Signing.{version_refusal, new_signature, signature_made, signing_record, signing_version}
 
 -- ---- a test that would refuse didn't hold
 

@@ -20,9 +20,9 @@ use Rattle.lab_kept.specs.Limits.{IsWithin, count_limit}
 use Rattle.lab_kept.specs.Lookups.{person_at, session_at, caller_of, last_form, exact_form, record_of, record_about}
 use Rattle.lab_rules.specs.declared.refusals.Refusal.TheVariants.{CodeWanted}
 use Rattle.lab_rules.specs.Making.{making, opening_record}
-use Rattle.lab_rules.specs.Entering.{entering, amending}
+use Rattle.lab_entries.specs.Entering.{entering, amending}
 use Rattle.lab_rules.specs.Reading.{reading_form, reading_record, reading_version}
-use Rattle.lab_rules.specs.Signing.{is_code_wanted}
+use Rattle.lab_signatures.specs.Signing.{is_code_wanted}
 use Rattle.lab_machine.specs.declared.commands.Command.{Command}
 use Rattle.lab_machine.specs.declared.commands.Command.TheVariants.{Card, Open, Close, ChangePassword, Enrol, ReadPersons, AskIssue, ConfirmIssue, SetRoles, Retire, Unlock, MakeForm, ReadForm, OpenRecord, Enter, Amend, Sign, ReadRecord, ReadVersion, ReadRecords, ReadTrail, TakeCopy}
 use Rattle.lab_machine.specs.declared.commands.Instruction.{Instruction}

@@ -26,8 +26,8 @@ use Rattle.lab_rules.specs.declared.outcomes.SignatureMade.{SignatureMade}
 use Rattle.lab_rules.specs.declared.outcomes.Signing.{Signing}
 use Rattle.lab_rules.specs.declared.refusals.Refusal.{Refusal}
 use Rattle.lab_rules.specs.Making.{new_record, opening_new, opening_record}
-use Rattle.lab_rules.specs.Entering.{has_value, is_open, has_settled, entering, entering_of, entry_made, entered_row, amending, amending_of, amending_by, amendment_made, next_version}
-use Rattle.lab_rules.specs.Signing.{version_refusal, new_signature, signing_version, signing_record, signature_made}
+use Rattle.lab_entries.specs.Entering.{has_value, is_open, has_settled, entering, entering_of, entry_made, entered_row, amending, amending_of, amending_by, amendment_made, next_version}
+use Rattle.lab_signatures.specs.Signing.{version_refusal, new_signature, signing_version, signing_record, signature_made}
 use Rattle.lab_machine.specs.Machine.{step}
 
 -- ---- lists

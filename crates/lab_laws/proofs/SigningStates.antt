@@ -17,7 +17,7 @@ use Rattle.lab_kept.specs.Values.{meaning_of, version_state}
 use Rattle.lab_rules.specs.declared.outcomes.Signing.{Signing}
 use Rattle.lab_rules.specs.declared.refusals.Refusal.{Refusal}
 use Rattle.lab_rules.specs.declared.refusals.Refusal.TheVariants.{StaleDigest}
-use Rattle.lab_rules.specs.Signing.{or_else, approval_refusal, state_refusal, digest_refusal, signer_refusal, version_refusal}
+use Rattle.lab_signatures.specs.Signing.{or_else, approval_refusal, state_refusal, digest_refusal, signer_refusal, version_refusal}
 
 -- ---- the last of a list
 

@@ -40,8 +40,8 @@ use Rattle.lab_rules.specs.declared.outcomes.EntryMade.{EntryMade}
 use Rattle.lab_rules.specs.declared.outcomes.AmendmentMade.{AmendmentMade}
 use Rattle.lab_rules.specs.declared.outcomes.SignatureMade.{SignatureMade}
 use Rattle.lab_rules.specs.Making.{making, opening_record}
-use Rattle.lab_rules.specs.Entering.{entering, amending}
-use Rattle.lab_rules.specs.Signing.{is_code_wanted, signing_record}
+use Rattle.lab_entries.specs.Entering.{entering, amending}
+use Rattle.lab_signatures.specs.Signing.{is_code_wanted, signing_record}
 use Rattle.lab_rules.specs.Reading.{reading_form, reading_record, reading_version, record_line, person_line}
 use Rattle.lab_machine.specs.Cases.{Case, Refuses, Fails, Reads, Makes}
 

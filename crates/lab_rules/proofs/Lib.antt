@@ -1,3 +1,1 @@
-pub mod AlteringLemmas
 pub mod KnownValues
-pub mod ValueLemmas

@@ -1,6 +1,5 @@
 pub mod Refusals
 pub mod Following
+pub mod SigningRules
 pub mod Making
-pub mod Entering
-pub mod Signing
 pub mod Reading

@@ -16,7 +16,7 @@ pub enum CommandFault {
 }
 
 /// The error, where nothing comes of what was given. One call lets it all go.
-pub(crate) fn fail<T, E, G: Drop>(error: E, _given: G) -> Result<T, E>
+pub fn fail<T, E, G: Drop>(error: E, _given: G) -> Result<T, E>
     ensures { result ≡ Err error }
 {
     Err(error)

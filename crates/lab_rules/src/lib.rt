@@ -2,8 +2,6 @@
 //! (ISO/IEC 17025:2017, 7.5; 21 CFR Part 11). They know no laboratory as a whole and no command.
 #![tactic(auto)]
 
-mod amending;
-mod entering;
 mod faults;
 mod items;
 mod making;
@@ -11,19 +9,11 @@ mod outcomes;
 mod reading;
 mod readings;
 mod refusals;
-mod signatures;
-mod signing;
 
-pub use amending::amend;
-pub use entering::enter;
-pub use faults::CommandFault;
+pub use faults::{CommandFault, fail};
 pub use items::{Altered, Item, Typed};
 pub use making::{make_form, open_record};
 pub use outcomes::{AmendmentMade, EntryMade, SignatureMade, Signing};
 pub use reading::{person_line, read_form, read_record, read_version, record_line};
 pub use readings::{PersonLine, RecordRead, RecordState, VersionRead, VersionState};
 pub use refusals::Refusal;
-pub use signatures::{
-    approval_refusal, digest_refusal, is_code_wanted, reason_refusal, signer_refusal, state_refusal,
-};
-pub use signing::{content_refusal, sign, version_refusal};

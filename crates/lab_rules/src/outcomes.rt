@@ -1,6 +1,6 @@
 //! What a signature is asked for, and what commands on records make.
 ghost use Rattle.std.specs.Prelude.{◌≡◌};
-ghost use Rattle.lab_rules.specs.Signing.{signing_rule};
+ghost use Rattle.lab_rules.specs.SigningRules.{signing_rule};
 
 use lab_access::Rule;
 use lab_kept::{Signature, Version};

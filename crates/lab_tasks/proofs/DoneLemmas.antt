@@ -34,7 +34,7 @@ use Rattle.lab_installations.specs.Serving.{ServesFile}
 use Rattle.lab_tasks.specs.CommandLine.{IsCopiedIf, IsDone}
 use Rattle.lab_tasks.specs.Explaining.{Stopped}
 use Rattle.lab_tasks.specs.Laboratories.{Declines, OfCode, OfCodeIf, body_in}
-use Rattle.lab_tasks.specs.Tasks.{Asked, founds, serves, copies, checks, replays, rehearses}
+use Rattle.lab_words.specs.Tasks.{Asked, founds, serves, copies, checks, replays, rehearses}
 
 -- ---- of a code
 

@@ -14,7 +14,7 @@ use Rattle.lab_installations.specs.Replays.{IsReplay}
 use Rattle.lab_installations.specs.Serving.{ServesFile}
 use Rattle.lab_tasks.specs.Explaining.{IsExplained}
 use Rattle.lab_tasks.specs.Laboratories.{OfCode, body_in}
-use Rattle.lab_tasks.specs.Tasks.{Asked, founds, serves, copies, checks, replays, rehearses}
+use Rattle.lab_words.specs.Tasks.{Asked, founds, serves, copies, checks, replays, rehearses}
 
 module _ {S : Type 0} (disk : Ghosts S)
     (before after told_before told_after : Option (List ℕ)) (status : Result ℕ Untold) where

@@ -1,5 +1,3 @@
-pub mod Apps
-pub mod Tasks
 pub mod Explaining
 pub mod Laboratories
 pub mod CommandLine

@@ -3,19 +3,19 @@
 ghost use Rattle.std.specs.Prelude.{map};
 ghost use Rattle.clap.specs.Words.{fault_of};
 ghost use Rattle.lab_installations.specs.Foundings.{drawing_of};
-ghost use Rattle.lab_tasks.specs.Apps.{labdesk_app};
+ghost use Rattle.lab_words.specs.Apps.{labdesk_app};
 ghost use Rattle.lab_tasks.specs.CommandLine.{IsDone};
 ghost use Rattle.lab_tasks.specs.Explaining.{IsExplained};
-ghost use Rattle.lab_tasks.specs.Tasks.{Asked, Asks, IsTask};
+ghost use Rattle.lab_words.specs.Tasks.{Asked, Asks, IsTask};
 
 use crate::explaining::explain;
 use crate::hosts::Host;
 use crate::laboratories::{copy_for, found_for, rehearse_for};
-use crate::tasks::{Task, task_of};
 use lab_installations::{Closing, Progress, Shelf, replay, serve};
 use lab_messages::WriteFault;
 use lab_serving::{Chance, Clock};
 use lab_verdicts::check;
+use lab_words::{Task, task_of};
 use sqlite::Connection;
 use std::alloc::Global;
 use std::convert::AsStr;

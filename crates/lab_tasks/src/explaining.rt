@@ -5,11 +5,11 @@ ghost use Rattle.clap.specs.Words.{HasKind, kind_of};
 ghost use Rattle.clap.specs.declared.error.kind.ErrorKind.TheVariants.{ValueValidation};
 ghost use Rattle.lab_tasks.specs.Explaining.{Explains, IsExplained};
 
-use crate::apps::copy_command;
 use clap::Error;
 use clap::error::ErrorKind;
 use lab_messages::WriteFault;
 use lab_serving::{ServerFault, tell};
+use lab_words::copy_command;
 use std::alloc::{AllocError, Global};
 use std::io::Write;
 

@@ -2,12 +2,10 @@
 //! are handed in.
 #![tactic(auto)]
 
-mod apps;
 mod command_line;
 mod explaining;
 mod hosts;
 mod laboratories;
-mod tasks;
 
 pub use command_line::labdesk;
 pub use hosts::Host;
@@ -16,4 +14,4 @@ pub use lab_installations::{
 };
 pub use lab_messages::WriteFault;
 pub use lab_serving::{Chance, Clock};
-pub use tasks::{Task, task_of};
+pub use lab_words::{Task, task_of};

@@ -1,6 +1,6 @@
 -- The task that is done is the one that the words ask for; other words are explained by their fault.
 use Rattle.std.proofs.Common.{map, inl, inr}
-use Rattle.lab_tasks.proofs.AskLemmas.{asked_is}
+use Rattle.lab_words.proofs.AskLemmas.{asked_is}
 use Rattle.lab_tasks.proofs.DoneLemmas.{never_done}
 use Rattle.lab_tasks.proofs.ExplainLemmas.{explained_by, unexplained}
 use Rattle.lab_tasks.proofs.command_line.labdesk.Goals as goal

@@ -1,0 +1,65 @@
+//! Why a copy wasn't found sound.
+ghost use Rattle.std.specs.Prelude.{◌≡◌};
+ghost use Rattle.lab_checks_versions.specs.Faults.{fault_number, fault_word};
+
+use lab_rows::{Flaw, OutOfMemory};
+use std::fmt;
+use thiserror::Error;
+
+/// Why a copy wasn't found sound.
+#[derive(Clone, Copy, Debug, PartialEq, Eq, Error)]
+pub enum CheckFault {
+    /// The copy has a flaw, the first one that is told.
+    Flawed(Flaw),
+    /// The reader failed, was asked more than 1,000,000,000,000,000 times, or its rows didn't end within
+    /// 1,000,000,000,000.
+    Read,
+    /// There was no memory for a version and its rows.
+    Memory(OutOfMemory),
+}
+
+impl CheckFault {
+    /// The fault's number: none where the reader failed, since no reply can tell of it.
+    pub fn number(&self) -> Option<u32>
+        ensures { result ≡ fault_number self.now }
+    {
+        match self {
+            CheckFault::Flawed(flaw) => Some(flaw.number()),
+            CheckFault::Read => None,
+            CheckFault::Memory(fault) => fault.number(),
+        }
+    }
+
+    /// The fault's word.
+    pub fn word(&self) -> &'static str
+        ensures { result.now ≡ fault_word self.now }
+    {
+        match self {
+            CheckFault::Flawed(flaw) => flaw.word(),
+            CheckFault::Read => "read_fault",
+            CheckFault::Memory(fault) => fault.word(),
+        }
+    }
+}
+
+impl fmt::Display for CheckFault {
+    ghost use Rattle.std.specs.Prelude.{Some};
+    ghost use Rattle.lab_checks_versions.specs.Faults.{fault_word};
+
+    ghost output = { λ fault. Some (fault_word fault) };
+
+    fn fmt<W: fmt::Write>(&self, f: &mut fmt::Formatter<W>) -> fmt::Result {
+        f.write_str(self.word())
+    }
+}
+
+impl From<OutOfMemory> for CheckFault {
+    ghost use Rattle.std.specs.Prelude.{◌≡◌};
+    ghost use Rattle.lab_checks_versions.specs.declared.faults.CheckFault.TheVariants.{Memory};
+
+    ghost from_gives = { λ fault e. e ≡ Memory fault };
+
+    fn from(fault: OutOfMemory) -> CheckFault {
+        CheckFault::Memory(fault)
+    }
+}

@@ -1,0 +1,2 @@
+pub mod AlteringLemmas
+pub mod ValueLemmas
