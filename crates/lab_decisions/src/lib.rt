@@ -4,9 +4,11 @@
 
 mod decisions;
 mod drafts;
+mod endings;
 mod laws;
 mod outcome;
 
 pub use decisions::{decide, formed};
+pub use endings::{end, opening_failed, opening_made, refused, touching};
 pub use laws::what_is_decided;
 pub use outcome::Outcome;
