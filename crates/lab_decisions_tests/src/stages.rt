@@ -2,7 +2,8 @@
 use crate::foundings::{bare, bare_lab, founded, with_person};
 use crate::lines::{answered, echoed, repeated, shown, summed};
 use lab_asked::{Halt, Words, instruction, number, tick};
-use lab_decisions::{Outcome, decide};
+use lab_decisions::decide;
+use lab_endings::Outcome;
 use lab_kept::{Change, Counts, Lab, Slice};
 use lab_lists::{change, part};
 use lab_machine::{Instruction, Reply, needs};

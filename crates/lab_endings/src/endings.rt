@@ -2,7 +2,7 @@
 //! is told, and what a full trail refuses.
 ghost use Rattle.std.specs.Prelude.{◌≡◌, ◌++◌, ◌∷◌, [], Some, IfOk};
 ghost use Rattle.lab_kept.specs.Trails.{row_of};
-ghost use Rattle.lab_decisions.specs.Deciding.{failing, outcome, ended_made, ended_by, touching};
+ghost use Rattle.lab_endings.specs.Deciding.{failing, outcome, ended_made, ended_by, touching};
 
 use crate::drafts::{fail, next_number, row_of};
 use crate::outcome::Outcome;
@@ -25,7 +25,11 @@ pub fn refused(changes: Series<Change>, refusal: Refusal) -> Outcome
 }
 
 /// That a request came by the session at the moment. The only error is out of memory.
-pub fn touching(alloc: Global, moment: Moment, session: &Session) -> Result<Series<Change>, OutOfMemory>
+pub fn touching(
+    alloc: Global,
+    moment: Moment,
+    session: &Session,
+) -> Result<Series<Change>, OutOfMemory>
     ensures { IfOk result (λ changes. changes ≡ touching moment session.now) }
 {
     let mut touched = session.copy()?;
