@@ -1,9 +1,9 @@
-use Rattle.lab_decisions.proofs.laws.what_is_decided.Goals as goal
+use Rattle.lab_decisions_laws.proofs.laws.what_is_decided.Goals as goal
 use Rattle.lab_kept.specs.Parts.{part}
 use Rattle.lab_machine.specs.Needs.{need_of}
 use Rattle.lab_machine.specs.Machine.{passage}
-use Rattle.lab_decisions.proofs.Passing.{decided_is}
-use Rattle.lab_decisions.proofs.Noting.{decided_notes}
+use Rattle.lab_decisions_laws.proofs.Passing.{decided_is}
+use Rattle.lab_decisions_laws.proofs.Noting.{decided_notes}
 
 pub returns : goal.returns
 returns c = λ lab tick instruction.

@@ -4,8 +4,8 @@ ghost use Rattle.lab_kept.specs.declared.labs.Lab.{Lab};
 ghost use Rattle.lab_kept.specs.Parts.{part};
 ghost use Rattle.lab_machine.specs.declared.commands.Instruction.{Instruction};
 ghost use Rattle.lab_machine.specs.Needs.{need_of};
-ghost use Rattle.lab_decisions.specs.Deciding.{decided};
-ghost use Rattle.lab_decisions.specs.TakenSteps.{TakesStep};
+ghost use Rattle.lab_endings.specs.Deciding.{decided};
+ghost use Rattle.lab_decisions_laws.specs.TakenSteps.{TakesStep};
 
 /// Law: what is decided on the part that an instruction needs, of any laboratory, has the reply of the step, and its changes
 /// make of the laboratory what the step makes; the first of them notes the moment. They fit one after the other, where the

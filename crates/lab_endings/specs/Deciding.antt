@@ -28,7 +28,7 @@ use Rattle.lab_machine.specs.Cases.{more_strays}
 use Rattle.lab_machine.specs.Machine.{passage}
 use Rattle.lab_effects.specs.declared.done.Done.{Done}
 use Rattle.lab_effects.specs.declared.done.Done.TheVariants.{Refused, Failed, Read, Made}
-use Rattle.lab_decisions.specs.declared.outcome.Outcome.{Outcome}
+use Rattle.lab_endings.specs.declared.outcome.Outcome.{Outcome}
 use Rattle.lab_effects.specs.Done.{opened_done, done_of}
 
 -- ---- the rows that the trail is given, where it has so many

@@ -27,12 +27,12 @@ use Rattle.lab_laws.specs.Asking.{IsCommandFormed}
 use Rattle.lab_laws.proofs.FitAccounts.{own_code}
 use Rattle.lab_laws.proofs.LimitParts.{session_set, session_token}
 use Rattle.lab_effects.specs.Done.{done_of, opened_done}
-use Rattle.lab_decisions.specs.Deciding.{ended_done, opening_ended, touching, decided_by}
-use Rattle.lab_decisions.proofs.OwnCases.{slice_for, opened_is}
-use Rattle.lab_decisions.proofs.RuleCases.{own_is}
-use Rattle.lab_decisions.proofs.RuleFits.{own_fits}
-use Rattle.lab_decisions.proofs.OpenFits.{open_fits, opened_takes}
-use Rattle.lab_decisions.proofs.Endings.{Matches, touching_fits, ended_is, opened_ended}
+use Rattle.lab_endings.specs.Deciding.{ended_done, opening_ended, touching, decided_by}
+use Rattle.lab_decisions_laws.proofs.OwnCases.{slice_for, opened_is}
+use Rattle.lab_decisions_laws.proofs.RuleCases.{own_is}
+use Rattle.lab_decisions_laws.proofs.RuleFits.{own_fits}
+use Rattle.lab_decisions_laws.proofs.OpenFits.{open_fits, opened_takes}
+use Rattle.lab_decisions_laws.proofs.Endings.{Matches, touching_fits, ended_is, opened_ended}
 
 -- no more strays were counted than may be, and a form that is to be made is one
 abbrev Premise : Lab → Command → Type 0

@@ -22,8 +22,8 @@ use Rattle.lab_laws.proofs.FitAttempts.{FitsAttempt, attempt_fits}
 use Rattle.lab_effects.specs.declared.done.Done.{Done}
 use Rattle.lab_effects.specs.declared.done.Done.TheVariants.{Made}
 use Rattle.lab_effects.specs.Done.{opened_done}
-use Rattle.lab_decisions.proofs.Joining.{change_knows}
-use Rattle.lab_decisions.proofs.CaseFits.{FitsDone}
+use Rattle.lab_decisions_laws.proofs.Joining.{change_knows}
+use Rattle.lab_decisions_laws.proofs.CaseFits.{FitsDone}
 
 none_there : {A : Type 0} (found : Option A) → is_some found ≡ false → found ≡ None
 none_there None none = refl

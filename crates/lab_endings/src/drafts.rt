@@ -3,7 +3,7 @@ ghost use Rattle.std.specs.Prelude.{◌≡◌, ◌+◌, ◌++◌, ◌∷◌, Som
 ghost use Rattle.lab_kept.specs.Limits.{count_limit};
 ghost use Rattle.lab_kept.specs.Trails.{row_of};
 ghost use Rattle.lab_machine.specs.Cases.{more_strays};
-ghost use Rattle.lab_decisions.specs.Deciding.{noted_rows, two_rows, failing};
+ghost use Rattle.lab_endings.specs.Deciding.{noted_rows, two_rows, failing};
 
 use lab_access::{Closing, Failure, Person};
 use lab_kept::{COUNT_LIMIT, Change, Deed, Occasion, TrailRow};
