@@ -1,6 +1,6 @@
 use Rattle.serde_json.specs.View.{view, members_view}
-use Rattle.lab_replies.proofs.MemberLemmas.{one_more}
-use Rattle.lab_replies.proofs.members.put_all.Goals as goal
+use Rattle.lab_replies_parts.proofs.MemberLemmas.{one_more}
+use Rattle.lab_replies_parts.proofs.members.put_all.Goals as goal
 
 pub loop-one-preserved : goal.loop-one-preserved
 loop-one-preserved c =

@@ -2,9 +2,9 @@
 use Rattle.std.proofs.Common.{◌≡◌, ℕ, ◌+◌, ◌<◌, List, [], ◌∷◌, ◌++◌, length, take, map, get_or, refl, sym, ap, ◌∙◌}
 use Rattle.std.proofs.lemmas.List.{map_more}
 use Rattle.serde_json.specs.Data.{Data, Members, put}
-use Rattle.lab_replies.specs.declared.members.Member.{Member}
-use Rattle.lab_replies.specs.Parts.{members_onto}
-use Rattle.lab_replies.specs.Members.{told_data, member_data}
+use Rattle.lab_replies_parts.specs.declared.members.Member.{Member}
+use Rattle.lab_replies_parts.specs.Parts.{members_onto}
+use Rattle.lab_replies_parts.specs.Members.{told_data, member_data}
 
 joined : (first more : List (List ℕ × Data)) (before : Members)
     → members_onto (first ++ more) before ≡ members_onto more (members_onto first before)

@@ -1,7 +1,7 @@
 use Rattle.std.proofs.Common.{◌≡◌, map, take}
 use Rattle.serde_json.specs.View.{view}
-use Rattle.lab_replies.specs.Records.{value_data}
-use Rattle.lab_replies.proofs.records.values_list.Given as goal
+use Rattle.lab_replies_records.specs.Records.{value_data}
+use Rattle.lab_replies_records.proofs.records.values_list.Given as goal
 
 -- the values of the rows that were passed
 abbrev pub invariant-loop-row : goal.invariant-loop-row

@@ -12,7 +12,7 @@ use Rattle.lab_rules.specs.declared.readings.VersionState.{VersionState}
 use Rattle.lab_rules.specs.declared.readings.RecordRead.{RecordRead}
 use Rattle.lab_rules.specs.declared.readings.RecordState.{RecordState}
 use Rattle.lab_rules.specs.declared.readings.VersionRead.{VersionRead}
-use Rattle.lab_replies.specs.Parts.{members_onto, members_from, object_from, list_from, texts_data, whole, moment_data, digits_data, text_or_empty, state_data, current_data}
+use Rattle.lab_replies_parts.specs.Parts.{members_onto, members_from, object_from, list_from, texts_data, whole, moment_data, digits_data, text_or_empty, state_data, current_data}
 
 -- a record that was opened, with its first version
 abbrev pub record_opened_data : ℕ → ℕ → Data

@@ -1,8 +1,8 @@
 use Rattle.std.proofs.Common.{◌≡◌, map, take}
 use Rattle.serde_json.specs.View.{members_view}
-use Rattle.lab_replies.specs.Parts.{members_onto}
-use Rattle.lab_replies.specs.Members.{member_data}
-use Rattle.lab_replies.proofs.members.put_all.Given as goal
+use Rattle.lab_replies_parts.specs.Parts.{members_onto}
+use Rattle.lab_replies_parts.specs.Members.{member_data}
+use Rattle.lab_replies_parts.proofs.members.put_all.Given as goal
 
 -- the members that were passed are added
 abbrev pub invariant-loop-one : goal.invariant-loop-one

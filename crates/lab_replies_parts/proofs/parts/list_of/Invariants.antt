@@ -1,6 +1,6 @@
 use Rattle.std.proofs.Common.{◌≡◌, map, take}
 use Rattle.serde_json.specs.View.{view}
-use Rattle.lab_replies.proofs.parts.list_of.Given as goal
+use Rattle.lab_replies_parts.proofs.parts.list_of.Given as goal
 
 -- the values of what was passed
 abbrev pub invariant-loop-thing : goal.invariant-loop-thing

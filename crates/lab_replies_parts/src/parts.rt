@@ -4,7 +4,7 @@ ghost use Rattle.serde_json.specs.Data.{Data, string, put as with_member};
 ghost use Rattle.serde_json.specs.View.{view, members_view};
 ghost use Rattle.lab_names.specs.Moment.{moment_text};
 ghost use Rattle.hex.specs.Hex.{encode_lower};
-ghost use Rattle.lab_replies.specs.Parts.{list_from, moment_data, digits_data, text_or_empty, state_data, current_data};
+ghost use Rattle.lab_replies_parts.specs.Parts.{list_from, moment_data, digits_data, text_or_empty, state_data, current_data};
 
 use lab_names::{Moment, Ordinal, OutOfMemory, Rule, Text};
 use lab_seal::{Seal, State};
@@ -12,8 +12,8 @@ use lab_secrets::{Digest, Half};
 use serde_json::{Map, Value};
 use std::alloc::Global;
 
-/// What a reply lists.
-pub(crate) trait Shown {
+/// What a reply lists, as the group of replies `G` tells it.
+pub trait Shown<G> {
     /// Its data.
     ghost data_of: { Self → Data };
 
@@ -23,7 +23,7 @@ pub(crate) trait Shown {
 }
 
 /// What is listed, as values in its order. The only error is out of memory.
-pub(crate) fn list_of<T: Shown>(alloc: Global, things: &[T]) -> Result<Vec<Value>, OutOfMemory>
+pub fn list_of<G, T: Shown<G>>(alloc: Global, things: &[T]) -> Result<Vec<Value>, OutOfMemory>
     ensures { IfOk result (λ list. map view list.items ≡ map T.data_of things.now) }
 {
     let mut list = Vec::new(alloc);
@@ -33,7 +33,10 @@ pub(crate) fn list_of<T: Shown>(alloc: Global, things: &[T]) -> Result<Vec<Value
     Ok(list)
 }
 
-impl<R: Rule> Shown for Text<R> {
+/// Any reply tells a text alike.
+pub struct AnyReply;
+
+impl<R: Rule> Shown<AnyReply> for Text<R> {
     ghost data_of = { string };
 
     fn value(&self, alloc: Global) -> Result<Value, OutOfMemory> {
@@ -42,7 +45,7 @@ impl<R: Rule> Shown for Text<R> {
 }
 
 /// A text.
-pub(crate) fn text_value(alloc: Global, text: &str) -> Result<Value, OutOfMemory>
+pub fn text_value(alloc: Global, text: &str) -> Result<Value, OutOfMemory>
     ensures { IfOk result (λ value. view value ≡ string text.now) }
 {
     Ok(Value::try_from_str(alloc, text)?)
@@ -50,7 +53,7 @@ pub(crate) fn text_value(alloc: Global, text: &str) -> Result<Value, OutOfMemory
 
 /// A moment as it is printed.
 #[tactic(auto, using(crate::proofs::PartLemmas::moment_is_text))]
-pub(crate) fn moment_text(alloc: Global, moment: Moment) -> Result<String, OutOfMemory>
+pub fn moment_text(alloc: Global, moment: Moment) -> Result<String, OutOfMemory>
     ensures { IfOk result (λ text. string_bytes text ≡ moment_text moment) }
 {
     let mut printed = [0; 20];
@@ -59,14 +62,14 @@ pub(crate) fn moment_text(alloc: Global, moment: Moment) -> Result<String, OutOf
 }
 
 /// A half of a one-time word as its digits.
-pub(crate) fn half_text(alloc: Global, half: &Half) -> Result<String, OutOfMemory>
+pub fn half_text(alloc: Global, half: &Half) -> Result<String, OutOfMemory>
     ensures { IfOk result (λ text. string_bytes text ≡ encode_lower half.now) }
 {
     Ok(String::from_utf8_lossy(alloc, &half.digits())?)
 }
 
 /// Adds a member to an object. The only error is out of memory.
-pub(crate) fn put(
+pub fn put(
     members: &mut Map<String, Value>,
     alloc: Global,
     name: &str,
@@ -79,7 +82,7 @@ pub(crate) fn put(
 }
 
 /// Adds a member that is a list. The only error is out of memory.
-pub(crate) fn put_list(
+pub fn put_list(
     members: &mut Map<String, Value>,
     alloc: Global,
     name: &str,

@@ -8,7 +8,7 @@ use Rattle.lab_access.specs.Policy.{rule_word}
 use Rattle.lab_rules.specs.declared.refusals.Refusal.{Refusal}
 use Rattle.lab_rules.specs.declared.refusals.Refusal.TheVariants.{People, RecordExists, NotAltered, StaleDigest}
 use Rattle.lab_rules.specs.Refusals.{refusal_entry}
-use Rattle.lab_replies.specs.Parts.{object_from, whole, digits_data}
+use Rattle.lab_replies_parts.specs.Parts.{object_from, whole, digits_data}
 
 -- a refusal: its word, its number, and these members beside them
 abbrev pub refused_data : Entry → List (List ℕ × Data) → Data

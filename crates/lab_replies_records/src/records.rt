@@ -2,15 +2,15 @@
 ghost use Rattle.std.specs.Prelude.{◌≡◌, IfOk, OnOk, map};
 ghost use Rattle.serde_json.specs.Data.{string};
 ghost use Rattle.serde_json.specs.View.{view, members_view};
-ghost use Rattle.lab_replies.specs.Parts.{members_onto, text_or_empty};
-ghost use Rattle.lab_replies.specs.Members.{member_data};
-ghost use Rattle.lab_replies.specs.Records.{record_opened_data, entered_data, amended_data, signed_data, current_of, record_data, value_data, format_number, reason_of, version_about, version_opening, version_lists, version_data, records_data};
+ghost use Rattle.lab_replies_parts.specs.Parts.{members_onto, text_or_empty};
+ghost use Rattle.lab_replies_parts.specs.Members.{member_data};
+ghost use Rattle.lab_replies_records.specs.Records.{record_opened_data, entered_data, amended_data, signed_data, current_of, record_data, value_data, format_number, reason_of, version_about, version_opening, version_lists, version_data, records_data};
 
-use crate::members::{
+use lab_replies_parts::members::{
     bytes, count, current, flag, moment, object_of, object_with, ordinal, put_all, state, text,
     text_if_any,
 };
-use crate::parts::{Shown, list_of, put_list};
+use lab_replies_parts::parts::{AnyReply, Shown, list_of, put_list};
 use lab_kept::Signature;
 use lab_names::{Ordinal, OutOfMemory};
 use lab_rules::{RecordRead, RecordState, VersionRead, VersionState};
@@ -18,8 +18,11 @@ use lab_seal::{Amendment, Digest, EntryRow, Format, State};
 use serde_json::{Map, Value};
 use std::alloc::Global;
 
+/// How the replies of records tell what they list.
+pub struct OfRecords;
+
 /// A record that was opened.
-pub(crate) fn record_opened_value(
+pub fn record_opened_value(
     alloc: Global,
     number: Ordinal,
     version: Ordinal,
@@ -33,7 +36,7 @@ pub(crate) fn record_opened_value(
 }
 
 /// A value that was entered.
-pub(crate) fn entered_value(
+pub fn entered_value(
     alloc: Global,
     number: Ordinal,
     version: Ordinal,
@@ -54,7 +57,7 @@ pub(crate) fn entered_value(
 }
 
 /// A version that was opened by an amendment.
-pub(crate) fn amended_value(
+pub fn amended_value(
     alloc: Global,
     number: Ordinal,
     version: Ordinal,
@@ -73,7 +76,7 @@ pub(crate) fn amended_value(
 }
 
 /// A signature that was given.
-pub(crate) fn signed_value(
+pub fn signed_value(
     alloc: Global,
     signature: &Signature,
     given: &Option<State>,
@@ -91,8 +94,8 @@ pub(crate) fn signed_value(
     object_of(alloc, &members)
 }
 
-impl Shown for VersionState {
-    ghost use Rattle.lab_replies.specs.Records.{version_state_data};
+impl Shown<OfRecords> for VersionState {
+    ghost use Rattle.lab_replies_records.specs.Records.{version_state_data};
 
     ghost data_of = { version_state_data };
 
@@ -115,10 +118,10 @@ fn current_of(versions: &[VersionState]) -> Option<Ordinal>
 }
 
 /// A record.
-pub(crate) fn record_value(alloc: Global, read: &RecordRead) -> Result<Value, OutOfMemory>
+pub fn record_value(alloc: Global, read: &RecordRead) -> Result<Value, OutOfMemory>
     ensures { IfOk result (λ value. view value ≡ record_data read.now) }
 {
-    let versions = list_of(alloc, read.versions.as_slice())?;
+    let versions = list_of::<OfRecords, _>(alloc, read.versions.as_slice())?;
     let members = [
         current("current", current_of(read.versions.as_slice())),
         text("form", read.form.code.as_str()),
@@ -129,8 +132,8 @@ pub(crate) fn record_value(alloc: Global, read: &RecordRead) -> Result<Value, Ou
     object_with(alloc, &members, "versions", versions)
 }
 
-impl Shown for EntryRow {
-    ghost use Rattle.lab_replies.specs.Records.{row_data};
+impl Shown<OfRecords> for EntryRow {
+    ghost use Rattle.lab_replies_records.specs.Records.{row_data};
 
     ghost data_of = { row_data };
 
@@ -149,8 +152,8 @@ impl Shown for EntryRow {
     }
 }
 
-impl Shown for Signature {
-    ghost use Rattle.lab_replies.specs.Records.{signature_data};
+impl Shown<OfRecords> for Signature {
+    ghost use Rattle.lab_replies_records.specs.Records.{signature_data};
 
     ghost data_of = { signature_data };
 
@@ -212,7 +215,7 @@ fn amendment_reason(amendment: &Option<Amendment>) -> &str
 }
 
 /// A version of a record.
-pub(crate) fn version_value(alloc: Global, read: &VersionRead) -> Result<Value, OutOfMemory>
+pub fn version_value(alloc: Global, read: &VersionRead) -> Result<Value, OutOfMemory>
     ensures { IfOk result (λ value. view value ≡ version_data read.now) }
 {
     let mut members = Map::new(alloc);
@@ -276,19 +279,19 @@ fn put_lists(
         members,
         alloc,
         "altered",
-        list_of(alloc, read.altered.as_slice())?,
+        list_of::<AnyReply, _>(alloc, read.altered.as_slice())?,
     )?;
     put_list(
         members,
         alloc,
         "rows",
-        list_of(alloc, read.version.rows.rows())?,
+        list_of::<OfRecords, _>(alloc, read.version.rows.rows())?,
     )?;
     put_list(
         members,
         alloc,
         "signatures",
-        list_of(alloc, read.version.signatures.as_slice())?,
+        list_of::<OfRecords, _>(alloc, read.version.signatures.as_slice())?,
     )?;
     put_list(
         members,
@@ -298,8 +301,8 @@ fn put_lists(
     )
 }
 
-impl Shown for RecordState {
-    ghost use Rattle.lab_replies.specs.Records.{record_state_data};
+impl Shown<OfRecords> for RecordState {
+    ghost use Rattle.lab_replies_records.specs.Records.{record_state_data};
 
     ghost data_of = { record_state_data };
 
@@ -318,9 +321,9 @@ impl Shown for RecordState {
 }
 
 /// Records.
-pub(crate) fn records_value(alloc: Global, records: &[RecordState]) -> Result<Value, OutOfMemory>
+pub fn records_value(alloc: Global, records: &[RecordState]) -> Result<Value, OutOfMemory>
     ensures { IfOk result (λ value. view value ≡ records_data records.now) }
 {
-    let records = list_of(alloc, records)?;
+    let records = list_of::<OfRecords, _>(alloc, records)?;
     object_with(alloc, &[], "records", records)
 }

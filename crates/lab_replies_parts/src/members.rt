@@ -2,8 +2,8 @@
 ghost use Rattle.std.specs.Prelude.{◌≡◌, IfOk, OnOk, map};
 ghost use Rattle.serde_json.specs.Data.{object, string, boolean, put as with_member};
 ghost use Rattle.serde_json.specs.View.{view, members_view};
-ghost use Rattle.lab_replies.specs.Parts.{members_onto, members_from, object_from, list_from, whole, moment_data, digits_data, text_or_empty, state_data, current_data};
-ghost use Rattle.lab_replies.specs.Members.{told_data, member_data};
+ghost use Rattle.lab_replies_parts.specs.Parts.{members_onto, members_from, object_from, list_from, whole, moment_data, digits_data, text_or_empty, state_data, current_data};
+ghost use Rattle.lab_replies_parts.specs.Members.{told_data, member_data};
 
 use crate::parts::{moment_text, put, text_value};
 use lab_names::{Moment, Ordinal, OutOfMemory, Rule, Text};
@@ -13,7 +13,7 @@ use std::alloc::Global;
 
 /// What a member tells.
 #[derive(Clone, Copy, Drop)]
-pub(crate) enum Told<'a> {
+pub enum Told<'a> {
     /// A text.
     Text(&'a str),
     /// A whole number.
@@ -30,13 +30,13 @@ pub(crate) enum Told<'a> {
 
 /// A member of an object.
 #[derive(Clone, Copy, Drop)]
-pub(crate) struct Member<'a> {
+pub struct Member<'a> {
     name: &'static str,
     told: Told<'a>,
 }
 
 /// A text.
-pub(crate) fn text<'a>(name: &'static str, text: &'a str) -> Member<'a>
+pub fn text<'a>(name: &'static str, text: &'a str) -> Member<'a>
     ensures { member_data result ≡ (name.now, string text.now) }
 {
     Member {
@@ -46,7 +46,7 @@ pub(crate) fn text<'a>(name: &'static str, text: &'a str) -> Member<'a>
 }
 
 /// A whole number.
-pub(crate) fn count<'a>(name: &'static str, number: u64) -> Member<'a>
+pub fn count<'a>(name: &'static str, number: u64) -> Member<'a>
     ensures { member_data result ≡ (name.now, whole number) }
 {
     Member {
@@ -56,14 +56,14 @@ pub(crate) fn count<'a>(name: &'static str, number: u64) -> Member<'a>
 }
 
 /// A number from 1 on.
-pub(crate) fn ordinal<'a>(name: &'static str, ordinal: Ordinal) -> Member<'a>
+pub fn ordinal<'a>(name: &'static str, ordinal: Ordinal) -> Member<'a>
     ensures { member_data result ≡ (name.now, whole ordinal) }
 {
     count(name, u64::from(ordinal.get()))
 }
 
 /// `true` or `false`.
-pub(crate) fn flag<'a>(name: &'static str, flag: bool) -> Member<'a>
+pub fn flag<'a>(name: &'static str, flag: bool) -> Member<'a>
     ensures { member_data result ≡ (name.now, boolean flag) }
 {
     Member {
@@ -73,7 +73,7 @@ pub(crate) fn flag<'a>(name: &'static str, flag: bool) -> Member<'a>
 }
 
 /// A moment.
-pub(crate) fn moment<'a>(name: &'static str, moment: Moment) -> Member<'a>
+pub fn moment<'a>(name: &'static str, moment: Moment) -> Member<'a>
     ensures { member_data result ≡ (name.now, moment_data moment) }
 {
     Member {
@@ -83,7 +83,7 @@ pub(crate) fn moment<'a>(name: &'static str, moment: Moment) -> Member<'a>
 }
 
 /// The digits of bytes.
-pub(crate) fn bytes<'a>(name: &'static str, bytes: [u8; 32]) -> Member<'a>
+pub fn bytes<'a>(name: &'static str, bytes: [u8; 32]) -> Member<'a>
     ensures { member_data result ≡ (name.now, digits_data bytes) }
 {
     Member {
@@ -93,7 +93,7 @@ pub(crate) fn bytes<'a>(name: &'static str, bytes: [u8; 32]) -> Member<'a>
 }
 
 /// A text, or the empty one where there is none.
-pub(crate) fn text_if_any<'a, R: Rule>(name: &'static str, given: &'a Option<Text<R>>) -> Member<'a>
+pub fn text_if_any<'a, R: Rule>(name: &'static str, given: &'a Option<Text<R>>) -> Member<'a>
     ensures { member_data result ≡ (name.now, text_or_empty given.now) }
 {
     match given {
@@ -103,7 +103,7 @@ pub(crate) fn text_if_any<'a, R: Rule>(name: &'static str, given: &'a Option<Tex
 }
 
 /// The word of a state, or null.
-pub(crate) fn state<'a>(name: &'static str, state: Option<State>) -> Member<'a>
+pub fn state<'a>(name: &'static str, state: Option<State>) -> Member<'a>
     ensures { member_data result ≡ (name.now, state_data state) }
 {
     match state {
@@ -113,7 +113,7 @@ pub(crate) fn state<'a>(name: &'static str, state: Option<State>) -> Member<'a>
 }
 
 /// The number of a last version, or null.
-pub(crate) fn current<'a>(name: &'static str, current: Option<Ordinal>) -> Member<'a>
+pub fn current<'a>(name: &'static str, current: Option<Ordinal>) -> Member<'a>
     ensures { member_data result ≡ (name.now, current_data current) }
 {
     match current {
@@ -146,7 +146,7 @@ fn told_value(alloc: Global, told: &Told) -> Result<Value, OutOfMemory>
 }
 
 /// Adds members to an object. The only error is out of memory, here and below.
-pub(crate) fn put_all(
+pub fn put_all(
     members: &mut Map<String, Value>,
     alloc: Global,
     more: &[Member],
@@ -161,7 +161,7 @@ pub(crate) fn put_all(
 }
 
 /// An object of these members.
-pub(crate) fn object_of(alloc: Global, members: &[Member]) -> Result<Value, OutOfMemory>
+pub fn object_of(alloc: Global, members: &[Member]) -> Result<Value, OutOfMemory>
     ensures { IfOk result (λ value. view value ≡ object_from (map member_data members.now)) }
 {
     let mut object = Map::new(alloc);
@@ -170,7 +170,7 @@ pub(crate) fn object_of(alloc: Global, members: &[Member]) -> Result<Value, OutO
 }
 
 /// An object of these members and, at the name, a list.
-pub(crate) fn object_with(
+pub fn object_with(
     alloc: Global,
     members: &[Member],
     name: &'static str,

@@ -1,7 +1,7 @@
 use Rattle.std.proofs.Common.{subst, sym, ◌∙◌}
 use Rattle.std.specs.Str.{IsUtf8}
-use Rattle.lab_replies.proofs.PartLemmas.{digits_are_text}
-use Rattle.lab_replies.proofs.parts.half_text.Goals as goal
+use Rattle.lab_replies_parts.proofs.PartLemmas.{digits_are_text}
+use Rattle.lab_replies_parts.proofs.parts.half_text.Goals as goal
 
 pub returns : goal.returns
 returns c =

@@ -1,10 +1,10 @@
 -- The members of an object (RFC 8259), each a name and what it tells.
 use Rattle.std.specs.Prelude.{ℕ, List}
 use Rattle.serde_json.specs.Data.{Data, null, string, boolean}
-use Rattle.lab_replies.specs.declared.members.Told.{Told}
-use Rattle.lab_replies.specs.declared.members.Told.TheVariants.{Text, Number, Flag, Moment, Bytes, Nothing}
-use Rattle.lab_replies.specs.declared.members.Member.{Member}
-use Rattle.lab_replies.specs.Parts.{whole, moment_data, digits_data}
+use Rattle.lab_replies_parts.specs.declared.members.Told.{Told}
+use Rattle.lab_replies_parts.specs.declared.members.Told.TheVariants.{Text, Number, Flag, Moment, Bytes, Nothing}
+use Rattle.lab_replies_parts.specs.declared.members.Member.{Member}
+use Rattle.lab_replies_parts.specs.Parts.{whole, moment_data, digits_data}
 
 -- what is told, as data
 abbrev pub told_data : Told → Data

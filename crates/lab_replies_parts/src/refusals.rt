@@ -1,7 +1,7 @@
 //! Refusals, as JSON.
 ghost use Rattle.std.specs.Prelude.{◌≡◌, [], IfOk};
 ghost use Rattle.serde_json.specs.View.{view};
-ghost use Rattle.lab_replies.specs.Refusals.{refused_data, people_members, refusal_data};
+ghost use Rattle.lab_replies_parts.specs.Refusals.{refused_data, people_members, refusal_data};
 ghost use Rattle.lab_rules.specs.Refusals.{refusal_entry};
 
 use crate::members::{bytes, count, object_of, ordinal, text};
