@@ -1,4 +1,4 @@
-use Rattle.lab_bodies.proofs.signatures.has_meant.Goals as goal
+use Rattle.lab_bodies_records.proofs.signatures.has_meant.Goals as goal
 
 pub returns-in-Rejection : goal.returns-in-Rejection
 returns-in-Rejection c = rw c.in-Rejection.is c.has_members.ensures

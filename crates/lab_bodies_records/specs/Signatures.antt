@@ -12,8 +12,8 @@ use Rattle.lab_rules.specs.declared.outcomes.Signing.TheVariants as signing
 use Rattle.lab_machine.specs.declared.commands.Command.{Command}
 use Rattle.lab_machine.specs.declared.commands.Command.TheVariants.{Sign}
 use Rattle.lab_members.specs.declared.members.MemberKind.TheVariants.{Text, Ordinal, Digest}
-use Rattle.lab_bodies.specs.declared.signatures.Meant.{Meant}
-use Rattle.lab_bodies.specs.declared.signatures.Meant.TheVariants.{Authorship, Review, Rejection, Approval}
+use Rattle.lab_bodies_records.specs.declared.signatures.Meant.{Meant}
+use Rattle.lab_bodies_records.specs.declared.signatures.Meant.TheVariants.{Authorship, Review, Rejection, Approval}
 use Rattle.lab_members.specs.Members.{MemberRule, must, may, has_members, at, ordinal_in, digest_in}
 use Rattle.lab_members.specs.Readings.{Reading, then_read, wanted, text_at, named_if_at, shaped}
 

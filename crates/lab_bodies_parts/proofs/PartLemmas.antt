@@ -8,7 +8,7 @@ use Rattle.serde_json.specs.declared.value.Value.{Value}
 use Rattle.lab_members.specs.declared.refusals.BodyFault.{BodyFault}
 use Rattle.lab_members.specs.declared.refusals.BodyFault.TheVariants.{Refused, Memory}
 use Rattle.lab_members.specs.Readings.{Reading, then_read, Faulty}
-use Rattle.lab_bodies.specs.Parts.{each_read}
+use Rattle.lab_bodies_parts.specs.Parts.{each_read}
 
 -- two lists are read one after the other
 abbrev joined : {A : Type 0} → Reading (List A) → Reading (List A) → Reading (List A)

@@ -5,13 +5,13 @@ ghost use Rattle.std.specs.Option.{option_map_or, unwrap_or};
 ghost use Rattle.serde_json.specs.Find.{as_bool, as_str};
 ghost use Rattle.serde_json.specs.View.{view};
 ghost use Rattle.lab_forms.specs.Forms.{form_made};
-ghost use Rattle.lab_bodies.specs.declared.forms.Sort.TheVariants.{Choice, Date, YesNo};
+ghost use Rattle.lab_bodies_forms.specs.declared.forms.Sort.TheVariants.{Choice, Date, YesNo};
 ghost use Rattle.lab_members.specs.declared.refusals.BodyFault.TheVariants.{Memory};
 ghost use Rattle.lab_members.specs.Members.{at, elements_at, has_members};
-ghost use Rattle.lab_bodies.specs.Forms.{sort_word, names_sort, sort_of, sort_in, field_members, is_field_body, is_form_body, number_read, text_read, choices_read, kind_read, form_reading, form_read, form_named};
+ghost use Rattle.lab_bodies_forms.specs.Forms.{sort_word, names_sort, sort_of, sort_in, field_members, is_field_body, is_form_body, number_read, text_read, choices_read, kind_read, form_reading, form_read, form_named};
 ghost use Rattle.lab_members.specs.Readings.{Faulty};
 
-use crate::parts::{Element, each_of};
+use lab_bodies_parts::{Element, each_of};
 use lab_forms::{Bound, Choices, Field, Form, Kind};
 use lab_machine::Command;
 use lab_members::{
@@ -172,8 +172,11 @@ fn is_form_body(value: &Value) -> bool
     has_members(value, &FORM) && has_fields(value)
 }
 
-impl Element for Name {
-    ghost use Rattle.lab_bodies.specs.Forms.{choice_read};
+/// What the body of a form has lists of.
+pub struct OfForm;
+
+impl Element<OfForm> for Name {
+    ghost use Rattle.lab_bodies_forms.specs.Forms.{choice_read};
 
     ghost says = { choice_read };
 
@@ -233,7 +236,7 @@ fn choices(alloc: Global, value: &Value) -> Result<Kind, BodyFault>
     let Some(elements) = elements_at(value, "choices") else {
         return Err(BodyFault::Refused(BodyRefusal::BadBody));
     };
-    let names = each_of::<Name>(alloc, elements)?;
+    let names = each_of::<OfForm, Name>(alloc, elements)?;
     Ok(Kind::Choice {
         choices: Choices::new(names),
     })
@@ -252,8 +255,8 @@ fn kind(alloc: Global, value: &Value, sort: Sort) -> Result<Kind, BodyFault>
     }
 }
 
-impl Element for Field {
-    ghost use Rattle.lab_bodies.specs.Forms.{field_read};
+impl Element<OfForm> for Field {
+    ghost use Rattle.lab_bodies_forms.specs.Forms.{field_read};
 
     ghost says = { field_read };
 
@@ -299,7 +302,7 @@ fn form_read(alloc: Global, value: &Value) -> Result<Command, BodyFault>
     let Some(elements) = elements_at(value, "fields") else {
         return Err(BodyFault::Refused(BodyRefusal::BadBody));
     };
-    let fields = each_of::<Field>(alloc, elements)?;
+    let fields = each_of::<OfForm, Field>(alloc, elements)?;
     let form = made(fields, approval(value))?;
     Ok(Command::MakeForm { code, form })
 }

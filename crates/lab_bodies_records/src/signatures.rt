@@ -1,12 +1,12 @@
 //! The body of a signature, whose meaning decides whether it may have a reason.
 ghost use Rattle.std.specs.Prelude.{◌≡◌, ◌∷◌, [], find, Ok, IfOk, IfErr};
-ghost use Rattle.lab_bodies.specs.declared.signatures.Meant.TheVariants.{Rejection, Approval};
+ghost use Rattle.lab_bodies_records.specs.declared.signatures.Meant.TheVariants.{Rejection, Approval};
 ghost use Rattle.serde_json.specs.View.{view};
 ghost use Rattle.lab_members.specs.Members.{has_members};
-ghost use Rattle.lab_bodies.specs.Signatures.{meant_word, names_meant, meant_of, meant_in, signature_members, is_signature_body, signing_read, signature_by, signature_read, signature_named};
+ghost use Rattle.lab_bodies_records.specs.Signatures.{meant_word, names_meant, meant_of, meant_in, signature_members, is_signature_body, signing_read, signature_by, signature_read, signature_named};
 ghost use Rattle.lab_members.specs.Readings.{Faulty};
 
-use crate::parts::typed_at;
+use lab_bodies_parts::typed_at;
 use lab_machine::Command;
 use lab_members::{
     BodyFault, BodyRefusal, Member, digest_at, has_members, may, must, named_if_at, ordinal_at,

@@ -16,11 +16,11 @@ use Rattle.lab_machine.specs.declared.commands.Command.{Command}
 use Rattle.lab_machine.specs.declared.commands.Command.TheVariants.{MakeForm}
 use Rattle.lab_members.specs.declared.refusals.BodyRefusal.TheVariants.{Form}
 use Rattle.lab_members.specs.declared.members.MemberKind.TheVariants.{Text, Flag, Whole, Texts, List as AnyList}
-use Rattle.lab_bodies.specs.declared.forms.Sort.{Sort}
-use Rattle.lab_bodies.specs.declared.forms.Sort.TheVariants.{Number, Text as TextSort, Choice, Date, YesNo}
+use Rattle.lab_bodies_forms.specs.declared.forms.Sort.{Sort}
+use Rattle.lab_bodies_forms.specs.declared.forms.Sort.TheVariants.{Number, Text as TextSort, Choice, Date, YesNo}
 use Rattle.lab_members.specs.Members.{MemberRule, must, may, has_members, at, whole_in, elements_at}
 use Rattle.lab_members.specs.Readings.{Reading, then_read, wanted, admitted, named_at, shaped}
-use Rattle.lab_bodies.specs.Parts.{each_read}
+use Rattle.lab_bodies_parts.specs.Parts.{each_read}
 
 -- ---- members
 

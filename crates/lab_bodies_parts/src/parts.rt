@@ -3,7 +3,7 @@ ghost use Rattle.std.specs.Prelude.{◌≡◌, Ok, map, IfOk, IfErr};
 ghost use Rattle.serde_json.specs.Data.{Data};
 ghost use Rattle.serde_json.specs.View.{view};
 ghost use Rattle.lab_members.specs.Readings.{Reading, Faulty, text_at};
-ghost use Rattle.lab_bodies.specs.Parts.{each_read};
+ghost use Rattle.lab_bodies_parts.specs.Parts.{each_read};
 
 use lab_members::{BodyFault, text_at};
 use lab_rules::Typed;
@@ -21,8 +21,8 @@ pub fn typed_at(alloc: Global, value: &Value, name: &str) -> Result<Typed, BodyF
     }
 }
 
-/// What a body has a list of.
-pub trait Element: Sized + Drop {
+/// What the bodies of the group `G` have a list of.
+pub trait Element<G>: Sized + Drop {
     /// What a value says.
     ghost says: { Data → Reading Self };
 
@@ -33,7 +33,7 @@ pub trait Element: Sized + Drop {
 }
 
 /// Reads each value of a list.
-pub fn each_of<T: Element>(alloc: Global, values: &[Value]) -> Result<Vec<T>, BodyFault>
+pub fn each_of<G, T: Element<G>>(alloc: Global, values: &[Value]) -> Result<Vec<T>, BodyFault>
     ensures read { IfOk result (λ list. each_read T.says (map view values.now) ≡ Ok list.items) }
     ensures fault { IfErr result (Faulty (each_read T.says (map view values.now))) }
 {

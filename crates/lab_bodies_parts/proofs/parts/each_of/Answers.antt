@@ -1,7 +1,7 @@
 use Rattle.std.proofs.Common.{◌∙◌, sym, ap, Ok}
 use Rattle.lab_members.proofs.ReadingLemmas.{exit_fault}
-use Rattle.lab_bodies.proofs.PartLemmas.{each_more, each_fault}
-use Rattle.lab_bodies.proofs.parts.each_of.Goals as goal
+use Rattle.lab_bodies_parts.proofs.PartLemmas.{each_more, each_fault}
+use Rattle.lab_bodies_parts.proofs.parts.each_of.Goals as goal
 
 pub returns-in_err-element-clause-fault : goal.returns-in_err-element-clause-fault
 returns-in_err-element-clause-fault g c =

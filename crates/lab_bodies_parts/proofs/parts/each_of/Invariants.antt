@@ -1,7 +1,7 @@
 use Rattle.std.proofs.Common.{◌≡◌, map, take, Ok}
 use Rattle.serde_json.specs.View.{view}
-use Rattle.lab_bodies.specs.Parts.{each_read}
-use Rattle.lab_bodies.proofs.parts.each_of.Given as goal
+use Rattle.lab_bodies_parts.specs.Parts.{each_read}
+use Rattle.lab_bodies_parts.proofs.parts.each_of.Given as goal
 
 -- the first values are read
 abbrev pub invariant-loop-value : goal.invariant-loop-value

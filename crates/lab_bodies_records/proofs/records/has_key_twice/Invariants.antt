@@ -1,7 +1,7 @@
 use Rattle.std.proofs.Common.{◌≡◌, map, drop}
 use Rattle.lab_forms.specs.Words.{has_text_twice}
-use Rattle.lab_bodies.specs.Records.{item_key}
-use Rattle.lab_bodies.proofs.records.has_key_twice.Given as goal
+use Rattle.lab_bodies_records.specs.Records.{item_key}
+use Rattle.lab_bodies_records.proofs.records.has_key_twice.Given as goal
 
 -- no key before this place stands again
 abbrev pub invariant-loop-place : goal.invariant-loop-place

@@ -1,8 +1,8 @@
 -- A key that stands again behind this place stands twice, and else what is left decides.
 use Rattle.std.proofs.Common.{◌∙◌, sym, arith}
-use Rattle.lab_bodies.specs.Records.{item_key}
-use Rattle.lab_bodies.proofs.KeyLemmas.{twice-drop}
-use Rattle.lab_bodies.proofs.records.has_key_twice.Goals as goal
+use Rattle.lab_bodies_records.specs.Records.{item_key}
+use Rattle.lab_bodies_records.proofs.KeyLemmas.{twice-drop}
+use Rattle.lab_bodies_records.proofs.records.has_key_twice.Goals as goal
 
 pub returns-then-has_key : goal.returns-then-has_key
 returns-then-has_key c =

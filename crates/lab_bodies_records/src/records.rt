@@ -3,10 +3,10 @@ ghost use Rattle.std.specs.Prelude.{◌≡◌, Ok, IfOk, IfErr, List, map, bytes
 ghost use Rattle.std.specs.List.{list_any};
 ghost use Rattle.serde_json.specs.View.{view};
 ghost use Rattle.lab_forms.specs.Words.{has_text_twice};
-ghost use Rattle.lab_bodies.specs.Records.{record_named, entry_named, is_amendment_body, item_key, different, altered_read, amendment_named};
+ghost use Rattle.lab_bodies_records.specs.Records.{record_named, entry_named, is_amendment_body, item_key, different, altered_read, amendment_named};
 ghost use Rattle.lab_members.specs.Readings.{Faulty};
 
-use crate::parts::{Element, each_of, typed_at};
+use lab_bodies_parts::{Element, each_of, typed_at};
 use lab_forms::FormRefusal;
 use lab_machine::Command;
 use lab_members::{
@@ -54,8 +54,11 @@ pub fn record(alloc: Global, value: &Value) -> Result<Command, BodyFault>
     Ok(Command::OpenRecord { form, sample })
 }
 
-impl Element for Item {
-    ghost use Rattle.lab_bodies.specs.Records.{item_read};
+/// What the bodies on records have lists of.
+pub struct OfRecords;
+
+impl Element<OfRecords> for Item {
+    ghost use Rattle.lab_bodies_records.specs.Records.{item_read};
 
     ghost says = { item_read };
 
@@ -133,7 +136,7 @@ fn altered(alloc: Global, value: &Value) -> Result<Altered, BodyFault>
     let Some(elements) = elements_at(value, "altered") else {
         return Err(BodyFault::Refused(BodyRefusal::BadBody));
     };
-    let items = each_of::<Item>(alloc, elements)?;
+    let items = each_of::<OfRecords, Item>(alloc, elements)?;
     different(items)
 }
 
