@@ -34,7 +34,7 @@ use Rattle.lab_laws.proofs.FitSignatures.{signature_fits}
 use Rattle.lab_laws.proofs.FitPersons.{enrolled_fits, session_fits, closed_fits, signed_fits}
 use Rattle.lab_laws.proofs.FitAccounts.{roles_fit, retired_fits, unlocked_fits, asked_fits, confirmed_fits}
 use Rattle.lab_laws.proofs.FitAttempts.{FitsAttempt, attempt_fits}
-use Rattle.lab_commands.specs.Done.{done_of, changed_done, enrolled_done, asked_done, confirmed_done, roles_done, retired_done, unlocked_done, form_done, record_done, entry_done, amendment_done, signature_done, signing_done}
+use Rattle.lab_effects.specs.Done.{done_of, changed_done, enrolled_done, asked_done, confirmed_done, roles_done, retired_done, unlocked_done, form_done, record_done, entry_done, amendment_done, signature_done, signing_done}
 use Rattle.lab_decisions.proofs.Joining.{set_known, change_knows}
 use Rattle.lab_decisions.proofs.OwnCases.{slice_for}
 use Rattle.lab_decisions.proofs.CaseFits.{FitsDone, then_done_fits, then_person_fits, then_read_fits, wanted_fits, person_adds, renewed_fits}

@@ -2,14 +2,16 @@
 ghost use Rattle.std.specs.Prelude.{◌≡◌, ◌++◌, ◌∷◌, [], Some, None, IfOk, IsTrue, OnErr};
 ghost use Rattle.lab_kept.specs.Trails.{row_of};
 ghost use Rattle.lab_laws.specs.Asking.{IsCommandFormed};
-ghost use Rattle.lab_commands.specs.Done.{done_of};
+ghost use Rattle.lab_effects.specs.Done.{done_of};
 ghost use Rattle.lab_decisions.specs.Deciding.{failing, outcome, ended_made, ended_by, ended_done, touching, decided_without, decided_by, decided};
 ghost use Rattle.lab_decisions.specs.Makings.{is_made_without, is_made_by, is_made};
 
 use crate::drafts::{fail, next_number, row_of};
 use crate::outcome::Outcome;
 use lab_access::{Failure, PeopleRefusal, Person, Session};
-use lab_commands::{Done, done_of, joined, opening_done, pair, single};
+use lab_account_commands::opening_done;
+use lab_commands::done_of;
+use lab_effects::{Done, joined, pair, single};
 use lab_kept::{Change, Deed, Occasion, Slice};
 use lab_machine::{Command, Passage, Reply, pass};
 use lab_names::{Moment, Ordinal, OutOfMemory, PersonCode, Series, Tick};
@@ -79,13 +81,24 @@ fn decide_by(
     ensures memory { OnErr result (IsTrue (is_made_by slice.old tick.now command reached)) }
 {
     match reached {
-        Passage::Early => Ok(refused(Series::new(alloc), Refusal::ClockBehind)),
-        Passage::NeedsNone(repeated) => decide_without(alloc, slice, tick, &repeated, command),
+        Passage::Early => {
+            drop(command);
+            Ok(refused(Series::new(alloc), Refusal::ClockBehind))
+        }
+        Passage::NeedsNone(repeated) => {
+            let outcome = decide_without(alloc, slice, tick, &repeated, command);
+            drop(repeated);
+            outcome
+        }
         Passage::Stranger => {
+            drop(command);
             let refusal = Refusal::People(PeopleRefusal::NoSession);
             Ok(refused(Series::new(alloc), refusal))
         }
-        Passage::Barred(session, refusal) => barred(alloc, tick.moment, session, refusal),
+        Passage::Barred(session, refusal) => {
+            drop(command);
+            barred(alloc, tick.moment, session, refusal)
+        }
         Passage::Passes(session, caller) => {
             let outcome = decide_in(alloc, slice, tick, session, &caller, command);
             drop(caller);
@@ -104,8 +117,15 @@ fn barred(
     ensures { IfOk result
         (λ told. told ≡ outcome (Reply.Refused refusal) (touching moment session)) }
 {
-    let changes = touching(alloc, moment, &session)?;
-    Ok(refused(changes, refusal))
+    let changes = touching(alloc, moment, &session);
+    drop(session);
+    match changes {
+        Ok(changes) => Ok(refused(changes, refusal)),
+        Err(fault) => {
+            drop(refusal);
+            Err(fault)
+        }
+    }
 }
 
 // A command that is refused, with what is changed nevertheless.
@@ -142,7 +162,9 @@ fn decide_without(
 {
     match command {
         Command::Open { code, password } => {
-            decide_opening(alloc, slice, tick, repeated, code, &password)
+            let outcome = decide_opening(alloc, slice, tick, repeated, code, &password);
+            drop(password);
+            outcome
         }
         command => {
             drop(command);
@@ -310,9 +332,19 @@ fn decide_noted(
 {
     let rows = slice.counts.trail;
     let strays = slice.strays;
-    let giver = caller.copy()?;
-    let done = done_of(alloc, slice, tick, session, giver, command)?;
-    end(alloc, before, rows, strays, tick.moment, &caller.code, done)
+    let Ok(giver) = caller.copy() else {
+        drop(session);
+        drop(command);
+        drop(before);
+        return Err(OutOfMemory);
+    };
+    match done_of(alloc, slice, tick, session, giver, command) {
+        Ok(done) => end(alloc, before, rows, strays, tick.moment, &caller.code, done),
+        Err(fault) => {
+            drop(before);
+            Err(fault)
+        }
+    }
 }
 
 // The end of a command in a session.

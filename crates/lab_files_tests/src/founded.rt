@@ -1,13 +1,14 @@
 //! Files in which laboratories are founded, and what is told of them. The calls have no clauses, so that the proof of a test
 //! doesn't carry what a connection holds after each.
 use crate::newborns::{newborn, text};
+use lab_accounts::persons_at;
 use lab_files::{FileFault, create};
 use lab_founding::found;
 use lab_kept::{Lab, Newborn, PlacingFault};
-use lab_lookups::{persons_at, trail_within};
 use lab_names::{LabCode, Ordinal, Series};
 use lab_reading::lab_at;
 use lab_told::lab_text;
+use lab_trails::trail_within;
 use sqlite::{Alter, Connection, MemStore};
 use std::alloc::Global;
 use std::process::Abort;

@@ -1,6 +1,5 @@
 mod LabMore
 mod AllRows
-mod Positions
 mod Commits
 mod Endings
 mod Placed

@@ -1,6 +1,6 @@
 -- What a founding makes of the tables: the row of the laboratory, under an id that none has, the rows
 -- of its persons and the rows of its trail; every other row stays as it is.
-use Rattle.std.specs.Prelude.{◌≡◌, ℤ, Bool, ◌||◌, None, is_some}
+use Rattle.std.specs.Prelude.{◌≡◌, ℤ, None}
 use Rattle.lab_kept.specs.declared.births.Newborn.{Newborn}
 use Rattle.lab_kept.specs.declared.labs.Lab.{Lab}
 use Rattle.lab_kept.specs.Births.{newborn_lab}
@@ -9,11 +9,6 @@ use Rattle.lab_tables.specs.Held.{AreRising}
 use Rattle.lab_tables.specs.Changes.{IsFree, InTurn, AddsPerson, AddsTold}
 use Rattle.lab_tables.specs.Placing.{lab_row_of, put_lab, PlacesLab}
 use Rattle.lab_tables_keeping.specs.ByRules.{IsByRules}
-
--- whether something was asked for a founder
-abbrev pub is_asked : Newborn → Bool
-is_asked newborn =
-    is_some newborn.first.ask || is_some newborn.second.ask || is_some newborn.third.ask
 
 -- the laboratory's row, under this id
 pub record AddsLab (id : ℤ) (lab : Lab) (old new : Tables) : Type 0 where

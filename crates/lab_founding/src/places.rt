@@ -12,9 +12,9 @@ ghost use Rattle.lab_founding.specs.Commits.{Ends};
 ghost use Rattle.lab_founding.specs.Founding.{AddsRows};
 
 use crate::rows::add_rows;
+use lab_columns::ReadFault;
 use lab_kept::{Lab, PlacingFault};
 use lab_names::LabCode;
-use lab_reading::ReadFault;
 use sqlite::{Alter, Connection, Error, Row, params};
 
 /// What an error of the store is told as.

@@ -11,9 +11,11 @@ ghost use Rattle.lab_founding.specs.Founding.{AddsLab, AddsRows};
 
 use lab_access::Person;
 use lab_kept::{Lab, TrailRow};
+use lab_writing::RowId;
 use lab_writing::statements::run;
 use lab_writing::values::{count_value, moment_value, text_value};
-use lab_writing::{RowId, add_person, add_told};
+use lab_writing_persons::add_person;
+use lab_writing_trail::add_told;
 use sqlite::{Alter, Error, Transaction};
 
 /// Adds the laboratory's row, and tells its id.
