@@ -1,20 +1,11 @@
-//! The commands of `labdesk`, as `clap` is told of them, and what help says of each.
+//! Each command of `labdesk` with its arguments, as `clap` is told of it, and what help says of it.
 
 ghost use Rattle.std.specs.Prelude.{◌≡◌, IfOk, false};
 ghost use Rattle.clap.specs.Words.{app_of, new_app, rule_of};
-ghost use Rattle.lab_words.specs.Apps.{check_app, copy_app, count_rule, file_rule, found_app, lab_rule, labdesk_app, moment_rule, named_rule, number_rule, port_rule, rehearse_app, replay_app, serve_app, wanted_rule, with_files};
+ghost use Rattle.lab_words_commands.specs.Apps.{check_app, copy_app, count_rule, file_rule, found_app, lab_rule, moment_rule, named_rule, number_rule, port_rule, rehearse_app, replay_app, serve_app, wanted_rule};
 
 use clap::{Arg, Command, value_parser};
 use std::alloc::{AllocError, Global};
-
-/// The version of the program, and the kit that proved it as `rt version` names it.
-const VERSION: &str = "0.5.0\nproved with rattle-kit-13f logic dac8208d650f15bf";
-
-/// What help says of all commands.
-const COMMANDS: &str = "What goes in and comes out is described in docs/FORMATS.md. An example:
-
-    labdesk found --file laboratories --lab aqua < examples/founding.json
-    labdesk serve --file laboratories --port 8080";
 
 /// What help says of a founding.
 const FOUNDING: &str =
@@ -155,8 +146,11 @@ fn command<'a>(alloc: Global, name: &'a str, about: &'a str, more: &'a str) -> C
     Command::new(alloc, name).about(about).after_help(more)
 }
 
-// `found`, of a laboratory in a file.
-fn found_command<'a>(alloc: Global) -> Result<Command<'a>, AllocError>
+/// `found`, of a laboratory in a file.
+///
+/// # Errors
+/// Memory ran out.
+pub fn found_command<'a>(alloc: Global) -> Result<Command<'a>, AllocError>
     ensures { IfOk result (λ command. app_of command ≡ found_app) }
 {
     let about = "Found a laboratory in a file, from the body of standard input";
@@ -168,8 +162,11 @@ fn found_command<'a>(alloc: Global) -> Result<Command<'a>, AllocError>
     Ok(whole)
 }
 
-// `serve`, of a file at a port, for so many connections.
-fn serve_command<'a>(alloc: Global) -> Result<Command<'a>, AllocError>
+/// `serve`, of a file at a port, for so many connections.
+///
+/// # Errors
+/// Memory ran out.
+pub fn serve_command<'a>(alloc: Global) -> Result<Command<'a>, AllocError>
     ensures { IfOk result (λ command. app_of command ≡ serve_app) }
 {
     let about = "Serve the laboratories of a file, on a port of this machine";
@@ -208,8 +205,11 @@ pub fn copy_command<'a>(alloc: Global) -> Result<Command<'a>, AllocError>
     Ok(whole)
 }
 
-// `rehearse`, of a laboratory at a moment.
-fn rehearse_command<'a>(alloc: Global) -> Result<Command<'a>, AllocError>
+/// `rehearse`, of a laboratory at a moment.
+///
+/// # Errors
+/// Memory ran out.
+pub fn rehearse_command<'a>(alloc: Global) -> Result<Command<'a>, AllocError>
     ensures { IfOk result (λ command. app_of command ≡ rehearse_app) }
 {
     let about = "Found a laboratory from the body of standard input, and ask for its card";
@@ -221,52 +221,18 @@ fn rehearse_command<'a>(alloc: Global) -> Result<Command<'a>, AllocError>
     Ok(whole)
 }
 
-// `check`.
-fn check_command<'a>(alloc: Global) -> Command<'a>
+/// `check`.
+pub fn check_command<'a>(alloc: Global) -> Command<'a>
     ensures { app_of result ≡ check_app }
 {
     let about = "Check the inspection copy of standard input, and tell what is found";
     command(alloc, "check", about, CHECKING)
 }
 
-// `replay`.
-fn replay_command<'a>(alloc: Global) -> Command<'a>
+/// `replay`.
+pub fn replay_command<'a>(alloc: Global) -> Command<'a>
     ensures { app_of result ≡ replay_app }
 {
     let about = "Run the events of standard input, and write their answers to standard output";
     command(alloc, "replay", about, REPLAYING)
-}
-
-// A command with the subcommands of a file.
-fn with_files<'a>(alloc: Global, bare: Command<'a>) -> Result<Command<'a>, AllocError>
-    ensures { IfOk result (λ more. app_of more ≡ with_files (app_of bare.entry)) }
-{
-    let found = found_command(alloc)?;
-    let serve = serve_command(alloc)?;
-    let copy = copy_command(alloc)?;
-    let first = bare.subcommand(found)?;
-    let second = first.subcommand(serve)?;
-    let whole = second.subcommand(copy)?;
-    Ok(whole)
-}
-
-/// `labdesk` with its subcommands.
-///
-/// # Errors
-/// Memory ran out.
-pub fn labdesk_command<'a>(alloc: Global) -> Result<Command<'a>, AllocError>
-    ensures { IfOk result (λ command. app_of command ≡ labdesk_app) }
-{
-    let rehearse = rehearse_command(alloc)?;
-    let bare = Command::new(alloc, "labdesk")
-        .bin_name("labdesk")?
-        .version(VERSION)
-        .about("Signed laboratory records")
-        .after_help(COMMANDS)
-        .subcommand_required(true);
-    let third = with_files(alloc, bare)?;
-    let fourth = third.subcommand(check_command(alloc))?;
-    let fifth = fourth.subcommand(replay_command(alloc))?;
-    let whole = fifth.subcommand(rehearse)?;
-    Ok(whole)
 }

@@ -1,6 +1,6 @@
 -- The command as it was built is, to `clap`, the one with its three arguments.
-use Rattle.lab_words.proofs.AppLemmas.{argued}
-use Rattle.lab_words.proofs.apps.serve_command.Goals as goal
+use Rattle.lab_words_commands.proofs.AppLemmas.{argued}
+use Rattle.lab_words_commands.proofs.commands.serve_command.Goals as goal
 
 pub returns : goal.returns
 returns c =
