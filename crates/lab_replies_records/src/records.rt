@@ -6,13 +6,13 @@ ghost use Rattle.lab_replies_parts.specs.Parts.{members_onto, text_or_empty};
 ghost use Rattle.lab_replies_parts.specs.Members.{member_data};
 ghost use Rattle.lab_replies_records.specs.Records.{record_opened_data, entered_data, amended_data, signed_data, current_of, record_data, value_data, format_number, reason_of, version_about, version_opening, version_lists, version_data, records_data};
 
+use lab_kept::Signature;
+use lab_names::{Ordinal, OutOfMemory};
 use lab_replies_parts::members::{
     bytes, count, current, flag, moment, object_of, object_with, ordinal, put_all, state, text,
     text_if_any,
 };
 use lab_replies_parts::parts::{AnyReply, Shown, list_of, put_list};
-use lab_kept::Signature;
-use lab_names::{Ordinal, OutOfMemory};
 use lab_rules::{RecordRead, RecordState, VersionRead, VersionState};
 use lab_seal::{Amendment, Digest, EntryRow, Format, State};
 use serde_json::{Map, Value};
