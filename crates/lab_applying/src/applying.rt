@@ -9,9 +9,10 @@ ghost use Rattle.lab_tables_changes.specs.Steps.{StepsBy, AreMadeIfAny};
 ghost use Rattle.lab_applying.specs.Commits.{Ends};
 
 use crate::changes::all_inside;
+use lab_columns::ReadFault;
 use lab_kept::Change;
 use lab_names::LabCode;
-use lab_reading::{ReadFault, lab_at};
+use lab_reading::lab_at;
 use lab_writing::RowId;
 use sqlite::{Alter, Connection, Error};
 use std::alloc::Global;

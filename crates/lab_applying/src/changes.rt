@@ -9,13 +9,16 @@ ghost use Rattle.lab_tables.specs.Changes.{AppliesIn, InTurn};
 ghost use Rattle.lab_tables_changes.specs.Steps.{AppliesWhereKept, StepsBy};
 ghost use Rattle.lab_writing.specs.Calls.{IsInside, Makes, Steps};
 
-use lab_filing::{add_form, add_record, enter_row, open_version, sign_version};
+use lab_filing_entries::{enter_row, sign_version};
+use lab_filing_forms::add_form;
+use lab_filing_records::{add_record, open_version};
 use lab_kept::{Change, Closing};
 use lab_names::{Moment, PersonCode};
-use lab_writing::{
-    RowId, add_person, add_session, add_told, close_sessions, set_last, set_person, set_session,
-    set_strays,
-};
+use lab_writing::{RowId, set_last, set_strays};
+use lab_writing_closings::close_sessions;
+use lab_writing_persons::{add_person, set_person};
+use lab_writing_sessions::{add_session, set_session};
+use lab_writing_trail::add_told;
 use sqlite::{Alter, Error, Transaction};
 
 /// Sets the last moment.

@@ -12,9 +12,9 @@ ghost use Rattle.lab_checks.specs.Left.{AnswersRest};
 ghost use Rattle.lab_checks.specs.declared.asks.AskedReader.{AskedReader};
 
 use crate::asks::AskedReader;
+use csv::{ByteRecord, ErrorKind, Reader, ReaderBuilder};
 use lab_checks_lines::Kept;
 use lab_checks_versions::CheckFault;
-use csv::{ByteRecord, ErrorKind, Reader, ReaderBuilder};
 use lab_lines::{RowFault, is_header, read_line};
 use lab_rows::{Counts, Flaw, OutOfMemory};
 use std::alloc::Global;

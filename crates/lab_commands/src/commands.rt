@@ -1,32 +1,30 @@
 //! What each command comes to in a session.
 ghost use Rattle.std.specs.Prelude.{◌≡◌, false, IfOk, IsTrue, OnErr};
-ghost use Rattle.lab_commands.specs.Done.{done_of};
-ghost use Rattle.lab_commands.specs.Groups.{is_on_accounts, is_on_records};
-ghost use Rattle.lab_commands.specs.Makings.{is_made};
+ghost use Rattle.lab_effects.specs.Done.{done_of};
+ghost use Rattle.lab_effects.specs.Groups.{is_on_accounts, is_on_records};
+ghost use Rattle.lab_effects.specs.Makings.{is_made};
 
-use crate::accounts::{
-    asking_done, changing_done, confirming_done, enrolling_done, retiring_done, setting_roles_done,
-    unlocking_done,
-};
-use crate::done::Done;
-use crate::readings::{
-    copied_rows, form_read_done, person_lines, record_lines, record_read_done, version_read_done,
-};
-use crate::records::{
-    Asked, amending_done, asked_signing_done, entering_done, making_done, opening_record_done,
-};
-use crate::sessions::closed_done;
 use lab_access::{PeopleRefusal, Person, Session};
+use lab_account_commands::{
+    asking_done, changing_done, closed_done, confirming_done, enrolling_done, retiring_done,
+    setting_roles_done, unlocking_done,
+};
+use lab_effects::Done;
 use lab_kept::Slice;
 use lab_machine::{Command, Reply};
 use lab_names::{OutOfMemory, Series, Tick};
+use lab_record_commands::{
+    Asked, amending_done, asked_signing_done, copied_rows, entering_done, form_read_done,
+    making_done, opening_record_done, person_lines, record_lines, record_read_done,
+    version_read_done,
+};
 use lab_rules::Refusal;
 use std::alloc::Global;
 use std::mem;
 
 /// What a command comes to in the session of the caller, on the part of the laboratory that it needs. The only error is out
 /// of memory, and only where something is made: what is refused is told as it is. What is left of the part isn't said.
-#[tactic(auto, unfolding(crate::specs::Done::done_of, crate::specs::Makings::is_made))]
+#[tactic(auto, unfolding(lab_effects::specs::Done::done_of, lab_effects::specs::Makings::is_made))]
 pub fn done_of(
     alloc: Global,
     slice: &mut Slice,
@@ -67,7 +65,7 @@ pub fn done_of(
 }
 
 // The same of a command that makes something of forms and records, or reads.
-#[tactic(auto, unfolding(crate::specs::Done::done_of, crate::specs::Makings::is_made))]
+#[tactic(auto, unfolding(lab_effects::specs::Done::done_of, lab_effects::specs::Makings::is_made))]
 fn done_on_records(
     alloc: Global,
     slice: &mut Slice,
@@ -117,7 +115,7 @@ fn done_on_records(
 }
 
 // The same of a command that reads. One that asks for no session is none in a session.
-#[tactic(auto, unfolding(crate::specs::Done::done_of, crate::specs::Makings::is_made))]
+#[tactic(auto, unfolding(lab_effects::specs::Done::done_of, lab_effects::specs::Makings::is_made))]
 fn done_reading(
     alloc: Global,
     slice: &mut Slice,

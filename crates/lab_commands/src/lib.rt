@@ -2,16 +2,6 @@
 //! 11): a refusal, a failed password, what is read, or what is made, with the changes and what the trail tells.
 #![tactic(auto)]
 
-mod accounts;
 mod commands;
-mod counts;
-mod done;
-mod lists;
-mod readings;
-mod records;
-mod sessions;
 
 pub use commands::done_of;
-pub use done::Done;
-pub use lists::{joined, pair, single};
-pub use sessions::opening_done;

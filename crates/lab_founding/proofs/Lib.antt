@@ -1,6 +1,3 @@
-mod LabMore
-mod AllRows
-mod Positions
 mod Commits
 mod Endings
 mod Placed

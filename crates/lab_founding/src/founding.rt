@@ -9,9 +9,9 @@ ghost use Rattle.lab_tables.specs.Ready.{IsAtRest, IsReady, LeavesNoMore, tables
 ghost use Rattle.lab_founding.specs.Commits.{Ends};
 ghost use Rattle.lab_founding.specs.Founding.{IsPlacedBy};
 
-use crate::newborns::{is_asked, laboratory};
 use crate::places::{is_there, place};
 use lab_kept::{Newborn, PlacingFault};
+use lab_newborns::{is_asked, laboratory};
 use sqlite::{Alter, Connection};
 use std::alloc::Global;
 

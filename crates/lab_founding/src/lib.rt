@@ -3,8 +3,6 @@
 #![tactic(auto)]
 
 mod founding;
-mod newborns;
 mod places;
-mod rows;
 
 pub use founding::found;

@@ -8,10 +8,13 @@ ghost use Rattle.lab_kept.specs.declared.needs.ListWanted.TheVariants.{Persons, 
 ghost use Rattle.lab_loading.specs.Parts.{lab_by, counts_by, listed_by};
 
 use lab_access::Person;
+use lab_accounts::{person_count, persons_at};
+use lab_columns::ReadFault;
 use lab_kept::{Counts, ListWanted, Record, TrailRow};
-use lab_lookups::{filed_within, person_count, persons_at, trail_within};
+use lab_lookups::filed_within;
 use lab_names::{Ordinal, Series};
-use lab_reading::{LabHead, ReadFault};
+use lab_reading::LabHead;
+use lab_trails::trail_within;
 use sqlite::{Alter, Connection};
 use std::alloc::Global;
 

@@ -8,11 +8,13 @@ ghost use Rattle.lab_kept.specs.Lookups.{session_at, person_at, caller_of};
 ghost use Rattle.lab_loading.specs.Parts.{lab_by, callers_by, people_by};
 
 use lab_access::{Person, Session};
+use lab_accounts::person_at;
+use lab_columns::ReadFault;
 use lab_kept::Need;
-use lab_lookups::{person_at, session_at};
 use lab_names::PersonCode;
-use lab_reading::{LabHead, ReadFault};
+use lab_reading::LabHead;
 use lab_secrets::Digest;
+use lab_sessions::session_at;
 use sqlite::{Alter, Connection};
 use std::alloc::Global;
 

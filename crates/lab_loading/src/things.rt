@@ -7,9 +7,10 @@ ghost use Rattle.lab_tables.specs.Ready.{IsReady, PassesBy, tables_of};
 ghost use Rattle.lab_kept.specs.Parts.{form_meant, record_meant};
 ghost use Rattle.lab_loading.specs.Parts.{lab_by, things_by};
 
+use lab_columns::ReadFault;
 use lab_kept::{FormVersion, FormWanted, Need, Record, RecordWanted};
 use lab_lookups::{about_at, exact_form_at, last_form_at, numbered_at};
-use lab_reading::{LabHead, ReadFault};
+use lab_reading::LabHead;
 use sqlite::{Alter, Connection};
 use std::alloc::Global;
 

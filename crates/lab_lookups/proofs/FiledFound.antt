@@ -16,13 +16,14 @@ use Rattle.lab_tables.specs.WellKept.{IsWellKept, names_its_form}
 use Rattle.lab_tables.specs.Meaning.{form_in, form_at, record_in, records_of, by_record}
 use Rattle.lab_reading.specs.Heads.{is_record, record_head}
 use Rattle.lab_reading.proofs.Keys.{records_apart}
-use Rattle.lab_reading.proofs.Lists.{alone_numbers, text_is}
+use Rattle.lab_columns.proofs.Lists.{alone_numbers, text_is, both_filtered}
 use Rattle.lab_retrieval.specs.Sought.{is_about, heads_within}
-use Rattle.lab_retrieval.specs.Wholes.{record_by}
-use Rattle.lab_retrieval.proofs.Lists.{both_filtered, alone_key}
-use Rattle.lab_retrieval.proofs.Keys.{right, samples_apart}
-use Rattle.lab_retrieval.proofs.Finds.{found_alone}
-use Rattle.lab_lookups.proofs.Orders.{filter_sorted}
+use Rattle.lab_lookups.specs.Wholes.{record_by}
+use Rattle.lab_retrieval.proofs.Lists.{alone_key}
+use Rattle.lab_columns.proofs.Keys.{right}
+use Rattle.lab_retrieval.proofs.Keys.{samples_apart}
+use Rattle.lab_columns.proofs.Finds.{found_alone}
+use Rattle.lab_columns.proofs.Orders.{filter_sorted}
 
 record_total : IsTotalOrder by_record
 record_total = on_total (λ (one : RecordRow). one.number) nat_cmp_total

@@ -11,24 +11,18 @@ use Rattle.lab_kept_records.specs.Lookups.{last_of, is_version_of, is_form_versi
 use Rattle.lab_tables.specs.Rows.{FormRow, Tables, flag, flag_in}
 use Rattle.lab_tables.specs.WellKept.{IsWellKept}
 use Rattle.lab_tables.specs.Meaning.{form_in, forms_of, by_form}
-use Rattle.lab_retrieval.specs.Forms.{form_head, form_by}
-use Rattle.lab_retrieval.specs.Shown.{form_shown, form_read}
-use Rattle.lab_retrieval.proofs.Lists.{both_filtered}
-use Rattle.lab_retrieval.proofs.Finds.{found_alone}
+use Rattle.lab_form_versions.specs.Forms.{form_head, form_by}
+use Rattle.lab_form_versions.specs.Shown.{form_shown, form_read}
+use Rattle.lab_columns.proofs.Lists.{both_filtered}
+use Rattle.lab_columns.proofs.Finds.{found_alone}
+use Rattle.lab_form_versions.proofs.FormsFound.{form_back}
 use Rattle.lab_lookups.specs.Forms.{is_exact, exact_shown, is_of_code, form_versions_shown}
 use Rattle.lab_lookups.proofs.Keys.{forms_apart}
 use Rattle.lab_lookups.proofs.Lists.{alone_version}
-use Rattle.lab_lookups.proofs.Orders.{filter_sorted}
+use Rattle.lab_columns.proofs.Orders.{filter_sorted}
 
 form_total : IsTotalOrder by_form
 form_total = then_total (on_total (λ (one : FormRow). one.code) nat_list_cmp_total) (on_total (λ (one : FormRow). one.version) nat_cmp_total)
-
-flag_back : (b : Bool) → flag_in (flag b) ≡ b
-flag_back true = refl
-flag_back false = refl
-
-form_back : (one : FormRow) → form_read (form_shown one) ≡ form_head one
-form_back one = λ i. record (form_head one) { approval = flag_back one.approval i }
 
 one_read : (t : Tables) (o : Option FormRow) → option_map (form_by t) (option_map form_read (option_map form_shown o)) ≡ option_map (form_in t) o
 one_read t None = refl

@@ -3,8 +3,5 @@ pub mod Texts
 pub mod Lists
 pub mod Keys
 pub mod Exact
-pub mod Found
-pub mod Orders
-pub mod TrailsFound
 pub mod FormsFound
 pub mod FiledFound

@@ -5,7 +5,7 @@ use Rattle.sqlite_keyed.specs.Lists.{sort_by}
 use Rattle.sqlite_value.specs.Order.{Row}
 use Rattle.lab_tables.specs.Rows.{FormRow, Tables}
 use Rattle.lab_tables.specs.Meaning.{by_form}
-use Rattle.lab_retrieval.specs.Shown.{form_shown}
+use Rattle.lab_form_versions.specs.Shown.{form_shown}
 
 -- the version of a number
 abbrev pub is_exact : ℤ → List ℕ → ℕ → FormRow → Bool

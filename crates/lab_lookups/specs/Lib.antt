@@ -1,4 +1,2 @@
-pub mod Heads
-pub mod Shown
-pub mod Trails
 pub mod Forms
+pub mod Wholes

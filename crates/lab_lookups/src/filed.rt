@@ -7,12 +7,14 @@ ghost use Rattle.lab_tables.specs.Ready.{IsReady, PassesBy, tables_of};
 ghost use Rattle.lab_kept_records.specs.Lookups.{record_of, record_about};
 ghost use Rattle.lab_kept.specs.Lookups.{records_within};
 ghost use Rattle.lab_tables.specs.Meaning.{records_of};
-ghost use Rattle.lab_retrieval.specs.Wholes.{record_by};
+ghost use Rattle.lab_lookups.specs.Wholes.{record_by};
 
+use crate::wholes::record_whole;
+use lab_columns::ReadFault;
 use lab_kept::Record;
 use lab_names::{Key, LabCode, Name, Ordinal};
-use lab_reading::{ReadFault, RecordHead, record_at};
-use lab_retrieval::{record_about, record_whole, records_within};
+use lab_reading::{RecordHead, record_at};
+use lab_retrieval::{record_about, records_within};
 use sqlite::{Alter, Connection};
 use std::alloc::Global;
 

@@ -1,20 +1,21 @@
 //! Versions of forms, by the codes of the forms.
 
-ghost use Rattle.std.specs.Prelude.{◌≡◌, option_map, slice_get, IfOk, OnOk, IsTrue};
+ghost use Rattle.std.specs.Prelude.{◌≡◌, option_map, IfOk, OnOk, IsTrue};
 ghost use Rattle.sqlite.specs.State.{HasCleanDisk, IsUnchanged};
 ghost use Rattle.sqlite.specs.Held.{state};
 ghost use Rattle.lab_tables.specs.Ready.{IsReady, PassesBy, tables_of};
 ghost use Rattle.lab_kept_records.specs.Lookups.{last_of, last_form, exact_form};
 ghost use Rattle.lab_tables.specs.Meaning.{forms_of};
-ghost use Rattle.lab_retrieval.specs.Forms.{form_by};
-ghost use Rattle.lab_retrieval.specs.Shown.{form_read};
+ghost use Rattle.lab_form_versions.specs.Forms.{form_by};
+ghost use Rattle.lab_form_versions.specs.Shown.{form_read};
 ghost use Rattle.lab_lookups.specs.Forms.{exact_shown, form_versions_shown};
 
-use crate::asking::{rows_by_code, rows_by_version};
+use crate::asking::rows_by_version;
+use lab_columns::ReadFault;
+use lab_columns::asking::rows_by_code;
+use lab_form_versions::{FormHead, first_form, form_of_row, form_whole};
 use lab_kept::FormVersion;
 use lab_names::{Key, Ordinal};
-use lab_reading::ReadFault;
-use lab_retrieval::{FormHead, first_form, form_of_row, form_whole};
 use sqlite::{Alter, Connection, Error, Row};
 use std::alloc::Global;
 

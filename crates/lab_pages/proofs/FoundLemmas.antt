@@ -12,7 +12,7 @@ use Rattle.lab_reading.specs.declared.heads.RecordHead.{RecordHead}
 use Rattle.lab_reading.specs.declared.heads.VersionHead.{VersionHead}
 use Rattle.lab_reading.specs.Heads.{lab_head, versions_of}
 use Rattle.lab_reading.specs.Leaves.{leaf_by}
-use Rattle.lab_retrieval.specs.Wholes.{record_by}
+use Rattle.lab_lookups.specs.Wholes.{record_by}
 use Rattle.lab_retrieval.proofs.Found.{leaves_found}
 use Rattle.lab_lookups.proofs.FiledFound.{numbered_found}
 use Rattle.lab_walks.specs.Walks.{record_at, record_rows}

@@ -15,7 +15,7 @@ use Rattle.lab_copies.specs.CopyLines.{fields_of_line, record_lines, rows_of_lin
 use Rattle.lab_tables.specs.Rows.{Tables}
 use Rattle.lab_tables.specs.Meaning.{chained, leaves_of}
 use Rattle.lab_reading.specs.declared.heads.RecordHead.{RecordHead}
-use Rattle.lab_retrieval.specs.Wholes.{record_by}
+use Rattle.lab_lookups.specs.Wholes.{record_by}
 use Rattle.lab_walks.specs.Walks.{record_rows}
 use Rattle.lab_walks.proofs.OutLemmas.{given_on, given_rows}
 use Rattle.lab_pages.specs.Pages.{cover_by, cover_rows, page_rows, pages_rows}

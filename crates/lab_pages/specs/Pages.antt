@@ -11,7 +11,7 @@ use Rattle.lab_tables.specs.Meaning.{form_at, has_code}
 use Rattle.lab_reading.specs.declared.heads.LabHead.{LabHead}
 use Rattle.lab_reading.specs.declared.heads.RecordHead.{RecordHead}
 use Rattle.lab_reading.specs.Heads.{is_record, lab_head, record_head}
-use Rattle.lab_retrieval.specs.Wholes.{cover_of}
+use Rattle.lab_lookups.specs.Wholes.{cover_of}
 
 -- ---- rows that go out
 

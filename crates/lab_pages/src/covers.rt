@@ -4,13 +4,14 @@ ghost use Rattle.std.specs.Prelude.{◌≡◌, IfOk, OnOk, IsTrue};
 ghost use Rattle.sqlite.specs.State.{HasCleanDisk, IsUnchanged};
 ghost use Rattle.sqlite.specs.Held.{state};
 ghost use Rattle.lab_tables.specs.Ready.{IsReady, PassesBy, tables_of};
-ghost use Rattle.lab_retrieval.specs.Wholes.{cover_of};
+ghost use Rattle.lab_lookups.specs.Wholes.{cover_of};
 ghost use Rattle.lab_pages.specs.Pages.{cover_by, head_at, head_in};
 
+use lab_columns::ReadFault;
+use lab_form_versions::form_at;
 use lab_kept::{FormVersion, Record};
 use lab_names::{LabCode, Ordinal, Series};
-use lab_reading::{LabHead, ReadFault, RecordHead, lab_at, record_at};
-use lab_retrieval::form_at;
+use lab_reading::{LabHead, RecordHead, lab_at, record_at};
 use sqlite::{Alter, Connection};
 use std::alloc::Global;
 

@@ -8,7 +8,7 @@ ghost use Rattle.lab_copy.specs.Outs.{Sends};
 ghost use Rattle.lab_kept_records.specs.Digests.{digest_of};
 ghost use Rattle.lab_pages.specs.Pages.{cover_rows, page_rows, pages_rows};
 ghost use Rattle.lab_reading.specs.Leaves.{leaf_by};
-ghost use Rattle.lab_retrieval.specs.Wholes.{record_by};
+ghost use Rattle.lab_lookups.specs.Wholes.{record_by};
 ghost use Rattle.lab_rows.specs.Csv.{csv_text};
 ghost use Rattle.lab_tables.specs.Meaning.{chained, leaves_of, meaning, version_after};
 ghost use Rattle.lab_tables.specs.Ready.{IsReady, PassesBy, tables_of};

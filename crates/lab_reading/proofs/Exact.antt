@@ -23,9 +23,10 @@ use Rattle.lab_tables.specs.Ready.{IsKept}
 use Rattle.lab_reading.specs.Heads.{is_record}
 use Rattle.lab_reading.specs.Shown.{labs_shown, records_shown, entries_shown, signatures_shown, versions_shown}
 use Rattle.lab_reading.proofs.Keys.{labs_apart, records_apart, versions_apart, entries_apart, signatures_apart, openers, writers, signers}
-use Rattle.lab_reading.proofs.Texts.{lab_text, lab_query, lab_means, record_text, record_query, record_means, children_query, child_tests, entry_text, entry_columns, entry_means, signature_text, signature_columns, signature_means, version_text, version_columns, version_means}
-use Rattle.lab_reading.proofs.Sorted.{equal_ints, equal_numbers, equal_texts, and_true, by_one, only_answer, sorted_answer}
-use Rattle.lab_reading.proofs.Lists.{alone_text, alone_numbers, at_id, untied_in, joined}
+use Rattle.lab_reading.proofs.Texts.{lab_text, lab_query, lab_means, record_text, record_means, child_tests, entry_text, entry_columns, entry_means, signature_text, signature_columns, signature_means, version_text, version_columns, version_means}
+use Rattle.lab_columns.proofs.Texts.{record_query, children_query}
+use Rattle.lab_columns.proofs.Sorted.{equal_ints, equal_numbers, equal_texts, and_true, by_one, only_answer, sorted_answer}
+use Rattle.lab_columns.proofs.Lists.{alone_text, alone_numbers, at_id, untied_in, joined}
 
 pub labs_read : (old new : State) (code : List ℕ) (rows : List Row) → IsKept old.now → Shown lab_text (Text code ∷ []) old new rows → rows ≡ labs_shown (tables_in old.now.trees) code
 labs_read old new code rows kept h =

@@ -6,6 +6,7 @@ use Rattle.sqlite_value.specs.Order.{bytes}
 use Rattle.lab_tables.specs.Rows.{LabRow, RecordRow, VersionRow, EntryRow, SignatureRow, Tables, optional, optional_in}
 use Rattle.lab_tables.specs.Columns.{meaning_in}
 use Rattle.lab_tables.specs.Meaning.{has_code, code_of, entry_in, entries_of, signature_in, signatures_of}
+use Rattle.lab_columns.proofs.Found.{text_back}
 use Rattle.lab_reading.specs.Heads.{lab_head, is_record, record_head, version_head, versions_of}
 use Rattle.lab_versions.specs.declared.rows.EntryRow.{EntryRow as Entry}
 use Rattle.lab_kept_records.specs.declared.records.Signature.{Signature}
@@ -22,10 +23,6 @@ lab_found t code = go (filter (has_code code) t.labs) ∙ ap (option_map lab_hea
     go (one ∷ more) = refl
 
 -- a text that may be NULL is read as it was
-text_back : (o : Option (List ℕ)) → optional_in bytes (optional Text o) ≡ o
-text_back None = refl
-text_back (Some one) = refl
-
 entry_back : (t : Tables) (one : EntryRow) → entry_read (entry_shown t one) ≡ entry_in t one
 entry_back t one = λ i. record (entry_in t one) { reason = text_back one.reason i }
 

@@ -3,12 +3,8 @@
 use Rattle.std.proofs.Common.{◌≡◌, pos, [], ◌∷◌, map, refl}
 use Rattle.std.specs.Prelude.{codes}
 use Rattle.sqlite_value.specs.declared.value.Value.TheVariants.{Null, Int, Text}
-use Rattle.lab_kept.specs.declared.faults.KeeperFault.TheVariants as kept
-use Rattle.lab_names.specs.declared.faults.NameFault.TheVariants as name
 use Rattle.lab_tables.specs.Meaning.{leaves_of}
 use Rattle.lab_tables.proofs.KnownFile.{filed, file}
-use Rattle.lab_reading.specs.declared.faults.ReadFault.TheVariants.{Storage, Memory}
-use Rattle.lab_reading.specs.Faults.{name_fault, kept_fault}
 use Rattle.lab_reading.specs.Heads.{record_head, versions_of}
 use Rattle.lab_reading.specs.Leaves.{leaf_by}
 use Rattle.lab_reading.specs.Shown.{labs_shown, entries_shown, records_shown, record_read, versions_shown, version_read}
@@ -43,7 +39,3 @@ pub known_versions :
     (map version_read (versions_shown file (pos 3)) ≡ versions_of file (pos 3))
     × (map (leaf_by file) (versions_of file (pos 3)) ≡ leaves_of file (pos 3))
 known_versions = (refl, refl)
-
--- a text that is no name is a fault of what is stored, not of memory
-pub known_faults : (name_fault name.BadName ≡ Storage) × (kept_fault Storage ≡ kept.Storage) × (kept_fault Memory ≡ kept.Memory)
-known_faults = (refl, refl, refl)

@@ -1,7 +1,4 @@
-pub mod Queries
 pub mod Texts
-pub mod Sorted
-pub mod Lists
 pub mod Keys
 pub mod Exact
 pub mod Found

@@ -1,4 +1,3 @@
-pub mod Faults
 pub mod Heads
 pub mod Shown
 pub mod Leaves

@@ -26,25 +26,6 @@ pub(crate) fn rows_by_text<S: Alter>(
     conn.query_all(sql, params![first])
 }
 
-/// The rows of a query with a number.
-pub(crate) fn rows_by_one<S: Alter>(
-    conn: &mut Connection<S>,
-    sql: &str,
-    first: i64,
-) -> Result<Vec<Row>, Error>
-    ensures ok { HasCleanDisk (state S.Store conn.new) → IfOk result
-        (λ rows. Shown sql.now (Int first ∷ [])
-        (state S.Store conn.old) (state S.Store conn.new) rows.items) }
-    ensures err { HasCleanDisk (state S.Store conn.new) → IfErr result
-        (FailsToQuery sql.now (Int first ∷ [])
-        (state S.Store conn.old) (state S.Store conn.new)) }
-    ensures mode { conn.old.in_transaction ≡ false → conn.new.in_transaction ≡ false }
-    ensures survives { Survives (state S.Store conn.old) (state S.Store conn.new)
-        (CommitsShowing sql.now (Int first ∷ []) (state S.Store conn.old)) }
-{
-    conn.query_all(sql, params![first])
-}
-
 /// The rows of a query with an id and a number.
 pub(crate) fn rows_by_two<S: Alter>(
     conn: &mut Connection<S>,

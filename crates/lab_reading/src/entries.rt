@@ -7,9 +7,9 @@ ghost use Rattle.lab_tables.specs.Ready.{IsReady, PassesBy, tables_of};
 ghost use Rattle.lab_tables.specs.Meaning.{entries_of};
 ghost use Rattle.lab_reading.specs.Shown.{entries_shown, entry_read};
 
-use crate::asking::rows_by_one;
-use crate::cells::{moment_of, text_if, text_of};
-use crate::faults::ReadFault;
+use lab_columns::ReadFault;
+use lab_columns::asking::rows_by_one;
+use lab_columns::cells::{moment_of, text_if, text_of};
 use lab_versions::EntryRow;
 use sqlite::{Alter, Connection, Error, Row};
 use std::alloc::Global;

@@ -7,9 +7,9 @@ ghost use Rattle.lab_tables.specs.Ready.{IsReady, PassesBy, tables_of};
 ghost use Rattle.lab_reading.specs.Leaves.{leaf_of, leaf_by};
 
 use crate::entries::entries_at;
-use crate::faults::ReadFault;
 use crate::heads::VersionHead;
 use crate::signatures::signatures_at;
+use lab_columns::ReadFault;
 use lab_kept::Signature;
 use lab_names::{Moment, Note, Ordinal, PersonCode, Series};
 use lab_versions::EntryRows;

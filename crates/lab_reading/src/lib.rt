@@ -5,7 +5,6 @@
 mod asking;
 mod cells;
 mod entries;
-mod faults;
 mod heads;
 mod labs;
 mod leaves;
@@ -14,7 +13,6 @@ mod signatures;
 mod versions;
 
 pub use entries::entries_at;
-pub use faults::ReadFault;
 pub use heads::{LabHead, RecordHead, VersionHead};
 pub use labs::lab_at;
 pub use leaves::{VersionLeaf, leaf_at};

@@ -8,9 +8,9 @@ ghost use Rattle.lab_reading.specs.Heads.{is_record, record_head};
 ghost use Rattle.lab_reading.specs.Shown.{records_shown, record_read};
 
 use crate::asking::rows_by_two;
-use crate::cells::{id_of, ordinal_of, small_of, text_of};
-use crate::faults::ReadFault;
 use crate::heads::RecordHead;
+use lab_columns::ReadFault;
+use lab_columns::cells::{id_of, ordinal_of, small_of, text_of};
 use lab_names::Ordinal;
 use sqlite::{Alter, Connection, Error, Row};
 use std::alloc::Global;

@@ -10,9 +10,9 @@ ghost use Rattle.lab_reading.specs.Shown.{signatures_shown, signature_read};
 ghost use Rattle.sqlite_value.specs.Order.{column, bytes};
 ghost use Rattle.lab_tables.specs.Rows.{optional_in};
 
-use crate::asking::rows_by_one;
-use crate::cells::{digest_of, moment_of, text_if, text_of};
-use crate::faults::ReadFault;
+use lab_columns::ReadFault;
+use lab_columns::asking::rows_by_one;
+use lab_columns::cells::{digest_of, moment_of, text_if, text_of};
 use lab_kept::Signature;
 use lab_names::{Keys, Note, Text};
 use lab_seal::{Meaning, Seal};

@@ -7,10 +7,10 @@ ghost use Rattle.lab_tables.specs.Ready.{IsReady, PassesBy, tables_of};
 ghost use Rattle.lab_reading.specs.Heads.{versions_of};
 ghost use Rattle.lab_reading.specs.Shown.{versions_shown, version_read};
 
-use crate::asking::rows_by_one;
-use crate::cells::{id_of, moment_of, ordinal_of, small_of, text_if, text_of};
-use crate::faults::ReadFault;
 use crate::heads::VersionHead;
+use lab_columns::ReadFault;
+use lab_columns::asking::rows_by_one;
+use lab_columns::cells::{id_of, moment_of, ordinal_of, small_of, text_if, text_of};
 use sqlite::{Alter, Connection, Error, Row};
 use std::alloc::Global;
 

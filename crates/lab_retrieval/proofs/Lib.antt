@@ -1,10 +1,7 @@
 pub mod KnownValues
 pub mod Texts
 pub mod Lists
-pub mod Sorted
 pub mod Keys
 pub mod Exact
 pub mod Found
 pub mod ChainTurns
-pub mod FormsFound
-pub mod Finds

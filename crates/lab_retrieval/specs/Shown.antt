@@ -1,17 +1,11 @@
 -- The rows that each query shows of the tables, in its order, and what such a row is read as.
-use Rattle.std.specs.Prelude.{ℕ, ℤ, List, [], ◌∷◌, map, filter}
-use Rattle.std.specs.Ordering.{int_eq}
+use Rattle.std.specs.Prelude.{ℕ, ℤ, List, map, filter}
 use Rattle.sqlite_keyed.specs.Lists.{sort_by}
-use Rattle.sqlite_value.specs.declared.value.Value.TheVariants.{Int, Text}
-use Rattle.sqlite_value.specs.Order.{Row, column, bytes}
-use Rattle.sqlite_rules.specs.Edit.{id_in}
-use Rattle.lab_tables.specs.Rows.{PersonRow, FormRow, FieldRow, ChoiceRow, KindColumns, Tables, number, flag, optional, number_in, flag_in, optional_in}
-use Rattle.lab_tables.specs.Columns.{kind_in}
-use Rattle.lab_tables.specs.Meaning.{by_record, by_field, by_choice}
+use Rattle.sqlite_value.specs.Order.{Row}
+use Rattle.lab_tables.specs.Rows.{Tables}
+use Rattle.lab_tables.specs.Meaning.{by_record}
 use Rattle.lab_reading.specs.Shown.{record_shown}
 use Rattle.lab_retrieval.specs.Sought.{is_about, is_record_within}
-use Rattle.lab_retrieval.specs.declared.heads.FormHead.{FormHead}
-use Rattle.lab_retrieval.specs.declared.heads.FieldHead.{FieldHead}
 
 abbrev pub abouts_shown : Tables → ℤ → List ℕ → List ℕ → List Row
 abouts_shown t lab form sample = map record_shown (filter (is_about lab form sample) t.records)
@@ -19,77 +13,3 @@ abouts_shown t lab form sample = map record_shown (filter (is_about lab form sam
 abbrev pub within_shown : Tables → ℤ → ℕ → ℕ → List Row
 within_shown t lab from to =
     map record_shown (sort_by by_record (filter (is_record_within lab from to) t.records))
-
--- ---- a version of a form
-
-abbrev pub form_shown : FormRow → Row
-form_shown one =
-    Int one.id ∷ Text one.code ∷ number one.version ∷ flag one.approval ∷ []
-
-abbrev pub forms_shown : Tables → ℤ → List Row
-forms_shown t id = map form_shown (filter (λ (one : FormRow). int_eq one.id id) t.forms)
-
-abbrev pub form_read : Row → FormHead
-form_read row = record {
-  id = id_in (column row 0);
-  code = bytes (column row 1);
-  version = number_in (column row 2);
-  approval = flag_in (column row 3);
-}
-
--- ---- its fields
-
-abbrev pub field_shown : FieldRow → Row
-field_shown one =
-    Int one.id ∷ Text one.key ∷ Text one.label ∷ flag one.required ∷ Text one.kind.word
-    ∷ optional Text one.kind.unit ∷ optional number one.kind.decimals
-    ∷ optional Text one.kind.low ∷ optional Text one.kind.high ∷ optional number one.kind.size
-    ∷ []
-
-abbrev pub fields_shown : Tables → ℤ → List Row
-fields_shown t form =
-    map field_shown
-    (sort_by by_field (filter (λ (one : FieldRow). int_eq one.form form) t.fields))
-
-abbrev pub kind_cells : Row → KindColumns
-kind_cells row = record {
-  word = bytes (column row 4);
-  unit = optional_in bytes (column row 5);
-  decimals = optional_in number_in (column row 6);
-  low = optional_in bytes (column row 7);
-  high = optional_in bytes (column row 8);
-  size = optional_in number_in (column row 9);
-}
-
-abbrev pub field_read : Row → FieldHead
-field_read row = record {
-  id = id_in (column row 0);
-  key = bytes (column row 1);
-  label = bytes (column row 2);
-  required = flag_in (column row 3);
-  kind = kind_in (kind_cells row) [];
-}
-
--- ---- the names of a choice
-
-abbrev pub name_shown : ChoiceRow → Row
-name_shown one = Text one.name ∷ []
-
-abbrev pub names_shown : Tables → ℤ → List Row
-names_shown t field =
-    map name_shown
-    (sort_by by_choice (filter (λ (one : ChoiceRow). int_eq one.field field) t.choices))
-
-abbrev pub name_read : Row → List ℕ
-name_read row = bytes (column row 0)
-
--- ---- the code of a person
-
-abbrev pub code_shown : PersonRow → Row
-code_shown one = Text one.code ∷ []
-
-abbrev pub codes_shown : Tables → ℤ → List Row
-codes_shown t id = map code_shown (filter (λ (one : PersonRow). int_eq one.id id) t.persons)
-
-abbrev pub code_read : Row → List ℕ
-code_read row = bytes (column row 0)

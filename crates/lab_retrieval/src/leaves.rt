@@ -7,7 +7,8 @@ ghost use Rattle.lab_tables.specs.Ready.{IsReady, PassesBy, tables_of};
 ghost use Rattle.lab_tables.specs.Meaning.{leaves_of};
 ghost use Rattle.lab_reading.specs.Leaves.{leaf_of, leaf_by};
 
-use lab_reading::{ReadFault, VersionHead, VersionLeaf, leaf_at, versions_at};
+use lab_columns::ReadFault;
+use lab_reading::{VersionHead, VersionLeaf, leaf_at, versions_at};
 use sqlite::{Alter, Connection};
 use std::alloc::Global;
 

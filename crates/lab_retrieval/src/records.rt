@@ -9,10 +9,12 @@ ghost use Rattle.lab_reading.specs.Shown.{record_read};
 ghost use Rattle.lab_retrieval.specs.Sought.{is_about, heads_within};
 ghost use Rattle.lab_retrieval.specs.Shown.{abouts_shown, within_shown};
 
-use crate::asking::{rows_by_key, rows_by_range};
-use crate::cells::{id_of, ordinal_of, small_of, text_of};
+use crate::asking::rows_by_key;
+use lab_columns::ReadFault;
+use lab_columns::asking::rows_by_range;
+use lab_columns::cells::{id_of, ordinal_of, small_of, text_of};
 use lab_names::{Key, Name, Ordinal};
-use lab_reading::{ReadFault, RecordHead};
+use lab_reading::RecordHead;
 use sqlite::{Alter, Connection, Error, Row};
 use std::alloc::Global;
 

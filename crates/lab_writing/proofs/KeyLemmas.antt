@@ -18,8 +18,8 @@ use Rattle.lab_tables.specs.Rows.{LabRow, lab_row, lab_id, PersonRow, SessionRow
 use Rattle.lab_tables.specs.Meaning.{has_code}
 use Rattle.lab_tables.specs.Changes.{is_person, person_named, is_session, IsNamedIfAny}
 use Rattle.lab_tables.specs.Held.{IsTyped}
-use Rattle.lab_reading.proofs.Texts.{Means, is_param}
-use Rattle.lab_reading.proofs.Sorted.{truth_is, equal_ints, equal_texts, and_true}
+use Rattle.lab_columns.proofs.Texts.{Means, is_param}
+use Rattle.lab_columns.proofs.Sorted.{truth_is, equal_ints, equal_texts, and_true}
 use Rattle.lab_writing.specs.Calls.{Steps, Finds}
 use Rattle.lab_writing.specs.Ids.{id_read}
 use Rattle.lab_writing.specs.Shown.{labs_shown, persons_shown, sessions_shown}

@@ -2,15 +2,9 @@ pub mod Tables
 pub mod Writes
 pub mod Columns
 pub mod Inside
+pub mod Placed
 pub mod LabWrites
-pub mod TrailWrites
-pub mod SessionWrites
 pub mod Lookups
 pub mod KeyLemmas
-pub mod Added
-pub mod PersonWrites
-pub mod PersonLemmas
 pub mod Commits
-pub mod ClosingLemmas
-pub mod ClosedAlike
 pub mod KnownValues

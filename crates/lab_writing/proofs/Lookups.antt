@@ -29,9 +29,9 @@ use Rattle.lab_tables.specs.Schema.{lab_schema}
 use Rattle.lab_tables.specs.Rows.{Tables, tables_in}
 use Rattle.lab_tables.specs.Held.{IsTyped}
 use Rattle.lab_tables.specs.Ready.{tables_of}
-use Rattle.lab_reading.proofs.Queries.{IsRead, same}
-use Rattle.lab_reading.proofs.Texts.{Means}
-use Rattle.lab_reading.proofs.Sorted.{sorted_answer}
+use Rattle.lab_columns.proofs.Queries.{IsRead, same}
+use Rattle.lab_columns.proofs.Texts.{Means}
+use Rattle.lab_columns.proofs.Sorted.{sorted_answer}
 use Rattle.lab_writing.specs.Calls.{Steps, Finds}
 use Rattle.lab_writing.specs.Ids.{id_read}
 

@@ -41,7 +41,7 @@ use Rattle.sqlite.specs.Listing.{understood}
 use Rattle.sqlite.specs.State.{State, mode_of, Executes}
 use Rattle.sqlite.proofs.Callers.{IsPlain, command_of, runs_as, one_step, statement_of}
 use Rattle.lab_tables.specs.Schema.{lab_schema}
-use Rattle.lab_reading.proofs.Sorted.{equal_ints, and_true, only_answer}
+use Rattle.lab_columns.proofs.Sorted.{equal_ints, and_true, only_answer}
 use Rattle.lab_writing.proofs.Tables.{AreSpared}
 
 -- a part that gave a value did not stop on the way

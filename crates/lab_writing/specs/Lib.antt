@@ -1,6 +1,3 @@
 pub mod Calls
 pub mod Ids
 pub mod Shown
-pub mod Added
-pub mod Persons
-pub mod Closings

@@ -1,21 +1,15 @@
-//! The calls that change the row of a laboratory, its persons, its sessions and its trail in the tables of a file, each inside
-//! a transaction (21 CFR 11.10(e); ISO/IEC 17025:2017, 7.11.3).
+//! Statements inside a transaction over the tables of a file: what each of them makes of the rows, who and which session
+//! is named, and the row of a laboratory (21 CFR 11.10(e); ISO/IEC 17025:2017, 7.11.3).
 #![tactic(auto)]
 
-mod closings;
+pub mod ids;
 mod labs;
 mod named;
-mod passwords;
-mod persons;
-mod sessions;
+mod places;
 pub mod statements;
-mod trails;
 pub mod values;
 
-pub use closings::close_sessions;
 pub use labs::{set_last, set_strays};
-pub use named::{first_id, lab_id_at, person_id_at, session_id_at};
-pub use persons::{add_person, set_person};
-pub use sessions::{add_session, set_session};
+pub use named::{first_id, id_of, lab_id_at, person_id_at, person_if_any, session_id_at};
+pub use places::place_behind;
 pub use statements::RowId;
-pub use trails::add_told;

@@ -17,7 +17,7 @@ use lab_secrets::Digest;
 use sqlite::{Alter, Error, Row, Transaction};
 
 /// The id that a row shows first.
-pub(crate) fn id_of(row: &Row) -> Result<RowId, Error>
+pub fn id_of(row: &Row) -> Result<RowId, Error>
     ensures { IfOk result (λ one. one.id ≡ id_read row.now) }
 {
     let id = row.get(0)?;
@@ -112,7 +112,7 @@ pub fn person_id_at<S: Alter>(
 }
 
 /// The person of the code, where one is named, in the laboratory.
-pub(crate) fn person_if_any<S: Alter>(
+pub fn person_if_any<S: Alter>(
     tx: &mut Transaction<'_, S>,
     lab: RowId,
     code: &Option<PersonCode>,

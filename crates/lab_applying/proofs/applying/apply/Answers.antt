@@ -1,7 +1,7 @@
 use Rattle.std.proofs.Common.{◌≡◌, w64, to_z, of_z, SFits, rules, sym, ◌∙◌}
 use Rattle.std.proofs.lemmas.Int.{to_z-of_z}
 use Rattle.sqlite.specs.Held.{state}
-use Rattle.lab_reading.specs.declared.faults.ReadFault.{ReadFault}
+use Rattle.lab_columns.specs.declared.faults.ReadFault.{ReadFault}
 use Rattle.lab_applying.proofs.After.{ends_ok, ends_told, found_row}
 use Rattle.lab_applying.proofs.applying.apply.Goals as goal
 

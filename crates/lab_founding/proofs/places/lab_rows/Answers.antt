@@ -3,7 +3,7 @@ use Rattle.sqlite.specs.State.{HasCleanDisk}
 use Rattle.sqlite.specs.Held.{state}
 use Rattle.lab_reading.proofs.Texts.{lab_text, lab_means}
 use Rattle.lab_reading.proofs.Exact.{labs_read}
-use Rattle.lab_reading.proofs.Queries.{passes, same, exactly}
+use Rattle.lab_columns.proofs.Queries.{passes, same, exactly}
 use Rattle.lab_writing.proofs.Lookups.{looked_keeps}
 use Rattle.lab_founding.proofs.Endings.{err_fails}
 use Rattle.lab_founding.proofs.places.lab_rows.Goals as goal

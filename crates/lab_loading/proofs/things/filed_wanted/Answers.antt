@@ -2,7 +2,7 @@ use Rattle.std.proofs.Common.{◌∙◌, ap, sym, w64, rules, SFits}
 use Rattle.std.proofs.lemmas.Int.{to_z-of_z}
 use Rattle.sqlite.specs.Held.{state}
 use Rattle.lab_tables.specs.Ready.{tables_of}
-use Rattle.lab_reading.proofs.Queries.{if_then}
+use Rattle.lab_columns.proofs.Queries.{if_then}
 use Rattle.lab_loading.specs.Parts.{lab_by}
 use Rattle.lab_kept.specs.Parts.{record_meant}
 use Rattle.lab_loading.proofs.things.filed_wanted.Goals as goal

@@ -3,7 +3,7 @@ use Rattle.std.specs.Vec.Iter.{into_iter_items, into_iter_len}
 use Rattle.sqlite.specs.State.{HasCleanDisk, IsUnchanged}
 use Rattle.sqlite.specs.Held.{state}
 use Rattle.lab_tables.specs.Ready.{IsReady, PassesBy, tables_of}
-use Rattle.lab_retrieval.specs.Wholes.{record_by}
+use Rattle.lab_lookups.specs.Wholes.{record_by}
 use Rattle.lab_lookups.proofs.filed.add_records.Given as goal
 
 -- the records so far, and those to come, are all; nothing has changed

@@ -4,7 +4,7 @@ use Rattle.sqlite.specs.Effect.{Database}
 use Rattle.sqlite.specs.Held.{state}
 use Rattle.lab_tables.specs.Rows.{tables_in}
 use Rattle.lab_tables.specs.Ready.{tables_of}
-use Rattle.lab_retrieval.specs.Wholes.{record_by}
+use Rattle.lab_lookups.specs.Wholes.{record_by}
 use Rattle.lab_lookups.proofs.FiledFound.{filed_built}
 use Rattle.lab_lookups.proofs.filed.filed_within.Goals as goal
 

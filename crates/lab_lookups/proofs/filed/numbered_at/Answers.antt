@@ -4,8 +4,8 @@ use Rattle.sqlite.specs.Effect.{Database}
 use Rattle.sqlite.specs.Held.{state}
 use Rattle.lab_tables.specs.Rows.{tables_in}
 use Rattle.lab_tables.specs.Ready.{tables_of}
-use Rattle.lab_retrieval.specs.Wholes.{record_by}
-use Rattle.lab_reading.proofs.Queries.{if_then}
+use Rattle.lab_lookups.specs.Wholes.{record_by}
+use Rattle.lab_columns.proofs.Queries.{if_then}
 use Rattle.lab_lookups.proofs.FiledFound.{numbered_found}
 use Rattle.lab_lookups.proofs.filed.numbered_at.Goals as goal
 

@@ -6,9 +6,9 @@ use Rattle.lab_kept_records.specs.Lookups.{exact_form}
 use Rattle.lab_tables.specs.Rows.{tables_in}
 use Rattle.lab_tables.specs.Meaning.{forms_of}
 use Rattle.lab_tables.specs.Ready.{tables_of}
-use Rattle.lab_reading.proofs.Queries.{if_then}
-use Rattle.lab_retrieval.specs.Forms.{form_by}
-use Rattle.lab_retrieval.specs.Shown.{form_read}
+use Rattle.lab_columns.proofs.Queries.{if_then}
+use Rattle.lab_form_versions.specs.Forms.{form_by}
+use Rattle.lab_form_versions.specs.Shown.{form_read}
 use Rattle.lab_lookups.proofs.FormsFound.{exact_found}
 use Rattle.lab_lookups.proofs.forms.exact_form_at.Goals as goal
 

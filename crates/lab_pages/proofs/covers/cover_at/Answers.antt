@@ -1,7 +1,7 @@
 -- The form is read by the row's id of it.
 use Rattle.std.proofs.Common.{◌∙◌, ap, w64, rules, SFits}
 use Rattle.std.proofs.lemmas.Int.{to_z-of_z}
-use Rattle.lab_retrieval.specs.Wholes.{cover_of}
+use Rattle.lab_lookups.specs.Wholes.{cover_of}
 use Rattle.lab_pages.proofs.covers.cover_at.Goals as goal
 
 pub returns-clause-cover : goal.returns-clause-cover

@@ -4,7 +4,7 @@ use Rattle.sqlite.specs.State.{HasCleanDisk}
 use Rattle.sqlite.specs.Held.{state}
 use Rattle.lab_reading.proofs.Texts.{entry_text, entry_means}
 use Rattle.lab_reading.proofs.Exact.{entries_read}
-use Rattle.lab_reading.proofs.Queries.{passes, same, exactly}
+use Rattle.lab_columns.proofs.Queries.{passes, same, exactly}
 use Rattle.lab_reading.proofs.entries.entry_rows.Goals as goal
 
 pub returns : goal.returns

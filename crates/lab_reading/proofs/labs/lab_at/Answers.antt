@@ -5,7 +5,7 @@ use Rattle.lab_tables.specs.Ready.{tables_of}
 use Rattle.lab_reading.specs.Heads.{lab_head}
 use Rattle.lab_reading.specs.Shown.{lab_read}
 use Rattle.lab_reading.proofs.Found.{lab_found}
-use Rattle.lab_reading.proofs.Queries.{if_then}
+use Rattle.lab_columns.proofs.Queries.{if_then}
 use Rattle.lab_reading.proofs.labs.lab_at.Goals as goal
 
 pub returns-clause-found : goal.returns-clause-found

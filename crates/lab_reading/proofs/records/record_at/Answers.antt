@@ -5,7 +5,7 @@ use Rattle.lab_tables.specs.Ready.{tables_of}
 use Rattle.lab_reading.specs.Heads.{is_record, record_head}
 use Rattle.lab_reading.specs.Shown.{record_read}
 use Rattle.lab_reading.proofs.Found.{record_found}
-use Rattle.lab_reading.proofs.Queries.{if_then}
+use Rattle.lab_columns.proofs.Queries.{if_then}
 use Rattle.lab_reading.proofs.records.record_at.Goals as goal
 
 pub returns-clause-found : goal.returns-clause-found

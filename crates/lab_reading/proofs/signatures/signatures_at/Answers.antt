@@ -4,7 +4,7 @@ use Rattle.sqlite.specs.Held.{state}
 use Rattle.lab_tables.specs.Ready.{tables_of}
 use Rattle.lab_reading.specs.Shown.{signature_read}
 use Rattle.lab_reading.proofs.Found.{signatures_found}
-use Rattle.lab_reading.proofs.Queries.{if_then}
+use Rattle.lab_columns.proofs.Queries.{if_then}
 use Rattle.lab_reading.proofs.signatures.signatures_at.Goals as goal
 
 pub returns-clause-signatures : goal.returns-clause-signatures

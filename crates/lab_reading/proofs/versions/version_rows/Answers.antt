@@ -4,7 +4,7 @@ use Rattle.sqlite.specs.State.{HasCleanDisk}
 use Rattle.sqlite.specs.Held.{state}
 use Rattle.lab_reading.proofs.Texts.{version_text, version_means}
 use Rattle.lab_reading.proofs.Exact.{versions_read}
-use Rattle.lab_reading.proofs.Queries.{passes, same, exactly}
+use Rattle.lab_columns.proofs.Queries.{passes, same, exactly}
 use Rattle.lab_reading.proofs.versions.version_rows.Goals as goal
 
 pub returns : goal.returns

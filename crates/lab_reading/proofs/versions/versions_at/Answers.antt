@@ -4,7 +4,7 @@ use Rattle.sqlite.specs.Held.{state}
 use Rattle.lab_tables.specs.Ready.{tables_of}
 use Rattle.lab_reading.specs.Shown.{version_read}
 use Rattle.lab_reading.proofs.Found.{versions_found}
-use Rattle.lab_reading.proofs.Queries.{if_then}
+use Rattle.lab_columns.proofs.Queries.{if_then}
 use Rattle.lab_reading.proofs.versions.versions_at.Goals as goal
 
 pub returns-clause-versions : goal.returns-clause-versions

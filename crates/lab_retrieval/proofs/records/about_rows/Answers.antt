@@ -2,7 +2,7 @@ use Rattle.std.proofs.Common.{w64, arith}
 use Rattle.std.proofs.lemmas.Int.{to_z-of_z}
 use Rattle.sqlite.specs.State.{HasCleanDisk}
 use Rattle.sqlite.specs.Held.{state}
-use Rattle.lab_reading.proofs.Queries.{passes, same, exactly}
+use Rattle.lab_columns.proofs.Queries.{passes, same, exactly}
 use Rattle.lab_retrieval.proofs.Texts.{about_text, about_means}
 use Rattle.lab_retrieval.proofs.Exact.{abouts_read}
 use Rattle.lab_retrieval.proofs.records.about_rows.Goals as goal

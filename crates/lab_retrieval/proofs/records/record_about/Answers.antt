@@ -4,7 +4,7 @@ use Rattle.sqlite.specs.Held.{state}
 use Rattle.lab_tables.specs.Ready.{tables_of}
 use Rattle.lab_reading.specs.Heads.{record_head}
 use Rattle.lab_reading.specs.Shown.{record_read}
-use Rattle.lab_reading.proofs.Queries.{if_then}
+use Rattle.lab_columns.proofs.Queries.{if_then}
 use Rattle.lab_retrieval.specs.Sought.{is_about}
 use Rattle.lab_retrieval.proofs.Found.{about_found}
 use Rattle.lab_retrieval.proofs.records.record_about.Goals as goal

@@ -3,7 +3,7 @@ use Rattle.std.proofs.lemmas.Int.{to_z-of_z}
 use Rattle.sqlite.specs.Held.{state}
 use Rattle.lab_tables.specs.Ready.{tables_of}
 use Rattle.lab_reading.specs.Shown.{record_read}
-use Rattle.lab_reading.proofs.Queries.{if_then}
+use Rattle.lab_columns.proofs.Queries.{if_then}
 use Rattle.lab_retrieval.specs.Sought.{heads_within}
 use Rattle.lab_retrieval.proofs.Found.{within_found}
 use Rattle.lab_retrieval.proofs.records.records_within.Goals as goal

@@ -1,5 +1,5 @@
 use Rattle.sqlite.specs.Held.{state}
-use Rattle.lab_reading.proofs.Queries.{if_then}
+use Rattle.lab_columns.proofs.Queries.{if_then}
 use Rattle.lab_writing.proofs.KeyLemmas.{person_found}
 use Rattle.lab_writing.proofs.named.person_id_at.Goals as goal
 

@@ -1,0 +1,10 @@
+pub mod KnownValues
+pub mod Queries
+pub mod Texts
+pub mod Lists
+pub mod Sorted
+pub mod Orders
+pub mod Keys
+pub mod Exact
+pub mod Finds
+pub mod Found

@@ -1,0 +1,74 @@
+//! Codes of persons, by the ids of their rows.
+
+ghost use Rattle.std.specs.Prelude.{◌≡◌, Some, option_map, slice_get, IfOk, OnOk, IsTrue};
+ghost use Rattle.sqlite.specs.State.{HasCleanDisk, IsUnchanged};
+ghost use Rattle.sqlite.specs.Held.{state};
+ghost use Rattle.lab_tables.specs.Ready.{IsReady, PassesBy, tables_of};
+ghost use Rattle.lab_tables.specs.Meaning.{code_of};
+ghost use Rattle.lab_columns.specs.Shown.{codes_shown, code_read};
+
+use crate::asking::rows_by_one;
+use crate::cells::text_of;
+use crate::faults::ReadFault;
+use lab_names::PersonCode;
+use sqlite::{Alter, Connection, Error, Row};
+use std::alloc::Global;
+
+/// The code of the person with the id, as a row.
+fn code_rows<S: Alter>(conn: &mut Connection<S>, id: i64) -> Result<Vec<Row>, Error>
+    ensures passes { PassesBy (state S.Store conn.old) (state S.Store conn.new) }
+    ensures same { HasCleanDisk (state S.Store conn.new) →
+        OnOk result (IsUnchanged (state S.Store conn.old) (state S.Store conn.new)) }
+    ensures rows { IsReady (state S.Store conn.old) → HasCleanDisk (state S.Store conn.new) →
+        IfOk result (λ rows. rows.items ≡ codes_shown (tables_of (state S.Store conn.old)) id) }
+{
+    rows_by_one(conn, "SELECT code FROM persons WHERE id = ?1", id)
+}
+
+/// The code that the first row shows. That there is no row is a fault of the store.
+fn first_code(alloc: Global, rows: &[Row]) -> Result<PersonCode, ReadFault>
+    ensures { IfOk result (λ code. Some code ≡ option_map code_read (slice_get rows.now 0)) }
+{
+    match rows.first() {
+        Some(row) => text_of(alloc, row, 0),
+        None => Err(ReadFault::Storage),
+    }
+}
+
+/// The code of the person with the id. That there is nobody is a fault of the store.
+pub fn code_at<S: Alter>(
+    alloc: Global,
+    conn: &mut Connection<S>,
+    id: i64,
+) -> Result<PersonCode, ReadFault>
+    ensures passes { PassesBy (state S.Store conn.old) (state S.Store conn.new) }
+    ensures same { HasCleanDisk (state S.Store conn.new) →
+        OnOk result (IsUnchanged (state S.Store conn.old) (state S.Store conn.new)) }
+    ensures code { IsReady (state S.Store conn.old) → HasCleanDisk (state S.Store conn.new) →
+        IfOk result (λ code. code ≡ code_of (tables_of (state S.Store conn.old)) id) }
+{
+    let rows = code_rows(conn, id)?;
+    first_code(alloc, &rows)
+}
+
+/// The code of the person with the id, where there is an id.
+pub fn code_if<S: Alter>(
+    alloc: Global,
+    conn: &mut Connection<S>,
+    id: Option<i64>,
+) -> Result<Option<PersonCode>, ReadFault>
+    ensures passes { PassesBy (state S.Store conn.old) (state S.Store conn.new) }
+    ensures same { HasCleanDisk (state S.Store conn.new) → IsTrue (state S.Store conn.old).is_open →
+        OnOk result (IsUnchanged (state S.Store conn.old) (state S.Store conn.new)) }
+    ensures code { IsReady (state S.Store conn.old) → HasCleanDisk (state S.Store conn.new) →
+        IfOk result
+        (λ code. code ≡ option_map (code_of (tables_of (state S.Store conn.old))) id) }
+{
+    match id {
+        Some(id) => {
+            let code = code_at(alloc, conn, id)?;
+            Ok(Some(code))
+        }
+        None => Ok(None),
+    }
+}

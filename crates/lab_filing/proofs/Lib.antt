@@ -1,8 +1,0 @@
-pub mod EntryWrites
-pub mod RecordWrites
-pub mod FormWrites
-pub mod KeyLemmas
-pub mod Added
-pub mod InTurn
-pub mod Placed
-pub mod KnownValues

@@ -1,0 +1,4 @@
+pub mod EntryWrites
+pub mod KeyLemmas
+pub mod Added
+pub mod KnownValues

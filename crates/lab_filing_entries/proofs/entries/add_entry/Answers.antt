@@ -1,0 +1,16 @@
+use Rattle.std.proofs.Common.{arith}
+use Rattle.sqlite.specs.State.{HasCleanDisk}
+use Rattle.sqlite.specs.Held.{state}
+use Rattle.lab_filing_entries.proofs.Added.{entry_added}
+use Rattle.lab_filing_entries.proofs.entries.add_entry.Goals as goal
+
+pub returns-clause-made : goal.returns-clause-made
+returns-clause-made g c clean =
+    let one = state g.S.Store c.args.tx.now.conn.now in
+    let two = state g.S.Store c.person_id_at.new.tx.conn.now in
+    let three = state g.S.Store c.entry_place.new.tx.conn.now in
+    let four = state g.S.Store c.insert_entry.new.tx.conn.now in
+    let late : HasCleanDisk three = omega (arith, c.insert_entry.ensures.survives.clean) in
+    let early : HasCleanDisk two = omega (arith, c.entry_place.ensures.survives.clean) in
+    entry_added c.args.lab.id c.args.version.id c.args.entry.now c.in_ok-person.person.id c.in_ok-place.place one two three four
+    (c.in_ok-person.ensures.found early) (c.in_ok-place.ensures.found late) (c.in_ok-insert_entry.ensures.made clean)

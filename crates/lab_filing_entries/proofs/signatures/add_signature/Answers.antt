@@ -1,0 +1,16 @@
+use Rattle.std.proofs.Common.{arith}
+use Rattle.sqlite.specs.State.{HasCleanDisk}
+use Rattle.sqlite.specs.Held.{state}
+use Rattle.lab_filing_entries.proofs.Added.{signature_added}
+use Rattle.lab_filing_entries.proofs.signatures.add_signature.Goals as goal
+
+pub returns-clause-made : goal.returns-clause-made
+returns-clause-made g c clean =
+    let one = state g.S.Store c.args.tx.now.conn.now in
+    let two = state g.S.Store c.person_id_at.new.tx.conn.now in
+    let three = state g.S.Store c.signature_place.new.tx.conn.now in
+    let four = state g.S.Store c.insert_signature.new.tx.conn.now in
+    let late : HasCleanDisk three = omega (arith, c.insert_signature.ensures.survives.clean) in
+    let early : HasCleanDisk two = omega (arith, c.signature_place.ensures.survives.clean) in
+    signature_added c.args.lab.id c.args.version.id c.args.signature.now c.in_ok-person.person.id c.in_ok-place.place one two three four
+    (c.in_ok-person.ensures.found early) (c.in_ok-place.ensures.found late) (c.in_ok-insert_signature.ensures.made clean)

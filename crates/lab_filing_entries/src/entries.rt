@@ -1,0 +1,105 @@
+//! Rows of a version, each behind those that it has.
+
+ghost use Rattle.std.specs.Prelude.{◌≡◌};
+ghost use Rattle.sqlite.specs.Held.{state};
+ghost use Rattle.sqlite.specs.State.{HasCleanDisk, KeepsCommit, Survives};
+ghost use Rattle.lab_kept.specs.declared.changes.Change.TheVariants.{RowAdded};
+ghost use Rattle.lab_tables.specs.Changes.{AppliesIn, AddsEntry};
+ghost use Rattle.lab_writing.specs.Calls.{IsInside, Makes};
+ghost use Rattle.lab_filing_entries.specs.Added.{with_entry};
+
+use crate::named::{record_at, version_id_at};
+use crate::places::entry_place;
+use crate::texts::note_or_null;
+use lab_names::Ordinal;
+use lab_seal::EntryRow;
+use lab_writing::statements::run;
+use lab_writing::values::{count_value, id_value, moment_value, text_value};
+use lab_writing::{RowId, person_id_at};
+use sqlite::{Alter, Error, Transaction};
+
+/// Adds the row.
+fn insert_entry<S: Alter>(
+    tx: &mut Transaction<'_, S>,
+    version: RowId,
+    place: u64,
+    person: RowId,
+    entry: &EntryRow,
+) -> Result<usize, Error>
+    requires inside { IsInside (state S.Store tx.old.conn.now) }
+    ensures same_reference { tx.new.conn.ghost_name ≡ tx.old.conn.ghost_name }
+    ensures made { Makes result (λ before after. after
+        ≡ with_entry version.id place person.id entry.now before)
+        (state S.Store tx.old.conn.now) (state S.Store tx.new.conn.now) }
+    ensures kept { HasCleanDisk (state S.Store tx.new.conn.now) → KeepsCommit
+        (state S.Store tx.old.conn.now) (state S.Store tx.new.conn.now) }
+    ensures survives { Survives
+        (state S.Store tx.old.conn.now) (state S.Store tx.new.conn.now) (λ _. ⊥) }
+{
+    let at = count_value(place)?;
+    let key = entry.key.as_str();
+    let value = entry.value.as_str();
+    let unit = entry.unit.as_str();
+    run(
+        tx,
+        "INSERT INTO entries (version, place, key, value, unit, person, moment, reason) VALUES (?1, ?2, ?3, ?4, ?5, ?6, ?7, ?8)",
+        &[
+            id_value(version),
+            at,
+            text_value(key),
+            text_value(value),
+            text_value(unit),
+            id_value(person),
+            moment_value(entry.moment),
+            note_or_null(&entry.reason),
+        ],
+    )
+}
+
+/// Adds an entry behind those that the version has.
+///
+/// Errors: also that nobody has the code of who entered it.
+pub fn add_entry<S: Alter>(
+    tx: &mut Transaction<'_, S>,
+    lab: RowId,
+    version: RowId,
+    entry: &EntryRow,
+) -> Result<(), Error>
+    requires inside { IsInside (state S.Store tx.old.conn.now) }
+    ensures same_reference { tx.new.conn.ghost_name ≡ tx.old.conn.ghost_name }
+    ensures made { Makes result (AddsEntry lab.id version.id entry.now)
+        (state S.Store tx.old.conn.now) (state S.Store tx.new.conn.now) }
+    ensures kept { HasCleanDisk (state S.Store tx.new.conn.now) → KeepsCommit
+        (state S.Store tx.old.conn.now) (state S.Store tx.new.conn.now) }
+    ensures survives { Survives
+        (state S.Store tx.old.conn.now) (state S.Store tx.new.conn.now) (λ _. ⊥) }
+{
+    let person = person_id_at(tx, lab, &entry.person)?;
+    let place = entry_place(tx, version)?;
+    insert_entry(tx, version, place, person, entry)?;
+    Ok(())
+}
+
+/// Adds an entry in the current version of a record.
+///
+/// Errors: also that there is no record of the number, or nobody of the code.
+pub fn enter_row<S: Alter>(
+    tx: &mut Transaction<'_, S>,
+    lab: RowId,
+    wanted: Ordinal,
+    entry: &EntryRow,
+) -> Result<(), Error>
+    requires inside { IsInside (state S.Store tx.old.conn.now) }
+    ensures same_reference { tx.new.conn.ghost_name ≡ tx.old.conn.ghost_name }
+    ensures made { Makes result (AppliesIn lab.id (RowAdded wanted entry.now))
+        (state S.Store tx.old.conn.now) (state S.Store tx.new.conn.now) }
+    ensures kept { HasCleanDisk (state S.Store tx.new.conn.now) → KeepsCommit
+        (state S.Store tx.old.conn.now) (state S.Store tx.new.conn.now) }
+    ensures survives { Survives
+        (state S.Store tx.old.conn.now) (state S.Store tx.new.conn.now) (λ _. ⊥) }
+{
+    let kept = record_at(tx, lab, wanted)?;
+    let version = version_id_at(tx, kept.id, kept.current)?;
+    add_entry(tx, lab, version, entry)?;
+    Ok(())
+}

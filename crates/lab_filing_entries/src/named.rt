@@ -1,0 +1,133 @@
+//! Records and versions that are named by keys of the tables.
+
+ghost use Rattle.std.specs.Prelude.{◌≡◌, Some, option_map, slice_get, IfOk};
+ghost use Rattle.sqlite.specs.Held.{state};
+ghost use Rattle.sqlite.specs.State.{HasCleanDisk, KeepsCommit, Survives};
+ghost use Rattle.lab_tables.specs.Changes.{record_named, version_named};
+ghost use Rattle.lab_writing.specs.Calls.{IsInside, Answers, Finds};
+ghost use Rattle.lab_filing_entries.specs.Shown.{records_shown, versions_shown, record_read, record_pair};
+
+use lab_names::Ordinal;
+use lab_writing::values::{id_value, ordinal_value, small_value};
+use lab_writing::{RowId, first_id};
+use sqlite::{Alter, Error, Row, Transaction};
+
+/// A record, with the number of its current version.
+#[derive(Clone, Copy, Debug, PartialEq, Eq)]
+pub struct RecordAt {
+    /// The record.
+    pub id: RowId,
+    /// Its current version.
+    pub current: u32,
+}
+
+/// The record that a row shows.
+fn record_of(row: &Row) -> Result<RecordAt, Error>
+    ensures { IfOk result (λ one. (one.id.id, one.current) ≡ record_read row.now) }
+{
+    let id = row.get(0)?;
+    let current = row.get(1)?;
+    Ok(RecordAt {
+        id: RowId { id },
+        current,
+    })
+}
+
+/// The record that the first row shows. Where there is no row, none is named.
+fn first_record(rows: &[Row]) -> Result<RecordAt, Error>
+    ensures { IfOk result (λ one.
+        option_map record_read (slice_get rows.now 0) ≡ Some (one.id.id, one.current)) }
+{
+    match rows.first() {
+        Some(row) => Ok(record_of(row)?),
+        None => Err(Error::QueryReturnedNoRows),
+    }
+}
+
+/// The rows of the record of the number, in the laboratory.
+fn record_rows<S: Alter>(
+    tx: &mut Transaction<'_, S>,
+    lab: RowId,
+    wanted: Ordinal,
+) -> Result<Vec<Row>, Error>
+    requires inside { IsInside (state S.Store tx.old.conn.now) }
+    ensures same_reference { tx.new.conn.ghost_name ≡ tx.old.conn.ghost_name }
+    ensures rows { Answers result (λ rows. Finds (λ t.
+        rows.items ≡ records_shown lab.id wanted t))
+        (state S.Store tx.old.conn.now) (state S.Store tx.new.conn.now) }
+    ensures kept { HasCleanDisk (state S.Store tx.new.conn.now) → KeepsCommit
+        (state S.Store tx.old.conn.now) (state S.Store tx.new.conn.now) }
+    ensures survives { Survives
+        (state S.Store tx.old.conn.now) (state S.Store tx.new.conn.now) (λ _. ⊥) }
+{
+    tx.query_all(
+        "SELECT id, current FROM records WHERE lab = ?1 AND number = ?2 ORDER BY id",
+        &[id_value(lab), ordinal_value(wanted)],
+    )
+}
+
+/// The record of the number, in the laboratory.
+///
+/// Errors: also that there is none.
+pub fn record_at<S: Alter>(
+    tx: &mut Transaction<'_, S>,
+    lab: RowId,
+    wanted: Ordinal,
+) -> Result<RecordAt, Error>
+    requires inside { IsInside (state S.Store tx.old.conn.now) }
+    ensures same_reference { tx.new.conn.ghost_name ≡ tx.old.conn.ghost_name }
+    ensures found { Answers result (λ one. Finds (λ t.
+        option_map record_pair (record_named t lab.id wanted) ≡ Some (one.id.id, one.current)))
+        (state S.Store tx.old.conn.now) (state S.Store tx.new.conn.now) }
+    ensures kept { HasCleanDisk (state S.Store tx.new.conn.now) → KeepsCommit
+        (state S.Store tx.old.conn.now) (state S.Store tx.new.conn.now) }
+    ensures survives { Survives
+        (state S.Store tx.old.conn.now) (state S.Store tx.new.conn.now) (λ _. ⊥) }
+{
+    let rows = record_rows(tx, lab, wanted)?;
+    first_record(&rows)
+}
+
+/// The rows of the version of the record.
+fn version_rows<S: Alter>(
+    tx: &mut Transaction<'_, S>,
+    kept: RowId,
+    wanted: u32,
+) -> Result<Vec<Row>, Error>
+    requires inside { IsInside (state S.Store tx.old.conn.now) }
+    ensures same_reference { tx.new.conn.ghost_name ≡ tx.old.conn.ghost_name }
+    ensures rows { Answers result (λ rows. Finds (λ t.
+        rows.items ≡ versions_shown kept.id wanted t))
+        (state S.Store tx.old.conn.now) (state S.Store tx.new.conn.now) }
+    ensures kept { HasCleanDisk (state S.Store tx.new.conn.now) → KeepsCommit
+        (state S.Store tx.old.conn.now) (state S.Store tx.new.conn.now) }
+    ensures survives { Survives
+        (state S.Store tx.old.conn.now) (state S.Store tx.new.conn.now) (λ _. ⊥) }
+{
+    tx.query_all(
+        "SELECT id FROM versions WHERE record = ?1 AND number = ?2 ORDER BY id",
+        &[id_value(kept), small_value(wanted)],
+    )
+}
+
+/// The version of the record.
+///
+/// Errors: also that there is none.
+pub(crate) fn version_id_at<S: Alter>(
+    tx: &mut Transaction<'_, S>,
+    kept: RowId,
+    wanted: u32,
+) -> Result<RowId, Error>
+    requires inside { IsInside (state S.Store tx.old.conn.now) }
+    ensures same_reference { tx.new.conn.ghost_name ≡ tx.old.conn.ghost_name }
+    ensures found { Answers result (λ one. Finds (λ t.
+        version_named t kept.id wanted ≡ Some one.id))
+        (state S.Store tx.old.conn.now) (state S.Store tx.new.conn.now) }
+    ensures kept { HasCleanDisk (state S.Store tx.new.conn.now) → KeepsCommit
+        (state S.Store tx.old.conn.now) (state S.Store tx.new.conn.now) }
+    ensures survives { Survives
+        (state S.Store tx.old.conn.now) (state S.Store tx.new.conn.now) (λ _. ⊥) }
+{
+    let rows = version_rows(tx, kept, wanted)?;
+    first_id(&rows)
+}

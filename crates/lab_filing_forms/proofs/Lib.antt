@@ -1,0 +1,4 @@
+pub mod FormWrites
+pub mod KeyLemmas
+pub mod InTurn
+pub mod KnownValues

@@ -1,0 +1,23 @@
+use Rattle.std.proofs.Common.{arith, subst}
+use Rattle.sqlite.specs.State.{HasCleanDisk}
+use Rattle.sqlite.specs.Held.{state}
+use Rattle.lab_tables.specs.Changes.{InTurn, AddsEntry, AddsSignature}
+use Rattle.lab_writing.specs.Calls.{Steps}
+use Rattle.lab_filing_records.proofs.InTurn.{version_added}
+use Rattle.lab_filing_records.proofs.versions.add_version.Goals as goal
+
+pub returns-clause-made : goal.returns-clause-made
+returns-clause-made g c clean =
+    let one = state g.S.Store c.args.tx.now.conn.now in
+    let two = state g.S.Store c.person_id_at.new.tx.conn.now in
+    let three = state g.S.Store c.insert_version.new.tx.conn.now in
+    let four = state g.S.Store c.add_entries.new.tx.conn.now in
+    let five = state g.S.Store c.add_signatures.new.tx.conn.now in
+    let third : HasCleanDisk four = omega (arith, c.add_signatures.ensures.survives.clean) in
+    let second : HasCleanDisk three = omega (arith, c.add_entries.ensures.survives.clean) in
+    let first : HasCleanDisk two = omega (arith, c.insert_version.ensures.survives.clean) in
+    version_added c.args.lab.id c.args.kept.id c.args.version.now c.in_ok-opener.opener.id c.in_ok-id.id.id one two three four five
+    (c.in_ok-opener.ensures.found first) (c.in_ok-id.ensures.placed second)
+    (subst (λ rows. Steps (InTurn (AddsEntry c.args.lab.id c.in_ok-id.id.id) rows) three four) c.rows.ensures (c.in_ok-add_entries.ensures.made third))
+    (subst (λ signatures. Steps (InTurn (AddsSignature c.args.lab.id c.in_ok-id.id.id) signatures) four five) c.as_slice.ensures
+    (c.in_ok-add_signatures.ensures.made clean))

@@ -1,0 +1,182 @@
+//! Versions of records, each with its rows and its signatures.
+
+ghost use Rattle.std.specs.Prelude.{◌≡◌};
+ghost use Rattle.sqlite.specs.Held.{state};
+ghost use Rattle.sqlite.specs.State.{HasCleanDisk, KeepsCommit, Survives};
+ghost use Rattle.sqlite_keyed.specs.Keyed.{next_key};
+ghost use Rattle.lab_kept.specs.declared.changes.Change.TheVariants.{VersionOpened};
+ghost use Rattle.lab_tables.specs.Rows.{version_id};
+ghost use Rattle.lab_tables.specs.Columns.{format_number};
+ghost use Rattle.lab_tables.specs.Changes.{AppliesIn, InTurn, AddsEntry, AddsSignature, AddsVersion, set_current as with_current};
+ghost use Rattle.lab_writing.specs.Calls.{IsInside, Makes, Answers};
+ghost use Rattle.lab_filing_records.specs.Added.{with_version};
+
+use crate::texts::cause_or_null;
+use lab_filing_entries::{add_entry, add_signature, record_at};
+use lab_kept::{Signature, Version};
+use lab_names::Ordinal;
+use lab_seal::{EntryRow, Format};
+use lab_writing::ids::insert;
+use lab_writing::statements::run;
+use lab_writing::values::{id_value, moment_value, ordinal_value, small_value};
+use lab_writing::{RowId, person_id_at};
+use sqlite::{Alter, Error, Transaction};
+
+/// The number of a format.
+fn format_number(format: Format) -> u32
+    ensures { result ≡ format_number format }
+{
+    match format {
+        Format::One => 1,
+        Format::Two { .. } => 2,
+    }
+}
+
+/// Adds the row.
+fn insert_version<S: Alter>(
+    tx: &mut Transaction<'_, S>,
+    kept: RowId,
+    opener: RowId,
+    version: &Version,
+) -> Result<RowId, Error>
+    requires inside { IsInside (state S.Store tx.old.conn.now) }
+    ensures same_reference { tx.new.conn.ghost_name ≡ tx.old.conn.ghost_name }
+    ensures placed { Answers result (λ one before after.
+        (one.id ≡ next_key version_id before.versions)
+        × (after ≡ with_version kept.id opener.id version.now before))
+        (state S.Store tx.old.conn.now) (state S.Store tx.new.conn.now) }
+    ensures kept { HasCleanDisk (state S.Store tx.new.conn.now) → KeepsCommit
+        (state S.Store tx.old.conn.now) (state S.Store tx.new.conn.now) }
+    ensures survives { Survives
+        (state S.Store tx.old.conn.now) (state S.Store tx.new.conn.now) (λ _. ⊥) }
+{
+    let number = version.origin.number();
+    let format = format_number(version.format);
+    insert(
+        tx,
+        "INSERT INTO versions (record, number, format, opener, opened, reason) VALUES (?1, ?2, ?3, ?4, ?5, ?6)",
+        &[
+            id_value(kept),
+            ordinal_value(number),
+            small_value(format),
+            id_value(opener),
+            moment_value(version.opened),
+            cause_or_null(version.origin.amendment()),
+        ],
+    )
+}
+
+/// Adds entries, one behind the other.
+fn add_entries<S: Alter>(
+    tx: &mut Transaction<'_, S>,
+    lab: RowId,
+    version: RowId,
+    rows: &[EntryRow],
+) -> Result<(), Error>
+    requires inside { IsInside (state S.Store tx.old.conn.now) }
+    ensures same_reference { tx.new.conn.ghost_name ≡ tx.old.conn.ghost_name }
+    ensures made { Makes result (InTurn (AddsEntry lab.id version.id) rows.now)
+        (state S.Store tx.old.conn.now) (state S.Store tx.new.conn.now) }
+    ensures kept { HasCleanDisk (state S.Store tx.new.conn.now) → KeepsCommit
+        (state S.Store tx.old.conn.now) (state S.Store tx.new.conn.now) }
+    ensures survives { Survives
+        (state S.Store tx.old.conn.now) (state S.Store tx.new.conn.now) (λ _. ⊥) }
+{
+    for one in rows {
+        add_entry(tx, lab, version, one)?;
+    }
+    Ok(())
+}
+
+/// Adds signatures, one behind the other.
+fn add_signatures<S: Alter>(
+    tx: &mut Transaction<'_, S>,
+    lab: RowId,
+    version: RowId,
+    signatures: &[Signature],
+) -> Result<(), Error>
+    requires inside { IsInside (state S.Store tx.old.conn.now) }
+    ensures same_reference { tx.new.conn.ghost_name ≡ tx.old.conn.ghost_name }
+    ensures made { Makes result (InTurn (AddsSignature lab.id version.id) signatures.now)
+        (state S.Store tx.old.conn.now) (state S.Store tx.new.conn.now) }
+    ensures kept { HasCleanDisk (state S.Store tx.new.conn.now) → KeepsCommit
+        (state S.Store tx.old.conn.now) (state S.Store tx.new.conn.now) }
+    ensures survives { Survives
+        (state S.Store tx.old.conn.now) (state S.Store tx.new.conn.now) (λ _. ⊥) }
+{
+    for one in signatures {
+        add_signature(tx, lab, version, one)?;
+    }
+    Ok(())
+}
+
+/// Adds a version with its rows and its signatures.
+///
+/// Errors: also that nobody has the code of who opened, entered or signed.
+pub(crate) fn add_version<S: Alter>(
+    tx: &mut Transaction<'_, S>,
+    lab: RowId,
+    kept: RowId,
+    version: &Version,
+) -> Result<(), Error>
+    requires inside { IsInside (state S.Store tx.old.conn.now) }
+    ensures same_reference { tx.new.conn.ghost_name ≡ tx.old.conn.ghost_name }
+    ensures made { Makes result (AddsVersion lab.id kept.id version.now)
+        (state S.Store tx.old.conn.now) (state S.Store tx.new.conn.now) }
+    ensures kept { HasCleanDisk (state S.Store tx.new.conn.now) → KeepsCommit
+        (state S.Store tx.old.conn.now) (state S.Store tx.new.conn.now) }
+    ensures survives { Survives
+        (state S.Store tx.old.conn.now) (state S.Store tx.new.conn.now) (λ _. ⊥) }
+{
+    let opener = person_id_at(tx, lab, &version.opener)?;
+    let id = insert_version(tx, kept, opener, version)?;
+    add_entries(tx, lab, id, version.rows.rows())?;
+    add_signatures(tx, lab, id, version.signatures.as_slice())?;
+    Ok(())
+}
+
+/// Sets which version of the record is the current one.
+fn set_current<S: Alter>(
+    tx: &mut Transaction<'_, S>,
+    kept: RowId,
+    version: Ordinal,
+) -> Result<usize, Error>
+    requires inside { IsInside (state S.Store tx.old.conn.now) }
+    ensures same_reference { tx.new.conn.ghost_name ≡ tx.old.conn.ghost_name }
+    ensures made { Makes result (λ before after. after ≡ with_current kept.id version before)
+        (state S.Store tx.old.conn.now) (state S.Store tx.new.conn.now) }
+    ensures kept { HasCleanDisk (state S.Store tx.new.conn.now) → KeepsCommit
+        (state S.Store tx.old.conn.now) (state S.Store tx.new.conn.now) }
+    ensures survives { Survives
+        (state S.Store tx.old.conn.now) (state S.Store tx.new.conn.now) (λ _. ⊥) }
+{
+    run(
+        tx,
+        "UPDATE records SET current = ?2 WHERE id = ?1",
+        &[id_value(kept), ordinal_value(version)],
+    )
+}
+
+/// Adds a version of a record, which is then the current one.
+///
+/// Errors: also that there is no record of the number, or nobody of a code.
+pub fn open_version<S: Alter>(
+    tx: &mut Transaction<'_, S>,
+    lab: RowId,
+    wanted: Ordinal,
+    version: &Version,
+) -> Result<(), Error>
+    requires inside { IsInside (state S.Store tx.old.conn.now) }
+    ensures same_reference { tx.new.conn.ghost_name ≡ tx.old.conn.ghost_name }
+    ensures made { Makes result (AppliesIn lab.id (VersionOpened wanted version.now))
+        (state S.Store tx.old.conn.now) (state S.Store tx.new.conn.now) }
+    ensures kept { HasCleanDisk (state S.Store tx.new.conn.now) → KeepsCommit
+        (state S.Store tx.old.conn.now) (state S.Store tx.new.conn.now) }
+    ensures survives { Survives
+        (state S.Store tx.old.conn.now) (state S.Store tx.new.conn.now) (λ _. ⊥) }
+{
+    let kept = record_at(tx, lab, wanted)?;
+    add_version(tx, lab, kept.id, version)?;
+    set_current(tx, kept.id, version.origin.number())?;
+    Ok(())
+}

@@ -1,0 +1,138 @@
+//! Versions of forms, with their fields.
+
+ghost use Rattle.std.specs.Prelude.{◌≡◌, Some, option_map, slice_get, IfOk, OnOk};
+ghost use Rattle.sqlite_keyed.specs.Keyed.{get_by};
+ghost use Rattle.sqlite.specs.State.{HasCleanDisk, IsUnchanged};
+ghost use Rattle.sqlite.specs.Held.{state};
+ghost use Rattle.lab_tables.specs.Ready.{IsReady, PassesBy, tables_of};
+ghost use Rattle.lab_tables.specs.Rows.{form_id};
+ghost use Rattle.lab_tables.specs.Meaning.{form_at};
+ghost use Rattle.lab_form_versions.specs.Forms.{form_head, form_by};
+ghost use Rattle.lab_form_versions.specs.Shown.{forms_shown, form_read};
+
+use crate::fields::fields_at;
+use crate::heads::FormHead;
+use lab_columns::ReadFault;
+use lab_columns::asking::rows_by_one;
+use lab_columns::cells::{flag_of, id_of, ordinal_of, text_of};
+use lab_forms::{Field, Form};
+use lab_kept::FormVersion;
+use sqlite::{Alter, Connection, Error, Row};
+use std::alloc::Global;
+
+/// The row of the version of a form with the id.
+fn form_rows<S: Alter>(conn: &mut Connection<S>, id: i64) -> Result<Vec<Row>, Error>
+    ensures passes { PassesBy (state S.Store conn.old) (state S.Store conn.new) }
+    ensures same { HasCleanDisk (state S.Store conn.new) →
+        OnOk result (IsUnchanged (state S.Store conn.old) (state S.Store conn.new)) }
+    ensures rows { IsReady (state S.Store conn.old) → HasCleanDisk (state S.Store conn.new) →
+        IfOk result (λ rows. rows.items ≡ forms_shown (tables_of (state S.Store conn.old)) id) }
+{
+    rows_by_one(
+        conn,
+        "SELECT id, code, version, approval FROM forms WHERE id = ?1",
+        id,
+    )
+}
+
+/// The version of a form that a row shows.
+pub fn form_of_row(alloc: Global, row: &Row) -> Result<FormHead, ReadFault>
+    ensures { IfOk result (λ form. form ≡ form_read row.now) }
+{
+    let id = id_of(row, 0)?;
+    let code = text_of(alloc, row, 1)?;
+    let version = ordinal_of(row, 2)?;
+    let approval = flag_of(row, 3)?;
+    Ok(FormHead {
+        id,
+        code,
+        version,
+        approval,
+    })
+}
+
+/// The version of a form that the first row shows.
+pub fn first_form(alloc: Global, rows: &[Row]) -> Result<Option<FormHead>, ReadFault>
+    ensures { IfOk result (λ form. form ≡ option_map form_read (slice_get rows.now 0)) }
+{
+    match rows.first() {
+        Some(row) => Ok(Some(form_of_row(alloc, row)?)),
+        None => Ok(None),
+    }
+}
+
+/// The own row of the version of a form with the id.
+fn form_head_at<S: Alter>(
+    alloc: Global,
+    conn: &mut Connection<S>,
+    id: i64,
+) -> Result<Option<FormHead>, ReadFault>
+    ensures passes { PassesBy (state S.Store conn.old) (state S.Store conn.new) }
+    ensures same { HasCleanDisk (state S.Store conn.new) →
+        OnOk result (IsUnchanged (state S.Store conn.old) (state S.Store conn.new)) }
+    ensures found { IsReady (state S.Store conn.old) → HasCleanDisk (state S.Store conn.new) →
+        IfOk result (λ form. form ≡ option_map form_head
+        (get_by form_id (tables_of (state S.Store conn.old)).forms id)) }
+{
+    let rows = form_rows(conn, id)?;
+    first_form(alloc, &rows)
+}
+
+/// The form of the fields. One that no form may have is a fault of the store.
+fn form_made(fields: Vec<Field>, approval: bool) -> Result<Form, ReadFault>
+    ensures { IfOk result
+        (λ form. form ≡ record { fields = fields.items; approval = approval }) }
+{
+    match Form::make(fields, approval) {
+        Ok(form) => Ok(form),
+        Err(_) => Err(ReadFault::Storage),
+    }
+}
+
+/// The version of a form that has the row, with its fields.
+pub fn form_whole<S: Alter>(
+    alloc: Global,
+    conn: &mut Connection<S>,
+    head: FormHead,
+) -> Result<FormVersion, ReadFault>
+    ensures passes { PassesBy (state S.Store conn.old) (state S.Store conn.new) }
+    ensures same { HasCleanDisk (state S.Store conn.new) →
+        OnOk result (IsUnchanged (state S.Store conn.old) (state S.Store conn.new)) }
+    ensures form { IsReady (state S.Store conn.old) → HasCleanDisk (state S.Store conn.new) →
+        IfOk result (λ form. form ≡ form_by (tables_of (state S.Store conn.old)) head) }
+{
+    let fields = fields_at(alloc, conn, head.id)?;
+    let form = form_made(fields, head.approval)?;
+    Ok(FormVersion {
+        code: head.code,
+        version: head.version,
+        form,
+    })
+}
+
+/// The row that was found. That there is none is a fault of the store.
+fn found_form(found: Option<FormHead>) -> Result<FormHead, ReadFault>
+    ensures { IfOk result (λ form. found ≡ Some form) }
+{
+    match found {
+        Some(form) => Ok(form),
+        None => Err(ReadFault::Storage),
+    }
+}
+
+/// The version of a form with the id, with its fields. That there is none is a fault of the store.
+pub fn form_at<S: Alter>(
+    alloc: Global,
+    conn: &mut Connection<S>,
+    id: i64,
+) -> Result<FormVersion, ReadFault>
+    ensures passes { PassesBy (state S.Store conn.old) (state S.Store conn.new) }
+    ensures same { HasCleanDisk (state S.Store conn.new) →
+        OnOk result (IsUnchanged (state S.Store conn.old) (state S.Store conn.new)) }
+    ensures form { IsReady (state S.Store conn.old) → HasCleanDisk (state S.Store conn.new) →
+        IfOk result (λ form. form ≡ form_at (tables_of (state S.Store conn.old)) id) }
+{
+    let found = form_head_at(alloc, conn, id)?;
+    let head = found_form(found)?;
+    form_whole(alloc, conn, head)
+}

@@ -1,0 +1,56 @@
+//! Records, with their forms and all their versions.
+
+ghost use Rattle.std.specs.Prelude.{◌≡◌, map, IfOk, OnOk};
+ghost use Rattle.sqlite.specs.State.{HasCleanDisk, IsUnchanged};
+ghost use Rattle.sqlite.specs.Held.{state};
+ghost use Rattle.lab_tables.specs.Ready.{IsReady, PassesBy, tables_of};
+ghost use Rattle.lab_reading.specs.Leaves.{leaf_of};
+ghost use Rattle.lab_lookups.specs.Wholes.{record_with, record_by};
+
+use lab_columns::ReadFault;
+use lab_form_versions::form_at;
+use lab_kept::{FormVersion, Record};
+use lab_names::{LabCode, Series};
+use lab_reading::{RecordHead, VersionLeaf};
+use lab_retrieval::{chain, leaves_at};
+use sqlite::{Alter, Connection};
+use std::alloc::Global;
+
+/// The record of the row, the form and the versions.
+fn record_with(
+    alloc: Global,
+    lab: &LabCode,
+    head: RecordHead,
+    form: FormVersion,
+    leaves: Vec<VersionLeaf>,
+) -> Result<Record, ReadFault>
+    ensures { IfOk result
+        (λ kept. kept ≡ record_with lab.now head form (map leaf_of leaves.items)) }
+{
+    let cover = Record {
+        number: head.number,
+        form,
+        sample: head.sample,
+        versions: Series::new(alloc),
+    };
+    let versions = chain(alloc, lab, &cover, leaves)?;
+    Ok(Record { versions, ..cover })
+}
+
+/// The record with the row, of the laboratory with the code, with its form and all its versions.
+pub fn record_whole<S: Alter>(
+    alloc: Global,
+    conn: &mut Connection<S>,
+    lab: &LabCode,
+    head: RecordHead,
+) -> Result<Record, ReadFault>
+    ensures passes { PassesBy (state S.Store conn.old) (state S.Store conn.new) }
+    ensures same { HasCleanDisk (state S.Store conn.new) →
+        OnOk result (IsUnchanged (state S.Store conn.old) (state S.Store conn.new)) }
+    ensures kept { IsReady (state S.Store conn.old) → HasCleanDisk (state S.Store conn.new) →
+        IfOk result (λ kept. kept ≡ record_by (tables_of (state S.Store conn.old)) lab.now head) }
+{
+    let form = form_at(alloc, conn, head.form)?;
+    let leaves = leaves_at(alloc, conn, head.id)?;
+    record_with(alloc, lab, head, form, leaves)
+}

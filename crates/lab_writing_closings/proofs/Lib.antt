@@ -1,0 +1,4 @@
+pub mod SessionWrites
+pub mod ClosingLemmas
+pub mod ClosedAlike
+pub mod KnownValues

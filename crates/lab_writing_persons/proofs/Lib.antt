@@ -1,0 +1,3 @@
+pub mod PersonWrites
+pub mod PersonLemmas
+pub mod KnownValues

@@ -1,0 +1,3 @@
+pub mod SessionWrites
+pub mod Added
+pub mod KnownValues

@@ -1,0 +1,3 @@
+pub mod TrailWrites
+pub mod Added
+pub mod KnownValues
