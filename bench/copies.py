@@ -1,8 +1,8 @@
 #!/usr/bin/env python3
-"""Writes what lab_walks_tests compares: the lines of a short day, and copies of the laboratory after it, which Python's csv writes
+"""Writes what lab_walks_tests compares: the lines of a short day, and the copy of the laboratory after it, which Python's csv writes
 by docs/COPIES.md of the laboratory of bench/laboratory.py, whose hashes are those of hashlib.
 
-    bench/copies.py          prints the day's lines, then the copy of records 1 to 9
+    bench/copies.py          prints the day's lines, then the copy of records 1 to 9 for nobody
     bench/copies.py 3 5      the copy of records 3 to 5 alone
 """
 import csv
@@ -42,7 +42,7 @@ def main():
         out.writerows(copy_rows(day.lab, first, last, None, 6000))
     else:
         print("\n".join(day.asked))
-        out.writerows(copy_rows(day.lab, 1, 9, "hal", 5000))
+        out.writerows(copy_rows(day.lab, 1, 9, None, 5000))
 
 
 main()

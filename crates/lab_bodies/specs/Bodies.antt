@@ -12,9 +12,9 @@ use Rattle.lab_bodies.specs.declared.bodies.Post.TheVariants.{Open, Close, Chang
 use Rattle.lab_members.specs.Values.{json_of}
 use Rattle.lab_members.specs.Readings.{Reading}
 use Rattle.lab_bodies.specs.Accounts.{opening_named, closing_named, password_named, enrolment_named, issue_named, confirmation_named, roles_named, retirement_named, unlocking_named}
-use Rattle.lab_bodies.specs.Forms.{form_named}
-use Rattle.lab_bodies.specs.Records.{record_named, entry_named, amendment_named}
-use Rattle.lab_bodies.specs.Signatures.{signature_named}
+use Rattle.lab_bodies_forms.specs.Forms.{form_named}
+use Rattle.lab_bodies_records.specs.Records.{record_named, entry_named, amendment_named}
+use Rattle.lab_bodies_records.specs.Signatures.{signature_named}
 
 -- what is read of JSON; what is none is refused
 abbrev pub read_from : {A : Type 0} → (Data → Reading A) → Option Data → Reading A

@@ -1,7 +1,3 @@
 pub mod Accounts
 pub mod Bodies
-pub mod Forms
 pub mod Foundings
-pub mod Parts
-pub mod Records
-pub mod Signatures

@@ -4,11 +4,7 @@
 
 mod accounts;
 mod bodies;
-mod forms;
 mod foundings;
-mod parts;
-mod records;
-mod signatures;
 
 pub use bodies::{Post, command_of, founding_of};
 pub use lab_forms::FormRefusal;

@@ -1,3 +1,1 @@
-pub mod TakenSteps
-pub mod Deciding
 pub mod Makings

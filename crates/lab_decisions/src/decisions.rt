@@ -1,20 +1,18 @@
 //! What is decided on a part of a laboratory.
-ghost use Rattle.std.specs.Prelude.{◌≡◌, ◌++◌, ◌∷◌, [], Some, None, IfOk, IsTrue, OnErr};
-ghost use Rattle.lab_kept.specs.Trails.{row_of};
+ghost use Rattle.std.specs.Prelude.{◌≡◌, [], None, IfOk, IsTrue, OnErr};
 ghost use Rattle.lab_laws.specs.Asking.{IsCommandFormed};
 ghost use Rattle.lab_effects.specs.Done.{done_of};
-ghost use Rattle.lab_decisions.specs.Deciding.{failing, outcome, ended_made, ended_by, ended_done, touching, decided_without, decided_by, decided};
+ghost use Rattle.lab_endings.specs.Deciding.{outcome, ended_done, touching, decided_without, decided_by, decided};
 ghost use Rattle.lab_decisions.specs.Makings.{is_made_without, is_made_by, is_made};
 
-use crate::drafts::{fail, next_number, row_of};
-use crate::outcome::Outcome;
-use lab_access::{Failure, PeopleRefusal, Person, Session};
+use lab_access::{PeopleRefusal, Person, Session};
 use lab_account_commands::opening_done;
 use lab_commands::done_of;
-use lab_effects::{Done, joined, pair, single};
-use lab_kept::{Change, Deed, Occasion, Slice};
+use lab_effects::Done;
+use lab_endings::{Outcome, end, opening_failed, opening_made, refused, touching};
+use lab_kept::Slice;
 use lab_machine::{Command, Passage, Reply, pass};
-use lab_names::{Moment, Ordinal, OutOfMemory, PersonCode, Series, Tick};
+use lab_names::{Moment, OutOfMemory, PersonCode, Series, Tick};
 use lab_rules::{Refusal, Typed};
 use std::alloc::Global;
 
@@ -128,25 +126,6 @@ fn barred(
     }
 }
 
-// A command that is refused, with what is changed nevertheless.
-fn refused(changes: Series<Change>, refusal: Refusal) -> Outcome
-    ensures { result ≡ outcome (Reply.Refused refusal) changes }
-{
-    Outcome {
-        reply: Reply::Refused(refusal),
-        changes,
-    }
-}
-
-// That a request came by the session at the moment.
-fn touching(alloc: Global, moment: Moment, session: &Session) -> Result<Series<Change>, OutOfMemory>
-    ensures { IfOk result (λ changes. changes ≡ touching moment session.now) }
-{
-    let mut touched = session.copy()?;
-    touched.touch(moment);
-    pair(alloc, Change::Last(moment), Change::SessionSet(touched))
-}
-
 // A command that asks for no session.
 fn decide_without(
     alloc: Global,
@@ -221,75 +200,6 @@ fn decide_opening(
     }
 }
 
-fn opening_failed(
-    alloc: Global,
-    rows: u64,
-    strays: u64,
-    moment: Moment,
-    occasion: Occasion,
-    failure: Failure,
-) -> Result<Outcome, OutOfMemory>
-    ensures { IfOk result (λ told. told
-        ≡ outcome (Reply.Refused (Refusal.People PeopleRefusal.Credentials))
-        (Change.Last moment ∷ failing rows strays moment occasion failure)) }
-{
-    match single(alloc, Change::Last(moment)) {
-        Ok(before) => failed(alloc, before, rows, strays, moment, occasion, failure),
-        Err(fault) => {
-            drop(failure);
-            Err(fault)
-        }
-    }
-}
-
-fn opening_made(
-    alloc: Global,
-    rows: u64,
-    moment: Moment,
-    code: &PersonCode,
-    reply: Reply,
-    deed: Deed,
-    own: Series<Change>,
-) -> Result<Outcome, OutOfMemory>
-    ensures { IfOk result (λ outcome. outcome
-        ≡ ended_made [] rows moment code.now reply deed (Change.Last moment ∷ own)) }
-{
-    match with_moment(alloc, moment, own) {
-        Ok(own) => ended_made(
-            alloc,
-            Series::new(alloc),
-            rows,
-            moment,
-            code,
-            reply,
-            deed,
-            own,
-        ),
-        Err(fault) => {
-            drop(reply);
-            drop(deed);
-            Err(fault)
-        }
-    }
-}
-
-// The moment of the last activity, and changes behind it.
-fn with_moment(
-    alloc: Global,
-    moment: Moment,
-    own: Series<Change>,
-) -> Result<Series<Change>, OutOfMemory>
-    ensures { IfOk result (λ changes. changes ≡ Change.Last moment ∷ own) }
-{
-    match single(alloc, Change::Last(moment)) {
-        Ok(first) => joined(first, own),
-        Err(fault) => {
-            drop(own);
-            Err(fault)
-        }
-    }
-}
-
 // A command in a session: its request is taken note of before all.
 fn decide_in(
     alloc: Global,
@@ -345,101 +255,4 @@ fn decide_noted(
             Err(fault)
         }
     }
-}
-
-// The end of a command in a session.
-fn end(
-    alloc: Global,
-    before: Series<Change>,
-    rows: u64,
-    strays: u64,
-    moment: Moment,
-    person: &PersonCode,
-    done: Done,
-) -> Result<Outcome, OutOfMemory>
-    ensures { IfOk result
-        (λ outcome. outcome ≡ ended_by rows strays moment person.now before done) }
-{
-    match done {
-        Done::Refused(refusal) => Ok(refused(before, refusal)),
-        Done::Failed(occasion, failure) => {
-            failed(alloc, before, rows, strays, moment, occasion, failure)
-        }
-        Done::Read(reply) => Ok(Outcome {
-            reply,
-            changes: before,
-        }),
-        Done::Made(reply, deed, own) => {
-            ended_made(alloc, before, rows, moment, person, reply, deed, own)
-        }
-    }
-}
-
-// A password that was given for a command failed.
-fn failed(
-    alloc: Global,
-    before: Series<Change>,
-    rows: u64,
-    strays: u64,
-    moment: Moment,
-    occasion: Occasion,
-    failure: Failure,
-) -> Result<Outcome, OutOfMemory>
-    ensures { IfOk result (λ told. told
-        ≡ outcome (Reply.Refused (Refusal.People PeopleRefusal.Credentials))
-        (before ++ failing rows strays moment occasion failure)) }
-{
-    let mut changes = before;
-    fail(alloc, &mut changes, rows, strays, moment, occasion, failure)?;
-    Ok(refused(changes, Refusal::People(PeopleRefusal::Credentials)))
-}
-
-// Something is made: a full trail refuses last; else the deed is told.
-fn ended_made(
-    alloc: Global,
-    before: Series<Change>,
-    rows: u64,
-    moment: Moment,
-    person: &PersonCode,
-    reply: Reply,
-    deed: Deed,
-    own: Series<Change>,
-) -> Result<Outcome, OutOfMemory>
-    ensures { IfOk result (λ outcome. outcome
-        ≡ ended_made before rows moment person.now reply deed own) }
-{
-    let Some(number) = next_number(rows) else {
-        drop(reply);
-        drop(deed);
-        drop(own);
-        return Ok(refused(before, Refusal::People(PeopleRefusal::LabFull)));
-    };
-    let changes = told(alloc, before, own, number, moment, person, &deed);
-    drop(deed);
-    match changes {
-        Ok(changes) => Ok(Outcome { reply, changes }),
-        Err(fault) => {
-            drop(reply);
-            Err(fault)
-        }
-    }
-}
-
-// Changes, and behind them the row that tells of the deed.
-fn told(
-    alloc: Global,
-    before: Series<Change>,
-    own: Series<Change>,
-    number: Ordinal,
-    moment: Moment,
-    person: &PersonCode,
-    deed: &Deed,
-) -> Result<Series<Change>, OutOfMemory>
-    ensures { IfOk result (λ changes. changes ≡ before ++ own
-        ++ Change.TrailAdded (row_of number moment (Some person.now) deed.now) ∷ []) }
-{
-    let row = row_of(alloc, number, moment, person, deed)?;
-    let mut changes = joined(before, own)?;
-    changes.push(Change::TrailAdded(row))?;
-    Ok(changes)
 }

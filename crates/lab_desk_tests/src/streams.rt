@@ -1,24 +1,18 @@
-//! A connection's two ends, for tests: a reader that gives a byte at a time and may fail, and a
-//! writer that keeps what it took and may fail.
+//! A connection's two ends, for tests: a reader that gives a byte at a time, and a writer that keeps
+//! what it took and may fail.
 use std::io;
 use std::io::{ErrorKind, Read, Write};
 
-/// Gives its bytes one by one. At their end it is at its end, or fails.
+/// Gives its bytes one by one.
 #[derive(Drop)]
 pub(crate) struct Dripping<'a> {
     pub(crate) bytes: &'a [u8],
-    pub(crate) fails: bool,
 }
 
 impl<'a> Read for Dripping<'a> {
     fn read(&mut self, room: &mut [u8]) -> io::Result<usize> {
-        let Some((first, others)) = self.bytes.split_first() else {
-            if self.fails {
-                return Err(io::Error::from(ErrorKind::ConnectionReset));
-            }
-            return Ok(0);
-        };
-        let Some(place) = room.first_mut() else {
+        let (Some((first, others)), Some(place)) = (self.bytes.split_first(), room.first_mut())
+        else {
             return Ok(0);
         };
         *place = *first;

@@ -1,92 +1,61 @@
-//! Writers that fail at each byte of what goes out, and what stands then.
-use crate::asserts::assert_kept;
-use crate::served::{ENDS, Source, assert_served, desk_with_aqua};
-use crate::texts::{WAITING_CARD, WAITING_CARD_REPLY, WAITING_OPEN, WAITING_OPEN_REPLY};
+//! Writers that fail at each byte of what goes out.
+use crate::made::{code, empty_desk, tick};
+use crate::streams::{Dripping, Filling};
+use crate::texts::{BODY, WAITING_CARD, WAITING_CARD_REPLY};
 use lab_desk::{Desk, ServeFault};
 use lab_lists::Lists;
 use std::process::Abort;
 
-// The interim answer.
-const CONTINUE: &[u8] = b"HTTP/1.1 100 Continue\r\n\r\n";
-
-// What a writer with room for so many bytes leaves of a body of one byte unread, and how that ends. The interim answer has
-// 25 bytes.
-fn cut_at(room: usize) -> (usize, ServeFault) {
-    if room < 25 {
-        return (1, ServeFault::Interim { sent: room });
-    }
-    let sent = room - 25;
-    (0, ServeFault::Reply { sent })
+fn desk_with_aqua<R: Abort + AllocGlobal>(rt: &R) -> Desk<Lists> {
+    let mut desk = empty_desk(rt);
+    let code = code(rt, "aqua");
+    let found = desk.found(&code, &tick(rt, 50, 1), BODY);
+    drop(code);
+    assert!(rt; found.is_ok());
+    desk
 }
 
-// The card is asked for by a waiting client, and the writer has room for so many bytes, which aren't enough.
-fn stops_at<R: Abort + AllocGlobal>(rt: &R, desk: &mut Desk<Lists>, room: usize) {
-    let (unread, fault) = cut_at(room);
-    let source = Source {
-        unread,
-        fails: false,
+// How it ends where the writer has room for so many bytes, and how many bytes of a body of one are left unread. The interim
+// answer has 25 bytes.
+fn end_at(room: usize) -> (Result<(), ServeFault>, usize) {
+    if room < 25 {
+        return (Err(ServeFault::Interim { sent: room }), 1);
+    }
+    if room < WAITING_CARD_REPLY.len() {
+        let sent = room - 25;
+        return (Err(ServeFault::Reply { sent }), 0);
+    }
+    (Ok(()), 0)
+}
+
+// The card is asked for by a waiting client, and the writer has room for so many bytes: how that ends, and how many bytes are
+// left unread. What goes out is the front of the interim answer and the reply.
+fn served<R: Abort + AllocGlobal>(
+    rt: &R,
+    desk: &mut Desk<Lists>,
+    room: usize,
+) -> (Result<(), ServeFault>, usize) {
+    let mut reader = Dripping {
+        bytes: WAITING_CARD,
     };
-    let written = &WAITING_CARD_REPLY[..room.min(WAITING_CARD_REPLY.len())];
-    assert_served(
-        rt,
-        desk,
-        (WAITING_CARD, source),
-        (room, Err(fault)),
-        written,
-    );
+    let mut writer = Filling {
+        room,
+        taken: Vec::new(rt.alloc()),
+    };
+    let served = desk.serve_one(&mut reader, &mut writer, &tick(rt, 100, 9));
+    let is_front = WAITING_CARD_REPLY.starts_with(&writer.taken);
+    assert!(rt; is_front && writer.taken.len() == room);
+    let unread = reader.bytes.len();
+    drop(reader);
+    drop(writer);
+    (served, unread)
 }
 
 #[test]
 fn a_writer_may_fail_at_each_byte(rt: HostRuntime) {
     let mut desk = desk_with_aqua(&rt);
-    let whole = WAITING_CARD_REPLY.len();
-    for room in 0..whole {
-        stops_at(&rt, &mut desk, room);
+    for room in 0..WAITING_CARD_REPLY.len() + 1 {
+        assert!(rt; served(&rt, &mut desk, room) == end_at(room));
     }
-    assert_served(
-        &rt,
-        &mut desk,
-        (WAITING_CARD, ENDS),
-        (whole, Ok(())),
-        WAITING_CARD_REPLY,
-    );
-    let mut lists = desk.into_keeper();
-    assert_kept(&rt, &mut lists, ("aqua", 50, 0));
-    drop(lists);
-}
-
-#[test]
-fn a_writer_that_fails_within_the_interim_answer_changes_nothing(rt: HostRuntime) {
-    let mut desk = desk_with_aqua(&rt);
-    let fault = ServeFault::Interim { sent: 24 };
-    let source = Source {
-        unread: 40,
-        fails: false,
-    };
-    assert_served(
-        &rt,
-        &mut desk,
-        (WAITING_OPEN, source),
-        (24, Err(fault)),
-        &CONTINUE[..24],
-    );
-    let mut lists = desk.into_keeper();
-    assert_kept(&rt, &mut lists, ("aqua", 50, 0));
-    drop(lists);
-}
-
-#[test]
-fn a_writer_that_fails_within_the_reply_leaves_the_change(rt: HostRuntime) {
-    let mut desk = desk_with_aqua(&rt);
-    let fault = ServeFault::Reply { sent: 1 };
-    assert_served(
-        &rt,
-        &mut desk,
-        (WAITING_OPEN, ENDS),
-        (26, Err(fault)),
-        &WAITING_OPEN_REPLY[..26],
-    );
-    let mut lists = desk.into_keeper();
-    assert_kept(&rt, &mut lists, ("aqua", 100, 1));
-    drop(lists);
+    drop(desk);
 }

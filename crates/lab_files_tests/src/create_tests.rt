@@ -1,68 +1,64 @@
 //! Where no file is made, and what stays.
-
-use crate::helpers::{make, number, reopen, run};
+use crate::helpers::{database, make, number, reopen};
 use lab_files::FileFault;
-use sqlite::Connection;
-use std::test::Fail;
+use std::process::Abort;
 
-#[test]
-fn no_file_is_made_over_another(rt: HostRuntime) -> Result<(), Fail> {
-    let mut conn = Connection::open_in_memory(rt.alloc())?;
-    assert!(rt; make(&mut conn) == Ok(()));
-    assert!(rt; make(&mut conn) == Err(FileFault::NotEmpty));
-    assert_eq!(rt; number(&mut conn, "SELECT count(*) FROM desk")?, 1);
-    assert!(rt; reopen(&mut conn) == Ok(()));
-    Ok(())
-}
+// How many tables, indices and views there are.
+const ALL: &str = "SELECT count(*) FROM sqlite_schema";
 
-// Any of the names counts, in any case of its letters, whatever the table is.
-const TAKEN: [&str; 4] = [
-    "CREATE TABLE desk (schema INTEGER)",
-    "CREATE TABLE trail (x TEXT)",
-    "CREATE TABLE Persons (x TEXT)",
-    "CREATE TABLE a (x TEXT); CREATE TABLE VERSIONS (x TEXT)",
+// Statements, why no file is made beside what they make, and of how many things the database is still made then. Any of the names
+// counts, in any case of its letters, whatever the table is; a view of such a name is refused by the store.
+const TAKEN: [(&str, FileFault, i64); 5] = [
+    ("CREATE TABLE desk (schema INTEGER)", FileFault::NotEmpty, 1),
+    ("CREATE TABLE trail (x TEXT)", FileFault::NotEmpty, 1),
+    ("CREATE TABLE Persons (x TEXT)", FileFault::NotEmpty, 1),
+    (
+        "CREATE TABLE a (x TEXT); CREATE TABLE VERSIONS (x TEXT)",
+        FileFault::NotEmpty,
+        2,
+    ),
+    (
+        "CREATE TABLE note (x TEXT); CREATE VIEW forms AS SELECT x FROM note",
+        FileFault::Storage,
+        2,
+    ),
 ];
 
+fn is_refused(
+    rt: &(impl Abort + AllocGlobal),
+    statements: &str,
+    fault: FileFault,
+    things: i64,
+) -> bool {
+    let mut conn = database(rt, statements);
+    let made = make(&mut conn);
+    let left = number(&mut conn, ALL);
+    let opened = reopen(&mut conn);
+    drop(conn);
+    (made, left, opened) == (Err(fault), Some(things), Err(FileFault::NotADeskFile))
+}
+
 #[test]
-fn no_file_is_made_beside_a_table_of_such_a_name(rt: HostRuntime) -> Result<(), Fail> {
-    for sql in TAKEN {
-        let mut conn = Connection::open_in_memory(rt.alloc())?;
-        run(&mut conn, sql)?;
-        let before = number(&mut conn, "SELECT count(*) FROM sqlite_schema")?;
-        assert!(rt; make(&mut conn) == Err(FileFault::NotEmpty));
-        assert_eq!(rt;
-            number(&mut conn, "SELECT count(*) FROM sqlite_schema")?,
-            before
-        );
+fn no_file_is_made_beside_a_table_of_such_a_name(rt: HostRuntime) {
+    for (statements, fault, things) in TAKEN {
+        assert!(rt; is_refused(&rt, statements, fault, things));
     }
-    Ok(())
 }
 
+// A database that was refused as no file is made one, beside a table of another name; no file is made over another.
 #[test]
-fn tables_of_other_names_stay(rt: HostRuntime) -> Result<(), Fail> {
-    let mut conn = Connection::open_in_memory(rt.alloc())?;
-    run(
-        &mut conn,
-        "CREATE TABLE note (x TEXT); INSERT INTO note VALUES ('kept')",
-    )?;
-    assert!(rt; make(&mut conn) == Ok(()));
-    assert_eq!(rt;
-        number(&mut conn, "SELECT count(*) FROM note WHERE x = 'kept'")?,
-        1
+fn a_refused_file_is_made_once(rt: HostRuntime) {
+    let statements = "CREATE TABLE note (x TEXT); INSERT INTO note VALUES ('kept')";
+    let mut conn = database(&rt, statements);
+    let before = reopen(&mut conn);
+    let made = (make(&mut conn), make(&mut conn));
+    let after = reopen(&mut conn);
+    let kept = (
+        number(&mut conn, "SELECT count(*) FROM note WHERE x = 'kept'"),
+        number(&mut conn, "SELECT count(*) FROM desk"),
     );
-    assert!(rt; reopen(&mut conn) == Ok(()));
-    Ok(())
-}
-
-#[test]
-fn a_view_of_such_a_name_is_refused_by_the_store(rt: HostRuntime) -> Result<(), Fail> {
-    let mut conn = Connection::open_in_memory(rt.alloc())?;
-    run(
-        &mut conn,
-        "CREATE TABLE note (x TEXT); CREATE VIEW forms AS SELECT x FROM note",
-    )?;
-    assert!(rt; make(&mut conn) == Err(FileFault::Storage));
-    assert_eq!(rt; number(&mut conn, "SELECT count(*) FROM sqlite_schema")?, 2);
-    assert!(rt; reopen(&mut conn) == Err(FileFault::NotADeskFile));
-    Ok(())
+    drop(conn);
+    assert!(rt; before == Err(FileFault::NotADeskFile) && after == Ok(()));
+    assert!(rt; made == (Ok(()), Err(FileFault::NotEmpty)));
+    assert!(rt; kept == (Some(1), Some(1)));
 }

@@ -1,23 +1,29 @@
 //! Calls without clauses, so that the proof of a test doesn't carry what a connection holds after each.
-
 use lab_files::{FileFault, create, open};
-use sqlite::{Alter, Connection, Error};
+use sqlite::{Connection, MemStore};
+use std::process::Abort;
 
-pub(crate) fn make<S: Alter>(conn: &mut Connection<S>) -> Result<(), FileFault> {
+pub(crate) type File = Connection<MemStore>;
+
+/// A database in memory with what these statements make.
+pub(crate) fn database(rt: &(impl Abort + AllocGlobal), statements: &str) -> File {
+    let mut conn = Connection::open_in_memory(rt.alloc()).expect(rt, "a database");
+    conn.execute_batch(statements).expect(rt, "statements");
+    conn
+}
+
+pub(crate) fn make(conn: &mut File) -> Result<(), FileFault> {
     if !conn.is_autocommit() {
         return Err(FileFault::Storage);
     }
     create(conn)
 }
 
-pub(crate) fn reopen<S: Alter>(conn: &mut Connection<S>) -> Result<(), FileFault> {
+pub(crate) fn reopen(conn: &mut File) -> Result<(), FileFault> {
     open(conn)
 }
 
-pub(crate) fn run<S: Alter>(conn: &mut Connection<S>, sql: &str) -> Result<(), Error> {
-    conn.execute_batch(sql)
-}
-
-pub(crate) fn number<S: Alter>(conn: &mut Connection<S>, sql: &str) -> Result<i64, Error> {
-    conn.query_row(sql, &[])?.get(0)
+/// The number that a question shows; none where the store refuses.
+pub(crate) fn number(conn: &mut File, question: &str) -> Option<i64> {
+    conn.query_row(question, &[]).ok()?.get(0).ok()
 }

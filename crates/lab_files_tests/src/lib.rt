@@ -5,14 +5,6 @@
 #[cfg(test)]
 mod create_tests;
 #[cfg(test)]
-mod fault_tests;
-#[cfg(test)]
 mod found_tests;
 #[cfg(test)]
-mod founded;
-#[cfg(test)]
 mod helpers;
-#[cfg(test)]
-mod newborns;
-#[cfg(test)]
-mod open_tests;

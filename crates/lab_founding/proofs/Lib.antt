@@ -1,5 +1,3 @@
-mod LabMore
-mod AllRows
 mod Commits
 mod Endings
 mod Placed

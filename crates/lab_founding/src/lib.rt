@@ -4,6 +4,5 @@
 
 mod founding;
 mod places;
-mod rows;
 
 pub use founding::found;

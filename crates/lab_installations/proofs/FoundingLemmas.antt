@@ -12,8 +12,8 @@ use Rattle.lab_serving.specs.declared.faults.ServerFault.{ServerFault}
 use Rattle.lab_serving.specs.declared.faults.ServerFault.TheVariants.{Memory, Read, Write}
 use Rattle.lab_serving.specs.Faults.{IsReaderFault}
 use Rattle.lab_serving.proofs.RehearsalLemmas.{for_known, known_as}
-use Rattle.lab_installations.specs.declared.faults.TaskFault.{TaskFault}
-use Rattle.lab_installations.specs.declared.faults.TaskFault.TheVariants.{Copying, File, Founding, Server}
+use Rattle.lab_shelves.specs.declared.faults.TaskFault.{TaskFault}
+use Rattle.lab_shelves.specs.declared.faults.TaskFault.TheVariants.{Copying, File, Founding, Server}
 use Rattle.lab_installations.specs.Foundings.{Drawing, Ends, EndsFounding, EndsInFile, IsDrawn, IsFounded, Prints, drawing_of}
 
 -- ---- what is printed

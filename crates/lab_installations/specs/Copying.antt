@@ -10,9 +10,9 @@ use Rattle.lab_walks.specs.declared.faults.CopyOutFault.{CopyOutFault}
 use Rattle.lab_walks.specs.Faults.{CopyFaultFits}
 use Rattle.lab_walks.specs.Resting.{IsRead}
 use Rattle.lab_walks.specs.Walks.{CanWalk, copy_text, desk_order}
-use Rattle.lab_installations.specs.declared.faults.TaskFault.{TaskFault}
-use Rattle.lab_installations.specs.declared.faults.TaskFault.TheVariants.{File, Founding, Copying, Server}
-use Rattle.lab_installations.specs.Faults.{TellsTask}
+use Rattle.lab_shelves.specs.declared.faults.TaskFault.{TaskFault}
+use Rattle.lab_shelves.specs.declared.faults.TaskFault.TheVariants.{File, Founding, Copying, Server}
+use Rattle.lab_shelves.specs.Faults.{TellsTask}
 
 module _ {S : Type 0} (world : S → World) (rests : S → S → Type 0) (opened : S → Type 0)
     (moments later : Option (List ℕ)) (code : List ℕ) (from to : ℕ)

@@ -10,9 +10,9 @@ use Rattle.lab_foundings.specs.Faults.{FoundFaultFits}
 use Rattle.lab_foundings.specs.Foundings.{Founds, founded_line, founding_in}
 use Rattle.lab_serving.specs.Sources.{Gives}
 use Rattle.lab_serving.specs.declared.faults.ServerFault.TheVariants.{Read, Write, Memory}
-use Rattle.lab_installations.specs.declared.faults.TaskFault.{TaskFault}
-use Rattle.lab_installations.specs.declared.faults.TaskFault.TheVariants.{File, Founding, Copying, Server}
-use Rattle.lab_installations.specs.Faults.{TellsTask}
+use Rattle.lab_shelves.specs.declared.faults.TaskFault.{TaskFault}
+use Rattle.lab_shelves.specs.declared.faults.TaskFault.TheVariants.{File, Founding, Copying, Server}
+use Rattle.lab_shelves.specs.Faults.{TellsTask}
 
 -- ---- what was printed
 

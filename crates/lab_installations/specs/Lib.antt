@@ -1,6 +1,4 @@
-pub mod Faults
-pub mod Files
-pub mod Replays
+pub mod FileWorlds
 pub mod Foundings
 pub mod Serving
 pub mod Copying

@@ -8,9 +8,9 @@ use Rattle.lab_requests.specs.Keeping.{AreWithin}
 use Rattle.lab_serving.specs.Staying.{StaysOn}
 use Rattle.lab_serving.specs.Tasks.{IsServing}
 use Rattle.lab_serving.specs.declared.faults.ServerFault.TheVariants.{Read, Write, Memory}
-use Rattle.lab_installations.specs.declared.faults.TaskFault.{TaskFault}
-use Rattle.lab_installations.specs.declared.faults.TaskFault.TheVariants.{File, Founding, Copying, Server}
-use Rattle.lab_installations.specs.Faults.{Declines}
+use Rattle.lab_shelves.specs.declared.faults.TaskFault.{TaskFault}
+use Rattle.lab_shelves.specs.declared.faults.TaskFault.TheVariants.{File, Founding, Copying, Server}
+use Rattle.lab_shelves.specs.Faults.{Declines}
 
 -- a fault before serving: the file wasn't opened, no port listened at, or memory ran out; nothing
 -- was written yet, so no writer is blamed

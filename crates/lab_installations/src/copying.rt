@@ -1,15 +1,14 @@
 //! `labdesk copy`: the inspection copy of a laboratory of a file.
 
 ghost use Rattle.lab_installations.specs.Copying.{CopiesBy, IsCopying};
-ghost use Rattle.lab_installations.specs.Files.{IsOurs, file_rests, file_world};
+ghost use Rattle.lab_installations.specs.FileWorlds.{file_rests, file_world};
+ghost use Rattle.lab_shelves.specs.Files.{IsOurs};
 
-use crate::faults::TaskFault;
-use crate::files::open_file;
-use crate::shelves::{Closing, Shelf, leave};
-use crate::telling::decline;
+use crate::leaving::leave;
 use lab_messages::WriteFault;
 use lab_names::{LabCode, Moment, Ordinal};
 use lab_serving::Clock;
+use lab_shelves::{Closing, Shelf, TaskFault, decline, open_file};
 use lab_store::{OneVersionAtATime, Store};
 use lab_walks::{Progress, copy_out};
 use sqlite::Connection;

@@ -1,21 +1,20 @@
 //! `labdesk found`: a laboratory is founded in a file.
 
 ghost use Rattle.lab_foundings.specs.Foundings.{founded_line};
-ghost use Rattle.lab_installations.specs.Files.{IsOpened, file_places, file_world};
+ghost use Rattle.lab_installations.specs.FileWorlds.{file_places, file_world};
+ghost use Rattle.lab_shelves.specs.Files.{IsOpened};
 ghost use Rattle.lab_installations.specs.Foundings.{Ends, EndsInFile, IsFounding, Prints, drawing_of};
 ghost use Rattle.std.specs.Prelude.{◌≡◌, IfErr, IfOk};
 ghost use Rattle.lab_kept.specs.Worlds.{Passes};
 ghost use Rattle.lab_serving.specs.declared.faults.ServerFault.TheVariants.{Write as NotWritten};
-ghost use Rattle.lab_installations.specs.declared.faults.TaskFault.TheVariants.{Server as OfServer};
+ghost use Rattle.lab_shelves.specs.declared.faults.TaskFault.TheVariants.{Server as OfServer};
 
-use crate::faults::TaskFault;
-use crate::files::make_file;
-use crate::shelves::{Closing, Shelf, leave};
-use crate::telling::decline;
+use crate::leaving::leave;
 use lab_desk::{Desk, Keeper};
 use lab_messages::{WriteFault, write_reply};
 use lab_names::{LabCode, OutOfMemory};
 use lab_serving::{Chance, Clock, ServerFault, draw, read_all};
+use lab_shelves::{Closing, Shelf, TaskFault, decline, make_file};
 use lab_store::Store;
 use sqlite::Connection;
 use std::alloc::Global;

@@ -1,16 +1,15 @@
 //! `labdesk serve`: the laboratories of a file are served on a port of this machine.
 
-ghost use Rattle.lab_installations.specs.Files.{IsOurs, file_moves, file_rests, file_world};
+ghost use Rattle.lab_installations.specs.FileWorlds.{file_moves, file_rests, file_world};
+ghost use Rattle.lab_shelves.specs.Files.{IsOurs};
 ghost use Rattle.lab_installations.specs.Serving.{IsUnprepared, ServesFile};
 ghost use Rattle.std.specs.Prelude.{IfErr, IfOk};
 
-use crate::faults::TaskFault;
-use crate::files::open_file;
-use crate::shelves::{Closing, Shelf, leave};
-use crate::telling::decline;
+use crate::leaving::leave;
 use lab_desk::Desk;
 use lab_messages::WriteFault;
 use lab_serving::{Chance, Clock, listen};
+use lab_shelves::{Closing, Shelf, TaskFault, decline, open_file};
 use lab_store::Store;
 use sqlite::Connection;
 use std::alloc::Global;

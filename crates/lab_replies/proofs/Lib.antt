@@ -1,5 +1,2 @@
-pub mod PartLemmas
-pub mod MemberLemmas
-pub mod FloatLemmas
 pub mod ReplyLemmas
 pub mod KnownValues

@@ -6,7 +6,7 @@ use Rattle.lab_forms.specs.declared.kinds.Kind.TheVariants.{Number, Text, Choice
 use Rattle.lab_forms.specs.declared.forms.Field.{Field}
 use Rattle.lab_forms.specs.Kinds.{kind_word}
 use Rattle.lab_kept.specs.declared.records.FormVersion.{FormVersion}
-use Rattle.lab_replies.specs.Parts.{members_from, object_from, list_from, texts_data, whole}
+use Rattle.lab_replies_parts.specs.Parts.{members_from, object_from, list_from, texts_data, whole}
 
 -- the version of a form that was made
 abbrev pub form_made_data : List ℕ → ℕ → Data

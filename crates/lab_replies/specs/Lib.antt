@@ -1,8 +1,4 @@
-pub mod Parts
-pub mod Members
-pub mod Refusals
 pub mod Persons
 pub mod Forms
-pub mod Records
 pub mod Trails
 pub mod Replies

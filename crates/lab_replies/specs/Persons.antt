@@ -4,7 +4,7 @@ use Rattle.serde_json.specs.Data.{Data, string, boolean}
 use Rattle.lab_access.specs.declared.roles.Roles.{Roles}
 use Rattle.lab_access.specs.Roles.{role_list, role_word}
 use Rattle.lab_rules.specs.declared.readings.PersonLine.{PersonLine}
-use Rattle.lab_replies.specs.Parts.{object_from, list_from, texts_data, whole, moment_data, digits_data}
+use Rattle.lab_replies_parts.specs.Parts.{object_from, list_from, texts_data, whole, moment_data, digits_data}
 
 -- a session, with its token, which is told once, and whether the password is due to be changed
 abbrev pub opened_data : ℕ → List ℕ → Bool → Data

@@ -4,11 +4,11 @@ ghost use Rattle.serde_json.specs.View.{view, members_view};
 ghost use Rattle.lab_forms.specs.Kinds.{kind_word};
 ghost use Rattle.lab_replies.specs.Forms.{form_made_data, form_data, with_bound, with_kind, field_members};
 
-use crate::members::{count, flag, object_of, object_with, ordinal, put_all, text};
-use crate::parts::{Shown, list_of, put_list};
 use lab_forms::{Bound, Field, Kind};
 use lab_kept::FormVersion;
 use lab_names::{Key, Ordinal, OutOfMemory};
+use lab_replies_parts::members::{count, flag, object_of, object_with, ordinal, put_all, text};
+use lab_replies_parts::parts::{AnyReply, Shown, list_of, put_list};
 use serde_json::{Map, Value};
 use std::alloc::Global;
 
@@ -30,7 +30,7 @@ pub(crate) fn form_made_value(
 pub(crate) fn form_value(alloc: Global, form: &FormVersion) -> Result<Value, OutOfMemory>
     ensures { IfOk result (λ value. view value ≡ form_data form.now) }
 {
-    let fields = list_of(alloc, form.form.fields())?;
+    let fields = list_of::<OfForms, _>(alloc, form.form.fields())?;
     let members = [
         flag("approval", form.form.approval()),
         text("form", form.code.as_str()),
@@ -39,7 +39,10 @@ pub(crate) fn form_value(alloc: Global, form: &FormVersion) -> Result<Value, Out
     object_with(alloc, &members, "fields", fields)
 }
 
-impl Shown for Field {
+/// How a form tells its fields.
+pub(crate) struct OfForms;
+
+impl Shown<OfForms> for Field {
     ghost use Rattle.lab_replies.specs.Forms.{field_data};
 
     ghost data_of = { field_data };
@@ -100,7 +103,12 @@ fn put_kind(members: &mut Map<String, Value>, alloc: Global, kind: &Kind) -> Res
         }
         Kind::Text { size } => { put_all(members, alloc, &[count("size", u64::from(*size))]) }
         Kind::Choice { choices } => {
-            put_list(members, alloc, "choices", list_of(alloc, choices.names())?)
+            put_list(
+                members,
+                alloc,
+                "choices",
+                list_of::<AnyReply, _>(alloc, choices.names())?,
+            )
         }
         Kind::Date | Kind::YesNo => Ok(()),
     }

@@ -2,13 +2,8 @@
 #![tactic(auto)]
 
 mod forms;
-mod members;
-mod parts;
 mod persons;
-mod records;
-mod refusals;
 mod replies;
 mod trails;
 
-pub use refusals::{entry_value, refusal_value};
 pub use replies::reply_body;

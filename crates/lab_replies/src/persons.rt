@@ -3,13 +3,13 @@ ghost use Rattle.std.specs.Prelude.{◌≡◌, IfOk, string_bytes, map};
 ghost use Rattle.serde_json.specs.Data.{string};
 ghost use Rattle.serde_json.specs.View.{view};
 ghost use Rattle.lab_access.specs.Roles.{role_list, role_word};
-ghost use Rattle.lab_replies.specs.Parts.{list_from};
+ghost use Rattle.lab_replies_parts.specs.Parts.{list_from};
 ghost use Rattle.lab_replies.specs.Persons.{opened_data, closed_data, changed_data, person_done_data, half_data, roles_set_data, persons_data};
 
-use crate::members::{bytes, flag, moment, object_of, object_with, ordinal, text};
-use crate::parts::{Shown, half_text, list_of, text_value};
 use lab_access::{Role, Roles};
 use lab_names::{Moment, Ordinal, OutOfMemory, PersonCode};
+use lab_replies_parts::members::{bytes, flag, moment, object_of, object_with, ordinal, text};
+use lab_replies_parts::parts::{Shown, half_text, list_of, text_value};
 use lab_rules::PersonLine;
 use lab_secrets::{Half, Token};
 use serde_json::Value;
@@ -63,7 +63,10 @@ pub(crate) fn half_value(alloc: Global, half: &Half) -> Result<Value, OutOfMemor
     object_of(alloc, &[text("half", half.as_str())])
 }
 
-impl Shown for Role {
+/// How the replies of persons tell what they list.
+pub(crate) struct OfPersons;
+
+impl Shown<OfPersons> for Role {
     ghost data_of = { λ role. string (role_word role) };
 
     fn value(&self, alloc: Global) -> Result<Value, OutOfMemory> {
@@ -76,7 +79,7 @@ fn roles_list(alloc: Global, roles: &Roles) -> Result<Vec<Value>, OutOfMemory>
         ≡ map string (map role_word (role_list roles.now))) }
 {
     let roles = roles.list(alloc)?;
-    list_of(alloc, &roles)
+    list_of::<OfPersons, _>(alloc, &roles)
 }
 
 /// The roles that a person has from now on.
@@ -91,7 +94,7 @@ pub(crate) fn roles_set_value(
     object_with(alloc, &[text("code", code.as_str())], "roles", roles)
 }
 
-impl Shown for PersonLine {
+impl Shown<OfPersons> for PersonLine {
     ghost use Rattle.lab_replies.specs.Persons.{person_data};
 
     ghost data_of = { person_data };
@@ -112,6 +115,6 @@ impl Shown for PersonLine {
 pub(crate) fn persons_value(alloc: Global, persons: &[PersonLine]) -> Result<Value, OutOfMemory>
     ensures { IfOk result (λ value. view value ≡ persons_data persons.now) }
 {
-    let persons = list_of(alloc, persons)?;
+    let persons = list_of::<OfPersons, _>(alloc, persons)?;
     object_with(alloc, &[], "persons", persons)
 }

@@ -3,14 +3,17 @@ ghost use Rattle.std.specs.Prelude.{◌≡◌, IfOk};
 ghost use Rattle.serde_json.specs.View.{view};
 ghost use Rattle.lab_replies.specs.Trails.{trail_data};
 
-use crate::members::{moment, object_of, object_with, ordinal, text, text_if_any};
-use crate::parts::{Shown, list_of};
 use lab_kept::TrailRow;
 use lab_names::OutOfMemory;
+use lab_replies_parts::members::{moment, object_of, object_with, ordinal, text, text_if_any};
+use lab_replies_parts::parts::{Shown, list_of};
 use serde_json::Value;
 use std::alloc::Global;
 
-impl Shown for TrailRow {
+/// How the trail tells its rows.
+pub(crate) struct OfTrails;
+
+impl Shown<OfTrails> for TrailRow {
     ghost use Rattle.lab_replies.specs.Trails.{trail_row_data};
 
     ghost data_of = { trail_row_data };
@@ -33,6 +36,6 @@ impl Shown for TrailRow {
 pub(crate) fn trail_value(alloc: Global, rows: &[TrailRow]) -> Result<Value, OutOfMemory>
     ensures { IfOk result (λ value. view value ≡ trail_data rows.now) }
 {
-    let rows = list_of(alloc, rows)?;
+    let rows = list_of::<OfTrails, _>(alloc, rows)?;
     object_with(alloc, &[], "trail", rows)
 }

@@ -12,8 +12,8 @@ use Rattle.lab_kept.specs.Worlds.{Meaning, SetsOne, Changes}
 use Rattle.lab_machine.specs.declared.commands.Instruction.{Instruction}
 use Rattle.lab_machine.specs.Needs.{need_of}
 use Rattle.lab_laws.specs.Asking.{IsCommandFormed}
-use Rattle.lab_decisions.specs.Deciding.{decided}
-use Rattle.lab_decisions.proofs.Passing.{decided_is}
+use Rattle.lab_endings.specs.Deciding.{decided}
+use Rattle.lab_decisions_laws.proofs.Passing.{decided_is}
 use Rattle.lab_wire.specs.declared.replies.Answer.TheVariants.{Replied}
 use Rattle.lab_wire.specs.Replies.{reply_text}
 use Rattle.lab_requests.specs.Requests.{changes_for, is_none, is_idle, Builds}

@@ -5,13 +5,14 @@ ghost use Rattle.std.specs.Prelude.{◌≡◌, ◌≢◌, [], Some, Ok, IsTrue, 
 ghost use Rattle.lab_kept.specs.Changes.{ChangesFit};
 ghost use Rattle.lab_kept.specs.Worlds.{Changes as MadeOf, Passes, Given, Lives, Leaves, Quiet, CommitsAs, IsDurable, StaysSafe, KeeperFaultFits};
 ghost use Rattle.lab_laws.specs.Asking.{IsCommandFormed};
-ghost use Rattle.lab_decisions.specs.Deciding.{decided};
+ghost use Rattle.lab_endings.specs.Deciding.{decided};
 ghost use Rattle.lab_wire.specs.declared.replies.Answer.TheVariants.{Replied};
 ghost use Rattle.lab_wire.specs.Replies.{reply_text};
 ghost use Rattle.lab_requests.specs.Keeping.{AreWithin};
 ghost use Rattle.lab_requests.specs.Requests.{answer_to, is_idle, MovesBy, Steps};
 
-use lab_decisions::{Outcome, decide, formed};
+use lab_decisions::{decide, formed};
+use lab_endings::Outcome;
 use lab_kept::{Change, Keeper, KeeperFault, Slice};
 use lab_machine::{Command, Instruction, Reply, needs};
 use lab_names::{OutOfMemory, Series, Tick};

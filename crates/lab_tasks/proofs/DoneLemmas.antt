@@ -26,10 +26,11 @@ use Rattle.lab_serving.specs.Tasks.{FoundsBy, IsRehearsal}
 use Rattle.lab_serving.specs.declared.faults.RehearsalFault.TheVariants.{Server as RehearsalServer}
 use Rattle.lab_serving.specs.declared.faults.ServerFault.TheVariants.{Memory as ServerMemory}
 use Rattle.lab_installations.specs.Copying.{IsCopying}
-use Rattle.lab_installations.specs.Faults.{Declines as DeclinesTask, unopened_fault}
-use Rattle.lab_installations.specs.Files.{IsOpened, IsOurs, file_moves, file_places, file_rests, file_world}
+use Rattle.lab_shelves.specs.Faults.{Declines as DeclinesTask, unopened_fault}
+use Rattle.lab_installations.specs.FileWorlds.{file_moves, file_places, file_rests, file_world}
+use Rattle.lab_shelves.specs.Files.{IsOpened, IsOurs}
 use Rattle.lab_installations.specs.Foundings.{Drawing, IsFounding}
-use Rattle.lab_installations.specs.Replays.{IsReplay, ReplaysFromNothing}
+use Rattle.lab_replays.specs.Replays.{IsReplay, ReplaysFromNothing}
 use Rattle.lab_installations.specs.Serving.{ServesFile}
 use Rattle.lab_tasks.specs.CommandLine.{IsCopiedIf, IsDone}
 use Rattle.lab_tasks.specs.Explaining.{Stopped}

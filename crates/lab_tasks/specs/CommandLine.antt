@@ -8,9 +8,10 @@ use Rattle.lab_checks.specs.Checks.{rows_of}
 use Rattle.lab_verdicts.specs.Verdicts.{IsCheck}
 use Rattle.lab_serving.specs.Tasks.{IsRehearsal}
 use Rattle.lab_installations.specs.Copying.{IsCopying}
-use Rattle.lab_installations.specs.Files.{IsOpened, IsOurs, file_moves, file_places, file_rests, file_world}
+use Rattle.lab_installations.specs.FileWorlds.{file_moves, file_places, file_rests, file_world}
+use Rattle.lab_shelves.specs.Files.{IsOpened, IsOurs}
 use Rattle.lab_installations.specs.Foundings.{Drawing, IsFounding}
-use Rattle.lab_installations.specs.Replays.{IsReplay}
+use Rattle.lab_replays.specs.Replays.{IsReplay}
 use Rattle.lab_installations.specs.Serving.{ServesFile}
 use Rattle.lab_tasks.specs.Explaining.{IsExplained}
 use Rattle.lab_tasks.specs.Laboratories.{OfCode, body_in}

@@ -9,7 +9,7 @@ use clap::Error;
 use clap::error::ErrorKind;
 use lab_messages::WriteFault;
 use lab_serving::{ServerFault, tell};
-use lab_words::copy_command;
+use lab_words_commands::copy_command;
 use std::alloc::{AllocError, Global};
 use std::io::Write;
 

@@ -1,4 +1,4 @@
-//! A short day of a laboratory, and the copies of it, as `bench/copies.py` prints them: hashes by Python's `hashlib`, rows by its
+//! A short day of a laboratory, and the copy of it, as `bench/copies.py` prints them: hashes by Python's `hashlib`, rows by its
 //! `csv`.
 
 /// A record released and amended, one rejected, one reviewed whose form wants an approval, and one that is empty.
@@ -33,10 +33,10 @@ pub(crate) const DAY: &str = "bare|aqua|0|Aqua Lab\n\
     1320|1160|1048|sign|3|1|8acbc00a99889c46aac5eda1c6f3212b824c03f52e1453ad747717b025c20f9d|review|eve password 1|-|-\n\
     1330|1168|1024|record|water|S4";
 
-/// The copy of records 1 to 9, for `hal` at second 5000.
+/// The copy of records 1 to 9, for nobody at second 5000.
 pub(crate) const COPY: &str =
     "kind,lab,record,version,key,value,unit,person,name,moment,reason,digest,seal\n\
-    copy,aqua,1,9,2,,,hal,Aqua Lab,1970-01-01T01:23:20Z,,,\n\
+    copy,aqua,1,9,2,,,,Aqua Lab,1970-01-01T01:23:20Z,,,\n\
     record,aqua,1,1,water,S1,,,,,,,\n\
     version,aqua,1,1,2,released,,dan,,1970-01-01T00:16:40Z,,79610b0b80020b06ccc32eb56d5e2930ad6cea239d32569de11013459ebf2b0c,\n\
     entry,aqua,1,1,lead,7.50,mg/L,dan,,1970-01-01T00:18:20Z,,,\n\
@@ -58,22 +58,3 @@ pub(crate) const COPY: &str =
     record,aqua,4,2,water,S4,,,,,,,\n\
     version,aqua,4,1,2,open,,dan,approval,1970-01-01T00:22:10Z,,026e7f0c61f1d00e26f3bf2f8050915c3372ef05e9333e1d398256f40c19afb1,\n\
     end,aqua,4,5,5,6,,,,,,,\n";
-
-/// The copy of records 3 and 4, for nobody at second 6000.
-pub(crate) const COPY_OF_TWO: &str =
-    "kind,lab,record,version,key,value,unit,person,name,moment,reason,digest,seal\n\
-    copy,aqua,3,4,2,,,,Aqua Lab,1970-01-01T01:40:00Z,,,\n\
-    record,aqua,3,2,water,S3,,,,,,,\n\
-    version,aqua,3,1,2,reviewed,,dan,approval,1970-01-01T00:21:30Z,,8acbc00a99889c46aac5eda1c6f3212b824c03f52e1453ad747717b025c20f9d,\n\
-    entry,aqua,3,1,lead,8,mg/L,dan,,1970-01-01T00:21:40Z,,,\n\
-    signature,aqua,3,1,,authorship,,dan,Dan Day,1970-01-01T00:21:50Z,,8acbc00a99889c46aac5eda1c6f3212b824c03f52e1453ad747717b025c20f9d,ab49e0cdd0288f278eefd094cd526a34b0796952939ab818e06c77fc5f585d91\n\
-    signature,aqua,3,1,,review,,eve,Eve Ems,1970-01-01T00:22:00Z,,8acbc00a99889c46aac5eda1c6f3212b824c03f52e1453ad747717b025c20f9d,ecf02926dc85141d246abe232b2a5373a1637e48405defe709db837f01ff1f46\n\
-    record,aqua,4,2,water,S4,,,,,,,\n\
-    version,aqua,4,1,2,open,,dan,approval,1970-01-01T00:22:10Z,,026e7f0c61f1d00e26f3bf2f8050915c3372ef05e9333e1d398256f40c19afb1,\n\
-    end,aqua,2,2,1,2,,,,,,,\n";
-
-/// The copy of records 7 to 9, of which there is none, for nobody at second 6000.
-pub(crate) const COPY_OF_NONE: &str =
-    "kind,lab,record,version,key,value,unit,person,name,moment,reason,digest,seal\n\
-    copy,aqua,7,9,2,,,,Aqua Lab,1970-01-01T01:40:00Z,,,\n\
-    end,aqua,0,0,0,0,,,,,,,\n";

@@ -1,31 +1,21 @@
-//! Laboratories in a list, after the short day, and with more records.
+//! A laboratory in a list, after the short day.
 use crate::days::DAY;
 use lab_decisions_tests::{Stage, play};
-use lab_kept::{
-    Change, Keeper, Lab, LabCode, Moment, Newborn, Ordinal, Password, Person, Record, Roles, Series,
-};
+use lab_kept::{Change, Keeper, Lab, LabCode, Newborn, Password, Person, Roles, Series};
 use lab_lists::Lists;
-use lab_names::{Rule, Text};
+use lab_names::{Moment, Rule, Text};
 use std::process::Abort;
 
 pub(crate) fn text<R: Rule>(rt: &(impl Abort + AllocGlobal), text: &str) -> Text<R> {
     Text::parse(rt.alloc(), text).expect(rt, "a text that its rule admits")
 }
 
-pub(crate) fn ordinal(rt: &impl Abort, number: u32) -> Ordinal {
-    Ordinal::new(number).expect(rt, "an ordinal")
-}
-
 pub(crate) fn moment(rt: &impl Abort, seconds: i64) -> Moment {
     Moment::from_seconds(seconds).expect(rt, "a moment")
 }
 
-pub(crate) fn aqua(rt: &(impl Abort + AllocGlobal)) -> LabCode {
-    text(rt, "aqua")
-}
-
-/// The laboratory after the short day.
-pub(crate) fn day(rt: &(impl Abort + AllocGlobal)) -> Lab {
+// The laboratory after the short day.
+fn day(rt: &(impl Abort + AllocGlobal)) -> Lab {
     let mut stage = Stage::new(rt.alloc()).expect(rt, "a stage");
     for line in DAY.lines() {
         drop(play(rt.alloc(), &mut stage, line).expect(rt, "a line that is played"));
@@ -49,7 +39,7 @@ fn founder(rt: &(impl Abort + AllocGlobal), code: &str) -> Person {
 fn newborn(rt: &(impl Abort + AllocGlobal)) -> Newborn {
     Newborn {
         moment: moment(rt, 0),
-        code: aqua(rt),
+        code: text(rt, "aqua"),
         name: text(rt, "Aqua Lab"),
         first: founder(rt, "ann"),
         second: founder(rt, "bob"),
@@ -57,31 +47,18 @@ fn newborn(rt: &(impl Abort + AllocGlobal)) -> Newborn {
     }
 }
 
-/// A laboratory of these records, in a list.
-pub(crate) fn lists_of(rt: &(impl Abort + AllocGlobal), records: &[Record]) -> Lists {
-    let mut lists = Lists::new(rt.alloc());
-    lists.found(newborn(rt)).expect(rt, "memory");
+fn records_added(rt: &(impl Abort + AllocGlobal)) -> Series<Change> {
     let mut changes = Series::new(rt.alloc());
-    for kept in records {
-        let copy = kept.copy().expect(rt, "memory");
-        changes.push(Change::RecordAdded(copy)).expect(rt, "memory");
+    for kept in day(rt).records.into_vec() {
+        changes.push(Change::RecordAdded(kept)).expect(rt, "memory");
     }
-    let code = aqua(rt);
-    lists.apply(&code, changes).expect(rt, "memory");
-    drop(code);
-    lists
+    changes
 }
 
-/// As many records as wanted: those of the day, one after the other, under numbers from 1 on.
-pub(crate) fn many(rt: &(impl Abort + AllocGlobal), wanted: u32) -> Vec<Record> {
-    let lab = day(rt);
-    let mut many = Vec::new(rt.alloc());
-    for place in 0..wanted {
-        let like = lab.records.as_slice().get((place % 4) as usize);
-        let mut kept = like.expect(rt, "a record").copy().expect(rt, "memory");
-        kept.number = Ordinal::after(place).expect(rt, "an ordinal");
-        many.push(kept).expect(rt, "memory");
-    }
-    drop(lab);
-    many
+/// A laboratory with the records of the day, in a list.
+pub(crate) fn lists(rt: &(impl Abort + AllocGlobal), code: &LabCode) -> Lists {
+    let mut lists = Lists::new(rt.alloc());
+    lists.found(newborn(rt)).expect(rt, "memory");
+    lists.apply(code, records_added(rt)).expect(rt, "memory");
+    lists
 }

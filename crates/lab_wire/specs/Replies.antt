@@ -5,7 +5,7 @@ use Rattle.serde_json.specs.Written.{compact_text}
 use Rattle.lab_names.specs.declared.tick.Tick.{Tick}
 use Rattle.lab_names.specs.Faults.{Entry, memory_entry}
 use Rattle.lab_kept.specs.Faults.{storage_entry}
-use Rattle.lab_replies.specs.Refusals.{refused_data}
+use Rattle.lab_replies_parts.specs.Refusals.{refused_data}
 use Rattle.lab_replies.specs.Replies.{Body as ReplyBody, Json, Csv, body_of, reply_text as body_text}
 use Rattle.lab_messages.specs.Messages.{line, message_text}
 use Rattle.lab_routes.specs.declared.refusals.RouteRefusal.{RouteRefusal}

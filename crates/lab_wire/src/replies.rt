@@ -10,7 +10,8 @@ use lab_kept::KeeperFault;
 use lab_machine::Reply;
 use lab_messages::message;
 use lab_names::{OutOfMemory, Tick};
-use lab_replies::{entry_value, reply_body};
+use lab_replies::reply_body;
+use lab_replies_parts::entry_value;
 use lab_routes::RouteRefusal;
 use std::alloc::Global;
 

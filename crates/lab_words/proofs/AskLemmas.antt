@@ -2,7 +2,7 @@
 use Rattle.std.proofs.Common.{◌≡◌, ◌∙◌, ◌≤◌, ℕ, List, IsTrue, arith, ap, subst, sym}
 use Rattle.clap.specs.Words.{Row, subcommand_of}
 use Rattle.lab_names.specs.Ordinals.{is_ordinal}
-use Rattle.lab_words.specs.Apps.{labdesk_app, most_connections}
+use Rattle.lab_words_commands.specs.Apps.{labdesk_app, most_connections}
 use Rattle.lab_words.specs.Tasks.{Asked, Asks, Gives, IsGiven, IsGivenIn, IsTask, name_of, founds, serves, copies, checks, replays, rehearses, errand_of, errand_called, errand_named, founding, serving, copying, checking, replaying, rehearsing}
 use Rattle.lab_words.specs.declared.tasks.Task.{Task}
 use Rattle.lab_words.specs.declared.tasks.Task.TheVariants.{Found, Serve, Copy, Check, Replay, Rehearse}

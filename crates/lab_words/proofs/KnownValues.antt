@@ -4,7 +4,7 @@ use Rattle.std.proofs.Common.{◌≡◌, ℕ, List, [], ◌∷◌, refl, codes, 
 use Rattle.clap.specs.Words.{fault_of}
 use Rattle.clap.proofs.OnLiterals.{clap_on_literals}
 use Rattle.clap.specs.declared.error.kind.ErrorKind.TheVariants.{DisplayHelp, DisplayVersion, InvalidSubcommand, MissingSubcommand, MissingRequiredArgument, ValueValidation, UnknownArgument}
-use Rattle.lab_words.specs.Apps.{labdesk_app}
+use Rattle.lab_words_commands.specs.Apps.{labdesk_app}
 use Rattle.lab_words.specs.Tasks.{Asks, Writes, founds, serves, copies, checks, replays, rehearses}
 
 -- Numbers in decimal digits.

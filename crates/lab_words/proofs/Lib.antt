@@ -1,4 +1,3 @@
-pub mod AppLemmas
 pub mod AskLemmas
 pub mod GivenLemmas
 pub mod KnownValues

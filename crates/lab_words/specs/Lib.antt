@@ -1,2 +1,1 @@
-pub mod Apps
 pub mod Tasks

@@ -4,7 +4,7 @@ use Rattle.std.specs.Str.Parse.{IsNumeral, digits_value}
 use Rattle.clap.specs.Words.{Row, fault_of, first_of, one_of, subcommand_of}
 use Rattle.lab_names.specs.Moment.{is_moment}
 use Rattle.lab_names.specs.Ordinals.{is_ordinal}
-use Rattle.lab_words.specs.Apps.{labdesk_app, last_port, most_connections}
+use Rattle.lab_words_commands.specs.Apps.{labdesk_app, last_port, most_connections}
 use Rattle.lab_words.specs.declared.tasks.Task.{Task}
 use Rattle.lab_words.specs.declared.tasks.Task.TheVariants.{Found, Serve, Copy, Check, Replay, Rehearse}
 

@@ -2,11 +2,11 @@
 
 ghost use Rattle.std.specs.Prelude.{◌≡◌, map, IfOk, codes};
 ghost use Rattle.clap.specs.Words.{FailsBy, fault_of, found_of, rows_of as rows_found, subcommand_of, subcommand_rows_of};
-ghost use Rattle.lab_words.specs.Apps.{labdesk_app, last_port, most_connections};
+ghost use Rattle.lab_words_commands.specs.Apps.{labdesk_app, last_port, most_connections};
 ghost use Rattle.lab_words.specs.Tasks.{IsGiven, IsGivenIn, ReadsMoment, ReadsNumber, ReadsText, copying, errand_called, errand_named, errand_of, founding, rehearsing, serving};
 
-use crate::apps::labdesk_command;
 use clap::{ArgMatches, Error};
+use lab_words_program::labdesk_command;
 use std::alloc::Global;
 use std::convert::AsStr;
 

@@ -2,8 +2,9 @@
 use Rattle.std.proofs.KnownBytes.{Keeps-refl}
 use Rattle.std.proofs.lemmas.Result.{err_from_is_err_and}
 use Rattle.lab_serving.specs.declared.faults.ServerFault.TheVariants.{Memory}
-use Rattle.lab_installations.specs.Files.{IsOpened, file_places, file_world}
-use Rattle.lab_installations.proofs.FileLemmas.{kept_so}
+use Rattle.lab_installations.specs.FileWorlds.{file_places, file_world}
+use Rattle.lab_shelves.specs.Files.{IsOpened}
+use Rattle.lab_shelves.proofs.FileLemmas.{kept_so}
 use Rattle.lab_installations.proofs.FoundingLemmas.{ends_idle, in_file, undrawn}
 use Rattle.lab_installations.proofs.founding.found_in_file.Goals as goal
 

@@ -1,7 +1,7 @@
 -- A fault is that of the file, of the listener, or of memory; the desk's keeper is the file's.
 use Rattle.std.proofs.lemmas.Result.{err_from_is_err_and}
-use Rattle.lab_installations.specs.Files.{IsOurs}
-use Rattle.lab_installations.proofs.FileLemmas.{kept_so}
+use Rattle.lab_shelves.specs.Files.{IsOurs}
+use Rattle.lab_shelves.proofs.FileLemmas.{kept_so}
 use Rattle.lab_installations.proofs.serving.prepared.Goals as goal
 
 pub returns-in_err-conn-clause-ours : goal.returns-in_err-conn-clause-ours

@@ -3,7 +3,7 @@ use Rattle.std.proofs.Common.{◌≡◌, ◌∙◌, ap, refl, sym, subst, true, 
 use Rattle.std.proofs.lemmas.Result.{err_from_is_err_and}
 use Rattle.clap.specs.Words.{fault_of, is_simple, is_simple_and_free, subcommand_of, HasKind}
 use Rattle.clap.proofs.OnLiterals.{clap_on_literals}
-use Rattle.lab_words.specs.Apps.{labdesk_app}
+use Rattle.lab_words_commands.specs.Apps.{labdesk_app}
 use Rattle.lab_words.specs.Tasks.{errand_named, IsGivenIn}
 use Rattle.lab_words.proofs.tasks.task_of.Goals as goal
 

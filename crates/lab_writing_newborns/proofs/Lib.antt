@@ -1,0 +1,3 @@
+pub mod LabMore
+pub mod AllRows
+pub mod KnownValues
