@@ -3,7 +3,7 @@
 use Rattle.std.specs.Prelude.{Option, Some, None}
 use Rattle.lab_access.specs.declared.policy.Rule.{Rule}
 use Rattle.lab_access.specs.declared.policy.Rule.TheVariants.{CloseSession, ChangePassword as ByChangePassword, Enrol as ByEnrol, ReadPersons as ByReadPersons, AskIssue as ByAskIssue, ConfirmIssue as ByConfirmIssue, SetRoles as BySetRoles, Retire as ByRetire, Unlock as ByUnlock, MakeForm as ByMakeForm, ReadForm as ByReadForm, OpenRecord as ByOpenRecord, Enter as ByEnter, Amend as ByAmend, SignAuthorship, SignReview, SignRejection, SignApproval, ReadRecord as ByReadRecord, ReadVersion as ByReadVersion, ReadRecords as ByReadRecords, ReadTrail as ByReadTrail, TakeCopy as ByTakeCopy}
-use Rattle.lab_signatures.specs.Signing.{signing_rule}
+use Rattle.lab_rules.specs.SigningRules.{signing_rule}
 use Rattle.lab_machine.specs.declared.commands.Command.{Command}
 use Rattle.lab_machine.specs.declared.commands.Command.TheVariants.{Card, Open, Close, ChangePassword, Enrol, ReadPersons, AskIssue, ConfirmIssue, SetRoles, Retire, Unlock, MakeForm, ReadForm, OpenRecord, Enter, Amend, Sign, ReadRecord, ReadVersion, ReadRecords, ReadTrail, TakeCopy}
 
