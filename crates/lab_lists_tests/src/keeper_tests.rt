@@ -1,103 +1,109 @@
 //! `Lists` as a keeper: what is founded and changed is there at the next load, and nothing else is.
-use crate::expected::expected;
-use crate::kept::{Kept, applied, aqua, every, founded, lab_code, newborn, several};
-use crate::made::{Wanted, need};
-use crate::sameness::is_slice;
-use lab_kept::{Keeper, PlacingFault, Series, Slice};
+use crate::made::{changes, newborn, text};
+use lab_kept::{Counts, Keeper, ListWanted, Need, Person, PlacingFault, Slice};
 use lab_lists::Lists;
 use std::process::Abort;
 
-fn loaded(
-    rt: &(impl Abort + AllocGlobal),
-    lists: &mut Lists,
-    kept: Kept,
-    wanted: Wanted,
-) -> Option<Slice> {
-    let code = lab_code(rt, kept);
-    let need = need(rt, wanted);
-    let slice = lists.load(&code, &need).expect(rt, "memory");
+/// What a laboratory is to have: its name, the second of its last activity, its strays, how much there is of it, and the codes of
+/// its persons.
+struct Wanted {
+    name: &'static str,
+    last: i64,
+    strays: u64,
+    counts: Counts,
+    codes: &'static [&'static str],
+}
+
+const FOUNDED: Counts = Counts {
+    persons: 3,
+    sessions: 0,
+    records: 0,
+    trail: 1,
+};
+
+const CHANGED: Counts = Counts {
+    persons: 4,
+    sessions: 0,
+    records: 0,
+    trail: 2,
+};
+
+const AQUA: Wanted = Wanted {
+    name: "Aqua Lab",
+    last: 1200,
+    strays: 4,
+    counts: CHANGED,
+    codes: &["ann", "cid", "dan", "eve"],
+};
+
+const TERRA: Wanted = Wanted {
+    name: "Terra Lab",
+    last: 500,
+    strays: 0,
+    counts: FOUNDED,
+    codes: &["ann", "dan", "eve"],
+};
+
+fn loaded(rt: &(impl Abort + AllocGlobal), lists: &mut Lists, code: &str) -> Option<Slice> {
+    let code = text(rt, code);
+    let need = Need {
+        token: None,
+        person: None,
+        form: None,
+        filed: None,
+        list: Some(ListWanted::Persons),
+    };
+    let slice = lists.load(&code, &need);
     drop(code);
     drop(need);
-    slice
+    slice.expect(rt, "memory")
 }
 
-fn holds(rt: &(impl Abort + AllocGlobal), lists: &mut Lists, kept: Kept, wanted: Wanted) {
-    let slice = loaded(rt, lists, kept, wanted).expect(rt, "a laboratory");
-    let other = expected(rt, kept, wanted);
-    let is_wanted = is_slice(&slice, &other);
+fn are_of(persons: &[Person], codes: &[&str]) -> bool {
+    for (person, code) in persons.iter().zip(codes) {
+        if person.code.as_str() != *code {
+            return false;
+        }
+    }
+    persons.len() == codes.len()
+}
+
+// The laboratory of the code, with nothing of it that isn't asked for.
+fn holds(rt: &(impl Abort + AllocGlobal), lists: &mut Lists, code: &str, wanted: &Wanted) -> bool {
+    let slice = loaded(rt, lists, code).expect(rt, "a laboratory");
+    let is_headed = slice.code.as_str() == code && slice.name.as_str() == wanted.name;
+    let is_counted = slice.strays == wanted.strays && slice.counts == wanted.counts;
+    let is_last = slice.last.seconds() == wanted.last && slice.trail.as_slice().is_empty();
+    let found = is_headed
+        && is_counted
+        && is_last
+        && are_of(slice.persons.as_slice(), wanted.codes);
     drop(slice);
-    drop(other);
-    assert!(rt; is_wanted);
+    found
 }
 
-// All that a founded laboratory has.
-fn holds_whole(rt: &(impl Abort + AllocGlobal), lists: &mut Lists, kept: Kept) {
-    holds(rt, lists, kept, Wanted::Nothing);
-    holds(rt, lists, kept, Wanted::Person);
-    holds(rt, lists, kept, Wanted::Persons);
-    holds(rt, lists, kept, Wanted::Trail);
+fn applied(rt: &(impl Abort + AllocGlobal), lists: &mut Lists, code: &str) {
+    let code = text(rt, code);
+    let done = lists.apply(&code, changes(rt));
+    drop(code);
+    assert!(rt; done == Ok(()));
 }
 
-fn is_not_there(rt: &(impl Abort + AllocGlobal), lists: &mut Lists, kept: Kept) {
-    let slice = loaded(rt, lists, kept, Wanted::Nothing);
-    let is_none = slice.is_none();
-    drop(slice);
-    assert!(rt; is_none);
-}
-
+// Of brick there is no laboratory. The second newborn of aqua has another name.
 #[test]
-fn a_laboratory_is_founded_and_loaded_whole(rt: HostRuntime) {
-    let mut lists = aqua(&rt);
-    holds_whole(&rt, &mut lists, Kept::Aqua);
-    drop(lists);
-}
-
-// The second newborn has another name.
-#[test]
-fn a_laboratory_is_founded_once(rt: HostRuntime) {
-    let mut lists = aqua(&rt);
+fn a_laboratory_is_founded_once_and_changed(rt: HostRuntime) {
+    let mut lists = Lists::new(rt.alloc());
+    let founded = lists.found(newborn(&rt, "aqua", "Aqua Lab"));
     let again = lists.found(newborn(&rt, "aqua", "Terra Lab"));
-    assert!(rt; again == Err(PlacingFault::LabExists));
-    holds_whole(&rt, &mut lists, Kept::Aqua);
+    let other = lists.found(newborn(&rt, "terra", "Terra Lab"));
+    assert!(rt; (founded, again, other) == (Ok(()), Err(PlacingFault::LabExists), Ok(())));
+    applied(&rt, &mut lists, "aqua");
+    applied(&rt, &mut lists, "brick");
+    assert!(rt; holds(&rt, &mut lists, "aqua", &AQUA));
+    assert!(rt; holds(&rt, &mut lists, "terra", &TERRA));
+    let brick = loaded(&rt, &mut lists, "brick");
+    let is_none = brick.is_none();
+    drop(brick);
     drop(lists);
-}
-
-#[test]
-fn what_is_not_there_is_neither_loaded_nor_changed(rt: HostRuntime) {
-    let mut lists = aqua(&rt);
-    is_not_there(&rt, &mut lists, Kept::Terra);
-    applied(&rt, &mut lists, Kept::Terra, several(&rt));
-    is_not_there(&rt, &mut lists, Kept::Terra);
-    holds_whole(&rt, &mut lists, Kept::Aqua);
-    drop(lists);
-}
-
-#[test]
-fn changes_of_one_laboratory_leave_the_other(rt: HostRuntime) {
-    let mut lists = aqua(&rt);
-    founded(&rt, &mut lists, Kept::Terra);
-    applied(&rt, &mut lists, Kept::Aqua, several(&rt));
-    holds_whole(&rt, &mut lists, Kept::Several);
-    holds_whole(&rt, &mut lists, Kept::Terra);
-    drop(lists);
-}
-
-#[test]
-fn no_change_leaves_all(rt: HostRuntime) {
-    let mut lists = aqua(&rt);
-    applied(&rt, &mut lists, Kept::Aqua, Series::new(rt.alloc()));
-    holds_whole(&rt, &mut lists, Kept::Aqua);
-    drop(lists);
-}
-
-#[test]
-fn every_kind_of_change_is_made_at_one_time(rt: HostRuntime) {
-    let mut lists = aqua(&rt);
-    applied(&rt, &mut lists, Kept::Aqua, every(&rt));
-    holds_whole(&rt, &mut lists, Kept::Every);
-    holds(&rt, &mut lists, Kept::Every, Wanted::Session);
-    holds(&rt, &mut lists, Kept::Every, Wanted::ExactForm);
-    holds(&rt, &mut lists, Kept::Every, Wanted::RecordNumbered);
-    holds(&rt, &mut lists, Kept::Every, Wanted::Records);
-    drop(lists);
+    assert!(rt; is_none);
 }

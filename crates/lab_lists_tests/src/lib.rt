@@ -3,12 +3,6 @@
 #![tactic(auto)]
 
 #[cfg(test)]
-mod expected;
-#[cfg(test)]
 mod keeper_tests;
 #[cfg(test)]
-mod kept;
-#[cfg(test)]
 mod made;
-#[cfg(test)]
-mod sameness;

@@ -1,27 +1,16 @@
 //! Meanings, states and seals.
 use lab_names::{Rule, Text};
 use lab_seal::{Digest, Meaning, Moment, Seal, SealParts, State, seal, state_of};
-use std::fmt::Debug;
 use std::process::Abort;
 
-pub(crate) fn same<T: PartialEq + Debug>(rt: &impl Abort, found: &T, expected: &T) {
-    assert_eq!(rt; found, expected);
-}
-
 // A code, key, name, note or unit.
-pub(crate) fn text<R: Rule>(rt: &(impl Abort + AllocGlobal), text: &str) -> Text<R> {
+fn text<R: Rule>(rt: &(impl Abort + AllocGlobal), text: &str) -> Text<R> {
     Text::parse(rt.alloc(), text).expect(rt, "a text that its rule admits")
 }
 
-// The bytes that 64 hexadecimal digits stand for.
-pub(crate) fn bytes_of(rt: &impl Abort, digits: &str) -> [u8; 32] {
-    let mut bytes = [0; 32];
-    hex::decode_to_slice(digits, &mut bytes).expect(rt, "64 digits");
-    bytes
-}
-
 // The SHA-256 of the 142 bytes of a version's text, by Python's `hashlib`.
-const VERSION_DIGITS: &str = "4de86afe6c7333e1c5bf6582c621445ce648c9d770e46b4ef596f3f9c4699623";
+const VERSION_DIGITS: &[u8; 64] =
+    b"4de86afe6c7333e1c5bf6582c621445ce648c9d770e46b4ef596f3f9c4699623";
 
 // The words and reasons of the meanings.
 const MEANINGS: [(&str, &str); 4] = [
@@ -48,7 +37,7 @@ fn copied_meaning(rt: &(impl Abort + AllocGlobal), place: usize) -> Meaning {
 }
 
 fn has_word_and_reason(rt: &impl Abort, meaning: &Meaning, told: &(&str, &str)) {
-    same(rt, &(meaning.word(), meaning.reason()), told);
+    assert!(rt; (meaning.word(), meaning.reason()) == *told);
 }
 
 #[test]
@@ -85,7 +74,7 @@ fn states_of(rt: &(impl Abort + AllocGlobal), places: &[usize]) {
     let meanings = meanings_of(rt, places);
     let found = [state_of(&meanings, false), state_of(&meanings, true)];
     drop(meanings);
-    same(rt, &found, &expected(places));
+    assert!(rt; found == expected(places));
 }
 
 // Every list of up to three signatures.
@@ -125,7 +114,7 @@ fn seal_parts(
     seconds: i64,
 ) -> SealParts {
     SealParts {
-        version: Digest::from_bytes(bytes_of(rt, VERSION_DIGITS)),
+        version: Digest::from_digits(VERSION_DIGITS).expect(rt, "64 digits"),
         moment: Moment::from_seconds(seconds).expect(rt, "a moment"),
         lab: text(rt, "aqua"),
         person: text(rt, person),
@@ -141,7 +130,7 @@ fn seal_of(parts: SealParts) -> Seal {
 }
 
 fn has_digits(rt: &impl Abort, seal: Seal, digits: &[u8; 64]) {
-    same(rt, &seal.digits(), digits);
+    assert!(rt; seal.digits() == *digits);
 }
 
 // The seals are those that Python's `hashlib` gives of the seven items.
@@ -183,11 +172,6 @@ fn seal_of_an_approval(rt: HostRuntime) {
 #[test]
 fn seals_are_read_of_their_digits(rt: HostRuntime) {
     let digits = b"9863b66df0088378760b1aaab4eea6128e132387df97bb1dd73dadedbc443a89";
-    let known = Seal::from_bytes(bytes_of(
-        &rt,
-        "9863b66df0088378760b1aaab4eea6128e132387df97bb1dd73dadedbc443a89",
-    ));
-    has_digits(&rt, known, digits);
-    let read = [Seal::from_digits(digits), Seal::from_digits(&digits[..63])];
-    same(&rt, &read, &[Some(known), None]);
+    let read = Seal::from_digits(digits).map(|seal| seal.digits());
+    assert!(rt; read == Some(*digits) && Seal::from_digits(&digits[..63]).is_none());
 }
