@@ -10,8 +10,8 @@ use Rattle.lab_tables.specs.Columns.{roles_in, password_in}
 use Rattle.lab_tables.specs.Changes.{is_person}
 use Rattle.lab_tables.specs.Meaning.{by_code}
 use Rattle.lab_columns.specs.Shown.{code_shown}
-use Rattle.lab_person_rows.specs.declared.heads.PersonHead.{PersonHead}
-use Rattle.lab_person_rows.specs.Heads.{ask_head}
+use Rattle.lab_accounts.specs.declared.heads.PersonHead.{PersonHead}
+use Rattle.lab_accounts.specs.Heads.{ask_head}
 
 abbrev pub person_shown : PersonRow → Row
 person_shown one =

@@ -5,8 +5,8 @@ ghost use Rattle.sqlite_value.specs.Order.{column, bytes};
 ghost use Rattle.lab_access.specs.declared.passwords.Password.TheVariants.{Chosen, OneTime};
 ghost use Rattle.lab_tables.specs.Rows.{number_in, optional_in};
 ghost use Rattle.lab_tables.specs.Columns.{roles_in, verifier_in, password_in};
-ghost use Rattle.lab_person_rows.specs.Heads.{ask_head};
-ghost use Rattle.lab_person_rows.specs.Shown.{password_cells, ask_cells};
+ghost use Rattle.lab_accounts.specs.Heads.{ask_head};
+ghost use Rattle.lab_accounts.specs.Shown.{password_cells, ask_cells};
 
 use crate::cells::{bytes_due, moment_due, salt_due, small_due};
 use crate::heads::AskHead;

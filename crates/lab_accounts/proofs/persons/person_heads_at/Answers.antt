@@ -3,9 +3,9 @@ use Rattle.std.proofs.lemmas.Int.{to_z-of_z}
 use Rattle.sqlite.specs.Held.{state}
 use Rattle.lab_tables.specs.Ready.{tables_of}
 use Rattle.lab_columns.proofs.Queries.{if_then}
-use Rattle.lab_person_rows.specs.Shown.{person_read}
-use Rattle.lab_person_rows.proofs.Found.{persons_found}
-use Rattle.lab_person_rows.proofs.persons.person_heads_at.Goals as goal
+use Rattle.lab_accounts.specs.Shown.{person_read}
+use Rattle.lab_accounts.proofs.Found.{persons_found}
+use Rattle.lab_accounts.proofs.persons.person_heads_at.Goals as goal
 
 pub returns-clause-heads : goal.returns-clause-heads
 returns-clause-heads g c ready clean =

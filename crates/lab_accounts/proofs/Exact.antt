@@ -16,10 +16,10 @@ use Rattle.lab_tables.specs.Changes.{is_person}
 use Rattle.lab_columns.proofs.Texts.{is_param}
 use Rattle.lab_columns.proofs.Sorted.{equal_ints, equal_texts, and_true, only_answer, own_rows}
 use Rattle.lab_columns.specs.Shown.{code_shown}
-use Rattle.lab_person_rows.specs.Shown.{person_shown, person_shown_by, persons_shown, all_codes_shown}
-use Rattle.lab_person_rows.proofs.Keys.{persons_apart}
-use Rattle.lab_person_rows.proofs.Texts.{person_text, person_query, person_means, persons_text, person_columns, persons_means, all_codes_text, all_codes_means}
-use Rattle.lab_person_rows.proofs.Lists.{by_text}
+use Rattle.lab_accounts.specs.Shown.{person_shown, person_shown_by, persons_shown, all_codes_shown}
+use Rattle.lab_accounts.proofs.Keys.{persons_apart}
+use Rattle.lab_accounts.proofs.Texts.{person_text, person_query, person_means, persons_text, person_columns, persons_means, all_codes_text, all_codes_means}
+use Rattle.lab_accounts.proofs.Lists.{by_text}
 use Rattle.lab_columns.proofs.Lists.{untied_texts, alone_texts}
 
 pub person_rows_read : (old new : State) (lab : ℤ) (code : List ℕ) (rows : List Row) → IsKept old.now → Shown person_text (Int lab ∷ Text code ∷ []) old new rows

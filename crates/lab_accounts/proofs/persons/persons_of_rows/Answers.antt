@@ -1,6 +1,6 @@
-use Rattle.lab_person_rows.specs.Shown.{person_read}
-use Rattle.lab_person_rows.proofs.Lists.{mapped_more}
-use Rattle.lab_person_rows.proofs.persons.persons_of_rows.Goals as goal
+use Rattle.lab_accounts.specs.Shown.{person_read}
+use Rattle.lab_accounts.proofs.Lists.{mapped_more}
+use Rattle.lab_accounts.proofs.persons.persons_of_rows.Goals as goal
 
 pub loop-row-preserved : goal.loop-row-preserved
 loop-row-preserved c =

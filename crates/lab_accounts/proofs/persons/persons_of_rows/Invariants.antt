@@ -1,6 +1,6 @@
 use Rattle.std.proofs.Common.{◌≡◌, map, take}
-use Rattle.lab_person_rows.specs.Shown.{person_read}
-use Rattle.lab_person_rows.proofs.persons.persons_of_rows.Given as goal
+use Rattle.lab_accounts.specs.Shown.{person_read}
+use Rattle.lab_accounts.proofs.persons.persons_of_rows.Given as goal
 
 -- those of the rows so far
 abbrev pub invariant-loop-row : goal.invariant-loop-row

@@ -3,9 +3,9 @@ use Rattle.std.proofs.lemmas.Int.{to_z-of_z}
 use Rattle.sqlite.specs.State.{HasCleanDisk}
 use Rattle.sqlite.specs.Held.{state}
 use Rattle.lab_columns.proofs.Queries.{passes, same, exactly}
-use Rattle.lab_person_rows.proofs.Texts.{persons_text, persons_means}
-use Rattle.lab_person_rows.proofs.Exact.{persons_rows_read}
-use Rattle.lab_person_rows.proofs.persons.persons_rows.Goals as goal
+use Rattle.lab_accounts.proofs.Texts.{persons_text, persons_means}
+use Rattle.lab_accounts.proofs.Exact.{persons_rows_read}
+use Rattle.lab_accounts.proofs.persons.persons_rows.Goals as goal
 
 pub returns : goal.returns
 returns g c =

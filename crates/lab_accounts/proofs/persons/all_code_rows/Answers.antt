@@ -3,9 +3,9 @@ use Rattle.std.proofs.lemmas.Int.{to_z-of_z}
 use Rattle.sqlite.specs.State.{HasCleanDisk}
 use Rattle.sqlite.specs.Held.{state}
 use Rattle.lab_columns.proofs.Queries.{passes, same, exactly}
-use Rattle.lab_person_rows.proofs.Texts.{all_codes_text, all_codes_means}
-use Rattle.lab_person_rows.proofs.Exact.{all_codes_read}
-use Rattle.lab_person_rows.proofs.persons.all_code_rows.Goals as goal
+use Rattle.lab_accounts.proofs.Texts.{all_codes_text, all_codes_means}
+use Rattle.lab_accounts.proofs.Exact.{all_codes_read}
+use Rattle.lab_accounts.proofs.persons.all_code_rows.Goals as goal
 
 pub returns : goal.returns
 returns g c =
