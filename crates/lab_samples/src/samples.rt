@@ -10,13 +10,13 @@ use std::alloc::Global;
 const COLOURS: [&str; 5] = ["clear", "pale", "cloudy", "brown", "black"];
 
 /// The least amount of the numbers.
-pub(crate) fn least(alloc: Global) -> Result<Bound> {
+pub fn least(alloc: Global) -> Result<Bound> {
     let text = String::from_str(alloc, "0").map_err(OutOfMemory::from)?;
     Ok(Bound::new(text))
 }
 
 /// Numbers of two decimals in mg/L, from the least.
-pub(crate) fn numbers(alloc: Global) -> Result<Kind> {
+pub fn numbers(alloc: Global) -> Result<Kind> {
     let (unit, least) = both(text(alloc, "mg/L"), least(alloc))?;
     Ok(Kind::Number {
         unit,
@@ -27,7 +27,7 @@ pub(crate) fn numbers(alloc: Global) -> Result<Kind> {
 }
 
 /// The names of colours.
-pub(crate) fn colours(alloc: Global) -> Result<Choices> {
+pub fn colours(alloc: Global) -> Result<Choices> {
     let mut names = Vec::new(alloc);
     for colour in &COLOURS {
         add_name(alloc, &mut names, colour)?;
@@ -41,7 +41,7 @@ fn add_name(alloc: Global, names: &mut Vec<Name>, name: &str) -> Result<()> {
 }
 
 /// A field of numbers, labelled by its key.
-pub(crate) fn field(alloc: Global, key: &str) -> Result<Field> {
+pub fn field(alloc: Global, key: &str) -> Result<Field> {
     let labelled = both(text(alloc, key), text(alloc, key));
     let ((key, label), kind) = both(labelled, numbers(alloc))?;
     Ok(Field {
@@ -53,7 +53,7 @@ pub(crate) fn field(alloc: Global, key: &str) -> Result<Field> {
 }
 
 /// A form of a field of numbers for each key.
-pub(crate) fn form(alloc: Global, keys: &[&str]) -> Result<Form> {
+pub fn form(alloc: Global, keys: &[&str]) -> Result<Form> {
     let mut fields = Vec::new(alloc);
     for key in keys {
         add_field(alloc, &mut fields, key)?;

@@ -1,10 +1,10 @@
 //! The calls on versions and seals that take memory. Each has its arguments made for it alone, so that running out of
 //! memory stops one call and no other.
 
-use crate::results::{both, made_of, print_made, print_word, text};
-use crate::versions::{text_of, version, version_text};
+use crate::results::{print_made, print_word};
 use anyhow::{Context, Result};
 use lab_names::{Moment, Ordinal};
+use lab_samples::{both, made_of, text, text_of, version, version_text};
 use lab_seal::{Amendment, Meaning, Origin, SealParts, VersionParts, digest, read_version};
 use std::alloc::Global;
 use std::io::{self, Print};
