@@ -47,9 +47,9 @@ PASSWORDS = {code: password for code, _, password in FOUNDERS}
 # What each of them is for, and the function that has its text.
 SOURCES = {
     "the laboratory": "lab_reading/labs lab_rows",
-    "the codes of its persons, to count them": "lab_person_rows/persons all_code_rows",
+    "the codes of its persons, to count them": "lab_accounts/persons all_code_rows",
     "the session of the token, with its person's code": "lab_sessions/sessions session_rows",
-    "a person": "lab_person_rows/persons person_rows",
+    "a person": "lab_accounts/persons person_rows",
     "the record": "lab_reading/records record_rows",
     "its form": "lab_form_versions/forms form_rows",
     "the form's fields": "lab_form_versions/fields field_rows",

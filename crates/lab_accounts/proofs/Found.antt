@@ -7,16 +7,48 @@ use Rattle.sqlite_keyed.proofs.ListLemmas.{slice_get-filter, map-map, map_same}
 use Rattle.lab_access.specs.declared.persons.Person.{Person}
 use Rattle.lab_access.specs.Persons.{person_of}
 use Rattle.lab_tables.specs.Rows.{PersonRow, Tables}
+use Rattle.lab_tables.specs.Columns.{password_in}
 use Rattle.lab_tables.specs.WellKept.{IsWellKept}
 use Rattle.lab_tables.specs.Changes.{is_person}
 use Rattle.lab_tables.specs.Meaning.{person_in, persons_of, by_code}
 use Rattle.lab_columns.proofs.Finds.{found_alone}
-use Rattle.lab_person_rows.proofs.Found.{person_back}
-use Rattle.lab_person_rows.specs.Heads.{ask_head, person_head, person_heads_of}
-use Rattle.lab_accounts.specs.Heads.{ask_by, person_by}
-use Rattle.lab_person_rows.specs.Shown.{person_shown, person_shown_by, all_codes_shown, person_read}
-use Rattle.lab_person_rows.proofs.Keys.{persons_apart}
+use Rattle.lab_accounts.specs.Heads.{ask_head, person_head, person_heads_of, ask_by, person_by}
+use Rattle.lab_accounts.specs.Shown.{person_shown, person_shown_by, persons_shown, all_codes_shown, person_read, password_cells, ask_cells}
+use Rattle.lab_accounts.proofs.Keys.{persons_apart}
 use Rattle.lab_columns.proofs.Lists.{alone_texts}
+use Rattle.lab_columns.proofs.Found.{flag_back, number_back, blob_back, id_back}
+
+password_back : (one : PersonRow) → password_cells (person_shown one) ≡ one.password
+password_back one = λ i. record {
+  kind = one.password.kind;
+  salt = blob_back one.password.salt i;
+  rounds = number_back one.password.rounds i;
+  bytes = blob_back one.password.bytes i;
+  salt2 = blob_back one.password.salt2 i;
+  rounds2 = number_back one.password.rounds2 i;
+  bytes2 = blob_back one.password.bytes2 i;
+  changed = number_back one.password.changed i;
+}
+
+ask_back : (one : PersonRow) → ask_cells (person_shown one) ≡ one.ask
+ask_back one = λ i. record {
+  asker = id_back one.ask.asker i;
+  asked = number_back one.ask.asked i;
+  salt = blob_back one.ask.salt i;
+  rounds = number_back one.ask.rounds i;
+  bytes = blob_back one.ask.bytes i;
+}
+
+person_back : (one : PersonRow) → person_read (person_shown one) ≡ person_head one
+person_back one = λ i. record (person_head one) {
+  retired = flag_back one.retired i;
+  locked = number_back one.locked i;
+  password = password_in (password_back one i);
+  ask = ask_head (ask_back one i);
+}
+
+pub persons_found : (t : Tables) (lab : ℤ) → map person_read (persons_shown t lab) ≡ person_heads_of t lab
+persons_found t lab = map-map person_read person_shown _ ∙ map_same _ _ person_back _
 
 person_built : (t : Tables) (one : PersonRow) → person_by t (person_head one) ≡ person_in t one
 person_built t one = λ i. record (person_in t one) { ask = go one.ask.asker i }

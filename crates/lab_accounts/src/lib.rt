@@ -2,6 +2,10 @@
 //! and with which authority). Nothing is written.
 #![tactic(auto)]
 
+mod cells;
+mod heads;
+mod passwords;
 mod persons;
 
+pub use heads::{AskHead, PersonHead};
 pub use persons::{person_at, person_count, persons_at};

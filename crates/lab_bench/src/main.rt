@@ -2,13 +2,8 @@
 //! a version has so many rows, and else 200. It prints what the calls computed, and never a time.
 #![tactic(auto)]
 
-mod growths;
 mod moments;
 mod openings;
-mod person_growths;
-mod record_growths;
-mod results;
-mod samples;
 mod values;
 mod versions;
 mod workload;

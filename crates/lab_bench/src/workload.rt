@@ -1,9 +1,9 @@
-use crate::growths::print_growths;
 use crate::moments::{parse_moments, print_moments};
 use crate::openings::{open_sessions, stretch_passwords};
 use crate::values::read_values;
-use crate::versions::{digest_versions, read_versions, stretch, version_text, write_versions};
+use crate::versions::{digest_versions, read_versions, stretch, write_versions};
 use anyhow::Result;
+use lab_samples::version_text;
 use std::alloc::Global;
 use std::io::Print;
 
@@ -28,8 +28,6 @@ pub enum Workload {
     StretchPasswords,
     /// Rounds of `pbkdf2`, instead of calls.
     Rounds,
-    /// Each call that takes memory.
-    Growths,
     /// The text of a version, whatever the number.
     VersionText,
 }
@@ -48,12 +46,11 @@ impl Workload {
             "stretch-passwords" => Some(Workload::StretchPasswords),
             "rounds" => Some(Workload::Rounds),
             "version-text" => Some(Workload::VersionText),
-            "growths" => Some(Workload::Growths),
             _ => None,
         }
     }
 
-    /// Makes so many calls, and prints a sum of what they computed, or what each gave.
+    /// Makes so many calls, and prints a sum of what they computed.
     pub(crate) fn run(self, rt: &impl Print, alloc: Global, calls: u32, rows: u32) -> Result<()> {
         match self {
             Workload::ParseMoments => print_sum(rt, Ok(parse_moments(calls))),
@@ -65,7 +62,6 @@ impl Workload {
             Workload::OpenSessions => print_sum(rt, open_sessions(alloc, calls)),
             Workload::StretchPasswords => print_sum(rt, Ok(stretch_passwords(calls))),
             Workload::Rounds => print_stretched(rt, alloc, calls),
-            Workload::Growths => Ok(print_growths(rt, alloc, calls)?),
             Workload::VersionText => print_version(rt, alloc, rows),
         }
     }

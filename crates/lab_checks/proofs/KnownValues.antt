@@ -1,6 +1,6 @@
 -- Values from outside, so that a wrong rule in the definitions does not check: texts as Python's csv reads them, what is found
 -- of copies, and the fault of a row that wasn't read.
-use Rattle.std.proofs.Common.{◌≡◌, refl, ℕ, true, false, List, [], ◌∷◌, ◌++◌, Option, Some, None, Ok, Err}
+use Rattle.std.proofs.Common.{◌≡◌, refl, ℕ, List, [], ◌∷◌, ◌++◌, Ok, Err}
 use Rattle.std.specs.Prelude.{codes}
 use Rattle.std.specs.Fmt.{digits}
 use Rattle.std.specs.Str.{is_utf8, chars}
@@ -12,24 +12,12 @@ use Rattle.lab_names.specs.Moment.{moment_of, moment_text}
 use Rattle.lab_names.specs.Names.{is_lab_code, is_person_code, is_key, is_name, is_note, is_unit}
 use Rattle.lab_names.specs.declared.faults.OutOfMemory.{OutOfMemory}
 use Rattle.lab_items.specs.Reading.{number_of}
-use Rattle.lab_versions.specs.declared.versions.Format.TheVariants as format
-use Rattle.lab_seal.specs.declared.seals.Meaning.TheVariants.{Authorship}
-use Rattle.lab_seal.specs.declared.states.State.TheVariants.{Signed}
 use Rattle.lab_rows.specs.Copies.{last_told, verdict, verdict_after, flaw_of_line, flaw_at_end, flaw_of_signature, flaw_of_last_version, is_in_place}
 use Rattle.lab_rows.specs.Reading.{line_of, copy_line, record_line, version_line, entry_line, signature_line, end_line}
-use Rattle.lab_rows.specs.declared.flaws.Flaw.{Flaw}
-use Rattle.lab_rows.specs.declared.flaws.Flaw.TheVariants.{BadRow, Digest, NoEnd, OnePerson}
-use Rattle.lab_rows.specs.declared.lines.Counts.{Counts}
-use Rattle.lab_rows.specs.declared.lines.Edition.TheVariants as edition
-use Rattle.lab_rows.specs.declared.lines.Line.{Line}
-use Rattle.lab_rows.specs.declared.lines.Line.TheVariants as line
-use Rattle.lab_rows.specs.declared.lines.SignatureLine.{SignatureLine}
+use Rattle.lab_rows.specs.declared.flaws.Flaw.TheVariants.{BadRow, NoEnd}
 use Rattle.lab_lines.specs.declared.faults.RowFault.TheVariants as row_fault
-use Rattle.lab_checks_versions.specs.Faults.{IsAnswer, fault_number, fault_word}
 use Rattle.lab_checks.specs.Checks.{fault_at, rows_of}
-use Rattle.lab_checks_lines.specs.Kept.{flaw_of_signature_kept, is_in_place_kept, kept_none, kept_of, kept_with, verdict_kept}
-use Rattle.lab_checks_versions.specs.declared.faults.CheckFault.TheVariants.{Flawed, Read, Memory}
-use Rattle.lab_checks_lines.specs.declared.kept.Kept.{Kept}
+use Rattle.lab_checks_versions.specs.declared.faults.CheckFault.TheVariants.{Flawed, Memory}
 
 -- a byte order mark in front, lines that end in CR LF, LF, CR or with the text, an empty line, and quotes where none are needed
 pub known_rows : rows_of (0xEF ∷ 0xBB ∷ 0xBF ∷ codes "kind,lab\r\n\"entry\",\"a, \"\"b\"\"\nc\"\n\n,\rend,aqua")

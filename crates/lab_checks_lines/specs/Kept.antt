@@ -1,12 +1,12 @@
 -- What a check keeps of the lines that came, and what it tells by that alone. What the lines
 -- themselves show is said in lab_rows, `Copies.antt`; `IsAt` ties the two.
-use Rattle.std.specs.Prelude.{◌≡◌, ◌⊎◌, ℕ, ◌+◌, Bool, true, false, not, ◌&&◌, nat_le, if◌then◌else◌, List, [], ◌∷◌, ◌++◌, length, Option, Some, None, option_map, Result, Ok, Err, unwrap_or}
+use Rattle.std.specs.Prelude.{◌≡◌, ◌⊎◌, ℕ, ◌+◌, Bool, true, false, not, ◌&&◌, if◌then◌else◌, List, [], ◌∷◌, ◌++◌, length, Option, Some, None, option_map, Result, Ok, Err, unwrap_or}
 use Rattle.std.specs.List.{before_last}
 use Rattle.std.specs.Str.{bytes_eq}
 use Rattle.lab_versions.specs.Origins.{AmendsUnlessFirst}
 use Rattle.lab_items.specs.Reading.{◌>>=◌}
 use Rattle.lab_seal.specs.Seals.{seal_of}
-use Rattle.lab_rows.specs.Copies.{Told, lab_of, was_asked, is_later_record, is_first_version, are_same_counts, is_some_and, is_none_or, is_of_version, is_version, last_of, last_record, last_told, counts_of, flaw_of_line, edition_of}
+use Rattle.lab_rows.specs.Copies.{Told, lab_of, was_asked, is_later_record, is_first_version, are_same_counts, is_some_and, is_none_or, is_of_version, is_version, last_of, last_record, last_told, counts_of, flaw_of_line}
 use Rattle.lab_rows.specs.declared.flaws.Flaw.{Flaw}
 use Rattle.lab_rows.specs.declared.flaws.Flaw.TheVariants as flaw
 use Rattle.lab_rows.specs.declared.lines.CopyLine.{CopyLine}
@@ -18,6 +18,7 @@ use Rattle.lab_rows.specs.declared.lines.Line.TheVariants.{Copy, Record, Version
 use Rattle.lab_rows.specs.declared.lines.RecordLine.{RecordLine}
 use Rattle.lab_rows.specs.declared.lines.SignatureLine.{SignatureLine}
 use Rattle.lab_rows.specs.declared.lines.VersionLine.{VersionLine}
+use Rattle.lab_checks_places.specs.Places.{counts_with, is_first_line}
 use Rattle.lab_checks_versions.specs.Hands.{hand_of, amendment_behind, begun, with_entry, with_signature, has_numbers, is_next, flaw_of_hand}
 use Rattle.lab_checks_versions.specs.declared.hands.VersionAtHand.{VersionAtHand}
 use Rattle.lab_checks_versions.specs.declared.faults.CheckFault.{CheckFault}
@@ -48,11 +49,6 @@ has_kept_numbers copy kept (End line) = are_same_counts kept.counts line.counts
 
 abbrev pub may_come : Option Kind → Line → Bool
 may_come last line = is_some_and (λ one. may_come_after one (kind_of line)) last
-
--- the first line is a copy row, with a range that is none backwards
-abbrev pub is_first_line : Line → Bool
-is_first_line (Copy line) = nat_le line.from line.to
-is_first_line _ = false
 
 abbrev pub is_in_place_by : Option CopyLine → Kept → Line → Bool
 is_in_place_by None kept line = is_first_line line
@@ -89,13 +85,6 @@ hand_begun row kept line = option_map (λ about. begun row about kept.version li
 abbrev pub MayBegin : Option VersionAtHand → Line → Type 0
 MayBegin version (Version line) = AmendsUnlessFirst line.number (amendment_behind version line)
 MayBegin version _ = Unit {0}
-
-abbrev pub counts_with : Line → Counts → Counts
-counts_with (Record _) counts = record counts { records = counts.records + 1 }
-counts_with (Version _) counts = record counts { versions = counts.versions + 1 }
-counts_with (Entry _) counts = record counts { entries = counts.entries + 1 }
-counts_with (Signature _) counts = record counts { signatures = counts.signatures + 1 }
-counts_with _ counts = counts
 
 abbrev pub copy_with : Line → Option CopyLine → Option CopyLine
 copy_with (Copy line) copy = Some line

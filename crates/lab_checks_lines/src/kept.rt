@@ -1,21 +1,24 @@
 //! What is kept of the lines so far, and what it tells of the next one.
-ghost use Rattle.std.specs.Prelude.{◌≡◌, ◌+◌, List, None, Some, IfOk, IfErr, OnOk, length, option_map};
+ghost use Rattle.std.specs.Prelude.{◌≡◌, ◌+◌, List, None, Some, IfErr, OnOk, length, option_map};
 ghost use Rattle.std.specs.Str.{bytes_eq};
 ghost use Rattle.lab_versions.specs.Origins.{AmendsUnlessFirst};
-ghost use Rattle.lab_rows.specs.Copies.{lab_of, was_asked, is_first_version, are_same_counts, is_some_and};
+ghost use Rattle.lab_rows.specs.Copies.{is_first_version, is_some_and};
 ghost use Rattle.lab_rows.specs.declared.lines.Line.{Line};
 ghost use Rattle.lab_checks_versions.specs.Faults.{IsAnswer, IsNoFlaw, IsShown};
 ghost use Rattle.lab_lines.specs.Fields.{IsReasoned};
 ghost use Rattle.lab_checks_versions.specs.Hands.{amendment_behind, begun, has_numbers, with_entry, with_signature};
-ghost use Rattle.lab_checks_lines.specs.Kept.{IsAt, IsTaken, MayBegin, counts_with, edition_by, flaw_kept, flaw_of_signature_kept, flaw_of_version_kept, has_kept_numbers, is_first_line, is_in_place_kept, is_next_record, is_version_behind, kept_none, kept_with, may_come, verdict_kept, with_parts};
+ghost use Rattle.lab_checks_lines.specs.Kept.{IsAt, IsTaken, MayBegin, edition_by, flaw_kept, flaw_of_signature_kept, flaw_of_version_kept, has_kept_numbers, is_in_place_kept, is_next_record, is_version_behind, kept_none, kept_with, may_come, verdict_kept, with_parts};
 ghost use Rattle.lab_checks_versions.specs.declared.hands.VersionAtHand.{VersionAtHand};
 ghost use Rattle.lab_lines.specs.Kinds.{is_end_kind};
 
-use lab_checks_versions::{CheckFault, VersionAtHand};
+use lab_checks_places::{
+    are_same_counts, counts_with, is_first_line, is_first_version, lab_of, was_asked,
+};
+use lab_checks_versions::{CheckFault, VersionAtHand, begin, enter, sign};
 use lab_lines::Kind;
 use lab_rows::{
-    CopyLine, Counts, Digest, Edition, EntryLine, EntryRow, Flaw, LabCode, Line, Meaning, Ordinal,
-    OutOfMemory, PersonCode, RecordLine, SignatureLine, VersionLine,
+    CopyLine, Counts, Digest, Edition, EntryLine, Flaw, Line, Ordinal, OutOfMemory, RecordLine,
+    SignatureLine, VersionLine,
 };
 use lab_seal::seal;
 use std::alloc::Global;
@@ -301,135 +304,5 @@ impl Kept {
     {
         let parts = line.parts;
         sign(&mut self.version, parts.person, parts.meaning)
-    }
-}
-
-// The version that begins in the row, where a record's row came.
-fn begin(
-    alloc: Global,
-    row: u64,
-    about: &Option<RecordLine>,
-    before: &Option<VersionAtHand>,
-    line: VersionLine,
-) -> Result<Option<VersionAtHand>, OutOfMemory>
-    requires { AmendsUnlessFirst line.number (amendment_behind before.now line) }
-    ensures { IfOk result (λ version. version
-        ≡ option_map (λ about. begun row about before.now line) about.now) }
-{
-    match about {
-        Some(about) => Ok(Some(VersionAtHand::begin(alloc, row, about, before, line)?)),
-        None => Ok(None),
-    }
-}
-
-// Keeps an entry of the version at hand, where there is one.
-fn enter(
-    version: &mut Option<VersionAtHand>,
-    alloc: Global,
-    row: EntryRow,
-) -> Result<(), OutOfMemory>
-    ensures { OnOk result (version.new ≡ option_map (with_entry row) version.old) }
-{
-    match version {
-        Some(version) => version.enter(alloc, row),
-        None => Ok(()),
-    }
-}
-
-// Keeps a signature of the version at hand, where there is one.
-fn sign(
-    version: &mut Option<VersionAtHand>,
-    person: PersonCode,
-    meaning: Meaning,
-) -> Result<(), OutOfMemory>
-    ensures { OnOk result (version.new ≡ option_map (with_signature person meaning) version.old) }
-{
-    match version {
-        Some(version) => version.sign(person, meaning),
-        None => Ok(()),
-    }
-}
-
-// The laboratory of a line.
-fn lab_of(line: &Line) -> &LabCode
-    ensures { result.now ≡ lab_of line.now }
-{
-    match line {
-        Line::Copy(line) => &line.lab,
-        Line::Record(line) => &line.lab,
-        Line::Version(line) => &line.lab,
-        Line::Entry(line) => &line.lab,
-        Line::Signature(line) => &line.parts.lab,
-        Line::End(line) => &line.lab,
-    }
-}
-
-// Whether the line may be the first.
-fn is_first_line(line: &Line) -> bool
-    ensures { result ≡ is_first_line line.now }
-{
-    match line {
-        Line::Copy(line) => line.from.get() <= line.to.get(),
-        Line::Record(_) | Line::Version(_) | Line::Entry(_) | Line::Signature(_) | Line::End(_) =>
-            false,
-    }
-}
-
-// Whether the record was asked for.
-fn was_asked(copy: &CopyLine, line: &RecordLine) -> bool
-    ensures { result ≡ was_asked copy.now line.now }
-{
-    let number = line.record_number.get();
-    copy.from.get() <= number && number <= copy.to.get()
-}
-
-fn is_first_version(line: &VersionLine, about: &RecordLine) -> bool
-    ensures { result ≡ is_first_version line.now about.now }
-{
-    line.record_number == about.record_number && line.number == Ordinal::FIRST
-}
-
-fn are_same_counts(counts: &Counts, told: &Counts) -> bool
-    ensures { result ≡ are_same_counts counts.now told.now }
-{
-    counts.records == told.records
-        && counts.versions == told.versions
-        && counts.entries == told.entries
-        && counts.signatures == told.signatures
-}
-
-// The numbers of lines after the line. Where they don't fit, there are more rows than any copy has.
-fn counts_with(line: &Line, counts: Counts) -> Result<Counts, CheckFault>
-    ensures value { IfOk result (λ more. more ≡ counts_with line.now counts) }
-    ensures fault { IfErr result IsNoFlaw }
-{
-    match line {
-        Line::Record(_) => Ok(Counts {
-            records: one_more(counts.records)?,
-            ..counts
-        }),
-        Line::Version(_) => Ok(Counts {
-            versions: one_more(counts.versions)?,
-            ..counts
-        }),
-        Line::Entry(_) => Ok(Counts {
-            entries: one_more(counts.entries)?,
-            ..counts
-        }),
-        Line::Signature(_) => Ok(Counts {
-            signatures: one_more(counts.signatures)?,
-            ..counts
-        }),
-        Line::Copy(_) | Line::End(_) => Ok(counts),
-    }
-}
-
-fn one_more(count: u64) -> Result<u64, CheckFault>
-    ensures value { IfOk result (λ more. more ≡ count + 1) }
-    ensures fault { IfErr result IsNoFlaw }
-{
-    match count.checked_add(1) {
-        Some(more) => Ok(more),
-        None => Err(CheckFault::Read),
     }
 }

@@ -162,6 +162,52 @@ impl VersionAtHand {
     }
 }
 
+/// The version that begins in the row, where a record's row came.
+pub fn begin(
+    alloc: Global,
+    row: u64,
+    about: &Option<RecordLine>,
+    before: &Option<VersionAtHand>,
+    line: VersionLine,
+) -> Result<Option<VersionAtHand>, OutOfMemory>
+    requires { AmendsUnlessFirst line.number (amendment_behind before.now line) }
+    ensures { IfOk result (λ version. version
+        ≡ option_map (λ about. begun row about before.now line) about.now) }
+{
+    match about {
+        Some(about) => Ok(Some(VersionAtHand::begin(alloc, row, about, before, line)?)),
+        None => Ok(None),
+    }
+}
+
+/// Keeps an entry of the version at hand, where there is one.
+pub fn enter(
+    version: &mut Option<VersionAtHand>,
+    alloc: Global,
+    row: EntryRow,
+) -> Result<(), OutOfMemory>
+    ensures { OnOk result (version.new ≡ option_map (with_entry row) version.old) }
+{
+    match version {
+        Some(version) => version.enter(alloc, row),
+        None => Ok(()),
+    }
+}
+
+/// Keeps a signature of the version at hand, where there is one.
+pub fn sign(
+    version: &mut Option<VersionAtHand>,
+    person: PersonCode,
+    meaning: Meaning,
+) -> Result<(), OutOfMemory>
+    ensures { OnOk result (version.new ≡ option_map (with_signature person meaning) version.old) }
+{
+    match version {
+        Some(version) => version.sign(person, meaning),
+        None => Ok(()),
+    }
+}
+
 // Whether one of the rows is the person's.
 fn has_row_of(rows: &[EntryRow], person: &PersonCode) -> bool
     ensures { result ≡ list_any (λ (row : EntryRow). bytes_eq person.now row.person) rows.now }

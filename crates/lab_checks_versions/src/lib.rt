@@ -6,5 +6,5 @@ mod faults;
 mod hands;
 
 pub use faults::CheckFault;
-pub use hands::VersionAtHand;
+pub use hands::{VersionAtHand, begin, enter, sign};
 pub use lab_rows::{Flaw, OutOfMemory};

@@ -14,7 +14,7 @@ fn clear_names<H: Abort + AllocGlobal>(rt: &H) -> Vec<Name> {
 fn choices_give_their_names_back(rt: HostRuntime) {
     let names = clear_names(&rt);
     let choices = Choices::new(clear_names(&rt));
-    assert_eq!(rt; choices.names(), names.as_slice());
+    assert!(rt; choices.names() == names.as_slice());
     assert_equal(&rt, choices.into_names(), names);
 }
 
@@ -70,7 +70,7 @@ fn forms_differ_where_one_text_does(rt: HostRuntime) {
         ("one", "0", true, false),
     ] {
         let found = is_equal(&form, amounts(&rt, key, min, approval));
-        assert_eq!(rt; found, is_same, "{key} {min} {approval}");
+        assert!(rt; found == is_same);
     }
     drop(form);
 }
@@ -80,7 +80,7 @@ fn forms_differ_where_the_order_of_choices_does(rt: HostRuntime) {
     let kind = choice(&rt, "ab");
     for (letters, is_same) in [("ab", true), ("ba", false), ("abc", false)] {
         let found = is_equal(&kind, choice(&rt, letters));
-        assert_eq!(rt; found, is_same, "{letters}");
+        assert!(rt; found == is_same);
     }
     drop(kind);
 }

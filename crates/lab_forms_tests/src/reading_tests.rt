@@ -6,7 +6,7 @@ use std::process::Abort;
 
 fn assert_read<H: Abort + AllocGlobal>(rt: &H, form: &Form, text: &str, unit: &str) {
     let value = answer(rt, form, "one", text, unit).expect(rt, text);
-    assert_eq!(rt; value.print(), text);
+    assert!(rt; value.print() == text);
     drop(value);
 }
 
@@ -18,7 +18,7 @@ fn assert_refused<H: Abort + AllocGlobal>(
     refusal: FormRefusal,
 ) {
     let fault = answer(rt, form, "one", text, unit).expect_err(rt, text);
-    assert_eq!(rt; fault, FormFault::Refused(refusal), "{text}");
+    assert!(rt; fault == FormFault::Refused(refusal));
 }
 
 /// Asserts what a form with a field `one` of this kind answers to texts and units: the text as its value, or a refusal.
@@ -93,7 +93,7 @@ fn a_form_has_no_field_of_another_key(rt: HostRuntime) {
     let form = Form::make(many(&rt, 1), false).expect(&rt, "a form");
     let fault = answer(&rt, &form, "iron", "x", "mg/l").expect_err(&rt, "no field");
     drop(form);
-    assert_eq!(rt; fault, FormFault::Refused(NoSuchField));
+    assert!(rt; fault == FormFault::Refused(NoSuchField));
 }
 
 #[test]

@@ -1,6 +1,6 @@
 //! One column of a row, as the type that stands in it. What is none of that type is a fault of the store.
 
-ghost use Rattle.std.specs.Prelude.{◌≡◌, IfOk};
+ghost use Rattle.std.specs.Prelude.{◌≡◌, ℤ, IfOk};
 ghost use Rattle.sqlite_value.specs.Order.{column};
 ghost use Rattle.lab_tables.specs.Rows.{number_in};
 

@@ -5,7 +5,7 @@ use Rattle.std.proofs.lemmas.Cmp.{nat_cmp_total}
 use Rattle.sqlite_keyed.proofs.ListLemmas.{slice_get-filter}
 use Rattle.lab_access.specs.declared.sessions.Session.{Session}
 use Rattle.lab_access.specs.Sessions.{session_of}
-use Rattle.lab_tables.specs.Rows.{SessionRow, Tables, number}
+use Rattle.lab_tables.specs.Rows.{SessionRow, Tables}
 use Rattle.lab_tables.specs.WellKept.{IsWellKept}
 use Rattle.lab_tables.specs.Changes.{is_session}
 use Rattle.lab_tables.specs.Meaning.{session_in, sessions_of, by_session}

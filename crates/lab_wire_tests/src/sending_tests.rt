@@ -75,5 +75,5 @@ fn a_fault_says_how_many_bytes_went_out(rt: HostRuntime) {
 fn no_byte_needs_no_write(rt: HostRuntime) {
     let mut pipe = Pipe::new(rt.alloc(), 1, 1, true);
     write_reply(&mut pipe, b"").expect(&rt, "no byte to write");
-    assert_eq!(rt; pipe.writes, 0);
+    assert!(rt; pipe.writes == 0);
 }

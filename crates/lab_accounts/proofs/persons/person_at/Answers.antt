@@ -8,7 +8,7 @@ use Rattle.lab_tables.specs.Meaning.{persons_of}
 use Rattle.lab_tables.specs.Ready.{tables_of}
 use Rattle.lab_columns.proofs.Queries.{if_then}
 use Rattle.lab_accounts.specs.Heads.{person_by}
-use Rattle.lab_person_rows.specs.Shown.{person_read}
+use Rattle.lab_accounts.specs.Shown.{person_read}
 use Rattle.lab_accounts.proofs.Found.{person_found}
 use Rattle.lab_accounts.proofs.persons.person_at.Goals as goal
 
