@@ -32,13 +32,13 @@ use Rattle.lab_forms.specs.Numbers.{is_number, amount, is_unsigned_number, is_di
 use Rattle.lab_seal.specs.declared.states.State.TheVariants.{Open as IsOpen, Signed as IsSigned}
 use Rattle.lab_kept.specs.declared.needs.Slice.{Slice}
 use Rattle.lab_kept.specs.declared.changes.Change.TheVariants.{PersonAdded, PersonSet, SessionAdded, SessionSet, SessionsClosed, FormAdded, RecordAdded, RowAdded, SignatureAdded}
-use Rattle.lab_kept_records.specs.declared.records.FormVersion.{FormVersion}
-use Rattle.lab_kept_records.specs.declared.records.Record.{Record}
-use Rattle.lab_kept_records.specs.declared.records.Version.{Version}
-use Rattle.lab_kept_records.specs.declared.records.Signature.{Signature}
-use Rattle.lab_kept_trail.specs.declared.trails.Deed.TheVariants as deed
-use Rattle.lab_kept_trail.specs.declared.trails.Occasion.TheVariants as occasion
-use Rattle.lab_kept_records.specs.Digests.{digest_of}
+use Rattle.lab_kept.specs.declared.records.FormVersion.{FormVersion}
+use Rattle.lab_kept.specs.declared.records.Record.{Record}
+use Rattle.lab_kept.specs.declared.records.Version.{Version}
+use Rattle.lab_kept.specs.declared.records.Signature.{Signature}
+use Rattle.lab_kept.specs.declared.trails.Deed.TheVariants as deed
+use Rattle.lab_kept.specs.declared.trails.Occasion.TheVariants as occasion
+use Rattle.lab_kept.specs.Digests.{digest_of}
 use Rattle.lab_rules.specs.declared.items.Item.{Item}
 use Rattle.lab_rules.specs.declared.outcomes.Signing.TheVariants.{Authorship, Review}
 use Rattle.lab_rules.specs.declared.refusals.Refusal.TheVariants.{People, NoSuchForm, RecordExists, NoSuchRecord, NoSuchVersion, ReasonWanted, NothingAltered, AmendmentOpen, NotSigned, CodeWanted}

@@ -6,7 +6,7 @@ use Rattle.std.proofs.lemmas.Bool.Decides.{Decides-ltb}
 use Rattle.std.proofs.lemmas.Bool.{le-leb}
 use Rattle.std.proofs.lemmas.List.Elements.{All-head, All-tail, filter_map-append}
 use Rattle.lab_kept.specs.declared.labs.Lab.{Lab}
-use Rattle.lab_kept_records.specs.declared.records.Record.{Record as KeptRecord}
+use Rattle.lab_kept.specs.declared.records.Record.{Record as KeptRecord}
 use Rattle.lab_kept.specs.Bound.{IsBound, IsBoundRecord}
 use Rattle.lab_kept.specs.Dual.{IsDual, IsDualRecord}
 use Rattle.lab_kept.specs.Limits.{IsWithin, AreNumberedAfter, IsOrderly}

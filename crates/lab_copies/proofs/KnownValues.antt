@@ -6,8 +6,8 @@ use Rattle.std.specs.Fmt.{digits}
 use Rattle.lab_names.specs.Calendar.{span_of, place_of, place_in_year, year_of, month_of, day_of_month, hour_of, minute_of, second_of}
 use Rattle.lab_names.specs.Moment.{moment_text}
 use Rattle.lab_versions.specs.declared.rows.EntryRow.{EntryRow}
-use Rattle.lab_kept_records.specs.declared.records.Record.{Record}
-use Rattle.lab_kept_records.specs.declared.records.Version.{Version}
+use Rattle.lab_kept.specs.declared.records.Record.{Record}
+use Rattle.lab_kept.specs.declared.records.Version.{Version}
 use Rattle.lab_rows.specs.declared.lines.Line.TheVariants as line
 use Rattle.lab_copies.specs.declared.orders.CopyOrder.{CopyOrder}
 use Rattle.lab_copies.specs.CopyLines.{copy_rows, counts_in, entry_line, fields_of_line, record_line}

@@ -5,9 +5,9 @@ use Rattle.std.specs.List.{flat_map, filter_map}
 use Rattle.std.proofs.lemmas.Grind.{flat_map-append}
 use Rattle.std.proofs.lemmas.List.{map-append, take_more, append-nil}
 use Rattle.lab_versions.specs.declared.rows.EntryRow.{EntryRow}
-use Rattle.lab_kept_records.specs.declared.records.Record.{Record}
-use Rattle.lab_kept_records.specs.declared.records.Version.{Version}
-use Rattle.lab_kept_records.specs.declared.records.Signature.{Signature}
+use Rattle.lab_kept.specs.declared.records.Record.{Record}
+use Rattle.lab_kept.specs.declared.records.Version.{Version}
+use Rattle.lab_kept.specs.declared.records.Signature.{Signature}
 use Rattle.lab_rows.specs.Copies.{counts_of, record_in, version_in, entry_in, signature_in}
 use Rattle.lab_rows.specs.Rows.{fields_in, header_row, copy_row, end_row, entry_row, signature_row}
 use Rattle.lab_rows.specs.declared.lines.Counts.{Counts}

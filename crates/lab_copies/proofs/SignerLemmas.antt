@@ -7,10 +7,10 @@ use Rattle.std.proofs.lemmas.List.Elements.{All-head, All-tail}
 use Rattle.std.proofs.lemmas.Bool.{false≢true}
 use Rattle.std.proofs.lemmas.Slice.Eq.{bytes_eq-Decides}
 use Rattle.lab_versions.specs.declared.rows.EntryRow.{EntryRow}
-use Rattle.lab_kept_records.specs.declared.records.Version.{Version}
-use Rattle.lab_kept_records.specs.declared.records.Signature.{Signature}
+use Rattle.lab_kept.specs.declared.records.Version.{Version}
+use Rattle.lab_kept.specs.declared.records.Signature.{Signature}
 use Rattle.lab_kept.specs.Dual.{AreSigners, EnteredNone}
-use Rattle.lab_kept_records.specs.Values.{has_entered, is_by}
+use Rattle.lab_kept.specs.Values.{has_entered, is_by}
 use Rattle.lab_rows.specs.Copies.{are_different_persons}
 use Rattle.lab_copies.proofs.PlaceLemmas.{both}
 

@@ -13,13 +13,13 @@ use Rattle.lab_versions.specs.declared.versions.Format.TheVariants as format
 use Rattle.lab_seal.specs.States.{state_of, state_word}
 use Rattle.lab_seal.specs.declared.states.State.{State}
 use Rattle.lab_seal.specs.declared.states.State.TheVariants.{Open}
-use Rattle.lab_kept_records.specs.declared.records.Record.{Record as KeptRecord}
-use Rattle.lab_kept_records.specs.declared.records.Version.{Version as KeptVersion}
-use Rattle.lab_kept_records.specs.declared.records.Signature.{Signature as KeptSignature}
+use Rattle.lab_kept.specs.declared.records.Record.{Record as KeptRecord}
+use Rattle.lab_kept.specs.declared.records.Version.{Version as KeptVersion}
+use Rattle.lab_kept.specs.declared.records.Signature.{Signature as KeptSignature}
 use Rattle.lab_kept.specs.Bound.{IsBoundTo, IsSealed}
-use Rattle.lab_kept_records.specs.Digests.{digest_of, previous_of, parts_of}
+use Rattle.lab_kept.specs.Digests.{digest_of, previous_of, parts_of}
 use Rattle.lab_kept.specs.Dual.{SaysOfApproval, IsSignedDually}
-use Rattle.lab_kept_records.specs.Values.{version_state, meaning_of}
+use Rattle.lab_kept.specs.Values.{version_state, meaning_of}
 use Rattle.lab_rows.specs.Copies.{Told, AreFlawless, may_follow, is_some_and, is_of_version, is_version, is_state, wants_approval, last_of, last_record, last_version, last_told, is_in_place, amendment_told, parts_told, are_different_persons, has_its_digest, has_signatures_of_state, has_different_persons, flaw_of_version, flaw_of_last_version, flaw_of_line}
 use Rattle.lab_rows.specs.declared.flaws.Flaw.{Flaw}
 use Rattle.lab_rows.specs.declared.flaws.Flaw.TheVariants as flaw

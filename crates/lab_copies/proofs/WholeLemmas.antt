@@ -9,14 +9,14 @@ use Rattle.lab_items.specs.Reading.{◌>>=◌}
 use Rattle.lab_seal.specs.States.{is_settled}
 use Rattle.lab_seal.specs.declared.states.State.{State}
 use Rattle.lab_seal.specs.declared.states.State.TheVariants.{Open}
-use Rattle.lab_kept_records.specs.declared.records.Record.{Record as KeptRecord}
-use Rattle.lab_kept_records.specs.declared.records.Version.{Version as KeptVersion}
+use Rattle.lab_kept.specs.declared.records.Record.{Record as KeptRecord}
+use Rattle.lab_kept.specs.declared.records.Version.{Version as KeptVersion}
 use Rattle.lab_kept.specs.Bound.{IsSealed, IsChain, IsBoundRecord}
-use Rattle.lab_kept_records.specs.Digests.{digest_of, previous_of}
+use Rattle.lab_kept.specs.Digests.{digest_of, previous_of}
 use Rattle.lab_kept.specs.Dual.{IsSignedDually, IsSettled, AreSettledButLast, IsDualRecord}
 use Rattle.lab_kept.specs.Limits.{AreNumberedAfter, IsOrderly}
 use Rattle.lab_kept.specs.Lookups.{is_within, records_within}
-use Rattle.lab_kept_records.specs.Values.{version_state}
+use Rattle.lab_kept.specs.Values.{version_state}
 use Rattle.lab_rows.specs.Copies.{AreFlawless, may_follow, is_some_and, is_none_or, is_of_version, is_later_record, is_first_version, is_next_version, is_version_after, has_its_numbers, is_version, last_of, last_record, last_version, last_told, flaw_of_version, counts_of, are_same_counts, record_in, version_in, entry_in, signature_in, is_in_place, flaw_of_last_version, flaw_of_line}
 use Rattle.lab_rows.specs.declared.flaws.Flaw.TheVariants as flaw
 use Rattle.lab_rows.specs.declared.lines.CopyLine.{CopyLine}

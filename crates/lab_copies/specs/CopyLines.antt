@@ -6,13 +6,13 @@ use Rattle.std.specs.List.{flat_map}
 use Rattle.lab_versions.specs.declared.rows.EntryRow.{EntryRow}
 use Rattle.lab_seal.specs.declared.states.State.{State}
 use Rattle.lab_seal.specs.declared.states.State.TheVariants.{Open}
-use Rattle.lab_kept_records.specs.declared.records.Record.{Record}
-use Rattle.lab_kept_records.specs.declared.records.Version.{Version}
-use Rattle.lab_kept_records.specs.declared.records.Signature.{Signature}
+use Rattle.lab_kept.specs.declared.records.Record.{Record}
+use Rattle.lab_kept.specs.declared.records.Version.{Version}
+use Rattle.lab_kept.specs.declared.records.Signature.{Signature}
 use Rattle.lab_kept.specs.declared.labs.Lab.{Lab}
-use Rattle.lab_kept_records.specs.Digests.{digest_of, sealed_parts}
+use Rattle.lab_kept.specs.Digests.{digest_of, sealed_parts}
 use Rattle.lab_kept.specs.Lookups.{records_within}
-use Rattle.lab_kept_records.specs.Values.{version_state}
+use Rattle.lab_kept.specs.Values.{version_state}
 use Rattle.lab_rows.specs.Copies.{counts_of}
 use Rattle.lab_rows.specs.Rows.{fields_in, header_row, kind_in, row_of}
 use Rattle.lab_rows.specs.declared.lines.Edition.TheVariants.{Two}

@@ -1,7 +1,7 @@
 //! The rows of one record's parts.
 ghost use Rattle.std.specs.Prelude.{◌≡◌, ◌++◌, IfOk, OnOk, map, unwrap_or, option_map};
 ghost use Rattle.lab_copies.specs.CopyLines.{entry_line, fields_of_line, reason_of, record_line, rows_of_lines, signature_line, state_shown, version_line, version_lines};
-ghost use Rattle.lab_kept_records.specs.Digests.{sealed_parts};
+ghost use Rattle.lab_kept.specs.Digests.{sealed_parts};
 ghost use Rattle.lab_rows.specs.Rows.{fields_in, entry_row, record_row as row_of_record, signature_row, version_row};
 ghost use Rattle.lab_rows.specs.declared.lines.Line.TheVariants as line;
 

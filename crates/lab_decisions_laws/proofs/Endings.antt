@@ -6,10 +6,10 @@ use Rattle.lab_access.specs.Sessions.{session_of}
 use Rattle.lab_kept.specs.declared.labs.Lab.{Lab}
 use Rattle.lab_kept.specs.declared.changes.Change.{Change}
 use Rattle.lab_kept.specs.declared.changes.Change.TheVariants.{Last}
-use Rattle.lab_kept_trail.specs.declared.trails.Deed.{Deed}
-use Rattle.lab_kept_trail.specs.declared.trails.TrailRow.{TrailRow}
+use Rattle.lab_kept.specs.declared.trails.Deed.{Deed}
+use Rattle.lab_kept.specs.declared.trails.TrailRow.{TrailRow}
 use Rattle.lab_kept.specs.Limits.{count_limit, stray_limit}
-use Rattle.lab_kept_trail.specs.Trails.{row_of}
+use Rattle.lab_kept.specs.Trails.{row_of}
 use Rattle.lab_kept.specs.Changes.{AllFit, change, changed}
 use Rattle.lab_rules.specs.declared.refusals.Refusal.TheVariants.{People}
 use Rattle.lab_machine.specs.declared.commands.Command.{Command}

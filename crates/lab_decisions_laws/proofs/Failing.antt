@@ -8,11 +8,11 @@ use Rattle.lab_access.specs.declared.refusals.Failure.TheVariants.{Counted, Lock
 use Rattle.lab_kept.specs.declared.labs.Lab.{Lab}
 use Rattle.lab_kept.specs.declared.changes.Change.{Change}
 use Rattle.lab_kept.specs.declared.changes.Change.TheVariants.{PersonSet, SessionsClosed}
-use Rattle.lab_kept_trail.specs.declared.trails.Deed.{Deed}
-use Rattle.lab_kept_trail.specs.declared.trails.Deed.TheVariants.{Refuse, Lock}
-use Rattle.lab_kept_trail.specs.declared.trails.Occasion.{Occasion}
+use Rattle.lab_kept.specs.declared.trails.Deed.{Deed}
+use Rattle.lab_kept.specs.declared.trails.Deed.TheVariants.{Refuse, Lock}
+use Rattle.lab_kept.specs.declared.trails.Occasion.{Occasion}
 use Rattle.lab_kept.specs.Limits.{count_limit, stray_limit}
-use Rattle.lab_kept_trail.specs.Trails.{row_of}
+use Rattle.lab_kept.specs.Trails.{row_of}
 use Rattle.lab_kept.specs.Changes.{IsKnown, Fits, AllFit, change, changed}
 use Rattle.lab_machine.specs.Cases.{told, noted, failed}
 use Rattle.lab_laws.proofs.FitAttempts.{FitsAttempt}

@@ -12,7 +12,7 @@ use Rattle.lab_access.specs.Sessions.{sessions_after}
 use Rattle.lab_people.specs.declared.accounts.PasswordChanged.{PasswordChanged}
 use Rattle.lab_kept.specs.declared.labs.Lab.{Lab}
 use Rattle.lab_kept.specs.declared.needs.Slice.{Slice}
-use Rattle.lab_kept_trail.specs.declared.trails.Deed.{Deed}
+use Rattle.lab_kept.specs.declared.trails.Deed.{Deed}
 use Rattle.lab_kept.specs.Changes.{changed, with_person}
 use Rattle.lab_kept.specs.Parts.{part}
 use Rattle.lab_rules.specs.declared.refusals.Refusal.{Refusal}

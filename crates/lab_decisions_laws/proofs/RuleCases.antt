@@ -8,8 +8,8 @@ use Rattle.lab_access.specs.Attempts.{signing_attempt}
 use Rattle.lab_people.specs.Accounts.{changing, enrolling, setting_roles, retiring, unlocking}
 use Rattle.lab_people.specs.Issues.{asking, confirming}
 use Rattle.lab_kept.specs.declared.labs.Lab.{Lab}
-use Rattle.lab_kept_trail.specs.declared.trails.Deed.TheVariants.{Issue as IssueDeed, Confirm as ConfirmDeed, Roles as RolesDeed, Retire as RetireDeed, Unlock as UnlockDeed}
-use Rattle.lab_kept_records.specs.Lookups.{last_form, exact_form, record_of, record_about}
+use Rattle.lab_kept.specs.declared.trails.Deed.TheVariants.{Issue as IssueDeed, Confirm as ConfirmDeed, Roles as RolesDeed, Retire as RetireDeed, Unlock as UnlockDeed}
+use Rattle.lab_kept.specs.Lookups.{last_form, exact_form, record_of, record_about}
 use Rattle.lab_kept.specs.Lookups.{person_at}
 use Rattle.lab_rules.specs.declared.outcomes.Signing.{Signing}
 use Rattle.lab_rules.specs.declared.refusals.Refusal.TheVariants.{CodeWanted}

@@ -17,7 +17,7 @@ use Rattle.lab_people.specs.Issues.{asking, confirming}
 use Rattle.lab_kept.specs.declared.labs.Lab.{Lab}
 use Rattle.lab_kept.specs.declared.changes.Change.TheVariants.{PersonSet, SessionSet}
 use Rattle.lab_kept.specs.Changes.{IsKnown, Fits, change}
-use Rattle.lab_kept_records.specs.Lookups.{last_form, exact_form, record_of, record_about}
+use Rattle.lab_kept.specs.Lookups.{last_form, exact_form, record_of, record_about}
 use Rattle.lab_kept.specs.Lookups.{person_at}
 use Rattle.lab_rules.specs.declared.outcomes.Signing.{Signing}
 use Rattle.lab_rules.specs.declared.refusals.Refusal.TheVariants.{CodeWanted}

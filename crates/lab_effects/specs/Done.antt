@@ -24,10 +24,10 @@ use Rattle.lab_copies.specs.CopyLines.{copy_rows}
 use Rattle.lab_kept.specs.declared.needs.Slice.{Slice}
 use Rattle.lab_kept.specs.declared.changes.Change.{Change}
 use Rattle.lab_kept.specs.declared.changes.Change.TheVariants.{PersonAdded, PersonSet, SessionAdded, SessionSet, SessionsClosed, FormAdded, RecordAdded, RowAdded, VersionOpened, SignatureAdded}
-use Rattle.lab_kept_records.specs.declared.records.FormVersion.{FormVersion}
-use Rattle.lab_kept_records.specs.declared.records.Record.{Record}
-use Rattle.lab_kept_trail.specs.declared.trails.Deed.TheVariants.{Open as OpenDeed, Close as CloseDeed, Password as PasswordDeed, Enrol as EnrolDeed, Issue as IssueDeed, Confirm as ConfirmDeed, Roles as RolesDeed, Retire as RetireDeed, Unlock as UnlockDeed, Form as FormDeed, Record as RecordDeed, Entry as EntryDeed, Amend as AmendDeed, Sign as SignDeed}
-use Rattle.lab_kept_trail.specs.declared.trails.Occasion.TheVariants.{Opening, Changing, Signing as AtSigning}
+use Rattle.lab_kept.specs.declared.records.FormVersion.{FormVersion}
+use Rattle.lab_kept.specs.declared.records.Record.{Record}
+use Rattle.lab_kept.specs.declared.trails.Deed.TheVariants.{Open as OpenDeed, Close as CloseDeed, Password as PasswordDeed, Enrol as EnrolDeed, Issue as IssueDeed, Confirm as ConfirmDeed, Roles as RolesDeed, Retire as RetireDeed, Unlock as UnlockDeed, Form as FormDeed, Record as RecordDeed, Entry as EntryDeed, Amend as AmendDeed, Sign as SignDeed}
+use Rattle.lab_kept.specs.declared.trails.Occasion.TheVariants.{Opening, Changing, Signing as AtSigning}
 use Rattle.lab_rules.specs.declared.outcomes.Signing.{Signing}
 use Rattle.lab_rules.specs.declared.outcomes.EntryMade.{EntryMade}
 use Rattle.lab_rules.specs.declared.outcomes.AmendmentMade.{AmendmentMade}

@@ -11,7 +11,7 @@ use Rattle.lab_access.specs.Attempts.{signing_attempt}
 use Rattle.lab_people.specs.Accounts.{changing, enrolling, setting_roles, retiring, unlocking}
 use Rattle.lab_people.specs.Issues.{asking, confirming}
 use Rattle.lab_kept.specs.declared.needs.Slice.{Slice}
-use Rattle.lab_kept_records.specs.declared.records.Record.{Record}
+use Rattle.lab_kept.specs.declared.records.Record.{Record}
 use Rattle.lab_rules.specs.declared.outcomes.Signing.{Signing}
 use Rattle.lab_rules.specs.Making.{making, opening_record}
 use Rattle.lab_entries.specs.Entering.{entering, is_table_made}

@@ -7,9 +7,9 @@ use Rattle.lab_access.specs.declared.refusals.PeopleRefusal.TheVariants.{LabFull
 use Rattle.lab_access.specs.declared.sessions.Closing.TheVariants.{All}
 use Rattle.lab_kept.specs.declared.changes.Change.{Change}
 use Rattle.lab_kept.specs.declared.changes.Change.TheVariants.{Strays, PersonSet, SessionsClosed, TrailAdded}
-use Rattle.lab_kept_trail.specs.declared.trails.Deed.TheVariants.{Open, Refuse, Lock}
-use Rattle.lab_kept_trail.specs.declared.trails.Occasion.TheVariants.{Opening}
-use Rattle.lab_kept_trail.specs.Trails.{row_of}
+use Rattle.lab_kept.specs.declared.trails.Deed.TheVariants.{Open, Refuse, Lock}
+use Rattle.lab_kept.specs.declared.trails.Occasion.TheVariants.{Opening}
+use Rattle.lab_kept.specs.Trails.{row_of}
 use Rattle.lab_rules.specs.declared.refusals.Refusal.TheVariants.{People}
 use Rattle.lab_machine.specs.declared.replies.Reply.TheVariants.{Refused, Closed}
 use Rattle.lab_endings.specs.Deciding.{failing, outcome, ended_made}

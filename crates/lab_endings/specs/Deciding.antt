@@ -12,11 +12,11 @@ use Rattle.lab_access.specs.Sessions.{touched_session}
 use Rattle.lab_kept.specs.declared.needs.Slice.{Slice}
 use Rattle.lab_kept.specs.declared.changes.Change.{Change}
 use Rattle.lab_kept.specs.declared.changes.Change.TheVariants.{Last, Strays, PersonSet, SessionSet, SessionsClosed, TrailAdded}
-use Rattle.lab_kept_trail.specs.declared.trails.Deed.{Deed}
-use Rattle.lab_kept_trail.specs.declared.trails.Deed.TheVariants.{Refuse, Lock}
-use Rattle.lab_kept_trail.specs.declared.trails.Occasion.{Occasion}
+use Rattle.lab_kept.specs.declared.trails.Deed.{Deed}
+use Rattle.lab_kept.specs.declared.trails.Deed.TheVariants.{Refuse, Lock}
+use Rattle.lab_kept.specs.declared.trails.Occasion.{Occasion}
 use Rattle.lab_kept.specs.Limits.{count_limit}
-use Rattle.lab_kept_trail.specs.Trails.{row_of}
+use Rattle.lab_kept.specs.Trails.{row_of}
 use Rattle.lab_rules.specs.declared.refusals.Refusal.TheVariants.{ClockBehind, People}
 use Rattle.lab_machine.specs.declared.commands.Command.{Command}
 use Rattle.lab_machine.specs.declared.commands.Command.TheVariants.{Open}

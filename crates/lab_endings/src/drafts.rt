@@ -1,7 +1,7 @@
 //! The rows that the trail is given, where it has so many, and what a failed password changes.
 ghost use Rattle.std.specs.Prelude.{◌≡◌, ◌+◌, ◌++◌, ◌∷◌, Some, true, false, nat_le, IfOk, OnOk, MatchOption};
 ghost use Rattle.lab_kept.specs.Limits.{count_limit};
-ghost use Rattle.lab_kept_trail.specs.Trails.{row_of};
+ghost use Rattle.lab_kept.specs.Trails.{row_of};
 ghost use Rattle.lab_machine.specs.Cases.{more_strays};
 ghost use Rattle.lab_endings.specs.Deciding.{noted_rows, two_rows, failing};
 

@@ -1,7 +1,7 @@
 //! How a command ends on a part of a laboratory: what notes that its request came, what a failed password changes, what the trail
 //! is told, and what a full trail refuses.
 ghost use Rattle.std.specs.Prelude.{◌≡◌, ◌++◌, ◌∷◌, [], Some, IfOk};
-ghost use Rattle.lab_kept_trail.specs.Trails.{row_of};
+ghost use Rattle.lab_kept.specs.Trails.{row_of};
 ghost use Rattle.lab_endings.specs.Deciding.{failing, outcome, ended_made, ended_by, touching};
 
 use crate::drafts::{fail, next_number, row_of};

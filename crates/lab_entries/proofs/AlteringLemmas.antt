@@ -2,11 +2,11 @@
 use Rattle.std.proofs.Common.{◌≡◌, ℕ, ◌+◌, ◌<◌, ◌≤◌, Bool, true, false, arith, List, [], ◌∷◌, ◌++◌, length, get_or, take, drop, refl, sym, ap, ◌∙◌, Option, Some, None}
 use Rattle.std.specs.Prelude.{Ok, Err, nat_le, nat_lt}
 use Rattle.std.proofs.lemmas.Bool.Decides.{nat_tests}
-use Rattle.lab_kept_records.specs.declared.records.Version.{Version}
+use Rattle.lab_kept.specs.declared.records.Version.{Version}
 use Rattle.lab_versions.specs.declared.rows.EntryRow.{EntryRow}
 use Rattle.std.specs.Option.{option_map_or}
 use Rattle.std.proofs.lemmas.List.{take_more, take-append-drop}
-use Rattle.lab_kept_records.specs.declared.records.Record.{Record}
+use Rattle.lab_kept.specs.declared.records.Record.{Record}
 use Rattle.lab_rules.specs.declared.items.Item.{Item}
 use Rattle.lab_rules.specs.declared.refusals.Refusal.{Refusal}
 use Rattle.lab_rules.specs.declared.faults.CommandFault.{CommandFault}

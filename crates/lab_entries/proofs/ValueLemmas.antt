@@ -10,8 +10,8 @@ use Rattle.lab_forms.specs.declared.faults.FormRefusal.{FormRefusal}
 use Rattle.lab_forms.specs.declared.faults.FormRefusal.TheVariants.{NoSuchField, BadValue, WrongUnit, OutOfRange}
 use Rattle.lab_forms.specs.Kinds.{fits, is_value, unit_of, is_in_range}
 use Rattle.std.specs.Prelude.{bytes_eq}
-use Rattle.lab_kept_records.specs.declared.records.Version.{Version}
-use Rattle.lab_kept_records.specs.Values.{all_rows, has_key, value_of}
+use Rattle.lab_kept.specs.declared.records.Version.{Version}
+use Rattle.lab_kept.specs.Values.{all_rows, has_key, value_of}
 use Rattle.lab_forms.specs.Forms.{field_of, fits_form, kind_refusal, value_refusal}
 
 no_test_fails : (one other third : Bool) (x y z : FormRefusal) → IsTrue (one && other && third)

@@ -10,12 +10,12 @@ use Rattle.lab_versions.specs.declared.versions.Format.TheVariants.{Two}
 use Rattle.lab_seal.specs.declared.states.State.{State}
 use Rattle.lab_seal.specs.declared.states.State.TheVariants.{Open}
 use Rattle.lab_seal.specs.States.{is_settled}
-use Rattle.lab_kept_records.specs.declared.records.Record.{Record}
-use Rattle.lab_kept_records.specs.declared.records.Version.{Version}
+use Rattle.lab_kept.specs.declared.records.Record.{Record}
+use Rattle.lab_kept.specs.declared.records.Version.{Version}
 use Rattle.lab_kept.specs.Limits.{row_limit, version_limit}
-use Rattle.lab_kept_records.specs.Lookups.{last_of}
-use Rattle.lab_kept_records.specs.Values.{all_rows, value_of, version_state}
-use Rattle.lab_kept_records.specs.Digests.{digest_of}
+use Rattle.lab_kept.specs.Lookups.{last_of}
+use Rattle.lab_kept.specs.Values.{all_rows, value_of, version_state}
+use Rattle.lab_kept.specs.Digests.{digest_of}
 use Rattle.lab_kept.specs.Changes.{with_row}
 use Rattle.lab_rules.specs.declared.outcomes.EntryMade.{EntryMade}
 use Rattle.lab_rules.specs.declared.outcomes.AmendmentMade.{AmendmentMade}

@@ -1,8 +1,8 @@
 //! Records that are amended.
 ghost use Rattle.std.specs.Prelude.{◌≡◌, ◌+◌, ◌<◌, ◌==◌, ℕ, List, length, not, true, Some, Ok, map, is_none, IfOk, IfSome, IsSome, option_copied};
-ghost use Rattle.lab_kept_records.specs.Latest.{noted};
+ghost use Rattle.lab_kept.specs.Latest.{noted};
 ghost use Rattle.lab_kept.specs.Limits.{version_limit};
-ghost use Rattle.lab_kept_records.specs.Values.{all_rows, value_of};
+ghost use Rattle.lab_kept.specs.Values.{all_rows, value_of};
 ghost use Rattle.lab_rules.specs.Following.{Follows, FollowsWhere, IsReadWhere};
 ghost use Rattle.lab_entries.specs.Entering.{has_settled, is_same_value, item_refusal, altered_refusal, first_altered_refusal, entered_row, next_origin, opened_version, amendment_made, amending_by, is_table_made, amending};
 

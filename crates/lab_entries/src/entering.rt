@@ -3,8 +3,8 @@ ghost use Rattle.std.specs.Prelude.{◌≡◌, IfOk, Err, is_none, option_copied
 ghost use Rattle.std.specs.List.{list_any};
 ghost use Rattle.std.specs.Option.{option_map_or};
 ghost use Rattle.lab_kept.specs.Changes.{with_row};
-ghost use Rattle.lab_kept_records.specs.Digests.{digest_of};
-ghost use Rattle.lab_kept_records.specs.Values.{has_key};
+ghost use Rattle.lab_kept.specs.Digests.{digest_of};
+ghost use Rattle.lab_kept.specs.Values.{has_key};
 ghost use Rattle.lab_rules.specs.Following.{Follows, IsReadWhere};
 ghost use Rattle.lab_entries.specs.Entering.{is_open, has_value, item_refusal, entry_made, entering_last, entering};
 

@@ -4,7 +4,7 @@ use Rattle.sqlite_keyed.specs.Keyed.{next_key}
 use Rattle.sqlite_keyed.proofs.KeyedLemmas.{next_key_is_free}
 use Rattle.sqlite.specs.State.{State}
 use Rattle.lab_versions.specs.declared.rows.EntryRow.{EntryRow as Entry}
-use Rattle.lab_kept_records.specs.declared.records.Signature.{Signature}
+use Rattle.lab_kept.specs.declared.records.Signature.{Signature}
 use Rattle.lab_tables.specs.Rows.{RecordRow, Tables, entry_id, signature_id}
 use Rattle.lab_tables.specs.Changes.{person_named, put_entry, put_signature, record_named, version_named, AddsEntry, AddsSignature, EntersRow, SignsVersion}
 use Rattle.lab_tables.specs.Ready.{tables_of}

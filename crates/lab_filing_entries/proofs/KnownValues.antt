@@ -6,7 +6,7 @@ use Rattle.sqlite_value.specs.declared.value.Value.TheVariants.{Int}
 use Rattle.sqlite_value.specs.Order.{Row}
 use Rattle.lab_seal.specs.declared.seals.Meaning.TheVariants.{Rejection}
 use Rattle.lab_versions.specs.declared.rows.EntryRow.{EntryRow as Entry}
-use Rattle.lab_kept_records.specs.declared.records.Signature.{Signature}
+use Rattle.lab_kept.specs.declared.records.Signature.{Signature}
 use Rattle.lab_tables.proofs.KnownFile.{filled, file, entry, signature}
 use Rattle.lab_filing_entries.specs.Added.{with_entry, with_signature}
 use Rattle.lab_filing_entries.specs.Shown.{records_shown, versions_shown, entries_shown, signatures_shown, record_read}

@@ -2,7 +2,7 @@
 use Rattle.std.specs.Prelude.{ℕ, ℤ}
 use Rattle.sqlite_keyed.specs.Keyed.{next_key}
 use Rattle.lab_versions.specs.declared.rows.EntryRow.{EntryRow as Entry}
-use Rattle.lab_kept_records.specs.declared.records.Signature.{Signature}
+use Rattle.lab_kept.specs.declared.records.Signature.{Signature}
 use Rattle.lab_seal.specs.Seals.{meaning_word}
 use Rattle.lab_tables.specs.Columns.{reason_column}
 use Rattle.lab_tables.specs.Rows.{EntryRow, SignatureRow, Tables, entry_id, signature_id}

@@ -4,7 +4,7 @@ use Rattle.sqlite_keyed.specs.Keyed.{next_key}
 use Rattle.sqlite_keyed.proofs.KeyedLemmas.{next_key_is_free}
 use Rattle.sqlite.specs.State.{State}
 use Rattle.lab_forms.specs.declared.forms.Field.{Field}
-use Rattle.lab_kept_records.specs.declared.records.FormVersion.{FormVersion}
+use Rattle.lab_kept.specs.declared.records.FormVersion.{FormVersion}
 use Rattle.lab_tables.specs.Rows.{Tables, form_id, field_id, choice_id}
 use Rattle.lab_tables.specs.Columns.{kind_names}
 use Rattle.lab_tables.specs.Changes.{InTurn, IsFree, put_form, form_row_of, put_field, put_choice, AddsChoice, AddsField, AddsForm}

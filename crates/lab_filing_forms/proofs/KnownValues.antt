@@ -6,7 +6,7 @@ use Rattle.sqlite_value.specs.declared.value.Value.TheVariants.{Int}
 use Rattle.sqlite_value.specs.Order.{Row}
 use Rattle.lab_forms.specs.declared.forms.Field.{Field}
 use Rattle.lab_forms.specs.declared.kinds.Kind.TheVariants.{YesNo}
-use Rattle.lab_kept_records.specs.declared.records.FormVersion.{FormVersion}
+use Rattle.lab_kept.specs.declared.records.FormVersion.{FormVersion}
 use Rattle.lab_tables.proofs.KnownFile.{file, plainly, form, field, choice}
 use Rattle.lab_filing_forms.specs.Added.{with_choice, with_field, with_form}
 use Rattle.lab_filing_forms.specs.Shown.{fields_shown, choices_shown}

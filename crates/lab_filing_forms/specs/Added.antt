@@ -2,7 +2,7 @@
 use Rattle.std.specs.Prelude.{ℕ, ℤ, List}
 use Rattle.sqlite_keyed.specs.Keyed.{next_key}
 use Rattle.lab_forms.specs.declared.forms.Field.{Field}
-use Rattle.lab_kept_records.specs.declared.records.FormVersion.{FormVersion}
+use Rattle.lab_kept.specs.declared.records.FormVersion.{FormVersion}
 use Rattle.lab_tables.specs.Columns.{kind_columns}
 use Rattle.lab_tables.specs.Rows.{ChoiceRow, FieldRow, Tables, form_id, field_id, choice_id}
 use Rattle.lab_tables.specs.Changes.{put_form, form_row_of, put_field, put_choice}

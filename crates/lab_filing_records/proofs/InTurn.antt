@@ -3,8 +3,8 @@ use Rattle.std.proofs.Common.{◌≡◌, ℕ, ℤ, Some, option_map, sym, ap, su
 use Rattle.sqlite_keyed.specs.Keyed.{next_key}
 use Rattle.sqlite_keyed.proofs.KeyedLemmas.{next_key_is_free}
 use Rattle.sqlite.specs.State.{State}
-use Rattle.lab_kept_records.specs.declared.records.Record.{Record}
-use Rattle.lab_kept_records.specs.declared.records.Version.{Version}
+use Rattle.lab_kept.specs.declared.records.Record.{Record}
+use Rattle.lab_kept.specs.declared.records.Version.{Version}
 use Rattle.lab_tables.specs.Rows.{LabRow, Tables, record_id, version_id}
 use Rattle.lab_tables.specs.Changes.{in_lab, person_named, form_named, record_named, InTurn, IsFree, put_record, record_row_of, put_version, version_row_of, set_current, AddsEntry, AddsSignature, AddsVersion, AddsRecord, OpensVersion}
 use Rattle.lab_tables.specs.Ready.{tables_of}

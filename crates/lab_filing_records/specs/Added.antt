@@ -1,8 +1,8 @@
 -- Tables with a record or a version more, under the next id.
 use Rattle.std.specs.Prelude.{ℤ}
 use Rattle.sqlite_keyed.specs.Keyed.{next_key}
-use Rattle.lab_kept_records.specs.declared.records.Record.{Record}
-use Rattle.lab_kept_records.specs.declared.records.Version.{Version}
+use Rattle.lab_kept.specs.declared.records.Record.{Record}
+use Rattle.lab_kept.specs.declared.records.Version.{Version}
 use Rattle.lab_tables.specs.Rows.{Tables, record_id, version_id}
 use Rattle.lab_tables.specs.Changes.{put_record, record_row_of, put_version, version_row_of}
 

@@ -7,7 +7,7 @@ use Rattle.sqlite_keyed.specs.Keyed.{get_by}
 use Rattle.sqlite_keyed.proofs.ListLemmas.{slice_get-filter, map-map, map_same}
 use Rattle.lab_forms.specs.declared.kinds.Kind.{Kind}
 use Rattle.lab_forms.specs.declared.kinds.Kind.TheVariants.{Number, Text as Words, Choice, Date, YesNo}
-use Rattle.lab_kept_records.specs.declared.records.FormVersion.{FormVersion}
+use Rattle.lab_kept.specs.declared.records.FormVersion.{FormVersion}
 use Rattle.lab_tables.specs.Rows.{FormRow, FieldRow, KindColumns, Tables, form_id}
 use Rattle.lab_tables.specs.Columns.{kind_in}
 use Rattle.lab_tables.specs.Meaning.{fields_of, field_in, names_of, form_in, form_at}

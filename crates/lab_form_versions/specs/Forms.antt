@@ -6,7 +6,7 @@ use Rattle.sqlite_keyed.specs.Lists.{sort_by}
 use Rattle.lab_forms.specs.declared.forms.Field.{Field}
 use Rattle.lab_forms.specs.declared.kinds.Kind.{Kind}
 use Rattle.lab_forms.specs.declared.kinds.Kind.TheVariants.{Number, Text, Choice, Date, YesNo}
-use Rattle.lab_kept_records.specs.declared.records.FormVersion.{FormVersion}
+use Rattle.lab_kept.specs.declared.records.FormVersion.{FormVersion}
 use Rattle.lab_tables.specs.Rows.{FormRow, FieldRow, KindColumns, Tables}
 use Rattle.lab_tables.specs.Columns.{kind_in}
 use Rattle.lab_tables.specs.Meaning.{by_field, fields_of, names_of}

@@ -3,7 +3,7 @@
 use Rattle.std.proofs.Common.{◌≡◌, refl, ℕ, [], ◌∷◌, Some}
 use Rattle.std.specs.Prelude.{codes}
 use Rattle.lab_kept.specs.declared.labs.Lab.{Lab}
-use Rattle.lab_kept_records.specs.declared.records.Record.{Record}
+use Rattle.lab_kept.specs.declared.records.Record.{Record}
 use Rattle.lab_copies.proofs.ListLemmas.{no_some}
 use Rattle.lab_machine.specs.declared.replies.Reply.TheVariants.{Card, Copied}
 use Rattle.lab_inspections.specs.Inspections.{AreCopiable, IfCopied, counts_within}

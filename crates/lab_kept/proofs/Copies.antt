@@ -2,8 +2,8 @@
 use Rattle.std.proofs.Common.{rules, ◌≡◌}
 use Rattle.lab_access.specs.declared.persons.Person.{Person}
 use Rattle.lab_access.specs.contracts.persons.PersonClone.TheImpl as person
-use Rattle.lab_kept_records.specs.declared.records.Record.{Record}
-use Rattle.lab_kept_records.specs.contracts.records.RecordClone.TheImpl as kept
+use Rattle.lab_kept.specs.declared.records.Record.{Record}
+use Rattle.lab_kept.specs.contracts.records.RecordClone.TheImpl as kept
 
 pub person_copy : (one copy : Person) → person.is_clone-value.it one copy → copy ≡ one
 person_copy one copy same = search rules

@@ -20,17 +20,17 @@ use Rattle.lab_versions.specs.declared.versions.Format.TheVariants.{Two}
 use Rattle.lab_seal.specs.declared.seals.Meaning.{Meaning}
 use Rattle.lab_seal.specs.declared.seals.Meaning.TheVariants.{Authorship, Review, Approval}
 use Rattle.lab_seal.specs.declared.states.State.TheVariants.{Released, Reviewed}
-use Rattle.lab_kept_records.specs.declared.records.FormVersion.{FormVersion}
-use Rattle.lab_kept_records.specs.declared.records.Record.{Record}
-use Rattle.lab_kept_records.specs.declared.records.Version.{Version}
-use Rattle.lab_kept_records.specs.declared.records.Signature.{Signature}
-use Rattle.lab_kept_trail.specs.declared.trails.Action.{Action}
-use Rattle.lab_kept_trail.specs.declared.trails.Action.TheVariants as action
-use Rattle.lab_kept_trail.specs.declared.trails.Deed.TheVariants as deed
-use Rattle.lab_kept_trail.specs.declared.trails.TrailRow.{TrailRow}
+use Rattle.lab_kept.specs.declared.records.FormVersion.{FormVersion}
+use Rattle.lab_kept.specs.declared.records.Record.{Record}
+use Rattle.lab_kept.specs.declared.records.Version.{Version}
+use Rattle.lab_kept.specs.declared.records.Signature.{Signature}
+use Rattle.lab_kept.specs.declared.trails.Action.{Action}
+use Rattle.lab_kept.specs.declared.trails.Action.TheVariants as action
+use Rattle.lab_kept.specs.declared.trails.Deed.TheVariants as deed
+use Rattle.lab_kept.specs.declared.trails.TrailRow.{TrailRow}
 use Rattle.lab_kept.specs.declared.labs.Lab.{Lab}
-use Rattle.lab_kept_records.specs.Digests.{digest_of, signature_of, seal_for}
-use Rattle.lab_kept_records.specs.Values.{version_state, all_rows}
+use Rattle.lab_kept.specs.Digests.{digest_of, signature_of, seal_for}
+use Rattle.lab_kept.specs.Values.{version_state, all_rows}
 use Rattle.lab_kept.specs.Bound.{IsBoundTo, IsSealed, IsBoundRecord, IsBound}
 use Rattle.lab_kept.specs.Dual.{EnteredNone, IsSignedDually, IsDualRecord, IsDual}
 use Rattle.lab_kept.specs.Keeping.{KeepsPersons, IsToldOnce, Keeps}

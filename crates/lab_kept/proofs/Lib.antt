@@ -1,3 +1,5 @@
 pub mod ReleaseLemmas
 pub mod Copies
+pub mod LastRows
+pub mod KnownValues
 pub mod KnownLaboratories

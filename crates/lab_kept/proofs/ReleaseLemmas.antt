@@ -6,11 +6,11 @@ use Rattle.lab_seal.specs.declared.seals.Meaning.{Meaning}
 use Rattle.lab_seal.specs.declared.seals.Meaning.TheVariants.{Authorship, Review, Rejection, Approval}
 use Rattle.lab_seal.specs.declared.states.State.TheVariants.{Released}
 use Rattle.lab_seal.specs.States.{state_of}
-use Rattle.lab_kept_records.specs.declared.records.Record.{Record}
-use Rattle.lab_kept_records.specs.declared.records.Version.{Version}
-use Rattle.lab_kept_records.specs.declared.records.Signature.{Signature}
+use Rattle.lab_kept.specs.declared.records.Record.{Record}
+use Rattle.lab_kept.specs.declared.records.Version.{Version}
+use Rattle.lab_kept.specs.declared.records.Signature.{Signature}
 use Rattle.lab_kept.specs.declared.labs.Lab.{Lab}
-use Rattle.lab_kept_records.specs.Values.{meaning_of, version_state, has_entered}
+use Rattle.lab_kept.specs.Values.{meaning_of, version_state, has_entered}
 use Rattle.lab_kept.specs.Bound.{IsBoundTo, IsSealed, IsBound}
 use Rattle.lab_kept.specs.Dual.{EnteredNone, AreSigners, IsSignedDually, IsDual, Vouches, IsApproved, IsReleasedRightly, AreReleasedRightly}
 

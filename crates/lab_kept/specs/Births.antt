@@ -3,9 +3,9 @@
 use Rattle.std.specs.Prelude.{[], ◌∷◌, None}
 use Rattle.lab_kept.specs.declared.births.Newborn.{Newborn}
 use Rattle.lab_kept.specs.declared.labs.Lab.{Lab}
-use Rattle.lab_kept_trail.specs.declared.trails.Deed.TheVariants.{Found}
+use Rattle.lab_kept.specs.declared.trails.Deed.TheVariants.{Found}
 use Rattle.lab_kept.specs.Changes.{added_person}
-use Rattle.lab_kept_trail.specs.Trails.{row_of}
+use Rattle.lab_kept.specs.Trails.{row_of}
 
 abbrev pub newborn_lab : Newborn → Lab
 newborn_lab newborn = record {

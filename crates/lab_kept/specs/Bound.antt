@@ -4,11 +4,11 @@
 -- bound to those that they amend (ISO/IEC 17025:2017, 7.5.2, "amendments to technical records can
 -- be tracked to previous versions").
 use Rattle.std.specs.Prelude.{◌≡◌, ℕ, List, [], ◌∷◌, All, Option, Some, None}
-use Rattle.lab_kept_records.specs.declared.records.Record.{Record}
-use Rattle.lab_kept_records.specs.declared.records.Version.{Version}
-use Rattle.lab_kept_records.specs.declared.records.Signature.{Signature}
+use Rattle.lab_kept.specs.declared.records.Record.{Record}
+use Rattle.lab_kept.specs.declared.records.Version.{Version}
+use Rattle.lab_kept.specs.declared.records.Signature.{Signature}
 use Rattle.lab_kept.specs.declared.labs.Lab.{Lab}
-use Rattle.lab_kept_records.specs.Digests.{previous_of, digest_of, seal_for}
+use Rattle.lab_kept.specs.Digests.{previous_of, digest_of, seal_for}
 
 -- a signature names the digest of its version as it is now, and its seal recomputes
 pub record IsBoundTo (lab : List ℕ) (kept : Record) (version : Version) (signature : Signature)

@@ -13,17 +13,16 @@ use Rattle.lab_versions.specs.declared.rows.EntryRow.{EntryRow}
 use Rattle.lab_versions.specs.declared.versions.Format.TheVariants.{Two}
 use Rattle.lab_seal.specs.declared.seals.Meaning.{Meaning}
 use Rattle.lab_seal.specs.Seals.{meaning_word}
-use Rattle.lab_kept_records.specs.declared.records.FormVersion.{FormVersion}
-use Rattle.lab_kept_records.specs.declared.records.Record.{Record}
-use Rattle.lab_kept_records.specs.declared.records.Version.{Version}
-use Rattle.lab_kept_records.specs.declared.records.Signature.{Signature}
+use Rattle.lab_kept.specs.declared.records.FormVersion.{FormVersion}
+use Rattle.lab_kept.specs.declared.records.Record.{Record}
+use Rattle.lab_kept.specs.declared.records.Version.{Version}
+use Rattle.lab_kept.specs.declared.records.Signature.{Signature}
 use Rattle.lab_kept.specs.declared.labs.Lab.{Lab}
 use Rattle.lab_kept.specs.declared.changes.Change.{Change}
 use Rattle.lab_kept.specs.declared.changes.Change.TheVariants.{Last, Strays, PersonAdded, PersonSet, SessionAdded, SessionSet, SessionsClosed, FormAdded, RecordAdded, RowAdded, VersionOpened, SignatureAdded, TrailAdded}
 use Rattle.lab_kept.specs.Limits.{stray_limit}
-use Rattle.lab_kept_records.specs.Lookups.{last_form, next_form_version, has_number, is_numbered, record_of, record_about, last_of}
-use Rattle.lab_kept.specs.Lookups.{comes_before, last_version, numbered_version}
-use Rattle.lab_kept_records.specs.Digests.{previous_of, digest_of}
+use Rattle.lab_kept.specs.Lookups.{comes_before, last_form, next_form_version, has_number, is_numbered, record_of, record_about, last_of, last_version, numbered_version}
+use Rattle.lab_kept.specs.Digests.{previous_of, digest_of}
 
 -- a person is added before the first of a later code, or as the last: persons stand in the order of
 -- their codes

@@ -9,12 +9,12 @@ use Rattle.lab_seal.specs.declared.seals.Meaning.{Meaning}
 use Rattle.lab_seal.specs.declared.seals.Meaning.TheVariants.{Authorship, Review, Approval}
 use Rattle.lab_seal.specs.declared.states.State.TheVariants.{Released}
 use Rattle.lab_seal.specs.States.{is_settled}
-use Rattle.lab_kept_records.specs.declared.records.Record.{Record}
-use Rattle.lab_kept_records.specs.declared.records.Version.{Version}
-use Rattle.lab_kept_records.specs.declared.records.Signature.{Signature}
+use Rattle.lab_kept.specs.declared.records.Record.{Record}
+use Rattle.lab_kept.specs.declared.records.Version.{Version}
+use Rattle.lab_kept.specs.declared.records.Signature.{Signature}
 use Rattle.lab_kept.specs.declared.labs.Lab.{Lab}
-use Rattle.lab_kept_records.specs.Digests.{digest_of, seal_for}
-use Rattle.lab_kept_records.specs.Values.{version_state, has_entered}
+use Rattle.lab_kept.specs.Digests.{digest_of, seal_for}
+use Rattle.lab_kept.specs.Values.{version_state, has_entered}
 
 -- a signer entered no row of the version
 abbrev pub EnteredNone : Version → Signature → Type 0

@@ -6,15 +6,15 @@ use Rattle.lab_access.specs.declared.persons.Person.{Person}
 use Rattle.lab_access.specs.Persons.{person_of}
 use Rattle.lab_versions.specs.declared.rows.EntryRow.{EntryRow}
 use Rattle.lab_seal.specs.declared.seals.Meaning.{Meaning}
-use Rattle.lab_kept_records.specs.declared.records.FormVersion.{FormVersion}
-use Rattle.lab_kept_records.specs.declared.records.Record.{Record as KeptRecord}
-use Rattle.lab_kept_records.specs.declared.records.Version.{Version}
-use Rattle.lab_kept_records.specs.declared.records.Signature.{Signature}
-use Rattle.lab_kept_trail.specs.declared.trails.Deed.{Deed}
-use Rattle.lab_kept_trail.specs.declared.trails.Deed.TheVariants.{Record, Entry, Amend, Sign}
+use Rattle.lab_kept.specs.declared.records.FormVersion.{FormVersion}
+use Rattle.lab_kept.specs.declared.records.Record.{Record as KeptRecord}
+use Rattle.lab_kept.specs.declared.records.Version.{Version}
+use Rattle.lab_kept.specs.declared.records.Signature.{Signature}
+use Rattle.lab_kept.specs.declared.trails.Deed.{Deed}
+use Rattle.lab_kept.specs.declared.trails.Deed.TheVariants.{Record, Entry, Amend, Sign}
 use Rattle.lab_kept.specs.declared.labs.Lab.{Lab}
-use Rattle.lab_kept_trail.specs.Trails.{row_of}
-use Rattle.lab_kept_records.specs.Lookups.{exact_form, record_of, last_of, version_of}
+use Rattle.lab_kept.specs.Trails.{row_of}
+use Rattle.lab_kept.specs.Lookups.{exact_form, record_of, last_of, version_of}
 use Rattle.lab_kept.specs.Changes.{SamePerson, SameSession, IsKnown, in_record, entered_in, opened_in, signed_in}
 
 -- each item of the old list stands in its place in the new one, related to it so; the new one may

@@ -1,10 +1,14 @@
 pub mod Limits
+pub mod Trails
 pub mod Lookups
+pub mod Values
+pub mod Digests
 pub mod Parts
 pub mod Changes
 pub mod Bound
 pub mod Dual
 pub mod Keeping
+pub mod Latest
 pub mod Births
 pub mod Faults
 pub mod Worlds

@@ -4,15 +4,14 @@
 -- system's own.
 use Rattle.std.specs.Prelude.{◌≡◌, ◌≤◌, ℕ, ◌+◌, IsTrue, false, List, [], ◌∷◌, ◌++◌, length, Some, All}
 use Rattle.lab_names.specs.Ordinals.{last_ordinal}
-use Rattle.lab_kept_records.specs.declared.records.FormVersion.{FormVersion}
-use Rattle.lab_kept_records.specs.declared.records.Record.{Record}
-use Rattle.lab_kept_records.specs.declared.records.Version.{Version}
+use Rattle.lab_kept.specs.declared.records.FormVersion.{FormVersion}
+use Rattle.lab_kept.specs.declared.records.Record.{Record}
+use Rattle.lab_kept.specs.declared.records.Version.{Version}
 use Rattle.lab_access.specs.declared.persons.Person.{Person}
 use Rattle.lab_access.specs.Persons.{person_limit}
 use Rattle.lab_forms.specs.Forms.{field_limit}
 use Rattle.lab_kept.specs.declared.labs.Lab.{Lab}
-use Rattle.lab_kept_records.specs.Lookups.{last_form, exact_form, next_form_version}
-use Rattle.lab_kept.specs.Lookups.{comes_before}
+use Rattle.lab_kept.specs.Lookups.{last_form, exact_form, next_form_version, comes_before}
 
 -- the most versions of a form
 abbrev pub form_version_limit : ℕ

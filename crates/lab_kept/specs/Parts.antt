@@ -2,9 +2,9 @@
 -- has, and what the need names. Nothing else of the laboratory is seen.
 use Rattle.std.specs.Prelude.{List, [], length, Option, Some, None, option_and_then}
 use Rattle.lab_access.specs.declared.persons.Person.{Person}
-use Rattle.lab_kept_records.specs.declared.records.FormVersion.{FormVersion}
-use Rattle.lab_kept_records.specs.declared.records.Record.{Record}
-use Rattle.lab_kept_trail.specs.declared.trails.TrailRow.{TrailRow}
+use Rattle.lab_kept.specs.declared.records.FormVersion.{FormVersion}
+use Rattle.lab_kept.specs.declared.records.Record.{Record}
+use Rattle.lab_kept.specs.declared.trails.TrailRow.{TrailRow}
 use Rattle.lab_kept.specs.declared.labs.Lab.{Lab}
 use Rattle.lab_kept.specs.declared.needs.Need.{Need}
 use Rattle.lab_kept.specs.declared.needs.Slice.{Slice}
@@ -15,8 +15,7 @@ use Rattle.lab_kept.specs.declared.needs.RecordWanted.{RecordWanted}
 use Rattle.lab_kept.specs.declared.needs.RecordWanted.TheVariants.{Numbered, About}
 use Rattle.lab_kept.specs.declared.needs.ListWanted.{ListWanted}
 use Rattle.lab_kept.specs.declared.needs.ListWanted.TheVariants.{Persons, Records, Trail}
-use Rattle.lab_kept_records.specs.Lookups.{last_form, exact_form, record_of, record_about}
-use Rattle.lab_kept.specs.Lookups.{session_at, person_at, caller_of, records_within, rows_within}
+use Rattle.lab_kept.specs.Lookups.{session_at, person_at, caller_of, last_form, exact_form, record_of, record_about, records_within, rows_within}
 
 -- how many a laboratory has
 abbrev pub counts_of : Lab → Counts

@@ -1,7 +1,7 @@
 //! The changes that are made of a laboratory.
+use crate::records::{FormVersion, Record, Signature, Version};
+use crate::trails::TrailRow;
 use lab_access::{Closing, Person, Session};
-use lab_kept_records::{FormVersion, Record, Signature, Version};
-use lab_kept_trail::TrailRow;
 use lab_names::{Moment, Ordinal, PersonCode};
 use lab_seal::EntryRow;
 

@@ -1,9 +1,9 @@
 //! One laboratory, whole.
 ghost use Rattle.std.specs.Prelude.{◌≡◌, IfOk};
 
+use crate::records::{FormVersion, Record};
+use crate::trails::TrailRow;
 use lab_access::{Person, Session};
-use lab_kept_records::{FormVersion, Record};
-use lab_kept_trail::TrailRow;
 use lab_names::{LabCode, Moment, Name, OutOfMemory, Series};
 
 /// One laboratory, whole.

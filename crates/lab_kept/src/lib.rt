@@ -6,12 +6,17 @@
 
 mod births;
 mod changes;
+mod digests;
 mod faults;
 mod keeper;
 mod labs;
 mod laws;
 mod limits;
 mod needs;
+mod records;
+mod subjects;
+mod trails;
+mod values;
 
 pub use births::Newborn;
 pub use changes::Change;
@@ -19,10 +24,6 @@ pub use faults::{KeeperFault, PlacingFault};
 pub use keeper::Keeper;
 pub use lab_access::{Ask, Closing, Password, Person, Role, Roles, Session};
 pub use lab_forms::{Bound, Choices, Field, Form, FormRefusal, Kind, Value};
-pub use lab_kept_records::{
-    FormVersion, Record, Signature, Version, first_versions, latest, noted,
-};
-pub use lab_kept_trail::{Action, Deed, Occasion, Subject, TrailRow};
 pub use lab_names::Series;
 pub use lab_seal::{
     Amendment, Digest, EntryRow, EntryRows, Format, Key, LabCode, Meaning, Moment, Name, Note,
@@ -33,3 +34,6 @@ pub use labs::Lab;
 pub use laws::what_is_released;
 pub use limits::{COUNT_LIMIT, FORM_VERSIONS_LIMIT, RECORDS_LIMIT, ROWS_LIMIT, VERSIONS_LIMIT};
 pub use needs::{Counts, FormWanted, ListWanted, Need, RecordWanted, Slice};
+pub use records::{FormVersion, Record, Signature, Version};
+pub use trails::{Action, Deed, Occasion, Subject, TrailRow};
+pub use values::{first_versions, latest, noted};

@@ -1,7 +1,7 @@
 //! Which part of a laboratory is needed, and that part.
+use crate::records::{FormVersion, Record};
+use crate::trails::TrailRow;
 use lab_access::{Person, Session};
-use lab_kept_records::{FormVersion, Record};
-use lab_kept_trail::TrailRow;
 use lab_names::{Key, LabCode, Moment, Name, Ordinal, PersonCode, Series};
 use lab_seal::Digest;
 

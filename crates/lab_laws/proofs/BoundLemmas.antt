@@ -5,13 +5,13 @@ use Rattle.std.proofs.lemmas.List.Elements.{All-nil, All-cons, All-head, All-tai
 use Rattle.lab_access.specs.declared.persons.Person.{Person}
 use Rattle.lab_versions.specs.declared.rows.EntryRow.{EntryRow}
 use Rattle.lab_seal.specs.declared.states.State.TheVariants.{Open}
-use Rattle.lab_kept_records.specs.declared.records.FormVersion.{FormVersion}
-use Rattle.lab_kept_records.specs.declared.records.Record.{Record}
-use Rattle.lab_kept_records.specs.declared.records.Version.{Version}
-use Rattle.lab_kept_records.specs.declared.records.Signature.{Signature}
-use Rattle.lab_kept_records.specs.Lookups.{last_of, version_of, is_numbered}
-use Rattle.lab_kept_records.specs.Values.{version_state}
-use Rattle.lab_kept_records.specs.Digests.{digest_of, previous_of}
+use Rattle.lab_kept.specs.declared.records.FormVersion.{FormVersion}
+use Rattle.lab_kept.specs.declared.records.Record.{Record}
+use Rattle.lab_kept.specs.declared.records.Version.{Version}
+use Rattle.lab_kept.specs.declared.records.Signature.{Signature}
+use Rattle.lab_kept.specs.Lookups.{last_of, version_of, is_numbered}
+use Rattle.lab_kept.specs.Values.{version_state}
+use Rattle.lab_kept.specs.Digests.{digest_of, previous_of}
 use Rattle.lab_kept.specs.Changes.{with_row, with_signature, in_last, in_version, entered_in, opened_in, signed_in}
 use Rattle.lab_kept.specs.Bound.{IsBoundTo, IsSealed, IsChain, IsBoundRecord}
 use Rattle.lab_rules.specs.declared.items.Item.{Item}

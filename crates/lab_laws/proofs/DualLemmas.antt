@@ -10,12 +10,12 @@ use Rattle.lab_seal.specs.declared.seals.Meaning.TheVariants.{Authorship as AsAu
 use Rattle.lab_seal.specs.declared.states.State.{State}
 use Rattle.lab_seal.specs.declared.states.State.TheVariants.{Open, Signed, Reviewed, Released, Rejected}
 use Rattle.lab_seal.specs.States.{is_settled, state_of}
-use Rattle.lab_kept_records.specs.declared.records.FormVersion.{FormVersion}
-use Rattle.lab_kept_records.specs.declared.records.Record.{Record}
-use Rattle.lab_kept_records.specs.declared.records.Version.{Version}
-use Rattle.lab_kept_records.specs.declared.records.Signature.{Signature}
-use Rattle.lab_kept_records.specs.Lookups.{last_of, version_of, is_numbered}
-use Rattle.lab_kept_records.specs.Values.{meaning_of, version_state, has_entered}
+use Rattle.lab_kept.specs.declared.records.FormVersion.{FormVersion}
+use Rattle.lab_kept.specs.declared.records.Record.{Record}
+use Rattle.lab_kept.specs.declared.records.Version.{Version}
+use Rattle.lab_kept.specs.declared.records.Signature.{Signature}
+use Rattle.lab_kept.specs.Lookups.{last_of, version_of, is_numbered}
+use Rattle.lab_kept.specs.Values.{meaning_of, version_state, has_entered}
 use Rattle.lab_kept.specs.Changes.{with_row, with_signature, in_last, in_version, entered_in, opened_in, signed_in}
 use Rattle.lab_kept.specs.Dual.{EnteredNone, AreSigners, IsSignedDually, IsSettled, AreSettledButLast, IsDualRecord}
 use Rattle.lab_rules.specs.declared.items.Item.{Item}

@@ -4,12 +4,12 @@ use Rattle.std.specs.Prelude.{is_some, IsTrue, MatchOption, option_and_then}
 use Rattle.std.proofs.lemmas.List.Elements.{All-map}
 use Rattle.lab_forms.specs.Forms.{FormSheet, is_form}
 use Rattle.lab_kept.specs.declared.labs.Lab.{Lab}
-use Rattle.lab_kept_records.specs.declared.records.FormVersion.{FormVersion}
-use Rattle.lab_kept_records.specs.declared.records.Record.{Record}
-use Rattle.lab_kept_records.specs.declared.records.Version.{Version}
+use Rattle.lab_kept.specs.declared.records.FormVersion.{FormVersion}
+use Rattle.lab_kept.specs.declared.records.Record.{Record}
+use Rattle.lab_kept.specs.declared.records.Version.{Version}
 use Rattle.lab_kept.specs.declared.changes.Change.TheVariants.{FormAdded, RecordAdded, RowAdded, VersionOpened}
 use Rattle.lab_kept.specs.Changes.{Fits, IsKnown, IsNewRecord, IsNewVersion}
-use Rattle.lab_kept_records.specs.Lookups.{last_form, next_form_version, record_of, record_about, last_of}
+use Rattle.lab_kept.specs.Lookups.{last_form, next_form_version, record_of, record_about, last_of}
 use Rattle.lab_kept.specs.Lookups.{last_version}
 use Rattle.lab_rules.specs.declared.items.Item.{Item}
 use Rattle.lab_rules.specs.declared.outcomes.EntryMade.{EntryMade}

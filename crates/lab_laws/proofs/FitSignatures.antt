@@ -12,12 +12,12 @@ use Rattle.lab_seal.specs.declared.states.State.TheVariants.{Open, Signed, Revie
 use Rattle.lab_seal.specs.Seals.{meaning_word}
 use Rattle.lab_seal.specs.States.{state_of}
 use Rattle.lab_kept.specs.declared.labs.Lab.{Lab}
-use Rattle.lab_kept_records.specs.declared.records.Signature.{Signature}
+use Rattle.lab_kept.specs.declared.records.Signature.{Signature}
 use Rattle.lab_kept.specs.declared.changes.Change.TheVariants.{SignatureAdded}
 use Rattle.lab_kept.specs.Changes.{Fits, IsKnown, IsNewMeaning}
-use Rattle.lab_kept_records.specs.Lookups.{record_of, version_of, is_numbered}
+use Rattle.lab_kept.specs.Lookups.{record_of, version_of, is_numbered}
 use Rattle.lab_kept.specs.Lookups.{numbered_version}
-use Rattle.lab_kept_records.specs.Values.{meaning_of, meanings_of, version_state}
+use Rattle.lab_kept.specs.Values.{meaning_of, meanings_of, version_state}
 use Rattle.lab_rules.specs.declared.outcomes.Signing.{Signing}
 use Rattle.lab_rules.specs.declared.outcomes.Signing.TheVariants.{Authorship, Review, Rejection, Approval}
 use Rattle.lab_rules.specs.declared.outcomes.SignatureMade.{SignatureMade}

@@ -25,9 +25,9 @@ use Rattle.lab_people.specs.Accounts.{newcomer, enrolling, person_meant, meant_t
 use Rattle.lab_people.specs.Issues.{asking, confirming, confirming_of, is_anothers, with_ask, with_one_time_word}
 use Rattle.std.specs.Prelude.{bytes_eq, ◌||◌, ◌&&◌, nat_lt, nat_le}
 use Rattle.lab_kept.specs.declared.labs.Lab.{Lab}
-use Rattle.lab_kept_trail.specs.declared.trails.Deed.{Deed}
+use Rattle.lab_kept.specs.declared.trails.Deed.{Deed}
 use Rattle.lab_kept.specs.Lookups.{person_at, session_at}
-use Rattle.lab_kept_records.specs.declared.records.Record.{Record as KeptRecord}
+use Rattle.lab_kept.specs.declared.records.Record.{Record as KeptRecord}
 use Rattle.lab_kept.specs.Changes.{SamePerson, SameSession, IsKnown, with_person, with_session, added_person}
 use Rattle.lab_kept.specs.Keeping.{Extends, KeepsPersons, KeepsForms, KeepsRecord, IsDoneTo}
 use Rattle.lab_rules.specs.declared.refusals.Refusal.{Refusal}

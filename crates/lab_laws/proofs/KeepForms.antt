@@ -3,8 +3,8 @@ use Rattle.std.proofs.Common.{◌≡◌, ◌≢◌, ◌≤◌, ℕ, ◌+◌, Boo
 use Rattle.std.specs.Prelude.{find, ◌==◌}
 use Rattle.std.proofs.lemmas.Bool.Decides.{Decides-eqb}
 use Rattle.std.proofs.lemmas.List.{reverse-append}
-use Rattle.lab_kept_records.specs.declared.records.FormVersion.{FormVersion}
-use Rattle.lab_kept_records.specs.Lookups.{is_version_of, is_form_version, last_form, exact_form, next_form_version}
+use Rattle.lab_kept.specs.declared.records.FormVersion.{FormVersion}
+use Rattle.lab_kept.specs.Lookups.{is_version_of, is_form_version, last_form, exact_form, next_form_version}
 use Rattle.lab_kept.specs.Lookups.{comes_before}
 use Rattle.lab_kept.specs.Changes.{added_form}
 use Rattle.lab_kept.specs.Keeping.{KeepsForms}

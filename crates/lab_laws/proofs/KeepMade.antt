@@ -14,14 +14,14 @@ use Rattle.lab_access.specs.Sessions.{session_of, signed_session}
 use Rattle.lab_access.specs.Attempts.{signing_attempt, is_own_code}
 use Rattle.lab_versions.specs.declared.rows.EntryRow.{EntryRow}
 use Rattle.lab_kept.specs.declared.labs.Lab.{Lab}
-use Rattle.lab_kept_records.specs.declared.records.FormVersion.{FormVersion}
-use Rattle.lab_kept_records.specs.declared.records.Record.{Record as KeptRecord}
-use Rattle.lab_kept_records.specs.declared.records.Version.{Version}
-use Rattle.lab_kept_trail.specs.declared.trails.Deed.{Deed}
-use Rattle.lab_kept_trail.specs.declared.trails.Deed.TheVariants.{Record as RecordDeed, Entry as EntryDeed, Amend as AmendDeed}
+use Rattle.lab_kept.specs.declared.records.FormVersion.{FormVersion}
+use Rattle.lab_kept.specs.declared.records.Record.{Record as KeptRecord}
+use Rattle.lab_kept.specs.declared.records.Version.{Version}
+use Rattle.lab_kept.specs.declared.trails.Deed.{Deed}
+use Rattle.lab_kept.specs.declared.trails.Deed.TheVariants.{Record as RecordDeed, Entry as EntryDeed, Amend as AmendDeed}
 use Rattle.lab_kept.specs.Limits.{AreFormsNumbered, form_version_limit, record_limit, row_limit, version_limit}
-use Rattle.lab_kept_records.specs.Lookups.{last_form, next_form_version, record_of, version_of, is_numbered, last_of}
-use Rattle.lab_kept_records.specs.Values.{version_state}
+use Rattle.lab_kept.specs.Lookups.{last_form, next_form_version, record_of, version_of, is_numbered, last_of}
+use Rattle.lab_kept.specs.Values.{version_state}
 use Rattle.lab_kept.specs.Changes.{IsKnown, in_record, entered_in, opened_in, signed_in}
 use Rattle.lab_kept.specs.Keeping.{Extends, KeepsRecord, IsDoneTo, IsAmended, HasVersion, last_number}
 use Rattle.lab_rules.specs.declared.items.Item.{Item}

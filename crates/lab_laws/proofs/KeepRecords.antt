@@ -6,11 +6,11 @@ use Rattle.lab_versions.specs.declared.rows.EntryRow.{EntryRow}
 use Rattle.lab_seal.specs.declared.seals.Meaning.{Meaning}
 use Rattle.lab_seal.specs.declared.seals.Meaning.TheVariants.{Authorship, Review, Rejection, Approval}
 use Rattle.lab_seal.specs.States.{state_of}
-use Rattle.lab_kept_records.specs.declared.records.Record.{Record}
-use Rattle.lab_kept_records.specs.declared.records.Version.{Version}
-use Rattle.lab_kept_records.specs.declared.records.Signature.{Signature}
-use Rattle.lab_kept_records.specs.Values.{meaning_of, version_state}
-use Rattle.lab_kept_records.specs.Lookups.{has_number, is_numbered, record_of, last_of}
+use Rattle.lab_kept.specs.declared.records.Record.{Record}
+use Rattle.lab_kept.specs.declared.records.Version.{Version}
+use Rattle.lab_kept.specs.declared.records.Signature.{Signature}
+use Rattle.lab_kept.specs.Values.{meaning_of, version_state}
+use Rattle.lab_kept.specs.Lookups.{has_number, is_numbered, record_of, last_of}
 use Rattle.lab_kept.specs.Changes.{in_record, in_version, in_last, with_row, with_signature, entered_in, signed_in, opened_in}
 use Rattle.lab_kept.specs.Keeping.{Extends, KeepsRows, KeepsVersion, KeepsRecord}
 use Rattle.lab_entries.specs.Entering.{is_open}

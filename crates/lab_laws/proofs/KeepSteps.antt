@@ -16,14 +16,14 @@ use Rattle.lab_access.specs.Sessions.{session_of, sessions_after, is_live, touch
 use Rattle.lab_people.specs.Accounts.{enrolling, setting_roles, retiring, unlocking}
 use Rattle.lab_people.specs.Issues.{asking, confirming}
 use Rattle.lab_kept.specs.declared.labs.Lab.{Lab}
-use Rattle.lab_kept_trail.specs.declared.trails.Deed.{Deed}
-use Rattle.lab_kept_trail.specs.declared.trails.Deed.TheVariants.{Refuse, Lock}
-use Rattle.lab_kept_trail.specs.declared.trails.Occasion.{Occasion}
-use Rattle.lab_kept_trail.specs.declared.trails.TrailRow.{TrailRow}
+use Rattle.lab_kept.specs.declared.trails.Deed.{Deed}
+use Rattle.lab_kept.specs.declared.trails.Deed.TheVariants.{Refuse, Lock}
+use Rattle.lab_kept.specs.declared.trails.Occasion.{Occasion}
+use Rattle.lab_kept.specs.declared.trails.TrailRow.{TrailRow}
 use Rattle.lab_kept.specs.Limits.{AreFormsNumbered, count_limit}
-use Rattle.lab_kept_records.specs.Lookups.{last_form, exact_form, record_of, record_about}
+use Rattle.lab_kept.specs.Lookups.{last_form, exact_form, record_of, record_about}
 use Rattle.lab_kept.specs.Lookups.{person_at, caller_of}
-use Rattle.lab_kept_trail.specs.Trails.{row_of}
+use Rattle.lab_kept.specs.Trails.{row_of}
 use Rattle.lab_kept.specs.Changes.{SameSession, IsKnown, with_person, with_session}
 use Rattle.lab_kept.specs.Keeping.{Extends, IsPrefix, KeepsPersons, KeepsRecord, IsToldOnce, Keeps}
 use Rattle.lab_rules.specs.Making.{making, opening_record}

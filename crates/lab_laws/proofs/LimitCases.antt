@@ -20,11 +20,11 @@ use Rattle.lab_access.specs.Passwords.{is_password}
 use Rattle.lab_access.specs.Sessions.{session_of, closed_session, signed_session}
 use Rattle.lab_people.specs.Accounts.{changing_by, with_new_password, newcomer}
 use Rattle.lab_kept.specs.declared.labs.Lab.{Lab}
-use Rattle.lab_kept_records.specs.declared.records.FormVersion.{FormVersion}
-use Rattle.lab_kept_records.specs.declared.records.Record.{Record}
+use Rattle.lab_kept.specs.declared.records.FormVersion.{FormVersion}
+use Rattle.lab_kept.specs.declared.records.Record.{Record}
 use Rattle.lab_access.specs.Persons.{person_limit}
 use Rattle.lab_kept.specs.Limits.{IsWithin, IsOrderly, IsByForm, IsSmallForm, record_limit, row_limit}
-use Rattle.lab_kept_records.specs.Lookups.{last_form, record_of, record_about, next_form_version}
+use Rattle.lab_kept.specs.Lookups.{last_form, record_of, record_about, next_form_version}
 use Rattle.lab_kept.specs.Lookups.{person_at}
 use Rattle.lab_kept.specs.Changes.{with_person, with_session, added_person, entered_in, opened_in, signed_in}
 use Rattle.lab_rules.specs.declared.items.Item.{Item}

@@ -4,10 +4,10 @@ use Rattle.std.specs.Prelude.{All, bytes_eq, find}
 use Rattle.std.proofs.lemmas.List.{reverse-append, append-nil, append_assoc}
 use Rattle.std.proofs.lemmas.Slice.Eq.{bytes_eq-Decides}
 use Rattle.std.proofs.lemmas.List.Elements.{All-weaker}
-use Rattle.lab_kept_records.specs.declared.records.FormVersion.{FormVersion}
-use Rattle.lab_kept_records.specs.declared.records.Record.{Record}
+use Rattle.lab_kept.specs.declared.records.FormVersion.{FormVersion}
+use Rattle.lab_kept.specs.declared.records.Record.{Record}
 use Rattle.lab_kept.specs.Changes.{added_form}
-use Rattle.lab_kept_records.specs.Lookups.{last_form, exact_form, is_version_of, is_form_version, next_form_version}
+use Rattle.lab_kept.specs.Lookups.{last_form, exact_form, is_version_of, is_form_version, next_form_version}
 use Rattle.lab_kept.specs.Lookups.{comes_before}
 use Rattle.lab_kept.specs.Limits.{AreFormsInOrder, AreFormsNumbered, IsByForm}
 use Rattle.lab_laws.proofs.LimitOrder.{placed, is_placed, not_back, other_text, other_text_back, before_further}

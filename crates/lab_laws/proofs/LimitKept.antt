@@ -9,16 +9,16 @@ use Rattle.lab_access.specs.declared.sessions.Closing.TheVariants.{All as Everyt
 use Rattle.lab_access.specs.declared.refusals.Failure.{Failure}
 use Rattle.lab_access.specs.declared.refusals.Failure.TheVariants.{Counted, Locking, AlreadyLocked, Stray}
 use Rattle.lab_access.specs.Sessions.{session_of, sessions_after}
-use Rattle.lab_kept_records.specs.declared.records.Record.{Record}
-use Rattle.lab_kept_trail.specs.declared.trails.Deed.{Deed}
-use Rattle.lab_kept_trail.specs.declared.trails.Deed.TheVariants.{Refuse, Lock}
-use Rattle.lab_kept_trail.specs.declared.trails.Occasion.{Occasion}
+use Rattle.lab_kept.specs.declared.records.Record.{Record}
+use Rattle.lab_kept.specs.declared.trails.Deed.{Deed}
+use Rattle.lab_kept.specs.declared.trails.Deed.TheVariants.{Refuse, Lock}
+use Rattle.lab_kept.specs.declared.trails.Occasion.{Occasion}
 use Rattle.lab_kept.specs.declared.labs.Lab.{Lab}
 use Rattle.lab_kept.specs.Changes.{with_person, with_session, in_record}
-use Rattle.lab_kept_records.specs.Lookups.{record_of}
+use Rattle.lab_kept.specs.Lookups.{record_of}
 use Rattle.lab_access.specs.Persons.{person_limit}
 use Rattle.lab_kept.specs.Limits.{IsWithin, IsOrderly, IsByForm, AreInOrder, AreNumbered, count_limit, record_limit, stray_limit}
-use Rattle.lab_kept_trail.specs.Trails.{row_of}
+use Rattle.lab_kept.specs.Trails.{row_of}
 use Rattle.lab_machine.specs.Cases.{told, noted, failed, more_strays}
 use Rattle.lab_laws.proofs.LimitLists.{numbered_same, numbered_more, same_length, longer}
 use Rattle.lab_laws.proofs.LimitParts.{session_number, session_numbers, closed_numbers, person_code, person_codes, order_same}

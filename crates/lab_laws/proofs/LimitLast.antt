@@ -6,8 +6,8 @@ use Rattle.std.specs.Cmp.{unsigned_Decides}
 use Rattle.std.proofs.lemmas.List.{append-nil, append_assoc}
 use Rattle.std.proofs.lemmas.List.Folds.{find-append}
 use Rattle.std.proofs.lemmas.Slice.Eq.{bytes_eq-Decides}
-use Rattle.lab_kept_records.specs.declared.records.FormVersion.{FormVersion}
-use Rattle.lab_kept_records.specs.Lookups.{last_form, exact_form, is_version_of, is_form_version, next_form_version}
+use Rattle.lab_kept.specs.declared.records.FormVersion.{FormVersion}
+use Rattle.lab_kept.specs.Lookups.{last_form, exact_form, is_version_of, is_form_version, next_form_version}
 use Rattle.lab_kept.specs.Limits.{AreFormsNumbered}
 use Rattle.lab_laws.proofs.LimitForms.{last_more}
 

@@ -4,11 +4,11 @@ use Rattle.std.specs.Prelude.{All, map, slice_get}
 use Rattle.std.specs.Cmp.{unsigned_Decides}
 use Rattle.std.proofs.lemmas.List.Elements.{All-nil, All-cons, All-head, All-tail, All-push}
 use Rattle.lab_versions.specs.declared.rows.EntryRow.{EntryRow}
-use Rattle.lab_kept_records.specs.declared.records.Record.{Record}
-use Rattle.lab_kept_records.specs.declared.records.Version.{Version}
-use Rattle.lab_kept_records.specs.declared.records.Signature.{Signature}
+use Rattle.lab_kept.specs.declared.records.Record.{Record}
+use Rattle.lab_kept.specs.declared.records.Version.{Version}
+use Rattle.lab_kept.specs.declared.records.Signature.{Signature}
 use Rattle.lab_kept.specs.Changes.{in_record, in_version, in_last, with_row, with_signature, entered_in, signed_in, opened_in}
-use Rattle.lab_kept_records.specs.Lookups.{record_of, has_number, is_numbered, last_of}
+use Rattle.lab_kept.specs.Lookups.{record_of, has_number, is_numbered, last_of}
 use Rattle.lab_kept.specs.Limits.{AreNumberedAfter, AreNumbered, HasFewRows, IsOrderly, version_limit, row_limit}
 use Rattle.lab_laws.proofs.LimitLists.{numbered_same, numbered_more, same_length, longer}
 use Rattle.lab_laws.proofs.LimitLast.{found_passes}

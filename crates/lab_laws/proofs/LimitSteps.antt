@@ -14,10 +14,10 @@ use Rattle.lab_access.specs.Sessions.{session_of, is_live, touched_session}
 use Rattle.lab_people.specs.Accounts.{changing, enrolling, setting_roles, retiring, unlocking}
 use Rattle.lab_people.specs.Issues.{asking, confirming}
 use Rattle.lab_kept.specs.declared.labs.Lab.{Lab}
-use Rattle.lab_kept_trail.specs.declared.trails.Deed.{Deed}
+use Rattle.lab_kept.specs.declared.trails.Deed.{Deed}
 use Rattle.lab_access.specs.Persons.{person_limit}
 use Rattle.lab_kept.specs.Limits.{IsWithin, count_limit}
-use Rattle.lab_kept_records.specs.Lookups.{last_form, exact_form, record_of, record_about}
+use Rattle.lab_kept.specs.Lookups.{last_form, exact_form, record_of, record_about}
 use Rattle.lab_kept.specs.Lookups.{person_at, session_at, caller_of}
 use Rattle.lab_rules.specs.declared.refusals.Refusal.TheVariants.{CodeWanted}
 use Rattle.lab_rules.specs.Making.{making, opening_record}

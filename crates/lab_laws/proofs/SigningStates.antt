@@ -8,12 +8,12 @@ use Rattle.lab_seal.specs.declared.seals.Meaning.TheVariants.{Authorship, Review
 use Rattle.lab_seal.specs.declared.states.State.{State}
 use Rattle.lab_seal.specs.declared.states.State.TheVariants.{Open, Signed, Reviewed}
 use Rattle.lab_seal.specs.States.{state_of}
-use Rattle.lab_kept_records.specs.declared.records.Record.{Record}
-use Rattle.lab_kept_records.specs.declared.records.Version.{Version}
-use Rattle.lab_kept_records.specs.declared.records.Signature.{Signature}
-use Rattle.lab_kept_records.specs.Lookups.{last_of}
-use Rattle.lab_kept_records.specs.Digests.{digest_of}
-use Rattle.lab_kept_records.specs.Values.{meaning_of, version_state}
+use Rattle.lab_kept.specs.declared.records.Record.{Record}
+use Rattle.lab_kept.specs.declared.records.Version.{Version}
+use Rattle.lab_kept.specs.declared.records.Signature.{Signature}
+use Rattle.lab_kept.specs.Lookups.{last_of}
+use Rattle.lab_kept.specs.Digests.{digest_of}
+use Rattle.lab_kept.specs.Values.{meaning_of, version_state}
 use Rattle.lab_rules.specs.declared.outcomes.Signing.{Signing}
 use Rattle.lab_rules.specs.declared.refusals.Refusal.{Refusal}
 use Rattle.lab_rules.specs.declared.refusals.Refusal.TheVariants.{StaleDigest}

@@ -19,13 +19,13 @@ use Rattle.lab_people.specs.declared.accounts.PasswordChanged.{PasswordChanged}
 use Rattle.lab_people.specs.Accounts.{changing, enrolling, setting_roles, retiring, unlocking}
 use Rattle.lab_people.specs.Issues.{asking, confirming}
 use Rattle.lab_kept.specs.declared.labs.Lab.{Lab}
-use Rattle.lab_kept_records.specs.declared.records.FormVersion.{FormVersion}
-use Rattle.lab_kept_records.specs.declared.records.Record.{Record}
-use Rattle.lab_kept_trail.specs.declared.trails.Deed.{Deed}
-use Rattle.lab_kept_trail.specs.declared.trails.Deed.TheVariants.{Refuse, Lock}
-use Rattle.lab_kept_trail.specs.declared.trails.Occasion.{Occasion}
+use Rattle.lab_kept.specs.declared.records.FormVersion.{FormVersion}
+use Rattle.lab_kept.specs.declared.records.Record.{Record}
+use Rattle.lab_kept.specs.declared.trails.Deed.{Deed}
+use Rattle.lab_kept.specs.declared.trails.Deed.TheVariants.{Refuse, Lock}
+use Rattle.lab_kept.specs.declared.trails.Occasion.{Occasion}
 use Rattle.lab_kept.specs.Limits.{count_limit}
-use Rattle.lab_kept_records.specs.Lookups.{record_of, record_about, last_form, exact_form}
+use Rattle.lab_kept.specs.Lookups.{record_of, record_about, last_form, exact_form}
 use Rattle.lab_kept.specs.Lookups.{caller_of, person_at, session_at}
 use Rattle.lab_kept.specs.Changes.{with_person, in_record, entered_in, opened_in, signed_in}
 use Rattle.lab_rules.specs.declared.items.Item.{Item}

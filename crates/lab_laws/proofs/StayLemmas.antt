@@ -3,7 +3,7 @@ use Rattle.std.proofs.Common.{ℕ, Bool, true, false, List, length, Option, Some
 use Rattle.std.specs.Prelude.{IsSome, cond, nat_le}
 use Rattle.lab_names.specs.declared.tick.Tick.{Tick}
 use Rattle.lab_kept.specs.declared.labs.Lab.{Lab}
-use Rattle.lab_kept_trail.specs.declared.trails.Deed.{Deed}
+use Rattle.lab_kept.specs.declared.trails.Deed.{Deed}
 use Rattle.lab_access.specs.Sessions.{touched_session}
 use Rattle.lab_kept.specs.Limits.{count_limit}
 use Rattle.lab_machine.specs.declared.commands.Command.{Command}

@@ -16,7 +16,7 @@ use Rattle.lab_kept.specs.declared.changes.Change.TheVariants.{Last, Strays, Per
 use Rattle.lab_kept.specs.declared.labs.Lab.{Lab}
 use Rattle.lab_kept.specs.declared.needs.Need.{Need}
 use Rattle.lab_kept.specs.declared.needs.Slice.{Slice}
-use Rattle.lab_kept_trail.specs.declared.trails.Action.TheVariants.{Found}
+use Rattle.lab_kept.specs.declared.trails.Action.TheVariants.{Found}
 use Rattle.lab_kept.specs.Births.{newborn_lab}
 use Rattle.lab_kept.specs.Parts.{part_of}
 use Rattle.lab_kept.specs.Worlds.{Meaning, Places}

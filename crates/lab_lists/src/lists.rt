@@ -1,10 +1,10 @@
 //! The plain keeper: laboratories in memory.
 ghost use Rattle.std.specs.Prelude.{◌≡◌, [], ◌∷◌, None, option_copied, position, IfOk, OnOk, OnErr};
-ghost use Rattle.lab_kept_trail.specs.declared.trails.Deed.TheVariants.{Found};
+ghost use Rattle.lab_kept.specs.declared.trails.Deed.TheVariants.{Found};
 ghost use Rattle.lab_kept.specs.Births.{newborn_lab};
 ghost use Rattle.lab_kept.specs.Changes.{added_person};
 ghost use Rattle.lab_kept.specs.Parts.{part_of};
-ghost use Rattle.lab_kept_trail.specs.Trails.{row_of};
+ghost use Rattle.lab_kept.specs.Trails.{row_of};
 ghost use Rattle.lab_kept.specs.Worlds.{Changes};
 ghost use Rattle.lab_lists.specs.Lists.{has_code, lab_of, ChangesInPlace};
 

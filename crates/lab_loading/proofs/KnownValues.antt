@@ -7,9 +7,9 @@ use Rattle.lab_kept.specs.declared.needs.Need.{Need}
 use Rattle.lab_kept.specs.declared.needs.FormWanted.TheVariants.{Last, Exact}
 use Rattle.lab_kept.specs.declared.needs.RecordWanted.TheVariants.{Numbered, About}
 use Rattle.lab_kept.specs.declared.needs.ListWanted.TheVariants.{Persons, Records, Trail}
-use Rattle.lab_kept_records.specs.declared.records.FormVersion.{FormVersion}
-use Rattle.lab_kept_records.specs.declared.records.Record.{Record}
-use Rattle.lab_kept_trail.specs.declared.trails.TrailRow.{TrailRow as Told}
+use Rattle.lab_kept.specs.declared.records.FormVersion.{FormVersion}
+use Rattle.lab_kept.specs.declared.records.Record.{Record}
+use Rattle.lab_kept.specs.declared.trails.TrailRow.{TrailRow as Told}
 use Rattle.lab_kept.specs.Parts.{part}
 use Rattle.lab_tables.proofs.KnownFile.{filled, file}
 use Rattle.lab_tables.proofs.KnownValues.{aqua}

@@ -7,9 +7,9 @@ use Rattle.std.proofs.lemmas.Cmp.{nat_cmp_total}
 use Rattle.sqlite_keyed.specs.Keyed.{get_by}
 use Rattle.sqlite_keyed.specs.Lists.{sort_by}
 use Rattle.sqlite_keyed.proofs.ListLemmas.{all_from_test, all_weaker, filter-map, map-map}
-use Rattle.lab_kept_records.specs.declared.records.FormVersion.{FormVersion}
-use Rattle.lab_kept_records.specs.declared.records.Record.{Record}
-use Rattle.lab_kept_records.specs.Lookups.{has_number, is_about as tells_of, record_of, record_about}
+use Rattle.lab_kept.specs.declared.records.FormVersion.{FormVersion}
+use Rattle.lab_kept.specs.declared.records.Record.{Record}
+use Rattle.lab_kept.specs.Lookups.{has_number, is_about as tells_of, record_of, record_about}
 use Rattle.lab_kept.specs.Lookups.{is_within, records_within}
 use Rattle.lab_tables.specs.Rows.{FormRow, RecordRow, Tables, form_id}
 use Rattle.lab_tables.specs.WellKept.{IsWellKept, names_its_form}

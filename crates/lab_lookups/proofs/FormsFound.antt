@@ -7,7 +7,7 @@ use Rattle.std.proofs.lemmas.List.{length-map, length_push, reverse-append, reve
 use Rattle.std.proofs.lemmas.List.Elements.{filter-append}
 use Rattle.sqlite_keyed.specs.Lists.{sort_by}
 use Rattle.sqlite_keyed.proofs.ListLemmas.{slice_get-filter, filter-map}
-use Rattle.lab_kept_records.specs.Lookups.{last_of, is_version_of, is_form_version, last_form, exact_form}
+use Rattle.lab_kept.specs.Lookups.{last_of, is_version_of, is_form_version, last_form, exact_form}
 use Rattle.lab_tables.specs.Rows.{FormRow, Tables, flag, flag_in}
 use Rattle.lab_tables.specs.WellKept.{IsWellKept}
 use Rattle.lab_tables.specs.Meaning.{form_in, forms_of, by_form}

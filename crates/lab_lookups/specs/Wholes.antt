@@ -1,7 +1,7 @@
 -- A record of a laboratory, with its form and all its versions, as its own row leads to them.
 use Rattle.std.specs.Prelude.{ℕ, List, [], None}
-use Rattle.lab_kept_records.specs.declared.records.FormVersion.{FormVersion}
-use Rattle.lab_kept_records.specs.declared.records.Record.{Record}
+use Rattle.lab_kept.specs.declared.records.FormVersion.{FormVersion}
+use Rattle.lab_kept.specs.declared.records.Record.{Record}
 use Rattle.lab_tables.specs.Rows.{Tables}
 use Rattle.lab_tables.specs.Meaning.{Leaf, form_at, leaves_of, chained}
 use Rattle.lab_reading.specs.declared.heads.RecordHead.{RecordHead}

@@ -4,7 +4,7 @@ ghost use Rattle.std.specs.Prelude.{◌≡◌, [], ◌∷◌, ◌++◌, map, opt
 ghost use Rattle.sqlite.specs.State.{HasCleanDisk, IsUnchanged};
 ghost use Rattle.sqlite.specs.Held.{state};
 ghost use Rattle.lab_tables.specs.Ready.{IsReady, PassesBy, tables_of};
-ghost use Rattle.lab_kept_records.specs.Lookups.{record_of, record_about};
+ghost use Rattle.lab_kept.specs.Lookups.{record_of, record_about};
 ghost use Rattle.lab_kept.specs.Lookups.{records_within};
 ghost use Rattle.lab_tables.specs.Meaning.{records_of};
 ghost use Rattle.lab_lookups.specs.Wholes.{record_by};

@@ -4,7 +4,7 @@ ghost use Rattle.std.specs.Prelude.{◌≡◌, option_map, slice_get, IfOk, OnOk
 ghost use Rattle.sqlite.specs.State.{HasCleanDisk, IsUnchanged};
 ghost use Rattle.sqlite.specs.Held.{state};
 ghost use Rattle.lab_tables.specs.Ready.{IsReady, PassesBy, tables_of};
-ghost use Rattle.lab_kept_records.specs.Lookups.{last_of, last_form, exact_form};
+ghost use Rattle.lab_kept.specs.Lookups.{last_of, last_form, exact_form};
 ghost use Rattle.lab_tables.specs.Meaning.{forms_of};
 ghost use Rattle.lab_form_versions.specs.Forms.{form_by};
 ghost use Rattle.lab_form_versions.specs.Shown.{form_read};

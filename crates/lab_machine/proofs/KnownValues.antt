@@ -21,12 +21,12 @@ use Rattle.lab_kept.specs.declared.needs.RecordWanted.{RecordWanted}
 use Rattle.lab_kept.specs.declared.needs.RecordWanted.TheVariants.{Numbered, About}
 use Rattle.lab_kept.specs.declared.needs.ListWanted.{ListWanted}
 use Rattle.lab_kept.specs.declared.needs.ListWanted.TheVariants.{Persons, Records, Trail}
-use Rattle.lab_kept_trail.specs.declared.trails.Deed.{Deed}
-use Rattle.lab_kept_trail.specs.declared.trails.Deed.TheVariants.{Refuse, Lock}
-use Rattle.lab_kept_trail.specs.declared.trails.Occasion.TheVariants.{Opening}
+use Rattle.lab_kept.specs.declared.trails.Deed.{Deed}
+use Rattle.lab_kept.specs.declared.trails.Deed.TheVariants.{Refuse, Lock}
+use Rattle.lab_kept.specs.declared.trails.Occasion.TheVariants.{Opening}
 use Rattle.lab_kept.specs.Changes.{with_person}
 use Rattle.lab_kept.specs.Limits.{count_limit}
-use Rattle.lab_kept_trail.specs.Trails.{row_of}
+use Rattle.lab_kept.specs.Trails.{row_of}
 use Rattle.lab_rules.specs.declared.items.Item.{Item}
 use Rattle.lab_rules.specs.declared.refusals.Refusal.TheVariants.{People}
 use Rattle.lab_machine.specs.declared.commands.Command.{Command}

@@ -13,10 +13,10 @@ use Rattle.lab_access.specs.Roles.{no_roles, with_role}
 use Rattle.lab_people.specs.Accounts.{newcomer}
 use Rattle.lab_kept.specs.declared.labs.Lab.{Lab}
 use Rattle.lab_kept.specs.declared.faults.PlacingFault.TheVariants.{LabExists as IsThere}
-use Rattle.lab_kept_trail.specs.declared.trails.Deed.TheVariants.{Found}
+use Rattle.lab_kept.specs.declared.trails.Deed.TheVariants.{Found}
 use Rattle.lab_kept.specs.Changes.{added_person}
 use Rattle.lab_kept.specs.Faults.{placing_fault_entry}
-use Rattle.lab_kept_trail.specs.Trails.{row_of}
+use Rattle.lab_kept.specs.Trails.{row_of}
 use Rattle.lab_machine.specs.declared.births.Founder.{Founder}
 use Rattle.lab_machine.specs.declared.births.Founding.{Founding}
 use Rattle.lab_machine.specs.declared.births.BirthRefusal.{BirthRefusal}

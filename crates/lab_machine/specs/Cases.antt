@@ -5,11 +5,11 @@ use Rattle.lab_access.specs.declared.refusals.Failure.TheVariants.{Counted, Lock
 use Rattle.lab_access.specs.declared.sessions.Closing.TheVariants.{All}
 use Rattle.lab_access.specs.Sessions.{sessions_after}
 use Rattle.lab_kept.specs.declared.labs.Lab.{Lab}
-use Rattle.lab_kept_trail.specs.declared.trails.Deed.{Deed}
-use Rattle.lab_kept_trail.specs.declared.trails.Deed.TheVariants.{Refuse, Lock}
-use Rattle.lab_kept_trail.specs.declared.trails.Occasion.{Occasion}
+use Rattle.lab_kept.specs.declared.trails.Deed.{Deed}
+use Rattle.lab_kept.specs.declared.trails.Deed.TheVariants.{Refuse, Lock}
+use Rattle.lab_kept.specs.declared.trails.Occasion.{Occasion}
 use Rattle.lab_kept.specs.Limits.{count_limit, stray_limit}
-use Rattle.lab_kept_trail.specs.Trails.{row_of}
+use Rattle.lab_kept.specs.Trails.{row_of}
 use Rattle.lab_kept.specs.Changes.{with_person}
 use Rattle.lab_rules.specs.declared.refusals.Refusal.{Refusal}
 use Rattle.lab_machine.specs.declared.replies.Reply.{Reply}

@@ -11,7 +11,7 @@ use Rattle.lab_access.specs.declared.refusals.PeopleRefusal.TheVariants.{NoSessi
 use Rattle.lab_access.specs.Policy.{denial}
 use Rattle.lab_access.specs.Sessions.{is_live, touched_session}
 use Rattle.lab_kept.specs.declared.labs.Lab.{Lab}
-use Rattle.lab_kept_trail.specs.declared.trails.Deed.{Deed}
+use Rattle.lab_kept.specs.declared.trails.Deed.{Deed}
 use Rattle.lab_kept.specs.Limits.{count_limit}
 use Rattle.lab_kept.specs.Lookups.{session_at, caller_of}
 use Rattle.lab_kept.specs.Changes.{with_session}

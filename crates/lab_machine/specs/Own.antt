@@ -21,11 +21,11 @@ use Rattle.lab_people.specs.declared.issues.Issued.{Issued}
 use Rattle.lab_people.specs.Accounts.{changing, enrolling, setting_roles, retiring, unlocking}
 use Rattle.lab_people.specs.Issues.{asking, confirming}
 use Rattle.lab_kept.specs.declared.labs.Lab.{Lab}
-use Rattle.lab_kept_records.specs.declared.records.FormVersion.{FormVersion}
-use Rattle.lab_kept_records.specs.declared.records.Record.{Record}
-use Rattle.lab_kept_trail.specs.declared.trails.Deed.TheVariants.{Open as OpenDeed, Close as CloseDeed, Password as PasswordDeed, Enrol as EnrolDeed, Issue as IssueDeed, Confirm as ConfirmDeed, Roles as RolesDeed, Retire as RetireDeed, Unlock as UnlockDeed, Form as FormDeed, Record as RecordDeed, Entry as EntryDeed, Amend as AmendDeed, Sign as SignDeed}
-use Rattle.lab_kept_trail.specs.declared.trails.Occasion.TheVariants.{Opening, Changing, Signing as AtSigning}
-use Rattle.lab_kept_records.specs.Lookups.{last_form, exact_form, record_of, record_about}
+use Rattle.lab_kept.specs.declared.records.FormVersion.{FormVersion}
+use Rattle.lab_kept.specs.declared.records.Record.{Record}
+use Rattle.lab_kept.specs.declared.trails.Deed.TheVariants.{Open as OpenDeed, Close as CloseDeed, Password as PasswordDeed, Enrol as EnrolDeed, Issue as IssueDeed, Confirm as ConfirmDeed, Roles as RolesDeed, Retire as RetireDeed, Unlock as UnlockDeed, Form as FormDeed, Record as RecordDeed, Entry as EntryDeed, Amend as AmendDeed, Sign as SignDeed}
+use Rattle.lab_kept.specs.declared.trails.Occasion.TheVariants.{Opening, Changing, Signing as AtSigning}
+use Rattle.lab_kept.specs.Lookups.{last_form, exact_form, record_of, record_about}
 use Rattle.lab_kept.specs.Lookups.{person_at, session_at, records_within, rows_within}
 use Rattle.lab_copies.specs.declared.orders.CopyOrder.{CopyOrder}
 use Rattle.lab_copies.specs.CopyLines.{copy_of}

@@ -2,11 +2,11 @@
 
 ghost use Rattle.std.specs.Prelude.{◌≡◌, ◌≤◌, [], ◌∷◌, length, None, position, IfOk, OnOk};
 ghost use Rattle.std.specs.List.{position_or_len};
-ghost use Rattle.lab_kept_trail.specs.declared.trails.Deed.TheVariants.{Found};
+ghost use Rattle.lab_kept.specs.declared.trails.Deed.TheVariants.{Found};
 ghost use Rattle.lab_kept.specs.Births.{newborn_lab};
 ghost use Rattle.lab_kept.specs.Changes.{added_person};
 ghost use Rattle.lab_kept.specs.Lookups.{comes_before};
-ghost use Rattle.lab_kept_trail.specs.Trails.{row_of};
+ghost use Rattle.lab_kept.specs.Trails.{row_of};
 ghost use Rattle.lab_newborns.specs.Newborns.{is_asked};
 
 use lab_kept::{

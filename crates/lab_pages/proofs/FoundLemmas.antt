@@ -3,8 +3,8 @@
 use Rattle.std.proofs.Common.{◌≡◌, ℕ, ℤ, List, [], ◌∷◌, ◌++◌, map, find, Option, Some, None, option_map, option_to_list, refl, sym, ap, ◌∙◌}
 use Rattle.std.proofs.lemmas.Slice.Eq.{bytes_eq-Decides}
 use Rattle.sqlite_rules.proofs.ListLemmas.{has_found}
-use Rattle.lab_kept_records.specs.declared.records.Record.{Record}
-use Rattle.lab_kept_records.specs.Lookups.{record_of}
+use Rattle.lab_kept.specs.declared.records.Record.{Record}
+use Rattle.lab_kept.specs.Lookups.{record_of}
 use Rattle.lab_tables.specs.Rows.{LabRow, Tables}
 use Rattle.lab_tables.specs.Meaning.{Leaf, chained, has_code, lab_in, leaves_of, meaning, records_of}
 use Rattle.lab_tables.specs.WellKept.{IsWellKept}

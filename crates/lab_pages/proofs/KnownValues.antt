@@ -4,8 +4,8 @@ use Rattle.std.proofs.Common.{◌≡◌, ◌++◌, pos, [], ◌∷◌, Some, Non
 use Rattle.std.specs.Prelude.{codes}
 use Rattle.lab_versions.specs.declared.rows.EntryRow.{EntryRow as Entry}
 use Rattle.lab_seal.specs.declared.seals.Meaning.TheVariants.{Authorship}
-use Rattle.lab_kept_records.specs.declared.records.Version.{Version}
-use Rattle.lab_kept_records.specs.declared.records.Signature.{Signature}
+use Rattle.lab_kept.specs.declared.records.Version.{Version}
+use Rattle.lab_kept.specs.declared.records.Signature.{Signature}
 use Rattle.lab_tables.proofs.KnownFile.{filled, file}
 use Rattle.lab_tables.proofs.KnownValues.{aqua_record, older_version}
 use Rattle.lab_reading.specs.declared.heads.RecordHead.{RecordHead}

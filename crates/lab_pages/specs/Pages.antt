@@ -2,8 +2,8 @@
 -- version after the other (21 CFR 11.10(b), "accurate and complete copies of records").
 use Rattle.std.specs.Prelude.{ℕ, List, [], ◌∷◌, find, Option, option_and_then, option_map}
 use Rattle.std.specs.List.{flat_map}
-use Rattle.lab_kept_records.specs.declared.records.Record.{Record}
-use Rattle.lab_kept_records.specs.declared.records.Version.{Version}
+use Rattle.lab_kept.specs.declared.records.Record.{Record}
+use Rattle.lab_kept.specs.declared.records.Version.{Version}
 use Rattle.lab_rows.specs.declared.lines.Line.TheVariants as line
 use Rattle.lab_copies.specs.CopyLines.{record_line, rows_of_lines, version_lines}
 use Rattle.lab_tables.specs.Rows.{Tables}

@@ -2,7 +2,7 @@
 
 ghost use Rattle.std.specs.Prelude.{◌≡◌, IfErr, IfOk, OnOk};
 ghost use Rattle.lab_copy.specs.Outs.{Sends};
-ghost use Rattle.lab_kept_records.specs.Digests.{digest_of};
+ghost use Rattle.lab_kept.specs.Digests.{digest_of};
 ghost use Rattle.lab_pages.specs.Pages.{cover_rows, page_rows};
 ghost use Rattle.lab_reading.specs.Leaves.{leaf_of};
 ghost use Rattle.lab_rows.specs.Csv.{csv_text};

@@ -5,7 +5,7 @@ ghost use Rattle.std.specs.Prelude.{◌≡◌, None, [], ◌∷◌, ◌++◌, ma
 ghost use Rattle.sqlite.specs.State.{HasCleanDisk, IsUnchanged};
 ghost use Rattle.sqlite.specs.Held.{state};
 ghost use Rattle.lab_copy.specs.Outs.{Sends};
-ghost use Rattle.lab_kept_records.specs.Digests.{digest_of};
+ghost use Rattle.lab_kept.specs.Digests.{digest_of};
 ghost use Rattle.lab_pages.specs.Pages.{cover_rows, page_rows, pages_rows};
 ghost use Rattle.lab_reading.specs.Leaves.{leaf_by};
 ghost use Rattle.lab_lookups.specs.Wholes.{record_by};

@@ -2,7 +2,7 @@
 ghost use Rattle.std.specs.Prelude.{◌≡◌, bytes_eq, find, option_copied};
 ghost use Rattle.lab_access.specs.Persons.{person_of};
 ghost use Rattle.lab_access.specs.Sessions.{session_of};
-ghost use Rattle.lab_kept_records.specs.Lookups.{last_form, exact_form, record_of, record_about};
+ghost use Rattle.lab_kept.specs.Lookups.{last_form, exact_form, record_of, record_about};
 
 use lab_kept::{Digest, FormVersion, Key, Name, Ordinal, Person, PersonCode, Record, Session};
 

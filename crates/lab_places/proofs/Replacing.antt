@@ -5,9 +5,9 @@ use Rattle.std.specs.List.{position_or_len}
 use borrow.Author.Tests.{ltb-false}
 use Rattle.lab_access.specs.declared.persons.Person.{Person}
 use Rattle.lab_access.specs.declared.sessions.Session.{Session}
-use Rattle.lab_kept_records.specs.declared.records.Record.{Record}
-use Rattle.lab_kept_records.specs.declared.records.Version.{Version}
-use Rattle.lab_kept_records.specs.Lookups.{has_number, is_numbered}
+use Rattle.lab_kept.specs.declared.records.Record.{Record}
+use Rattle.lab_kept.specs.declared.records.Version.{Version}
+use Rattle.lab_kept.specs.Lookups.{has_number, is_numbered}
 use Rattle.lab_kept.specs.Changes.{with_person, with_session, in_record, in_version, in_last}
 
 -- something is done to the first item that passes the test

@@ -1,7 +1,7 @@
 //! Where persons, sessions and records stand in their lists, and what is done to one record.
 ghost use Rattle.std.specs.Prelude.{◌≡◌, ◌≤◌, bytes_eq, length, position, OnOk, OnErr};
 ghost use Rattle.std.specs.List.{position_or_len};
-ghost use Rattle.lab_kept_records.specs.Lookups.{has_number, is_numbered};
+ghost use Rattle.lab_kept.specs.Lookups.{has_number, is_numbered};
 ghost use Rattle.lab_kept.specs.Lookups.{comes_before};
 ghost use Rattle.lab_kept.specs.Changes.{in_last, in_version, with_row, with_signature, entered_in, opened_in, signed_in};
 

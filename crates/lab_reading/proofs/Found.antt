@@ -9,7 +9,7 @@ use Rattle.lab_tables.specs.Meaning.{has_code, code_of, entry_in, entries_of, si
 use Rattle.lab_columns.proofs.Found.{text_back}
 use Rattle.lab_reading.specs.Heads.{lab_head, is_record, record_head, version_head, versions_of}
 use Rattle.lab_versions.specs.declared.rows.EntryRow.{EntryRow as Entry}
-use Rattle.lab_kept_records.specs.declared.records.Signature.{Signature}
+use Rattle.lab_kept.specs.declared.records.Signature.{Signature}
 use Rattle.lab_tables.specs.Meaning.{Leaf}
 use Rattle.lab_reading.specs.declared.heads.VersionHead.{VersionHead}
 use Rattle.lab_reading.specs.Leaves.{leaf_by}

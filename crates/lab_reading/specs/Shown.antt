@@ -9,7 +9,7 @@ use Rattle.lab_tables.specs.Rows.{LabRow, RecordRow, VersionRow, EntryRow, Signa
 use Rattle.lab_tables.specs.Columns.{meaning_in}
 use Rattle.lab_tables.specs.Meaning.{code_of, has_code, by_version, by_entry, by_signature}
 use Rattle.lab_versions.specs.declared.rows.EntryRow.{EntryRow as Entry}
-use Rattle.lab_kept_records.specs.declared.records.Signature.{Signature}
+use Rattle.lab_kept.specs.declared.records.Signature.{Signature}
 use Rattle.lab_reading.specs.declared.heads.VersionHead.{VersionHead}
 use Rattle.lab_reading.specs.declared.heads.RecordHead.{RecordHead}
 use Rattle.lab_reading.specs.Heads.{is_record}

@@ -5,10 +5,10 @@ use Rattle.std.specs.Prelude.{IsTrue, Ok, Err, is_some, is_none, not, ◌&&◌, 
 use Rattle.std.specs.Option.{option_map_or}
 use Rattle.std.proofs.lemmas.Bool.Decides.{nat_tests}
 use Rattle.lab_access.specs.declared.persons.Person.{Person}
-use Rattle.lab_kept_records.specs.declared.records.Record.{Record}
-use Rattle.lab_kept_records.specs.declared.records.Version.{Version}
-use Rattle.lab_kept_records.specs.Lookups.{last_of, version_of}
-use Rattle.lab_kept_records.specs.Values.{version_state}
+use Rattle.lab_kept.specs.declared.records.Record.{Record}
+use Rattle.lab_kept.specs.declared.records.Version.{Version}
+use Rattle.lab_kept.specs.Lookups.{last_of, version_of}
+use Rattle.lab_kept.specs.Values.{version_state}
 use Rattle.lab_rules.specs.declared.items.Item.{Item}
 use Rattle.lab_rules.specs.declared.outcomes.AmendmentMade.{AmendmentMade}
 use Rattle.lab_rules.specs.declared.outcomes.SignatureMade.{SignatureMade}

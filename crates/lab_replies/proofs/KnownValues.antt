@@ -11,9 +11,9 @@ use Rattle.lab_access.specs.declared.policy.Rule.TheVariants.{SignReview}
 use Rattle.lab_access.specs.declared.refusals.PeopleRefusal.TheVariants.{RoleWanted}
 use Rattle.lab_access.specs.declared.roles.Roles.{Roles}
 use Rattle.lab_forms.specs.declared.kinds.Kind.TheVariants.{Number, Text, Choice, Date, YesNo}
-use Rattle.lab_kept_records.specs.declared.records.FormVersion.{FormVersion}
-use Rattle.lab_kept_records.specs.declared.records.Signature.{Signature}
-use Rattle.lab_kept_trail.specs.declared.trails.Action.TheVariants.{Found, Amend}
+use Rattle.lab_kept.specs.declared.records.FormVersion.{FormVersion}
+use Rattle.lab_kept.specs.declared.records.Signature.{Signature}
+use Rattle.lab_kept.specs.declared.trails.Action.TheVariants.{Found, Amend}
 use Rattle.lab_seal.specs.declared.seals.Meaning.TheVariants.{Authorship, Review, Rejection, Approval}
 use Rattle.lab_seal.specs.declared.states.State.TheVariants as state
 use Rattle.lab_versions.specs.declared.rows.EntryRow.{EntryRow}

@@ -10,9 +10,9 @@ use Rattle.lab_names.specs.Faults.{Entry}
 use Rattle.lab_forms.specs.declared.kinds.Kind.{Kind}
 use Rattle.lab_forms.specs.declared.kinds.Kind.TheVariants.{Number, Text, Choice, Date, YesNo}
 use Rattle.lab_forms.specs.declared.forms.Field.{Field}
-use Rattle.lab_kept_records.specs.declared.records.FormVersion.{FormVersion}
-use Rattle.lab_kept_records.specs.declared.records.Signature.{Signature}
-use Rattle.lab_kept_trail.specs.declared.trails.TrailRow.{TrailRow}
+use Rattle.lab_kept.specs.declared.records.FormVersion.{FormVersion}
+use Rattle.lab_kept.specs.declared.records.Signature.{Signature}
+use Rattle.lab_kept.specs.declared.trails.TrailRow.{TrailRow}
 use Rattle.lab_seal.specs.declared.states.State.{State}
 use Rattle.lab_versions.specs.declared.rows.EntryRow.{EntryRow}
 use Rattle.lab_rules.specs.declared.readings.PersonLine.{PersonLine}

@@ -1,8 +1,8 @@
 -- Rows of the trail, as JSON.
 use Rattle.std.specs.Prelude.{List, [], ◌∷◌, map, codes}
 use Rattle.serde_json.specs.Data.{Data, string}
-use Rattle.lab_kept_trail.specs.declared.trails.TrailRow.{TrailRow}
-use Rattle.lab_kept_trail.specs.Trails.{action_word}
+use Rattle.lab_kept.specs.declared.trails.TrailRow.{TrailRow}
+use Rattle.lab_kept.specs.Trails.{action_word}
 use Rattle.lab_replies_parts.specs.Parts.{object_from, list_from, whole, moment_data, text_or_empty}
 
 -- a row of the trail, with an empty person where it was nobody

@@ -7,7 +7,7 @@ use Rattle.lab_versions.specs.declared.versions.Format.{Format}
 use Rattle.lab_versions.specs.declared.versions.Format.TheVariants.{One, Two}
 use Rattle.lab_seal.specs.declared.states.State.{State}
 use Rattle.lab_seal.specs.Seals.{meaning_word, meaning_reason}
-use Rattle.lab_kept_records.specs.declared.records.Signature.{Signature}
+use Rattle.lab_kept.specs.declared.records.Signature.{Signature}
 use Rattle.lab_rules.specs.declared.readings.VersionState.{VersionState}
 use Rattle.lab_rules.specs.declared.readings.RecordRead.{RecordRead}
 use Rattle.lab_rules.specs.declared.readings.RecordState.{RecordState}

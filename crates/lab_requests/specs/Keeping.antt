@@ -3,12 +3,12 @@
 use Rattle.std.specs.Prelude.{◌≡◌, ℕ, List, Option, Some}
 use Rattle.lab_seal.specs.declared.states.State.TheVariants.{Released}
 use Rattle.lab_kept.specs.declared.labs.Lab.{Lab}
-use Rattle.lab_kept_records.specs.declared.records.Record.{Record as KeptRecord}
-use Rattle.lab_kept_records.specs.declared.records.Version.{Version}
+use Rattle.lab_kept.specs.declared.records.Record.{Record as KeptRecord}
+use Rattle.lab_kept.specs.declared.records.Version.{Version}
 use Rattle.lab_kept.specs.Changes.{SameSession}
 use Rattle.lab_kept.specs.Keeping.{Extends, IsPrefix, KeepsPersons, KeepsForms, KeepsRecord, Keeps}
 use Rattle.lab_kept.specs.Limits.{IsWithin}
-use Rattle.lab_kept_records.specs.Values.{version_state}
+use Rattle.lab_kept.specs.Values.{version_state}
 use Rattle.lab_kept.specs.Worlds.{World, Meaning}
 use Rattle.lab_laws.specs.Runs.{IsReleasing}
 use Rattle.lab_laws.specs.Stepping.{HoldsOf, WhereThere}

@@ -1,10 +1,10 @@
 -- A version more in a chain.
 use Rattle.std.proofs.Common.{◌≡◌, ℕ, ◌-◌, List, [], ◌∷◌, ◌++◌, length, Some, slice_get, option_map, refl, ap, ◌∙◌, append_assoc, arith}
 use Rattle.std.proofs.lemmas.List.{length_push}
-use Rattle.lab_kept_records.specs.declared.records.Record.{Record}
-use Rattle.lab_kept_records.specs.declared.records.Version.{Version}
-use Rattle.lab_kept_records.specs.Digests.{digest_of}
-use Rattle.lab_kept_records.specs.Lookups.{last_of}
+use Rattle.lab_kept.specs.declared.records.Record.{Record}
+use Rattle.lab_kept.specs.declared.records.Version.{Version}
+use Rattle.lab_kept.specs.Digests.{digest_of}
+use Rattle.lab_kept.specs.Lookups.{last_of}
 use Rattle.lab_tables.specs.Meaning.{Leaf, version_after, chained}
 use Rattle.lab_retrieval.specs.Chains.{before_next}
 

@@ -1,10 +1,10 @@
 -- Where a version comes from, and what it amends.
 use Rattle.std.specs.Prelude.{ℕ, List, [], Option, option_map, unwrap_or}
 use Rattle.lab_versions.specs.declared.origins.OriginParts.{OriginParts}
-use Rattle.lab_kept_records.specs.declared.records.Record.{Record}
-use Rattle.lab_kept_records.specs.declared.records.Version.{Version}
-use Rattle.lab_kept_records.specs.Digests.{digest_of}
-use Rattle.lab_kept_records.specs.Lookups.{last_of}
+use Rattle.lab_kept.specs.declared.records.Record.{Record}
+use Rattle.lab_kept.specs.declared.records.Version.{Version}
+use Rattle.lab_kept.specs.Digests.{digest_of}
+use Rattle.lab_kept.specs.Lookups.{last_of}
 
 -- of a version whose number and reason these are, behind one of the digest or none
 abbrev pub origin_after : ℕ → Option (List ℕ) → Option (List ℕ) → OriginParts

@@ -1,8 +1,8 @@
 //! Versions of a record, each of which amends the one before it as that is now.
 
 ghost use Rattle.std.specs.Prelude.{◌≡◌, None, [], ◌∷◌, ◌++◌, map, option_map, unwrap_or, IfOk, OnOk};
-ghost use Rattle.lab_kept_records.specs.Digests.{digest_of};
-ghost use Rattle.lab_kept_records.specs.Lookups.{last_of};
+ghost use Rattle.lab_kept.specs.Digests.{digest_of};
+ghost use Rattle.lab_kept.specs.Lookups.{last_of};
 ghost use Rattle.lab_tables.specs.Columns.{format_in};
 ghost use Rattle.lab_tables.specs.Meaning.{version_after, chained};
 ghost use Rattle.lab_reading.specs.Leaves.{leaf_of};

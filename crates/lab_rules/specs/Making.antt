@@ -4,9 +4,9 @@ use Rattle.std.specs.Prelude.{ℕ, ◌+◌, Bool, nat_le, List, [], ◌∷◌, O
 use Rattle.lab_forms.specs.Forms.{FormSheet, form_eq}
 use Rattle.lab_access.specs.declared.refusals.PeopleRefusal.TheVariants.{LabFull}
 use Rattle.lab_versions.specs.declared.versions.Format.TheVariants.{Two}
-use Rattle.lab_kept_records.specs.declared.records.FormVersion.{FormVersion}
-use Rattle.lab_kept_records.specs.declared.records.Record.{Record}
-use Rattle.lab_kept_records.specs.declared.records.Version.{Version}
+use Rattle.lab_kept.specs.declared.records.FormVersion.{FormVersion}
+use Rattle.lab_kept.specs.declared.records.Record.{Record}
+use Rattle.lab_kept.specs.declared.records.Version.{Version}
 use Rattle.lab_kept.specs.Limits.{form_version_limit, record_limit}
 use Rattle.lab_rules.specs.declared.refusals.Refusal.{Refusal}
 use Rattle.lab_rules.specs.declared.refusals.Refusal.TheVariants.{People, NoSuchForm, RecordExists, NothingAltered}

@@ -3,12 +3,12 @@
 use Rattle.std.specs.Prelude.{ℕ, List, map, Option, Some, None, option_map, Result, Ok, Err}
 use Rattle.lab_access.specs.declared.persons.Person.{Person}
 use Rattle.lab_access.specs.Persons.{is_locked}
-use Rattle.lab_kept_records.specs.declared.records.FormVersion.{FormVersion}
-use Rattle.lab_kept_records.specs.declared.records.Record.{Record}
-use Rattle.lab_kept_records.specs.declared.records.Version.{Version}
-use Rattle.lab_kept_records.specs.Lookups.{last_of, version_of}
-use Rattle.lab_kept_records.specs.Values.{values_at, altered_at, version_state}
-use Rattle.lab_kept_records.specs.Digests.{digest_of}
+use Rattle.lab_kept.specs.declared.records.FormVersion.{FormVersion}
+use Rattle.lab_kept.specs.declared.records.Record.{Record}
+use Rattle.lab_kept.specs.declared.records.Version.{Version}
+use Rattle.lab_kept.specs.Lookups.{last_of, version_of}
+use Rattle.lab_kept.specs.Values.{values_at, altered_at, version_state}
+use Rattle.lab_kept.specs.Digests.{digest_of}
 use Rattle.lab_seal.specs.declared.states.State.{State}
 use Rattle.lab_rules.specs.declared.refusals.Refusal.{Refusal}
 use Rattle.lab_rules.specs.declared.refusals.Refusal.TheVariants.{NoSuchForm, NoSuchRecord, NoSuchVersion}

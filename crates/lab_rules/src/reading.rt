@@ -1,8 +1,8 @@
 //! What is read: a version of a form, a record, a version of a record, and a line of each record and each person.
 ghost use Rattle.std.specs.Prelude.{◌≡◌, IfOk, map};
-ghost use Rattle.lab_kept_records.specs.Digests.{digest_of};
-ghost use Rattle.lab_kept_records.specs.Lookups.{version_of};
-ghost use Rattle.lab_kept_records.specs.Values.{altered_at, values_at, version_state};
+ghost use Rattle.lab_kept.specs.Digests.{digest_of};
+ghost use Rattle.lab_kept.specs.Lookups.{version_of};
+ghost use Rattle.lab_kept.specs.Values.{altered_at, values_at, version_state};
 ghost use Rattle.lab_rules.specs.Following.{Follows};
 ghost use Rattle.lab_rules.specs.Reading.{reading_form, version_line, reading_record, reading_found, reading_version, record_line, person_line};
 

@@ -9,13 +9,13 @@ use Rattle.lab_seal.specs.declared.seals.Meaning.TheVariants.{Authorship, Review
 use Rattle.lab_seal.specs.declared.states.State.TheVariants.{Released}
 use Rattle.lab_seal.specs.States.{state_of}
 use Rattle.lab_kept.specs.declared.labs.Lab.{Lab}
-use Rattle.lab_kept_records.specs.declared.records.FormVersion.{FormVersion}
-use Rattle.lab_kept_records.specs.declared.records.Record.{Record}
-use Rattle.lab_kept_records.specs.declared.records.Version.{Version}
-use Rattle.lab_kept_records.specs.declared.records.Signature.{Signature}
+use Rattle.lab_kept.specs.declared.records.FormVersion.{FormVersion}
+use Rattle.lab_kept.specs.declared.records.Record.{Record}
+use Rattle.lab_kept.specs.declared.records.Version.{Version}
+use Rattle.lab_kept.specs.declared.records.Signature.{Signature}
 use Rattle.lab_kept.specs.Dual.{IsSignedDually, IsDualRecord}
 use Rattle.lab_kept.specs.Keeping.{Extends, IsPrefix, KeepsRows, KeepsVersion, KeepsRecord}
-use Rattle.lab_kept_records.specs.Values.{meaning_of, meanings_of}
+use Rattle.lab_kept.specs.Values.{meaning_of, meanings_of}
 use Rattle.lab_kept.specs.Worlds.{World}
 use Rattle.lab_kept.proofs.ReleaseLemmas.{one_releases_none, two_release, three_release, four_release_none}
 use Rattle.lab_laws.specs.Runs.{IsReleasing}

@@ -12,12 +12,12 @@ use Rattle.lab_seal.specs.declared.seals.SealParts.{SealParts}
 use Rattle.lab_seal.specs.declared.seals.Meaning.TheVariants.{Authorship as AsAuthor, Review as AsReviewer, Rejection as AsRejection, Approval as AsApproval}
 use Rattle.lab_seal.specs.declared.states.State.{State}
 use Rattle.lab_seal.specs.declared.states.State.TheVariants.{Open, Signed, Reviewed}
-use Rattle.lab_kept_records.specs.declared.records.Record.{Record}
-use Rattle.lab_kept_records.specs.declared.records.Version.{Version}
-use Rattle.lab_kept_records.specs.declared.records.Signature.{Signature}
-use Rattle.lab_kept_records.specs.Lookups.{version_of}
-use Rattle.lab_kept_records.specs.Values.{value_of, rows_to, altered_at, has_entered, version_state}
-use Rattle.lab_kept_records.specs.Digests.{digest_of, signature_of}
+use Rattle.lab_kept.specs.declared.records.Record.{Record}
+use Rattle.lab_kept.specs.declared.records.Version.{Version}
+use Rattle.lab_kept.specs.declared.records.Signature.{Signature}
+use Rattle.lab_kept.specs.Lookups.{version_of}
+use Rattle.lab_kept.specs.Values.{value_of, rows_to, altered_at, has_entered, version_state}
+use Rattle.lab_kept.specs.Digests.{digest_of, signature_of}
 use Rattle.lab_kept.specs.Changes.{with_signature}
 use Rattle.lab_rules.specs.declared.outcomes.SignatureMade.{SignatureMade}
 use Rattle.lab_rules.specs.declared.outcomes.Signing.{Signing}

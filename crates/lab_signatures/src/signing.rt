@@ -1,9 +1,9 @@
 //! Signatures that are given (21 CFR 11.50, 11.70 and 11.200(a)).
 ghost use Rattle.std.specs.Prelude.{◌≡◌, ◌++◌, ◌∷◌, [], None, is_none, ◌&&◌, map, IfOk, IfErr, IsTrue, option_copied};
 ghost use Rattle.std.specs.List.{list_any};
-ghost use Rattle.lab_kept_records.specs.Digests.{signature_of};
-ghost use Rattle.lab_kept_records.specs.Latest.{noted};
-ghost use Rattle.lab_kept_records.specs.Values.{meaning_of, rows_to};
+ghost use Rattle.lab_kept.specs.Digests.{signature_of};
+ghost use Rattle.lab_kept.specs.Latest.{noted};
+ghost use Rattle.lab_kept.specs.Values.{meaning_of, rows_to};
 ghost use Rattle.lab_rules.specs.Following.{FollowsWhere};
 ghost use Rattle.lab_signatures.specs.Signing.{is_missing, content_refusal, reason_refusal, version_refusal, is_digest_made, is_digest_made_at, is_table_made, signed_meaning, signed_parts, signature_made, signing_record};
 

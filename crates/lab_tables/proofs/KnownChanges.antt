@@ -11,15 +11,15 @@ use Rattle.lab_versions.specs.declared.versions.Format.TheVariants as format
 use Rattle.lab_forms.specs.declared.kinds.Kind.TheVariants.{Number, Text, Choice, Date, YesNo}
 use Rattle.lab_forms.specs.declared.forms.Field.{Field}
 use Rattle.lab_seal.specs.declared.seals.Meaning.TheVariants.{Rejection, Approval}
-use Rattle.lab_kept_records.specs.declared.records.FormVersion.{FormVersion}
-use Rattle.lab_kept_records.specs.declared.records.Version.{Version}
-use Rattle.lab_kept_records.specs.declared.records.Signature.{Signature}
-use Rattle.lab_kept_trail.specs.declared.trails.Action.TheVariants as action
-use Rattle.lab_kept_trail.specs.declared.trails.TrailRow.{TrailRow as Told}
+use Rattle.lab_kept.specs.declared.records.FormVersion.{FormVersion}
+use Rattle.lab_kept.specs.declared.records.Version.{Version}
+use Rattle.lab_kept.specs.declared.records.Signature.{Signature}
+use Rattle.lab_kept.specs.declared.trails.Action.TheVariants as action
+use Rattle.lab_kept.specs.declared.trails.TrailRow.{TrailRow as Told}
 use Rattle.lab_kept.specs.declared.changes.Change.{Change}
 use Rattle.lab_kept.specs.declared.changes.Change.TheVariants.{Last, Strays, PersonAdded, PersonSet, SessionAdded, SessionSet, SessionsClosed, FormAdded, RecordAdded, RowAdded, VersionOpened, SignatureAdded, TrailAdded}
 use Rattle.lab_kept.specs.Changes.{change}
-use Rattle.lab_kept_records.specs.Digests.{digest_of}
+use Rattle.lab_kept.specs.Digests.{digest_of}
 use Rattle.lab_tables.specs.Rows.{LabRow, Tables}
 use Rattle.lab_tables.specs.Columns.{format_number, format_in, roles_sum, roles_in, reason_column, meaning_in, kind_columns, action_in}
 use Rattle.lab_tables.specs.Meaning.{meaning}

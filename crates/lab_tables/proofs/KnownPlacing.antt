@@ -9,10 +9,10 @@ use Rattle.lab_versions.specs.declared.versions.Format.TheVariants as format
 use Rattle.lab_forms.specs.declared.kinds.Kind.TheVariants.{Choice}
 use Rattle.lab_seal.specs.declared.seals.Meaning.TheVariants.{Authorship}
 use Rattle.lab_kept.specs.declared.births.Newborn.{Newborn}
-use Rattle.lab_kept_records.specs.declared.records.FormVersion.{FormVersion}
-use Rattle.lab_kept_records.specs.declared.records.Version.{Version}
+use Rattle.lab_kept.specs.declared.records.FormVersion.{FormVersion}
+use Rattle.lab_kept.specs.declared.records.Version.{Version}
 use Rattle.lab_kept.specs.declared.labs.Lab.{Lab}
-use Rattle.lab_kept_trail.specs.declared.trails.Action.TheVariants as action
+use Rattle.lab_kept.specs.declared.trails.Action.TheVariants as action
 use Rattle.lab_kept.specs.Births.{newborn_lab}
 use Rattle.lab_tables.specs.Rows.{LabRow, Tables}
 use Rattle.lab_tables.specs.Meaning.{meaning}

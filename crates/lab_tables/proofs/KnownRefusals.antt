@@ -7,10 +7,10 @@ use Rattle.lab_access.specs.declared.persons.Person.{Person}
 use Rattle.lab_access.specs.declared.sessions.Session.{Session}
 use Rattle.lab_versions.specs.declared.rows.EntryRow.{EntryRow as Entry}
 use Rattle.lab_seal.specs.declared.seals.Meaning.TheVariants.{Review}
-use Rattle.lab_kept_records.specs.declared.records.Record.{Record as Kept}
-use Rattle.lab_kept_records.specs.declared.records.Signature.{Signature}
-use Rattle.lab_kept_trail.specs.declared.trails.TrailRow.{TrailRow as Told}
-use Rattle.lab_kept_trail.specs.declared.trails.Action.TheVariants as action
+use Rattle.lab_kept.specs.declared.records.Record.{Record as Kept}
+use Rattle.lab_kept.specs.declared.records.Signature.{Signature}
+use Rattle.lab_kept.specs.declared.trails.TrailRow.{TrailRow as Told}
+use Rattle.lab_kept.specs.declared.trails.Action.TheVariants as action
 use Rattle.lab_kept.specs.declared.changes.Change.TheVariants.{Last}
 use Rattle.lab_tables.specs.Rows.{RecordRow, Tables, person_id}
 use Rattle.lab_tables.specs.Changes.{IsFree, version_named, AddsPerson, SetsPerson, AddsSession, SetsSession, AddsRecord, EntersRow, OpensVersion, SignsVersion, AddsTold, Applies}

@@ -13,14 +13,14 @@ use Rattle.lab_forms.specs.declared.kinds.Kind.TheVariants.{Number, Text, Choice
 use Rattle.lab_versions.specs.declared.rows.EntryRow.{EntryRow as Entry}
 use Rattle.lab_versions.specs.declared.versions.Format.TheVariants as format
 use Rattle.lab_seal.specs.declared.seals.Meaning.TheVariants.{Authorship, Review, Rejection}
-use Rattle.lab_kept_records.specs.declared.records.FormVersion.{FormVersion}
-use Rattle.lab_kept_records.specs.declared.records.Record.{Record}
-use Rattle.lab_kept_records.specs.declared.records.Version.{Version}
-use Rattle.lab_kept_trail.specs.declared.trails.Action.{Action}
-use Rattle.lab_kept_trail.specs.declared.trails.Action.TheVariants as action
-use Rattle.lab_kept_trail.specs.declared.trails.TrailRow.{TrailRow as Told}
+use Rattle.lab_kept.specs.declared.records.FormVersion.{FormVersion}
+use Rattle.lab_kept.specs.declared.records.Record.{Record}
+use Rattle.lab_kept.specs.declared.records.Version.{Version}
+use Rattle.lab_kept.specs.declared.trails.Action.{Action}
+use Rattle.lab_kept.specs.declared.trails.Action.TheVariants as action
+use Rattle.lab_kept.specs.declared.trails.TrailRow.{TrailRow as Told}
 use Rattle.lab_kept.specs.declared.labs.Lab.{Lab}
-use Rattle.lab_kept_records.specs.Digests.{digest_of}
+use Rattle.lab_kept.specs.Digests.{digest_of}
 use Rattle.lab_tables.specs.Rows.{DeskRow, LabRow, PersonRow, SessionRow, FormRow, FieldRow, ChoiceRow, RecordRow, VersionRow, EntryRow, SignatureRow, TrailRow, Tables, natural}
 use Rattle.lab_tables.specs.Meaning.{meaning}
 use Rattle.lab_tables.specs.WellKept.{are_ids_unique, are_keys_unique, are_arrows_whole, are_labs_apart, are_all_numbered, is_said_alike, is_desk, are_columns_whole}

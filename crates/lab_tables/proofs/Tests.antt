@@ -9,7 +9,7 @@ use Rattle.lab_tables.specs.Rows.{PersonRow, FieldRow, SignatureRow, TrailRow, T
 use Rattle.lab_tables.specs.Columns.{roles_in, roles_sum, password_in, password_columns, kind_in, kind_columns, meaning_in, reason_column, action_in}
 use Rattle.lab_tables.specs.WellKept.{are_ids_unique, are_keys_unique, are_arrows_whole, are_labs_apart, are_all_numbered, is_said_alike, is_desk, are_columns_whole, IsPersonSpelled, IsFieldSpelled, IsSignatureSpelled, IsTrailSpelled, IsWellKept}
 use Rattle.lab_seal.specs.Seals.{meaning_word}
-use Rattle.lab_kept_trail.specs.Trails.{action_word}
+use Rattle.lab_kept.specs.Trails.{action_word}
 
 -- ---- ids that rise
 

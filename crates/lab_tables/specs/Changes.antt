@@ -17,14 +17,14 @@ use Rattle.lab_access.specs.Sessions.{is_closed_by}
 use Rattle.lab_forms.specs.declared.forms.Field.{Field}
 use Rattle.lab_versions.specs.declared.rows.EntryRow.{EntryRow as Entry}
 use Rattle.lab_seal.specs.Seals.{meaning_word}
-use Rattle.lab_kept_records.specs.declared.records.FormVersion.{FormVersion}
-use Rattle.lab_kept_records.specs.declared.records.Record.{Record}
-use Rattle.lab_kept_records.specs.declared.records.Version.{Version}
-use Rattle.lab_kept_records.specs.declared.records.Signature.{Signature}
-use Rattle.lab_kept_trail.specs.declared.trails.TrailRow.{TrailRow as Told}
+use Rattle.lab_kept.specs.declared.records.FormVersion.{FormVersion}
+use Rattle.lab_kept.specs.declared.records.Record.{Record}
+use Rattle.lab_kept.specs.declared.records.Version.{Version}
+use Rattle.lab_kept.specs.declared.records.Signature.{Signature}
+use Rattle.lab_kept.specs.declared.trails.TrailRow.{TrailRow as Told}
 use Rattle.lab_kept.specs.declared.changes.Change.{Change}
 use Rattle.lab_kept.specs.declared.changes.Change.TheVariants.{Last, Strays, PersonAdded, PersonSet, SessionAdded, SessionSet, SessionsClosed, FormAdded, RecordAdded, RowAdded, VersionOpened, SignatureAdded, TrailAdded}
-use Rattle.lab_kept_trail.specs.Trails.{action_word}
+use Rattle.lab_kept.specs.Trails.{action_word}
 use Rattle.lab_tables.specs.Rows.{LabRow, PersonRow, SessionRow, FormRow, FieldRow, ChoiceRow, RecordRow, VersionRow, EntryRow, SignatureRow, TrailRow, Tables, person_id, session_id, form_id, field_id, choice_id, record_id, version_id, entry_id, signature_id, trail_id}
 use Rattle.lab_tables.specs.Columns.{roles_sum, password_columns, ask_columns, kind_columns, kind_names, format_number, reason_column}
 use Rattle.lab_tables.specs.Meaning.{session_in, has_code}

@@ -13,9 +13,9 @@ use Rattle.lab_versions.specs.declared.versions.Format.{Format}
 use Rattle.lab_versions.specs.declared.versions.Format.TheVariants.{One, Two}
 use Rattle.lab_seal.specs.declared.seals.Meaning.{Meaning}
 use Rattle.lab_seal.specs.declared.seals.Meaning.TheVariants.{Authorship, Review, Rejection, Approval}
-use Rattle.lab_kept_trail.specs.declared.trails.Action.{Action}
-use Rattle.lab_kept_trail.specs.declared.trails.Action.TheVariants.{Found, Open, Close, Refuse, Lock, Password as Renew, Enrol, Issue, Confirm, Roles as GiveRoles, Retire, Unlock, Form, Record, Entry, Amend, Sign}
-use Rattle.lab_kept_trail.specs.Trails.{action_word}
+use Rattle.lab_kept.specs.declared.trails.Action.{Action}
+use Rattle.lab_kept.specs.declared.trails.Action.TheVariants.{Found, Open, Close, Refuse, Lock, Password as Renew, Enrol, Issue, Confirm, Roles as GiveRoles, Retire, Unlock, Form, Record, Entry, Amend, Sign}
+use Rattle.lab_kept.specs.Trails.{action_word}
 use Rattle.lab_tables.specs.Rows.{PasswordColumns, AskColumns, KindColumns}
 
 -- ---- roles, a sum of 1, 2, 4, 8 and 16

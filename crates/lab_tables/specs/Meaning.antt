@@ -19,13 +19,13 @@ use Rattle.lab_access.specs.declared.sessions.Session.{Session}
 use Rattle.lab_forms.specs.declared.forms.Field.{Field}
 use Rattle.lab_versions.specs.declared.rows.EntryRow.{EntryRow as Entry}
 use Rattle.lab_versions.specs.declared.origins.Amendment.{Amendment}
-use Rattle.lab_kept_records.specs.declared.records.FormVersion.{FormVersion}
-use Rattle.lab_kept_records.specs.declared.records.Record.{Record}
-use Rattle.lab_kept_records.specs.declared.records.Version.{Version}
-use Rattle.lab_kept_records.specs.declared.records.Signature.{Signature}
-use Rattle.lab_kept_trail.specs.declared.trails.TrailRow.{TrailRow as Told}
+use Rattle.lab_kept.specs.declared.records.FormVersion.{FormVersion}
+use Rattle.lab_kept.specs.declared.records.Record.{Record}
+use Rattle.lab_kept.specs.declared.records.Version.{Version}
+use Rattle.lab_kept.specs.declared.records.Signature.{Signature}
+use Rattle.lab_kept.specs.declared.trails.TrailRow.{TrailRow as Told}
 use Rattle.lab_kept.specs.declared.labs.Lab.{Lab}
-use Rattle.lab_kept_records.specs.Digests.{digest_of}
+use Rattle.lab_kept.specs.Digests.{digest_of}
 use Rattle.lab_tables.specs.Rows.{LabRow, PersonRow, AskColumns, SessionRow, FormRow, FieldRow, ChoiceRow, RecordRow, VersionRow, EntryRow, SignatureRow, TrailRow, Tables, person_id, form_id}
 use Rattle.lab_tables.specs.Columns.{roles_in, verifier_in, password_in, kind_in, format_in, meaning_in, action_in}
 

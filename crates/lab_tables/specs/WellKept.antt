@@ -11,7 +11,7 @@ use Rattle.std.specs.Option.{option_map_or}
 use Rattle.sqlite_keyed.specs.Keyed.{get_by}
 use Rattle.sqlite_keyed.specs.Rules.{has_parent}
 use Rattle.lab_seal.specs.Seals.{meaning_word}
-use Rattle.lab_kept_trail.specs.Trails.{action_word}
+use Rattle.lab_kept.specs.Trails.{action_word}
 use Rattle.lab_tables.specs.Schema.{schema_number}
 use Rattle.lab_tables.specs.Rows.{DeskRow, LabRow, PersonRow, AskColumns, SessionRow, FormRow, FieldRow, ChoiceRow, RecordRow, VersionRow, EntryRow, SignatureRow, TrailRow, Tables, lab_id, person_id, session_id, form_id, field_id, choice_id, record_id, version_id, entry_id, signature_id, trail_id}
 use Rattle.lab_tables.specs.Columns.{roles_in, roles_sum, password_in, password_columns, kind_in, kind_columns, meaning_in, reason_column, action_in}

@@ -2,7 +2,7 @@
 use Rattle.std.proofs.Common.{◌≡◌, ℕ, ℤ, true, List, Some, refl, sym, ap, subst}
 use Rattle.lab_versions.specs.declared.rows.EntryRow.{EntryRow as Entry}
 use Rattle.lab_seal.specs.Seals.{meaning_word}
-use Rattle.lab_kept_records.specs.declared.records.Signature.{Signature}
+use Rattle.lab_kept.specs.declared.records.Signature.{Signature}
 use Rattle.lab_kept.specs.declared.changes.Change.TheVariants.{RowAdded, SignatureAdded}
 use Rattle.lab_tables.specs.Rows.{Tables, person_id, entry_id, signature_id}
 use Rattle.lab_tables.specs.Columns.{reason_column}

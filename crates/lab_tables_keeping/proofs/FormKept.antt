@@ -12,9 +12,9 @@ use Rattle.sqlite_keyed.proofs.KeyedLemmas.{same_int}
 use Rattle.lab_forms.specs.declared.forms.Field.{Field}
 use Rattle.lab_forms.specs.declared.kinds.Kind.{Kind}
 use Rattle.lab_forms.specs.declared.kinds.Kind.TheVariants.{Number, Text, Choice, Date, YesNo}
-use Rattle.lab_kept_records.specs.declared.records.FormVersion.{FormVersion}
+use Rattle.lab_kept.specs.declared.records.FormVersion.{FormVersion}
 use Rattle.lab_kept.specs.declared.changes.Change.TheVariants.{FormAdded}
-use Rattle.lab_kept_records.specs.Lookups.{is_version_of, last_form, next_form_version}
+use Rattle.lab_kept.specs.Lookups.{is_version_of, last_form, next_form_version}
 use Rattle.lab_kept.specs.Changes.{ChangesFit}
 use Rattle.lab_tables.specs.Rows.{FormRow, FieldRow, Tables, form_id, field_id}
 use Rattle.lab_tables.specs.Columns.{kind_columns, kind_names}

@@ -3,10 +3,10 @@ use Rattle.std.proofs.Common.{◌≡◌, ◌+◌, ℤ, true, ◌&&◌, ◌==◌,
 use Rattle.sqlite_keyed.proofs.KeyedLemmas.{all-insert_by}
 use Rattle.lab_access.specs.declared.persons.Person.{Person}
 use Rattle.lab_kept.specs.declared.births.Newborn.{Newborn}
-use Rattle.lab_kept_trail.specs.declared.trails.TrailRow.{TrailRow as Told}
-use Rattle.lab_kept_trail.specs.declared.trails.Deed.TheVariants.{Found}
+use Rattle.lab_kept.specs.declared.trails.TrailRow.{TrailRow as Told}
+use Rattle.lab_kept.specs.declared.trails.Deed.TheVariants.{Found}
 use Rattle.lab_kept.specs.Births.{newborn_lab}
-use Rattle.lab_kept_trail.specs.Trails.{row_of}
+use Rattle.lab_kept.specs.Trails.{row_of}
 use Rattle.lab_tables.specs.Rows.{LabRow, PersonRow, SessionRow, RecordRow, TrailRow, Tables, lab_id, person_id}
 use Rattle.lab_tables.specs.WellKept.{have_own_ids, has_counted, AreWellKept}
 use Rattle.lab_tables.specs.Changes.{IsFree, person_row_of, AddsPerson, SetsPerson}

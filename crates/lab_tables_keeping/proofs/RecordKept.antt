@@ -6,8 +6,8 @@ use Rattle.sqlite_keyed.specs.Keyed.{insert_by}
 use Rattle.sqlite_keyed.proofs.ListLemmas.{all_both}
 use Rattle.sqlite_keyed.proofs.KeyedLemmas.{all-insert_by}
 use Rattle.lab_versions.specs.declared.origins.OriginParts.{OriginParts}
-use Rattle.lab_kept_records.specs.declared.records.Record.{Record}
-use Rattle.lab_kept_records.specs.declared.records.Version.{Version}
+use Rattle.lab_kept.specs.declared.records.Record.{Record}
+use Rattle.lab_kept.specs.declared.records.Version.{Version}
 use Rattle.lab_kept.specs.declared.changes.Change.TheVariants.{RecordAdded}
 use Rattle.lab_kept.specs.Changes.{ChangesFit}
 use Rattle.lab_tables.specs.Rows.{LabRow, RecordRow, VersionRow, Tables, record_id, version_id}

@@ -1,8 +1,8 @@
 -- A row more in the trail: the tables stay well kept.
 use Rattle.std.proofs.Common.{◌≡◌, ℕ, ◌+◌, ℤ, true, List, [], ◌∷◌, filter, length, sym, ap, subst, ◌∙◌, int_eq}
-use Rattle.lab_kept_trail.specs.declared.trails.TrailRow.{TrailRow as Told}
+use Rattle.lab_kept.specs.declared.trails.TrailRow.{TrailRow as Told}
 use Rattle.lab_kept.specs.declared.changes.Change.TheVariants.{TrailAdded}
-use Rattle.lab_kept_trail.specs.Trails.{action_word}
+use Rattle.lab_kept.specs.Trails.{action_word}
 use Rattle.lab_kept.specs.Changes.{ChangesFit}
 use Rattle.lab_tables.specs.Rows.{LabRow, TrailRow, Tables, person_id}
 use Rattle.lab_tables.specs.Meaning.{meaning, told_in, by_trail}

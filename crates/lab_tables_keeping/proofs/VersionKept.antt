@@ -11,12 +11,12 @@ use Rattle.sqlite_keyed.proofs.ListLemmas.{all_weaker, all_map, all-slice_get}
 use Rattle.sqlite_keyed.proofs.KeyedLemmas.{same_int}
 use Rattle.lab_versions.specs.declared.rows.EntryRow.{EntryRow as Entry}
 use Rattle.lab_versions.specs.declared.origins.Amendment.{Amendment}
-use Rattle.lab_kept_records.specs.declared.records.Record.{Record}
-use Rattle.lab_kept_records.specs.declared.records.Version.{Version}
-use Rattle.lab_kept_records.specs.declared.records.Signature.{Signature}
+use Rattle.lab_kept.specs.declared.records.Record.{Record}
+use Rattle.lab_kept.specs.declared.records.Version.{Version}
+use Rattle.lab_kept.specs.declared.records.Signature.{Signature}
 use Rattle.lab_kept.specs.declared.changes.Change.TheVariants.{VersionOpened}
-use Rattle.lab_kept_records.specs.Lookups.{has_number, record_of, last_of}
-use Rattle.lab_kept_records.specs.Digests.{previous_of, digest_of}
+use Rattle.lab_kept.specs.Lookups.{has_number, record_of, last_of}
+use Rattle.lab_kept.specs.Digests.{previous_of, digest_of}
 use Rattle.lab_kept.specs.Changes.{IsOfForm, IsNewVersion, ChangesFit}
 use Rattle.lab_tables.specs.Rows.{RecordRow, VersionRow, EntryRow, Tables, person_id, version_id}
 use Rattle.lab_tables.specs.Columns.{format_number}

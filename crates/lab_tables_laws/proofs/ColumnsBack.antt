@@ -10,9 +10,9 @@ use Rattle.lab_versions.specs.declared.versions.Format.TheVariants.{One, Two}
 use Rattle.lab_seal.specs.declared.seals.Meaning.{Meaning}
 use Rattle.lab_seal.specs.declared.seals.Meaning.TheVariants.{Authorship, Review, Rejection, Approval}
 use Rattle.lab_seal.specs.Seals.{meaning_word}
-use Rattle.lab_kept_trail.specs.declared.trails.Action.{Action}
-use Rattle.lab_kept_trail.specs.declared.trails.Action.TheVariants.{Found, Open, Close, Refuse, Lock, Password as Renew, Enrol, Issue, Confirm, Roles as GiveRoles, Retire, Unlock, Form, Record, Entry, Amend, Sign}
-use Rattle.lab_kept_trail.specs.Trails.{action_word}
+use Rattle.lab_kept.specs.declared.trails.Action.{Action}
+use Rattle.lab_kept.specs.declared.trails.Action.TheVariants.{Found, Open, Close, Refuse, Lock, Password as Renew, Enrol, Issue, Confirm, Roles as GiveRoles, Retire, Unlock, Form, Record, Entry, Amend, Sign}
+use Rattle.lab_kept.specs.Trails.{action_word}
 use Rattle.lab_tables.specs.Columns.{roles_in, roles_sum, password_in, password_columns, kind_in, kind_columns, kind_names, format_in, format_number, meaning_in, reason_column, action_in}
 
 -- ---- roles, in each of their 32 sets

@@ -3,7 +3,7 @@
 use Rattle.std.proofs.Common.{◌≡◌, ℕ, ◌==◌, pos, Bool, true, false, List, [], ◌∷◌, Option, Some, None, map, refl, ap, arith}
 use Rattle.std.specs.Prelude.{if◌then◌else◌, codes, length}
 use Rattle.sqlite_value.specs.Order.{Row}
-use Rattle.lab_kept_records.specs.Digests.{digest_of}
+use Rattle.lab_kept.specs.Digests.{digest_of}
 use Rattle.lab_tables.specs.Rows.{Tables, desk_row, lab_row}
 use Rattle.lab_tables.specs.Meaning.{Leaf, leaves_of}
 use Rattle.lab_tables.proofs.KnownFile.{filled, desk, lab}

@@ -3,7 +3,7 @@
 use Rattle.std.proofs.Common.{◌≡◌, ℕ, ◌+◌, ℤ, Bool, true, false, ◌&&◌, cond, List, [], ◌∷◌, ◌++◌, map, filter, length, Option, Some, refl, sym, ap, ◌∙◌, int_eq}
 use Rattle.std.proofs.lemmas.Bool.{and_parts}
 use Rattle.lab_versions.specs.declared.rows.EntryRow.{EntryRow as Entry}
-use Rattle.lab_kept_records.specs.declared.records.Signature.{Signature}
+use Rattle.lab_kept.specs.declared.records.Signature.{Signature}
 use Rattle.lab_tables.specs.Rows.{VersionRow, ChoiceRow, EntryRow, SignatureRow, Tables, choice_id, entry_id, signature_id}
 use Rattle.lab_tables.specs.Meaning.{Leaf, names_of, entry_in, entries_of, signature_in, signatures_of, leaf_in}
 use Rattle.lab_tables.specs.WellKept.{are_ids_unique, are_all_numbered}

@@ -15,7 +15,7 @@ use Rattle.sqlite_keyed.specs.Lists.{insert_sorted, sort_by}
 use Rattle.sqlite_keyed.specs.Rules.{AreApart}
 use Rattle.sqlite_keyed.proofs.ListLemmas.{all_from_test, all_weaker}
 use Rattle.sqlite_keyed.proofs.KeyedLemmas.{same_int}
-use Rattle.lab_kept_trail.specs.declared.trails.TrailRow.{TrailRow as Told}
+use Rattle.lab_kept.specs.declared.trails.TrailRow.{TrailRow as Told}
 use Rattle.lab_kept.specs.declared.labs.Lab.{Lab}
 use Rattle.lab_kept.specs.declared.changes.Change.TheVariants.{TrailAdded}
 use Rattle.lab_kept.specs.Changes.{change}

@@ -2,9 +2,9 @@
 -- them, and a row or a signature more.
 use Rattle.std.specs.Prelude.{ℕ, ◌==◌, Bool, List, [], ◌∷◌, ◌++◌, Option, Some}
 use Rattle.lab_versions.specs.declared.rows.EntryRow.{EntryRow}
-use Rattle.lab_kept_records.specs.declared.records.Record.{Record}
-use Rattle.lab_kept_records.specs.declared.records.Signature.{Signature}
-use Rattle.lab_kept_records.specs.Digests.{digest_of}
+use Rattle.lab_kept.specs.declared.records.Record.{Record}
+use Rattle.lab_kept.specs.declared.records.Signature.{Signature}
+use Rattle.lab_kept.specs.Digests.{digest_of}
 use Rattle.lab_tables.specs.Meaning.{Leaf, version_after}
 
 -- the digest of the last of the versions that the leaves come to, which a next one would amend;

@@ -14,9 +14,9 @@ use Rattle.sqlite_keyed.specs.Rules.{has_parent}
 use Rattle.sqlite_keyed.proofs.ListLemmas.{all_weaker, all_from_test}
 use Rattle.sqlite_keyed.proofs.KeyedLemmas.{same_int}
 use Rattle.lab_kept.specs.declared.changes.Change.TheVariants.{FormAdded}
-use Rattle.lab_kept_records.specs.declared.records.FormVersion.{FormVersion}
-use Rattle.lab_kept_records.specs.declared.records.Record.{Record}
-use Rattle.lab_kept_records.specs.Lookups.{last_form, next_form_version}
+use Rattle.lab_kept.specs.declared.records.FormVersion.{FormVersion}
+use Rattle.lab_kept.specs.declared.records.Record.{Record}
+use Rattle.lab_kept.specs.Lookups.{last_form, next_form_version}
 use Rattle.lab_kept.specs.Lookups.{comes_before}
 use Rattle.lab_kept.specs.Changes.{added_form, change, ChangesFit}
 use Rattle.lab_kept.specs.Worlds.{Changes}

@@ -12,8 +12,8 @@ use Rattle.std.proofs.lemmas.List.{reverse-append}
 use Rattle.sqlite_trees.specs.Tree.{IsAscending}
 use Rattle.sqlite_keyed.specs.Lists.{insert_sorted, sort_by}
 use Rattle.sqlite_keyed.proofs.ListLemmas.{all_weaker, ascending_weaker}
-use Rattle.lab_kept_records.specs.declared.records.FormVersion.{FormVersion}
-use Rattle.lab_kept_records.specs.Lookups.{is_version_of, last_form, next_form_version}
+use Rattle.lab_kept.specs.declared.records.FormVersion.{FormVersion}
+use Rattle.lab_kept.specs.Lookups.{is_version_of, last_form, next_form_version}
 use Rattle.lab_tables.specs.Rows.{FormRow, Tables}
 use Rattle.lab_tables.specs.Meaning.{form_in, by_form}
 use Rattle.lab_tables_laws.proofs.LabLaws.{text_is}

@@ -3,7 +3,7 @@
 ghost use Rattle.std.specs.Prelude.{ℕ, List, [], ◌∷◌};
 ghost use Rattle.lab_access.specs.declared.persons.Person.{Person};
 ghost use Rattle.lab_access.specs.declared.sessions.Session.{Session};
-ghost use Rattle.lab_kept_records.specs.declared.records.FormVersion.{FormVersion};
+ghost use Rattle.lab_kept.specs.declared.records.FormVersion.{FormVersion};
 ghost use Rattle.lab_kept.specs.declared.changes.Change.TheVariants.{PersonAdded, PersonSet, SessionSet, FormAdded};
 ghost use Rattle.lab_kept.specs.Changes.{ChangesFit};
 ghost use Rattle.lab_kept.specs.Worlds.{Changes};

@@ -8,10 +8,10 @@ use Rattle.lab_access.specs.declared.persons.Person.{Person}
 use Rattle.lab_access.specs.declared.persons.Ask.{Ask}
 use Rattle.lab_kept.specs.declared.births.Newborn.{Newborn}
 use Rattle.lab_kept.specs.declared.labs.Lab.{Lab}
-use Rattle.lab_kept_trail.specs.declared.trails.TrailRow.{TrailRow as Told}
-use Rattle.lab_kept_trail.specs.declared.trails.Deed.TheVariants.{Found}
+use Rattle.lab_kept.specs.declared.trails.TrailRow.{TrailRow as Told}
+use Rattle.lab_kept.specs.declared.trails.Deed.TheVariants.{Found}
 use Rattle.lab_kept.specs.Births.{newborn_lab}
-use Rattle.lab_kept_trail.specs.Trails.{row_of}
+use Rattle.lab_kept.specs.Trails.{row_of}
 use Rattle.lab_kept.specs.Worlds.{Places}
 use Rattle.lab_tables.specs.Rows.{Tables, trail_id}
 use Rattle.lab_tables.specs.Meaning.{meaning}

@@ -10,8 +10,8 @@ use Rattle.sqlite_keyed.proofs.KeyedLemmas.{all-insert_by}
 use Rattle.lab_access.specs.declared.persons.Person.{Person}
 use Rattle.lab_access.specs.declared.persons.Ask.{Ask}
 use Rattle.lab_kept.specs.declared.labs.Lab.{Lab}
-use Rattle.lab_kept_trail.specs.declared.trails.TrailRow.{TrailRow as Told}
-use Rattle.lab_kept_trail.specs.Trails.{action_word}
+use Rattle.lab_kept.specs.declared.trails.TrailRow.{TrailRow as Told}
+use Rattle.lab_kept.specs.Trails.{action_word}
 use Rattle.lab_tables.specs.Rows.{LabRow, PersonRow, SessionRow, RecordRow, TrailRow, Tables, lab_id, person_id, trail_id}
 use Rattle.lab_tables.specs.Columns.{roles_sum, password_columns, ask_columns}
 use Rattle.lab_tables.specs.WellKept.{are_ids_unique, are_keys_unique, are_arrows_whole, is_of_lab, is_asked_within, is_told_within, are_labs_apart, are_numbered, are_all_numbered, has_counted, is_said_alike, is_whole_ask, are_columns_whole, IsPersonSpelled, IsTrailSpelled, AreWellKept}

@@ -9,7 +9,7 @@ use Rattle.sqlite_keyed.specs.Lists.{sort_by, update_where}
 use Rattle.sqlite_keyed.specs.Rules.{AreApart}
 use Rattle.sqlite_keyed.proofs.ListLemmas.{all_of, all_weaker, filter_none}
 use Rattle.lab_kept.specs.declared.labs.Lab.{Lab}
-use Rattle.lab_kept_trail.specs.declared.trails.TrailRow.{TrailRow as Told}
+use Rattle.lab_kept.specs.declared.trails.TrailRow.{TrailRow as Told}
 use Rattle.lab_kept.specs.Lookups.{comes_before}
 use Rattle.lab_kept.specs.Worlds.{Places}
 use Rattle.lab_tables.specs.Rows.{LabRow, PersonRow, SessionRow, FormRow, RecordRow, TrailRow, Tables, lab_id, person_id, trail_id}

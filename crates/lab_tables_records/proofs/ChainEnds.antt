@@ -2,10 +2,10 @@
 use Rattle.std.proofs.Common.{◌≡◌, ◌≤◌, ◌<◌, ℕ, ◌+◌, ◌-◌, List, [], ◌∷◌, length, slice_get, Option, Some, unwrap_or, sym, ap, ◌∙◌, arith}
 use Rattle.std.specs.List.{AllByRecursion}
 use Rattle.sqlite_trees.specs.Tree.{IsAscending}
-use Rattle.lab_kept_records.specs.declared.records.Record.{Record}
-use Rattle.lab_kept_records.specs.declared.records.Version.{Version}
-use Rattle.lab_kept_records.specs.Digests.{digest_of}
-use Rattle.lab_kept_records.specs.Lookups.{last_of}
+use Rattle.lab_kept.specs.declared.records.Record.{Record}
+use Rattle.lab_kept.specs.declared.records.Version.{Version}
+use Rattle.lab_kept.specs.Digests.{digest_of}
+use Rattle.lab_kept.specs.Lookups.{last_of}
 use Rattle.lab_tables.specs.Meaning.{Leaf, version_after, chained}
 use Rattle.lab_tables_laws.specs.Chain.{digest_at_end}
 

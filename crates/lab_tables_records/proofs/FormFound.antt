@@ -8,8 +8,8 @@ use Rattle.sqlite_rules.proofs.ListLemmas.{has_either, has_filtered, has_found}
 use Rattle.sqlite_keyed.specs.Keyed.{get_by}
 use Rattle.sqlite_keyed.specs.Lists.{sort_by}
 use Rattle.sqlite_keyed.proofs.KeyedLemmas.{same_int}
-use Rattle.lab_kept_records.specs.declared.records.FormVersion.{FormVersion}
-use Rattle.lab_kept_records.specs.Lookups.{is_version_of, last_form}
+use Rattle.lab_kept.specs.declared.records.FormVersion.{FormVersion}
+use Rattle.lab_kept.specs.Lookups.{is_version_of, last_form}
 use Rattle.lab_tables.specs.Rows.{FormRow, Tables, form_id}
 use Rattle.lab_tables.specs.Meaning.{form_in, by_form, forms_of, form_at}
 use Rattle.lab_tables.specs.WellKept.{same_form}

@@ -7,9 +7,9 @@ use Rattle.sqlite_rules.proofs.ListLemmas.{has_found}
 use Rattle.sqlite_keyed.specs.Lists.{update_where}
 use Rattle.sqlite_keyed.proofs.KeyedLemmas.{same_int}
 use Rattle.lab_versions.specs.declared.rows.EntryRow.{EntryRow as Entry}
-use Rattle.lab_kept_records.specs.declared.records.Record.{Record}
-use Rattle.lab_kept_records.specs.declared.records.Signature.{Signature}
-use Rattle.lab_kept_records.specs.declared.records.Version.{Version}
+use Rattle.lab_kept.specs.declared.records.Record.{Record}
+use Rattle.lab_kept.specs.declared.records.Signature.{Signature}
+use Rattle.lab_kept.specs.declared.records.Version.{Version}
 use Rattle.lab_kept.specs.declared.changes.Change.TheVariants.{RowAdded, SignatureAdded}
 use Rattle.lab_kept.specs.Changes.{change, in_record, in_last, in_version, with_row, with_signature, entered_in, signed_in}
 use Rattle.lab_kept.specs.Worlds.{Changes}

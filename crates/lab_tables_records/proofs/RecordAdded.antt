@@ -6,8 +6,8 @@ use Rattle.sqlite_keyed.specs.Lists.{sort_by}
 use Rattle.lab_versions.specs.declared.origins.Amendment.{Amendment}
 use Rattle.lab_versions.specs.declared.origins.OriginParts.{OriginParts}
 use Rattle.lab_versions.specs.declared.versions.Format.TheVariants.{Two}
-use Rattle.lab_kept_records.specs.declared.records.FormVersion.{FormVersion}
-use Rattle.lab_kept_records.specs.declared.records.Record.{Record}
+use Rattle.lab_kept.specs.declared.records.FormVersion.{FormVersion}
+use Rattle.lab_kept.specs.declared.records.Record.{Record}
 use Rattle.lab_kept.specs.declared.changes.Change.TheVariants.{RecordAdded}
 use Rattle.lab_kept.specs.Changes.{change, IsNewRecord, ChangesFit}
 use Rattle.lab_kept.specs.Worlds.{Changes}

@@ -11,9 +11,9 @@ use Rattle.sqlite_keyed.specs.Rules.{AreApart}
 use Rattle.sqlite_keyed.proofs.ListLemmas.{all_weaker, ascending-map, ascending_weaker}
 use Rattle.sqlite_keyed.proofs.KeyedLemmas.{same_int}
 use Rattle.lab_versions.specs.declared.rows.EntryRow.{EntryRow as Entry}
-use Rattle.lab_kept_records.specs.declared.records.Record.{Record}
-use Rattle.lab_kept_records.specs.Digests.{digest_of}
-use Rattle.lab_kept_records.specs.Lookups.{has_number}
+use Rattle.lab_kept.specs.declared.records.Record.{Record}
+use Rattle.lab_kept.specs.Digests.{digest_of}
+use Rattle.lab_kept.specs.Lookups.{has_number}
 use Rattle.lab_kept.specs.Changes.{in_record, in_last, with_row}
 use Rattle.lab_tables.specs.Rows.{RecordRow, VersionRow, Tables, record_id, version_id}
 use Rattle.lab_tables.specs.Meaning.{Leaf, leaf_in, by_version, leaves_of, version_after, chained, record_in, by_record, records_of}

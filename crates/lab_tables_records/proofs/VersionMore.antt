@@ -5,9 +5,9 @@ use Rattle.sqlite_keyed.specs.Keyed.{IsKeyedBy, insert_by}
 use Rattle.sqlite_keyed.specs.Lists.{sort_by}
 use Rattle.lab_versions.specs.declared.origins.Amendment.{Amendment}
 use Rattle.lab_versions.specs.declared.versions.Format.TheVariants.{Two}
-use Rattle.lab_kept_records.specs.declared.records.Record.{Record}
-use Rattle.lab_kept_records.specs.declared.records.Version.{Version}
-use Rattle.lab_kept_records.specs.Digests.{previous_of}
+use Rattle.lab_kept.specs.declared.records.Record.{Record}
+use Rattle.lab_kept.specs.declared.records.Version.{Version}
+use Rattle.lab_kept.specs.Digests.{previous_of}
 use Rattle.lab_tables.specs.Rows.{VersionRow, EntryRow, SignatureRow, Tables, person_id, version_id, entry_id}
 use Rattle.lab_tables.specs.Columns.{format_in, format_number}
 use Rattle.lab_tables.specs.Meaning.{Leaf, entry_in, by_entry, entries_of, signature_in, by_signature, signatures_of, leaf_in, by_version, leaves_of, version_after}

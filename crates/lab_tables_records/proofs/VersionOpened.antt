@@ -9,10 +9,10 @@ use Rattle.sqlite_rules.proofs.ListLemmas.{has_filtered, has_kept}
 use Rattle.sqlite_keyed.specs.Lists.{sort_by}
 use Rattle.sqlite_keyed.proofs.ListLemmas.{all_weaker, all_map}
 use Rattle.sqlite_keyed.proofs.KeyedLemmas.{same_int}
-use Rattle.lab_kept_records.specs.declared.records.Record.{Record}
-use Rattle.lab_kept_records.specs.declared.records.Version.{Version}
+use Rattle.lab_kept.specs.declared.records.Record.{Record}
+use Rattle.lab_kept.specs.declared.records.Version.{Version}
 use Rattle.lab_kept.specs.declared.changes.Change.TheVariants.{VersionOpened}
-use Rattle.lab_kept_records.specs.Lookups.{has_number, record_of}
+use Rattle.lab_kept.specs.Lookups.{has_number, record_of}
 use Rattle.lab_kept.specs.Changes.{change, in_record, opened_in, IsNewVersion, ChangesFit}
 use Rattle.lab_kept.specs.Worlds.{Changes}
 use Rattle.lab_tables.specs.Rows.{LabRow, RecordRow, VersionRow, Tables}

@@ -1,9 +1,9 @@
 //! Law: what a change of records makes of the tables means what it makes of the laboratory.
 ghost use Rattle.std.specs.Prelude.{ℕ, List, [], ◌∷◌};
 ghost use Rattle.lab_versions.specs.declared.rows.EntryRow.{EntryRow};
-ghost use Rattle.lab_kept_records.specs.declared.records.Record.{Record};
-ghost use Rattle.lab_kept_records.specs.declared.records.Signature.{Signature};
-ghost use Rattle.lab_kept_records.specs.declared.records.Version.{Version};
+ghost use Rattle.lab_kept.specs.declared.records.Record.{Record};
+ghost use Rattle.lab_kept.specs.declared.records.Signature.{Signature};
+ghost use Rattle.lab_kept.specs.declared.records.Version.{Version};
 ghost use Rattle.lab_kept.specs.declared.changes.Change.TheVariants.{RecordAdded, RowAdded, VersionOpened, SignatureAdded};
 ghost use Rattle.lab_kept.specs.Changes.{ChangesFit};
 ghost use Rattle.lab_kept.specs.Worlds.{Changes};

@@ -1,7 +1,7 @@
 -- Values from outside, computed on the definitions over the small file of lab_tables: what is shown of the trail of aqua.
 use Rattle.std.proofs.Common.{◌≡◌, refl, pos, [], ◌∷◌, Some, None, map}
 use Rattle.std.specs.Prelude.{codes}
-use Rattle.lab_kept_trail.specs.declared.trails.TrailRow.{TrailRow as Told}
+use Rattle.lab_kept.specs.declared.trails.TrailRow.{TrailRow as Told}
 use Rattle.lab_tables.proofs.KnownFile.{file}
 use Rattle.lab_trails.specs.declared.heads.ToldHead.{ToldHead}
 use Rattle.lab_trails.specs.Shown.{told_read, told_shown_within}

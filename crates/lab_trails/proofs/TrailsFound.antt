@@ -6,7 +6,7 @@ use Rattle.sqlite_value.specs.declared.value.Value.TheVariants.{Int}
 use Rattle.sqlite_rules.specs.Edit.{id_in}
 use Rattle.sqlite_keyed.specs.Lists.{sort_by}
 use Rattle.sqlite_keyed.proofs.ListLemmas.{filter-map, map-map, map_same}
-use Rattle.lab_kept_trail.specs.declared.trails.TrailRow.{TrailRow as Told}
+use Rattle.lab_kept.specs.declared.trails.TrailRow.{TrailRow as Told}
 use Rattle.lab_kept.specs.Lookups.{is_within, rows_within}
 use Rattle.lab_tables.specs.Rows.{TrailRow, Tables, optional, optional_in}
 use Rattle.lab_tables.specs.Meaning.{told_in, trail_of, by_trail}

@@ -2,7 +2,7 @@
 use Rattle.std.specs.Prelude.{ℕ, ℤ, Bool, ◌&&◌, List, map, filter, option_map}
 use Rattle.std.specs.Ordering.{int_eq}
 use Rattle.sqlite_keyed.specs.Lists.{sort_by}
-use Rattle.lab_kept_trail.specs.declared.trails.TrailRow.{TrailRow as Told}
+use Rattle.lab_kept.specs.declared.trails.TrailRow.{TrailRow as Told}
 use Rattle.lab_kept.specs.Lookups.{is_within}
 use Rattle.lab_tables.specs.Rows.{TrailRow, Tables}
 use Rattle.lab_tables.specs.Columns.{action_in}

@@ -3,7 +3,7 @@
 use Rattle.std.proofs.Common.{◌≡◌, ℕ, ◌+◌, ◌-◌, ◌<◌, ◌≤◌, ◌^◌, min, Bool, true, false, cond, List, [], ◌∷◌, ◌++◌, length, refl, sym, ap, ◌∙◌, arith, append_assoc, length-append, codes, filter}
 use Rattle.std.proofs.lemmas.List.{append-nil, length-map}
 use Rattle.std.proofs.lemmas.List.Elements.{filter-append}
-use Rattle.lab_kept_records.specs.declared.records.Record.{Record}
+use Rattle.lab_kept.specs.declared.records.Record.{Record}
 use Rattle.lab_kept.specs.Lookups.{is_within, records_within}
 use Rattle.lab_rows.specs.Copies.{counts_of}
 use Rattle.lab_rows.specs.declared.lines.Counts.{Counts}

@@ -5,7 +5,7 @@ use Rattle.std.proofs.lemmas.Bool.{leb-true}
 use Rattle.lab_names.specs.Ordinals.{is_ordinal, last_ordinal}
 use Rattle.lab_kept.specs.declared.labs.Lab.{Lab}
 use Rattle.lab_kept.specs.declared.needs.Slice.{Slice}
-use Rattle.lab_kept_records.specs.declared.records.Record.{Record}
+use Rattle.lab_kept.specs.declared.records.Record.{Record}
 use Rattle.lab_kept.specs.Lookups.{records_within}
 use Rattle.lab_kept.specs.Parts.{part, part_of}
 use Rattle.lab_kept.specs.Worlds.{Meaning}

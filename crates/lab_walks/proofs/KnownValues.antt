@@ -16,10 +16,10 @@ use Rattle.lab_versions.specs.declared.versions.Format.TheVariants.{Two}
 use Rattle.lab_seal.specs.declared.seals.Meaning.{Meaning}
 use Rattle.lab_seal.specs.declared.seals.Meaning.TheVariants.{Authorship, Review}
 use Rattle.lab_kept.specs.declared.labs.Lab.{Lab}
-use Rattle.lab_kept_records.specs.declared.records.FormVersion.{FormVersion}
-use Rattle.lab_kept_records.specs.declared.records.Record.{Record}
-use Rattle.lab_kept_records.specs.declared.records.Signature.{Signature}
-use Rattle.lab_kept_records.specs.declared.records.Version.{Version}
+use Rattle.lab_kept.specs.declared.records.FormVersion.{FormVersion}
+use Rattle.lab_kept.specs.declared.records.Record.{Record}
+use Rattle.lab_kept.specs.declared.records.Signature.{Signature}
+use Rattle.lab_kept.specs.declared.records.Version.{Version}
 use Rattle.lab_copy.specs.Outs.{no_counts}
 use Rattle.lab_walks.specs.Faults.{CopyFaultFits, copy_fault_number, copy_fault_word}
 use Rattle.lab_walks.specs.Walks.{IsWalkable, copy_text, counted_all, desk_order, last_walked, numbers_between, walked}

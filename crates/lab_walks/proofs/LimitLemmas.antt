@@ -11,12 +11,12 @@ use Rattle.lab_seal.specs.declared.seals.Meaning.{Meaning}
 use Rattle.lab_seal.specs.declared.seals.Meaning.TheVariants.{Authorship, Review, Rejection, Approval}
 use Rattle.lab_seal.specs.declared.states.State.{State}
 use Rattle.lab_seal.specs.States.{state_of}
-use Rattle.lab_kept_records.specs.declared.records.Record.{Record as KeptRecord}
-use Rattle.lab_kept_records.specs.declared.records.Version.{Version}
-use Rattle.lab_kept_records.specs.declared.records.Signature.{Signature}
+use Rattle.lab_kept.specs.declared.records.Record.{Record as KeptRecord}
+use Rattle.lab_kept.specs.declared.records.Version.{Version}
+use Rattle.lab_kept.specs.declared.records.Signature.{Signature}
 use Rattle.lab_kept.specs.Dual.{IsDualRecord, IsSignedDually}
 use Rattle.lab_kept.specs.Limits.{HasFewRows, IsOrderly}
-use Rattle.lab_kept_records.specs.Values.{meaning_of, meanings_of}
+use Rattle.lab_kept.specs.Values.{meaning_of, meanings_of}
 use Rattle.lab_rows.specs.declared.lines.Line.{Line}
 use Rattle.lab_rows.specs.declared.lines.Line.TheVariants as line
 use Rattle.lab_copies.specs.CopyLines.{body_lines, entry_line, record_lines, signature_line, version_lines}

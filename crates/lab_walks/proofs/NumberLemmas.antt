@@ -3,9 +3,9 @@
 use Rattle.std.proofs.Common.{◌≡◌, ◌⊎◌, ℕ, zero, suc, ◌+◌, ◌-◌, ◌<◌, ◌≤◌, Bool, true, false, cond, ◌&&◌, nat_le, List, [], ◌∷◌, ◌++◌, length, Option, Some, None, refl, sym, ap, ◌∙◌, arith, append-nil, append_assoc, option_to_list, inl, inr}
 use Rattle.std.proofs.lemmas.Bool.{cases_order, cases_lt, le-leb, lt-leb, eq-eqb, ne_eqb}
 use Rattle.lab_kept.specs.declared.labs.Lab.{Lab}
-use Rattle.lab_kept_records.specs.declared.records.Record.{Record}
+use Rattle.lab_kept.specs.declared.records.Record.{Record}
 use Rattle.lab_kept.specs.Limits.{AreNumberedAfter, AreNumbered}
-use Rattle.lab_kept_records.specs.Lookups.{record_of}
+use Rattle.lab_kept.specs.Lookups.{record_of}
 use Rattle.lab_kept.specs.Lookups.{is_within, records_within}
 use Rattle.lab_walks.specs.Walks.{last_walked, numbers_between, record_at, walked}
 

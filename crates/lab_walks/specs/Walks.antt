@@ -6,10 +6,10 @@ use Rattle.std.specs.Prelude.{ℕ, zero, suc, ◌+◌, ◌-◌, ◌<◌, ◌^◌
 use Rattle.lab_kept.specs.declared.labs.Lab.{Lab}
 use Rattle.lab_kept.specs.declared.needs.Need.{Need}
 use Rattle.lab_kept.specs.declared.needs.RecordWanted.{RecordWanted}
-use Rattle.lab_kept_records.specs.declared.records.Record.{Record}
+use Rattle.lab_kept.specs.declared.records.Record.{Record}
 use Rattle.lab_kept.specs.Dual.{IsDual}
 use Rattle.lab_kept.specs.Limits.{AreNumbered, IsWithin}
-use Rattle.lab_kept_records.specs.Lookups.{record_of}
+use Rattle.lab_kept.specs.Lookups.{record_of}
 use Rattle.lab_kept.specs.Worlds.{World}
 use Rattle.lab_rows.specs.Copies.{counts_of}
 use Rattle.lab_rows.specs.Csv.{csv_text}

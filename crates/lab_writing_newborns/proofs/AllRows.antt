@@ -5,7 +5,7 @@ use Rattle.sqlite.specs.Effect.{Database, IsDatabase}
 use Rattle.sqlite.specs.State.{State}
 use Rattle.lab_access.specs.declared.persons.Person.{Person}
 use Rattle.lab_kept.specs.declared.labs.Lab.{Lab}
-use Rattle.lab_kept_trail.specs.declared.trails.TrailRow.{TrailRow as Told}
+use Rattle.lab_kept.specs.declared.trails.TrailRow.{TrailRow as Told}
 use Rattle.lab_tables.specs.Schema.{lab_schema}
 use Rattle.lab_tables.specs.Rows.{tables_in}
 use Rattle.lab_tables.specs.Changes.{InTurn, AddsPerson, AddsTold}

@@ -3,7 +3,7 @@ use Rattle.std.proofs.Common.{◌≡◌, ℤ, Option, ap, ◌∙◌}
 use Rattle.sqlite_keyed.specs.Keyed.{next_key}
 use Rattle.sqlite_keyed.proofs.KeyedLemmas.{next_key_is_free}
 use Rattle.sqlite.specs.State.{State}
-use Rattle.lab_kept_trail.specs.declared.trails.TrailRow.{TrailRow as Told}
+use Rattle.lab_kept.specs.declared.trails.TrailRow.{TrailRow as Told}
 use Rattle.lab_tables.specs.Rows.{LabRow, trail_id}
 use Rattle.lab_tables.specs.Changes.{in_lab, IsNamedIfAny, AddsTold}
 use Rattle.lab_tables.specs.Ready.{tables_of}

@@ -2,8 +2,8 @@
 -- of the trail stands (docs/TABLES.md).
 use Rattle.std.proofs.Common.{◌≡◌, ◌++◌, pos, [], ◌∷◌, None, refl}
 use Rattle.std.specs.Prelude.{codes}
-use Rattle.lab_kept_trail.specs.declared.trails.Action.TheVariants.{Lock}
-use Rattle.lab_kept_trail.specs.declared.trails.TrailRow.{TrailRow as Told}
+use Rattle.lab_kept.specs.declared.trails.Action.TheVariants.{Lock}
+use Rattle.lab_kept.specs.declared.trails.TrailRow.{TrailRow as Told}
 use Rattle.lab_tables.proofs.KnownFile.{file, told}
 use Rattle.lab_writing_trail.specs.Added.{with_told}
 

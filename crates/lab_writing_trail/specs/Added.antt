@@ -1,7 +1,7 @@
 -- Tables with a row of the trail more, under the next id.
 use Rattle.std.specs.Prelude.{ℤ, Option}
 use Rattle.sqlite_keyed.specs.Keyed.{next_key}
-use Rattle.lab_kept_trail.specs.declared.trails.TrailRow.{TrailRow as Told}
+use Rattle.lab_kept.specs.declared.trails.TrailRow.{TrailRow as Told}
 use Rattle.lab_tables.specs.Rows.{Tables, trail_id}
 use Rattle.lab_tables.specs.Changes.{put_told, told_row_of}
 

@@ -2,8 +2,8 @@
 use Rattle.std.proofs.Common.{◌≡◌, ◌∙◌, sym, ap, get_or, Some, None}
 use Rattle.std.specs.Prelude.{position, slice_set}
 use Rattle.std.proofs.lemmas.Result.{on_ok_weaker}
-use Rattle.lab_kept_records.specs.declared.records.Record.{Record}
-use Rattle.lab_kept_records.specs.Lookups.{has_number}
+use Rattle.lab_kept.specs.declared.records.Record.{Record}
+use Rattle.lab_kept.specs.Lookups.{has_number}
 use Rattle.lab_kept.specs.Changes.{entered_in}
 use Rattle.lab_places.proofs.Replacing.{in_record_at, in_record_none}
 use Rattle.lab_changes.proofs.changes.enter_in.Goals as goal

@@ -4,8 +4,8 @@ use Rattle.std.specs.List.{list_any}
 use Rattle.std.proofs.lemmas.Grind.{common_steps}
 use Rattle.std.proofs.lemmas.List.Folds.{list_any_at}
 use Rattle.lab_versions.specs.declared.rows.EntryRow.{EntryRow}
-use Rattle.lab_kept_records.specs.declared.records.Version.{Version}
-use Rattle.lab_kept_records.specs.Values.{has_key}
+use Rattle.lab_kept.specs.declared.records.Version.{Version}
+use Rattle.lab_kept.specs.Values.{has_key}
 use Rattle.lab_entries.proofs.ValueLemmas.{value_found}
 use Rattle.lab_entries.proofs.entering.has_value.Goals as goal
 

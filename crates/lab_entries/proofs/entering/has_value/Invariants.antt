@@ -1,6 +1,6 @@
 use Rattle.std.proofs.Common.{◌≡◌, false, take}
 use Rattle.std.specs.List.{list_any}
-use Rattle.lab_kept_records.specs.Values.{has_key}
+use Rattle.lab_kept.specs.Values.{has_key}
 use Rattle.lab_entries.proofs.entering.has_value.Given as goal
 
 -- none of the first versions has a row of the key

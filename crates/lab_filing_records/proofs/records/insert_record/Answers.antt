@@ -9,7 +9,7 @@ use Rattle.lab_columns.proofs.Queries.{if_then}
 use Rattle.lab_tables.specs.Ready.{tables_of}
 use Rattle.lab_writing.proofs.Placed.{placed_exactly}
 use Rattle.lab_tables.specs.Rows.{Tables, number, record_id}
-use Rattle.lab_kept_records.specs.declared.records.Version.{Version}
+use Rattle.lab_kept.specs.declared.records.Version.{Version}
 use Rattle.lab_tables.specs.Changes.{record_row_of}
 use Rattle.lab_filing_records.specs.Added.{with_record}
 use Rattle.lab_filing_records.proofs.RecordWrites.{add_record_text, record_values, adds_record, ids_record}

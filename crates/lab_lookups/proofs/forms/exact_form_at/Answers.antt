@@ -2,7 +2,7 @@ use Rattle.std.proofs.Common.{w64, ◌∙◌, ap, ap₂, option_map, slice_get}
 use Rattle.std.proofs.lemmas.Int.{to_z-of_z}
 use Rattle.sqlite.specs.Effect.{Database}
 use Rattle.sqlite.specs.Held.{state}
-use Rattle.lab_kept_records.specs.Lookups.{exact_form}
+use Rattle.lab_kept.specs.Lookups.{exact_form}
 use Rattle.lab_tables.specs.Rows.{tables_in}
 use Rattle.lab_tables.specs.Meaning.{forms_of}
 use Rattle.lab_tables.specs.Ready.{tables_of}

@@ -2,7 +2,7 @@
 use Rattle.std.proofs.Common.{◌≡◌, ◌+◌, ◌-◌, ◌∙◌, sym, ap, get_or, length, arith}
 use Rattle.std.specs.Prelude.{slice_set}
 use Rattle.std.proofs.lemmas.Result.{on_ok_weaker}
-use Rattle.lab_kept_records.specs.declared.records.Version.{Version}
+use Rattle.lab_kept.specs.declared.records.Version.{Version}
 use Rattle.lab_kept.specs.Changes.{with_row}
 use Rattle.lab_places.proofs.Replacing.{in_last_at}
 use Rattle.lab_places.proofs.places.enter_last.Goals as goal

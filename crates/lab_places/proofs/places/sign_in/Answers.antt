@@ -2,8 +2,8 @@
 use Rattle.std.proofs.Common.{◌≡◌, ◌∙◌, sym, ap, get_or, Some, None}
 use Rattle.std.specs.Prelude.{position, slice_set}
 use Rattle.std.proofs.lemmas.Result.{on_ok_weaker}
-use Rattle.lab_kept_records.specs.declared.records.Version.{Version}
-use Rattle.lab_kept_records.specs.Lookups.{is_numbered}
+use Rattle.lab_kept.specs.declared.records.Version.{Version}
+use Rattle.lab_kept.specs.Lookups.{is_numbered}
 use Rattle.lab_kept.specs.Changes.{with_signature}
 use Rattle.lab_places.proofs.Replacing.{in_version_at, in_version_none}
 use Rattle.lab_places.proofs.places.sign_in.Goals as goal

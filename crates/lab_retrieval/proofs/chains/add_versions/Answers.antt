@@ -1,6 +1,6 @@
 use Rattle.std.proofs.Common.{◌≡◌, ◌∷◌, ◌++◌, length, map, sym, ap, ◌∙◌, arith}
 use Rattle.std.specs.Vec.Iter.{into_iter_items}
-use Rattle.lab_kept_records.specs.declared.records.Version.{Version}
+use Rattle.lab_kept.specs.declared.records.Version.{Version}
 use Rattle.std.specs.Prelude.{List}
 use Rattle.lab_tables.specs.Meaning.{chained}
 use Rattle.lab_reading.specs.declared.leaves.VersionLeaf.{VersionLeaf}

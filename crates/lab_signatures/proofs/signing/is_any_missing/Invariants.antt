@@ -1,6 +1,6 @@
 use Rattle.std.proofs.Common.{◌≡◌, false, take}
 use Rattle.std.specs.List.{list_any}
-use Rattle.lab_kept_records.specs.Values.{rows_to}
+use Rattle.lab_kept.specs.Values.{rows_to}
 use Rattle.lab_signatures.specs.Signing.{is_missing}
 use Rattle.lab_signatures.proofs.signing.is_any_missing.Given as goal
 

@@ -1,5 +1,5 @@
 use Rattle.std.proofs.Common.{◌≡◌, map, take}
-use Rattle.lab_kept_records.specs.Values.{meaning_of}
+use Rattle.lab_kept.specs.Values.{meaning_of}
 use Rattle.lab_signatures.proofs.signing.meanings_with.Given as goal
 
 -- what the first signatures mean

@@ -1,7 +1,7 @@
 use Rattle.std.proofs.Common.{◌<◌, length, subst, arith, rules}
 use Rattle.sqlite.specs.State.{HasCleanDisk}
 use Rattle.sqlite.specs.Held.{state}
-use Rattle.lab_kept_trail.specs.declared.trails.TrailRow.{TrailRow}
+use Rattle.lab_kept.specs.declared.trails.TrailRow.{TrailRow}
 use Rattle.lab_tables.specs.Changes.{AddsTold}
 use Rattle.lab_writing.specs.Calls.{Steps}
 use Rattle.lab_writing.proofs.Inside.{none_then, keeps_then, turns_more}

@@ -1,6 +1,6 @@
 -- The rows of the record that was read are those of the record that is meant.
 use Rattle.std.proofs.Common.{◌≡◌, Option, Some, sym, ◌∙◌, subst, option_to_list}
-use Rattle.lab_kept_records.specs.declared.records.Record.{Record}
+use Rattle.lab_kept.specs.declared.records.Record.{Record}
 use Rattle.lab_copy.specs.Outs.{Sends}
 use Rattle.lab_walks.specs.Walks.{record_at}
 use Rattle.lab_walks.proofs.TextLemmas.{records_text}

@@ -1,0 +1,169 @@
+//! Records with their versions and signatures, and the versions of forms by which they are filled in.
+ghost use Rattle.std.specs.Prelude.{◌≡◌, IfOk, map, option_copied};
+ghost use Rattle.lab_seal.specs.States.{state_of as state_by};
+ghost use Rattle.lab_kept.specs.Lookups.{last_of, version_of};
+ghost use Rattle.lab_kept.specs.Values.{meaning_of, version_state, has_entered};
+
+use lab_forms::Form;
+use lab_names::{Key, Moment, Name, Ordinal, OutOfMemory, PersonCode, Series};
+use lab_seal::{Digest, EntryRows, Format, Meaning, Origin, Seal, State};
+
+/// One version of a form.
+#[derive(Clone, Drop)]
+pub struct FormVersion {
+    /// By what the form is known.
+    pub code: Key,
+    /// The number of the version, from 1 on.
+    pub version: Ordinal,
+    /// What it asks for.
+    pub form: Form,
+}
+
+/// A signature of a version, with the printed name, the moment and the meaning (21 CFR 11.50(a)).
+#[derive(Clone, Drop)]
+pub struct Signature {
+    /// Who signed.
+    pub person: PersonCode,
+    /// The person's printed name.
+    pub name: Name,
+    /// What the version was signed as.
+    pub meaning: Meaning,
+    /// When it was signed.
+    pub moment: Moment,
+    /// The digest of the version that was signed.
+    pub digest: Digest,
+    /// The seal that binds the signature to that version.
+    pub seal: Seal,
+}
+
+/// A version of a record.
+#[derive(Clone, Drop)]
+pub struct Version {
+    /// The format of its text.
+    pub format: Format,
+    /// Its number, and what a later version amends and why.
+    pub origin: Origin,
+    /// Who opened it.
+    pub opener: PersonCode,
+    /// When it was opened.
+    pub opened: Moment,
+    /// Its rows in the order in which they were entered.
+    pub rows: EntryRows,
+    /// Its signatures in the order in which they were given.
+    pub signatures: Series<Signature>,
+}
+
+/// A record: a form filled in for a sample.
+#[derive(Clone, Drop)]
+pub struct Record {
+    /// Its number in the laboratory.
+    pub number: Ordinal,
+    /// The version of the form that it is filled in by.
+    pub form: FormVersion,
+    /// The sample that it is about.
+    pub sample: Name,
+    /// Its versions, the first of them first.
+    pub versions: Series<Version>,
+}
+
+impl FormVersion {
+    /// A copy. The only error is out of memory.
+    pub fn copy(&self) -> Result<FormVersion, OutOfMemory>
+        ensures { IfOk result (λ copy. copy ≡ self.now) }
+    {
+        Ok(self.clone()?)
+    }
+}
+
+impl Signature {
+    /// A copy. The only error is out of memory.
+    pub fn copy(&self) -> Result<Signature, OutOfMemory>
+        ensures { IfOk result (λ copy. copy ≡ self.now) }
+    {
+        Ok(self.clone()?)
+    }
+}
+
+impl Version {
+    /// Whether the person entered a row of it.
+    pub fn has_entered(&self, person: &PersonCode) -> bool
+        ensures { result ≡ has_entered person.now self.now }
+    {
+        self.rows
+            .rows()
+            .iter()
+            .any(|row| row.person.as_str() == person.as_str())
+    }
+
+    /// A copy. The only error is out of memory.
+    pub fn copy(&self) -> Result<Version, OutOfMemory>
+        ensures { IfOk result (λ copy. copy ≡ self.now) }
+    {
+        Ok(self.clone()?)
+    }
+}
+
+impl Record {
+    /// The version that has the number.
+    pub fn version(&self, number: Ordinal) -> Option<&Version>
+        ensures { option_copied result ≡ version_of self.now.versions number }
+    {
+        self.versions
+            .as_slice()
+            .iter()
+            .find(|version| version.origin.number() == number)
+    }
+
+    /// The last version.
+    pub fn current(&self) -> Option<&Version>
+        ensures { option_copied result ≡ last_of self.now.versions }
+    {
+        self.versions.last()
+    }
+
+    /// The state of a version of the record.
+    pub fn state_of(&self, version: &Version) -> Option<State>
+        ensures { result ≡ version_state self.now version.now }
+    {
+        state_by(version.signatures.as_slice(), self.form.form.approval())
+    }
+
+    /// A copy. The only error is out of memory.
+    pub fn copy(&self) -> Result<Record, OutOfMemory>
+        ensures { IfOk result (λ copy. copy ≡ self.now) }
+    {
+        Ok(self.clone()?)
+    }
+}
+
+/// The state that signatures make, in order; none where no version has such.
+fn state_by(signatures: &[Signature], approval: bool) -> Option<State>
+    ensures { result ≡ state_by (map meaning_of signatures.now) approval }
+{
+    match (signatures, approval) {
+        ([], _) => Some(State::Open),
+        ([author], _) => match &author.meaning {
+            Meaning::Authorship => Some(State::Signed),
+            Meaning::Review | Meaning::Rejection(_) | Meaning::Approval => None,
+        },
+        ([author, second], _) => match (&author.meaning, &second.meaning) {
+            (Meaning::Authorship, Meaning::Review) => Some(if approval {
+                State::Reviewed
+            } else {
+                State::Released
+            }),
+            (Meaning::Authorship, Meaning::Rejection(_)) => Some(State::Rejected),
+            _ => None,
+        },
+        ([author, second, third], true) => {
+            match (&author.meaning, &second.meaning, &third.meaning) {
+                (Meaning::Authorship, Meaning::Review, Meaning::Approval) => Some(State::Released),
+                (Meaning::Authorship, Meaning::Review, Meaning::Rejection(_)) => {
+                    Some(State::Rejected)
+                }
+                _ => None,
+            }
+        }
+        _ => None,
+    }
+}

@@ -1,2 +1,0 @@
-pub mod LastRows
-pub mod KnownValues

@@ -1,4 +1,0 @@
-pub mod Lookups
-pub mod Values
-pub mod Digests
-pub mod Latest
