@@ -1,4 +1,4 @@
--- The code of a person: the rows that its query shows of the tables, and what such a row is read as.
+-- The code of a person: the rows that its query shows, and what such a row is read as.
 use Rattle.std.specs.Prelude.{ℕ, ℤ, List, [], ◌∷◌, map, filter}
 use Rattle.std.specs.Ordering.{int_eq}
 use Rattle.sqlite_value.specs.declared.value.Value.TheVariants.{Text}

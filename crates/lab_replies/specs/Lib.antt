@@ -1,4 +1,1 @@
-pub mod Persons
-pub mod Forms
-pub mod Trails
 pub mod Replies

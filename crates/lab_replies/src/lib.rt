@@ -1,9 +1,6 @@
 //! What a laboratory replies, as the text of a body: JSON (RFC 8259), or of a copy CSV (RFC 4180). It knows no HTTP.
 #![tactic(auto)]
 
-mod forms;
-mod persons;
 mod replies;
-mod trails;
 
 pub use replies::reply_body;

@@ -154,10 +154,10 @@ pub fn found_command<'a>(alloc: Global) -> Result<Command<'a>, AllocError>
     ensures { IfOk result (λ command. app_of command ≡ found_app) }
 {
     let about = "Found a laboratory in a file, from the body of standard input";
-    let file = file_argument(alloc);
-    let lab = lab_argument(alloc);
     let bare = command(alloc, "found", about, FOUNDING);
+    let file = file_argument(alloc);
     let first = bare.arg(file)?;
+    let lab = lab_argument(alloc);
     let whole = first.arg(lab)?;
     Ok(whole)
 }
@@ -170,12 +170,12 @@ pub fn serve_command<'a>(alloc: Global) -> Result<Command<'a>, AllocError>
     ensures { IfOk result (λ command. app_of command ≡ serve_app) }
 {
     let about = "Serve the laboratories of a file, on a port of this machine";
-    let file = file_argument(alloc);
-    let port = port_argument(alloc);
-    let count = count_argument(alloc);
     let bare = command(alloc, "serve", about, SERVING);
+    let file = file_argument(alloc);
     let first = bare.arg(file)?;
+    let port = port_argument(alloc);
     let second = first.arg(port)?;
+    let count = count_argument(alloc);
     let whole = second.arg(count)?;
     Ok(whole)
 }
@@ -188,19 +188,19 @@ pub fn copy_command<'a>(alloc: Global) -> Result<Command<'a>, AllocError>
     ensures { IfOk result (λ command. app_of command ≡ copy_app) }
 {
     let about = "Write the inspection copy of a laboratory's records to standard output";
+    let bare = command(alloc, "copy", about, COPYING);
     let file = file_argument(alloc);
+    let first = bare.arg(file)?;
     let lab = lab_argument(alloc);
+    let second = first.arg(lab)?;
     let from = number_argument(alloc, "from", "A", "Number of the first record, 1 or more");
+    let third = second.arg(from)?;
     let to = number_argument(
         alloc,
         "to",
         "B",
         "Number of the last record, up to 1000000000",
     );
-    let bare = command(alloc, "copy", about, COPYING);
-    let first = bare.arg(file)?;
-    let second = first.arg(lab)?;
-    let third = second.arg(from)?;
     let whole = third.arg(to)?;
     Ok(whole)
 }
@@ -213,10 +213,10 @@ pub fn rehearse_command<'a>(alloc: Global) -> Result<Command<'a>, AllocError>
     ensures { IfOk result (λ command. app_of command ≡ rehearse_app) }
 {
     let about = "Found a laboratory from the body of standard input, and ask for its card";
-    let lab = lab_argument(alloc);
-    let moment = moment_argument(alloc);
     let bare = command(alloc, "rehearse", about, REHEARSING);
+    let lab = lab_argument(alloc);
     let first = bare.arg(lab)?;
+    let moment = moment_argument(alloc);
     let whole = first.arg(moment)?;
     Ok(whole)
 }

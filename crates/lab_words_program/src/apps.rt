@@ -24,10 +24,10 @@ fn with_files<'a>(alloc: Global, bare: Command<'a>) -> Result<Command<'a>, Alloc
     ensures { IfOk result (λ more. app_of more ≡ with_files (app_of bare.entry)) }
 {
     let found = found_command(alloc)?;
-    let serve = serve_command(alloc)?;
-    let copy = copy_command(alloc)?;
     let first = bare.subcommand(found)?;
+    let serve = serve_command(alloc)?;
     let second = first.subcommand(serve)?;
+    let copy = copy_command(alloc)?;
     let whole = second.subcommand(copy)?;
     Ok(whole)
 }
@@ -39,7 +39,6 @@ fn with_files<'a>(alloc: Global, bare: Command<'a>) -> Result<Command<'a>, Alloc
 pub fn labdesk_command<'a>(alloc: Global) -> Result<Command<'a>, AllocError>
     ensures { IfOk result (λ command. app_of command ≡ labdesk_app) }
 {
-    let rehearse = rehearse_command(alloc)?;
     let bare = Command::new(alloc, "labdesk")
         .bin_name("labdesk")?
         .version(VERSION)
@@ -49,6 +48,7 @@ pub fn labdesk_command<'a>(alloc: Global) -> Result<Command<'a>, AllocError>
     let third = with_files(alloc, bare)?;
     let fourth = third.subcommand(check_command(alloc))?;
     let fifth = fourth.subcommand(replay_command(alloc))?;
+    let rehearse = rehearse_command(alloc)?;
     let whole = fifth.subcommand(rehearse)?;
     Ok(whole)
 }

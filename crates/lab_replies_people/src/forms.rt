@@ -2,7 +2,7 @@
 ghost use Rattle.std.specs.Prelude.{◌≡◌, IfOk, OnOk};
 ghost use Rattle.serde_json.specs.View.{view, members_view};
 ghost use Rattle.lab_forms.specs.Kinds.{kind_word};
-ghost use Rattle.lab_replies.specs.Forms.{form_made_data, form_data, with_bound, with_kind, field_members};
+ghost use Rattle.lab_replies_people.specs.Forms.{form_made_data, form_data, with_bound, with_kind, field_members};
 
 use lab_forms::{Bound, Field, Kind};
 use lab_kept::FormVersion;
@@ -13,11 +13,7 @@ use serde_json::{Map, Value};
 use std::alloc::Global;
 
 /// A version of a form that was made.
-pub(crate) fn form_made_value(
-    alloc: Global,
-    code: &Key,
-    version: Ordinal,
-) -> Result<Value, OutOfMemory>
+pub fn form_made_value(alloc: Global, code: &Key, version: Ordinal) -> Result<Value, OutOfMemory>
     ensures { IfOk result (λ value. view value ≡ form_made_data code.now version) }
 {
     object_of(
@@ -27,7 +23,7 @@ pub(crate) fn form_made_value(
 }
 
 /// A version of a form.
-pub(crate) fn form_value(alloc: Global, form: &FormVersion) -> Result<Value, OutOfMemory>
+pub fn form_value(alloc: Global, form: &FormVersion) -> Result<Value, OutOfMemory>
     ensures { IfOk result (λ value. view value ≡ form_data form.now) }
 {
     let fields = list_of::<OfForms, _>(alloc, form.form.fields())?;
@@ -40,10 +36,10 @@ pub(crate) fn form_value(alloc: Global, form: &FormVersion) -> Result<Value, Out
 }
 
 /// How a form tells its fields.
-pub(crate) struct OfForms;
+pub struct OfForms;
 
 impl Shown<OfForms> for Field {
-    ghost use Rattle.lab_replies.specs.Forms.{field_data};
+    ghost use Rattle.lab_replies_people.specs.Forms.{field_data};
 
     ghost data_of = { field_data };
 

@@ -1,7 +1,7 @@
 //! Rows of the trail, as JSON.
 ghost use Rattle.std.specs.Prelude.{◌≡◌, IfOk};
 ghost use Rattle.serde_json.specs.View.{view};
-ghost use Rattle.lab_replies.specs.Trails.{trail_data};
+ghost use Rattle.lab_replies_people.specs.Trails.{trail_data};
 
 use lab_kept::TrailRow;
 use lab_names::OutOfMemory;
@@ -11,10 +11,10 @@ use serde_json::Value;
 use std::alloc::Global;
 
 /// How the trail tells its rows.
-pub(crate) struct OfTrails;
+pub struct OfTrails;
 
 impl Shown<OfTrails> for TrailRow {
-    ghost use Rattle.lab_replies.specs.Trails.{trail_row_data};
+    ghost use Rattle.lab_replies_people.specs.Trails.{trail_row_data};
 
     ghost data_of = { trail_row_data };
 
@@ -33,7 +33,7 @@ impl Shown<OfTrails> for TrailRow {
 }
 
 /// Rows of the trail.
-pub(crate) fn trail_value(alloc: Global, rows: &[TrailRow]) -> Result<Value, OutOfMemory>
+pub fn trail_value(alloc: Global, rows: &[TrailRow]) -> Result<Value, OutOfMemory>
     ensures { IfOk result (λ value. view value ≡ trail_data rows.now) }
 {
     let rows = list_of::<OfTrails, _>(alloc, rows)?;

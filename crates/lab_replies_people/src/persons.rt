@@ -4,7 +4,7 @@ ghost use Rattle.serde_json.specs.Data.{string};
 ghost use Rattle.serde_json.specs.View.{view};
 ghost use Rattle.lab_access.specs.Roles.{role_list, role_word};
 ghost use Rattle.lab_replies_parts.specs.Parts.{list_from};
-ghost use Rattle.lab_replies.specs.Persons.{opened_data, closed_data, changed_data, person_done_data, half_data, roles_set_data, persons_data};
+ghost use Rattle.lab_replies_people.specs.Persons.{opened_data, closed_data, changed_data, person_done_data, half_data, roles_set_data, persons_data};
 
 use lab_access::{Role, Roles};
 use lab_names::{Moment, Ordinal, OutOfMemory, PersonCode};
@@ -16,7 +16,7 @@ use serde_json::Value;
 use std::alloc::Global;
 
 /// A session that was opened.
-pub(crate) fn opened_value(
+pub fn opened_value(
     alloc: Global,
     session: Ordinal,
     token: &Token,
@@ -35,28 +35,28 @@ pub(crate) fn opened_value(
 }
 
 /// A session that was closed.
-pub(crate) fn closed_value(alloc: Global, session: Ordinal) -> Result<Value, OutOfMemory>
+pub fn closed_value(alloc: Global, session: Ordinal) -> Result<Value, OutOfMemory>
     ensures { IfOk result (λ value. view value ≡ closed_data session) }
 {
     object_of(alloc, &[ordinal("session", session)])
 }
 
 /// A password that was changed.
-pub(crate) fn changed_value(alloc: Global, changed: Moment) -> Result<Value, OutOfMemory>
+pub fn changed_value(alloc: Global, changed: Moment) -> Result<Value, OutOfMemory>
     ensures { IfOk result (λ value. view value ≡ changed_data changed) }
 {
     object_of(alloc, &[moment("changed", changed)])
 }
 
 /// A person who was enrolled, retired or unlocked.
-pub(crate) fn person_done_value(alloc: Global, code: &PersonCode) -> Result<Value, OutOfMemory>
+pub fn person_done_value(alloc: Global, code: &PersonCode) -> Result<Value, OutOfMemory>
     ensures { IfOk result (λ value. view value ≡ person_done_data code.now) }
 {
     object_of(alloc, &[text("code", code.as_str())])
 }
 
 /// A half of a one-time word.
-pub(crate) fn half_value(alloc: Global, half: &Half) -> Result<Value, OutOfMemory>
+pub fn half_value(alloc: Global, half: &Half) -> Result<Value, OutOfMemory>
     ensures { IfOk result (λ value. view value ≡ half_data half.now) }
 {
     let half = half_text(alloc, half)?;
@@ -64,7 +64,7 @@ pub(crate) fn half_value(alloc: Global, half: &Half) -> Result<Value, OutOfMemor
 }
 
 /// How the replies of persons tell what they list.
-pub(crate) struct OfPersons;
+pub struct OfPersons;
 
 impl Shown<OfPersons> for Role {
     ghost data_of = { λ role. string (role_word role) };
@@ -83,7 +83,7 @@ fn roles_list(alloc: Global, roles: &Roles) -> Result<Vec<Value>, OutOfMemory>
 }
 
 /// The roles that a person has from now on.
-pub(crate) fn roles_set_value(
+pub fn roles_set_value(
     alloc: Global,
     code: &PersonCode,
     roles: &Roles,
@@ -95,7 +95,7 @@ pub(crate) fn roles_set_value(
 }
 
 impl Shown<OfPersons> for PersonLine {
-    ghost use Rattle.lab_replies.specs.Persons.{person_data};
+    ghost use Rattle.lab_replies_people.specs.Persons.{person_data};
 
     ghost data_of = { person_data };
 
@@ -112,7 +112,7 @@ impl Shown<OfPersons> for PersonLine {
 }
 
 /// The persons.
-pub(crate) fn persons_value(alloc: Global, persons: &[PersonLine]) -> Result<Value, OutOfMemory>
+pub fn persons_value(alloc: Global, persons: &[PersonLine]) -> Result<Value, OutOfMemory>
     ensures { IfOk result (λ value. view value ≡ persons_data persons.now) }
 {
     let persons = list_of::<OfPersons, _>(alloc, persons)?;
