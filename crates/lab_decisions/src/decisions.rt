@@ -10,7 +10,7 @@ use lab_account_commands::opening_done;
 use lab_commands::done_of;
 use lab_effects::Done;
 use lab_endings::{Outcome, end, opening_failed, opening_made, refused, touching};
-use lab_kept::Slice;
+use lab_kept::{Change, Slice};
 use lab_machine::{Command, Passage, Reply, pass};
 use lab_names::{Moment, OutOfMemory, PersonCode, Series, Tick};
 use lab_rules::{Refusal, Typed};
