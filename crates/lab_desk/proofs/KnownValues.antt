@@ -5,7 +5,7 @@ use Rattle.lab_kept.specs.declared.labs.Lab.{Lab}
 use Rattle.lab_lists.specs.Lists.{world_of}
 use Rattle.lab_wire.specs.Replies.{memory_text}
 use Rattle.lab_foundings.specs.Foundings.{memory_line, IsRefusedLine}
-use Rattle.lab_requests.specs.Requests.{IsRefusedReply}
+use Rattle.lab_runs.specs.Requests.{IsRefusedReply}
 
 -- whoever was refused a request there was so for lack of memory
 no_storage_reply : (labs : List Lab) (asks : Type 0) (tick : Tick) (reply : List ℕ) →

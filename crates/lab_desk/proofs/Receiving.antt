@@ -18,7 +18,7 @@ use Rattle.lab_wire.specs.declared.refusals.RequestRefusal.TheVariants.{Head}
 use Rattle.lab_wire.specs.declared.replies.Answer.TheVariants.{Refused}
 use Rattle.lab_wire.specs.Asked.{asked, of_request}
 use Rattle.lab_wire.specs.Replies.{reply_text, memory_text}
-use Rattle.lab_requests.specs.Requests.{Asks, MovesFor, RefusesRequest, Steps, TakesRequest, is_idle_request}
+use Rattle.lab_runs.specs.Requests.{Asks, MovesFor, RefusesRequest, Steps, TakesRequest, is_idle_request}
 use Rattle.lab_desk.specs.Serving.{AreAsked, IsHandled}
 
 -- ---- what is asked

@@ -9,7 +9,7 @@ use Rattle.lab_kept.specs.Worlds.{World, CommitsAs, IsDurable, Quiet, StaysSafe}
 use Rattle.lab_wire.specs.Asked.{asked}
 use Rattle.lab_desk.specs.declared.faults.ServeFault.{ServeFault}
 use Rattle.lab_desk.specs.declared.faults.ServeFault.TheVariants.{Read, Interim, Reply}
-use Rattle.lab_requests.specs.Requests.{Asks, MovesFor, RefusesRequest, Steps, TakesRequest, is_idle_request}
+use Rattle.lab_runs.specs.Requests.{Asks, MovesFor, RefusesRequest, Steps, TakesRequest, is_idle_request}
 
 -- ---- what was handled
 

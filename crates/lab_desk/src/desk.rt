@@ -6,8 +6,8 @@ ghost use Rattle.lab_wire.specs.declared.refusals.RequestRefusal.{RequestRefusal
 ghost use Rattle.lab_wire.specs.declared.replies.Answer.TheVariants.{Refused as RefusedAnswer};
 ghost use Rattle.lab_wire.specs.Asked.{asked};
 ghost use Rattle.lab_wire.specs.Replies.{reply_text, memory_text};
-ghost use Rattle.lab_requests.specs.Requests.{TakesRequest, RefusesRequest, TellsFault, MovesFor, Steps, is_idle_request};
-ghost use Rattle.lab_requests.specs.Keeping.{AreWithin, AreReleasing, KeptFrom};
+ghost use Rattle.lab_runs.specs.Requests.{TakesRequest, RefusesRequest, TellsFault, MovesFor, Steps, is_idle_request};
+ghost use Rattle.lab_runs.specs.Keeping.{AreWithin, AreReleasing, KeptFrom};
 ghost use Rattle.lab_foundings.specs.Foundings.{founding_in, Founds, Births, TakesFounding, RefusesFounding, shown};
 ghost use Rattle.lab_foundings.specs.Faults.{FoundFaultFits, OnBody, OnKept, OnUncommitted};
 ghost use Rattle.std.specs.Prelude.{IsSome};

@@ -4,7 +4,7 @@
 ghost use Rattle.std.specs.Prelude.{◌≡◌, ℕ, List, [], ◌∷◌, IfOk, IfErr};
 ghost use Rattle.std.specs.Io.KnownBytes.{Keeps};
 ghost use Rattle.lab_kept.specs.Worlds.{Passes, Given};
-ghost use Rattle.lab_requests.specs.Keeping.{AreWithin, AreReleasing, KeptFrom, RetainedFrom, ReleasedFrom};
+ghost use Rattle.lab_runs.specs.Keeping.{AreWithin, AreReleasing, KeptFrom, RetainedFrom, ReleasedFrom};
 ghost use Rattle.lab_runs.specs.Runs.{IsRun, Runs, RunsCut, Sends};
 ghost use Rattle.lab_desk.specs.Faults.{IfWrite, IfMemory};
 

@@ -4,7 +4,7 @@
 ghost use Rattle.std.specs.Prelude.{◌≡◌, IfSome, OnErr};
 ghost use Rattle.lab_heads.specs.Interims.{interim_text};
 ghost use Rattle.lab_kept.specs.Worlds.{Passes, Given, StaysSafe};
-ghost use Rattle.lab_requests.specs.Keeping.{AreWithin, AreReleasing, KeptFrom};
+ghost use Rattle.lab_runs.specs.Keeping.{AreWithin, AreReleasing, KeptFrom};
 ghost use Rattle.lab_desk.specs.Serving.{HandlesRequest, OnHandled, OnUnhandled, GreetsBy, Writes};
 
 use crate::desk::Desk;

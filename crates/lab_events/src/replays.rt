@@ -1,6 +1,6 @@
 //! The events of an input, run one after the other on a desk.
 ghost use Rattle.lab_kept.specs.Worlds.{Given};
-ghost use Rattle.lab_requests.specs.Keeping.{AreWithin};
+ghost use Rattle.lab_runs.specs.Keeping.{AreWithin};
 ghost use Rattle.lab_events.specs.Replay.{IsTold, Replays};
 
 use crate::event::next_event;

@@ -14,7 +14,7 @@ use Rattle.lab_laws.specs.Runs.{IsReleasing}
 use Rattle.lab_laws.specs.Stepping.{WhereThere}
 use Rattle.lab_store.specs.StoreWorlds.{world_of}
 use Rattle.lab_runs.specs.Alone.{alone_after}
-use Rattle.lab_requests.specs.Keeping.{AreWithin, OfAll}
+use Rattle.lab_runs.specs.Keeping.{AreWithin, OfAll}
 use Rattle.lab_runs.specs.Runs.{Handled, IsRun, after_run, own_events}
 use Rattle.lab_runs.proofs.Running.{run_releasing}
 use Rattle.lab_events.specs.declared.fault.ReplayFault.{ReplayFault}

@@ -6,7 +6,7 @@ use Rattle.std.specs.Io.KnownBytes.{Appends}
 use Rattle.lab_messages.specs.declared.sending.WriteFault.{WriteFault as Untold}
 use Rattle.lab_kept.specs.Worlds.{Meaning}
 use Rattle.lab_laws.specs.Runs.{IsReleasing}
-use Rattle.lab_requests.specs.Keeping.{OfAll}
+use Rattle.lab_runs.specs.Keeping.{OfAll}
 use Rattle.lab_runs.specs.Runs.{Handled, AreAlone, IsAnswer, KeepsAlong, after_run}
 use Rattle.lab_events.specs.declared.fault.ReplayFault.{ReplayFault}
 use Rattle.lab_events.specs.declared.fault.ReplayFault.TheVariants.{BadEvent, ReadFault, WriteFault, Storage, Memory}

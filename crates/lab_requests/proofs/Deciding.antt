@@ -16,7 +16,7 @@ use Rattle.lab_endings.specs.Deciding.{decided}
 use Rattle.lab_decisions_laws.proofs.Passing.{decided_is}
 use Rattle.lab_wire.specs.declared.replies.Answer.TheVariants.{Replied}
 use Rattle.lab_wire.specs.Replies.{reply_text}
-use Rattle.lab_requests.specs.Requests.{changes_for, is_none, is_idle, Builds}
+use Rattle.lab_runs.specs.Requests.{changes_for, is_none, is_idle, Builds}
 
 -- a change is none where there is no change
 pub none_is : (changes : List Change) → IsTrue (is_none changes) → changes ≡ []

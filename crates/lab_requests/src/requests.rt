@@ -8,8 +8,8 @@ ghost use Rattle.lab_laws.specs.Asking.{IsCommandFormed};
 ghost use Rattle.lab_endings.specs.Deciding.{decided};
 ghost use Rattle.lab_wire.specs.declared.replies.Answer.TheVariants.{Replied};
 ghost use Rattle.lab_wire.specs.Replies.{reply_text};
-ghost use Rattle.lab_requests.specs.Keeping.{AreWithin};
-ghost use Rattle.lab_requests.specs.Requests.{answer_to, is_idle, MovesBy, Steps};
+ghost use Rattle.lab_runs.specs.Keeping.{AreWithin};
+ghost use Rattle.lab_runs.specs.Requests.{answer_to, is_idle, MovesBy, Steps};
 
 use lab_decisions::{decide, formed};
 use lab_endings::Outcome;

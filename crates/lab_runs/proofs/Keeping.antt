@@ -22,8 +22,8 @@ use Rattle.lab_laws.proofs.KeepSteps.{step_keeps}
 use Rattle.lab_laws.proofs.StayLemmas.{step_stays, holds_of}
 use Rattle.lab_routes.specs.declared.commands.Asked.{Asked}
 use Rattle.lab_foundings.specs.Foundings.{Body, after_birth, birth, born_of}
-use Rattle.lab_requests.specs.Keeping.{AreWithin, Follows, EachFollows, KeptFrom}
-use Rattle.lab_requests.specs.Requests.{Steps}
+use Rattle.lab_runs.specs.Keeping.{AreWithin, Follows, EachFollows, KeptFrom}
+use Rattle.lab_runs.specs.Requests.{Steps}
 
 -- ---- one laboratory
 

@@ -20,7 +20,7 @@ use Rattle.lab_kept.specs.Worlds.{World}
 use Rattle.lab_kept.proofs.ReleaseLemmas.{one_releases_none, two_release, three_release, four_release_none}
 use Rattle.lab_laws.specs.Runs.{IsReleasing}
 use Rattle.lab_laws.specs.Stepping.{WhereThere}
-use Rattle.lab_requests.specs.Keeping.{AreReleasing, Follows, Retains, RetainedFrom, StaysReleased, KeepsReleased, ReleasedFrom}
+use Rattle.lab_runs.specs.Keeping.{AreReleasing, Follows, Retains, RetainedFrom, StaysReleased, KeepsReleased, ReleasedFrom}
 
 -- ---- signatures
 

@@ -9,7 +9,7 @@ use Rattle.lab_kept.specs.Keeping.{IsPrefix, KeepsRows, KeepsVersion, KeepsRecor
 use Rattle.lab_kept.specs.Worlds.{World}
 use Rattle.lab_laws.proofs.KeepLists.{extends_on, prefix_on}
 use Rattle.lab_laws.proofs.KeepPersons.{persons_on, sessions_on}
-use Rattle.lab_requests.specs.Keeping.{Follows, KeptFrom, Retains, RetainedFrom}
+use Rattle.lab_runs.specs.Keeping.{Follows, KeptFrom, Retains, RetainedFrom}
 use Rattle.lab_runs.proofs.Keeping.{keeps_itself}
 
 -- ---- records

@@ -27,9 +27,9 @@ use Rattle.lab_wire.specs.Asked.{asked}
 use Rattle.lab_wire.specs.Replies.{reply_text, memory_text}
 use Rattle.lab_runs.specs.declared.events.Event.{Event}
 use Rattle.lab_runs.specs.declared.events.Event.TheVariants.{Found, Call}
-use Rattle.lab_requests.specs.Requests.{Asks, TakesRequest, RefusesRequest}
+use Rattle.lab_runs.specs.Requests.{Asks, TakesRequest, RefusesRequest}
 use Rattle.lab_foundings.specs.Foundings.{Bears, founding_in, born_of, after_birth, line_of, TakesFounding, RefusesFounding, memory_line, storage_line}
-use Rattle.lab_requests.specs.Keeping.{AreWithin, AreReleasing, Follows}
+use Rattle.lab_runs.specs.Keeping.{AreWithin, AreReleasing, Follows}
 use Rattle.lab_foundings.proofs.Bearing.{born_seen}
 use Rattle.lab_runs.proofs.Keeping.{follows_itself, step_follows, birth_follows}
 use Rattle.lab_runs.proofs.Staying.{step_there, step_releasing, birth_releasing}

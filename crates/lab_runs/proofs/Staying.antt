@@ -27,8 +27,8 @@ use Rattle.lab_laws.proofs.LimitSteps.{step_within}
 use Rattle.lab_laws.proofs.SigningStep.{step_keeps}
 use Rattle.lab_routes.specs.declared.commands.Asked.{Asked}
 use Rattle.lab_foundings.specs.Foundings.{Body, after_birth, birth, born_of}
-use Rattle.lab_requests.specs.Keeping.{OfAll, HoldsIn}
-use Rattle.lab_requests.specs.Requests.{Steps}
+use Rattle.lab_runs.specs.Keeping.{OfAll, HoldsIn}
+use Rattle.lab_runs.specs.Requests.{Steps}
 
 -- ---- a meaning of which one laboratory is set, or none
 

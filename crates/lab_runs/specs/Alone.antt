@@ -10,7 +10,7 @@ use Rattle.lab_wire.specs.Asked.{asked}
 use Rattle.lab_wire.specs.Replies.{reply_text}
 use Rattle.lab_runs.specs.declared.events.Event.{Event}
 use Rattle.lab_runs.specs.declared.events.Event.TheVariants.{Found, Call}
-use Rattle.lab_requests.specs.Requests.{Asks}
+use Rattle.lab_runs.specs.Requests.{Asks}
 use Rattle.lab_foundings.specs.Foundings.{founding_in, born_of, after_birth, line_of}
 
 -- an event of one laboratory: it is founded from a body, or it is given an instruction

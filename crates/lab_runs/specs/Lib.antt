@@ -1,2 +1,4 @@
+pub mod Requests
+pub mod Keeping
 pub mod Alone
 pub mod Runs

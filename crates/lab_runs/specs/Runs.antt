@@ -12,9 +12,9 @@ use Rattle.lab_wire.specs.Asked.{asked}
 use Rattle.lab_wire.specs.Replies.{reply_text}
 use Rattle.lab_runs.specs.declared.events.Event.{Event}
 use Rattle.lab_runs.specs.declared.events.Event.TheVariants.{Found, Call}
-use Rattle.lab_requests.specs.Requests.{Asks, IsRefusedReply}
+use Rattle.lab_runs.specs.Requests.{Asks, IsRefusedReply}
 use Rattle.lab_foundings.specs.Foundings.{founding_in, Bears, IsRefusedLine}
-use Rattle.lab_requests.specs.Keeping.{EachFollows}
+use Rattle.lab_runs.specs.Keeping.{EachFollows}
 use Rattle.lab_runs.specs.Alone.{Own, own_of, alone_after, alone_answers}
 
 -- an event, whether it was taken, and what was answered to it: it is taken unless memory ran out or

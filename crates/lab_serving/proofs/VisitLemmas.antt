@@ -3,7 +3,7 @@ use Rattle.std.proofs.Common.{arith, ◌≡◌, ◌+◌, length, ℕ, List, [], 
 use Rattle.std.proofs.lemmas.List.{length-append, map-append}
 use Rattle.lab_kept.specs.declared.changes.Change.{Change}
 use Rattle.lab_kept.specs.Worlds.{World}
-use Rattle.lab_requests.specs.Keeping.{AreWithin}
+use Rattle.lab_runs.specs.Keeping.{AreWithin}
 use Rattle.lab_runs.proofs.Keeping.{still_keeps}
 use Rattle.lab_runs.proofs.Releasing.{released_stay}
 use Rattle.lab_runs.proofs.Retaining.{retained_on, still_retained}

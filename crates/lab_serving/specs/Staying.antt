@@ -1,6 +1,6 @@
 -- What stays true of what a desk keeps, over one connection and over any number of them.
 use Rattle.lab_kept.specs.Worlds.{World, StaysSafe}
-use Rattle.lab_requests.specs.Keeping.{AreWithin, AreReleasing, KeptFrom, RetainedFrom, ReleasedFrom}
+use Rattle.lab_runs.specs.Keeping.{AreWithin, AreReleasing, KeptFrom, RetainedFrom, ReleasedFrom}
 
 -- over one connection, from laboratories that are within their limits
 pub record Stays (old new : World) : Type 0 where

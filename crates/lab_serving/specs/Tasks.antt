@@ -5,7 +5,7 @@ use Rattle.lab_messages.specs.declared.sending.WriteFault.{WriteFault as Untold}
 use Rattle.lab_kept.specs.declared.changes.Change.{Change}
 use Rattle.lab_kept.specs.declared.labs.Lab.{Lab}
 use Rattle.lab_kept.specs.Worlds.{World, Given}
-use Rattle.lab_requests.specs.Keeping.{AreWithin}
+use Rattle.lab_runs.specs.Keeping.{AreWithin}
 use Rattle.lab_foundings.specs.Foundings.{IsNewborn, founding_in}
 use Rattle.lab_serving.specs.declared.faults.ServerFault.{ServerFault}
 use Rattle.lab_serving.specs.declared.faults.RehearsalFault.{RehearsalFault}

@@ -3,7 +3,7 @@
 ghost use Rattle.std.specs.Prelude.{◌≡◌, ℕ, List, IfSome, IfErr};
 ghost use Rattle.std.specs.Io.KnownBytes.{Appends};
 ghost use Rattle.lab_kept.specs.Worlds.{Passes, Given};
-ghost use Rattle.lab_requests.specs.Keeping.{AreWithin};
+ghost use Rattle.lab_runs.specs.Keeping.{AreWithin};
 ghost use Rattle.lab_serving.specs.Staying.{StaysOn};
 ghost use Rattle.lab_serving.specs.Tasks.{FoundsBy, IsRehearsal, IsServing, Prints};
 ghost use Rattle.lab_serving.specs.Texts.{IsAnnounced};

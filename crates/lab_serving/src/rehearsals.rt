@@ -2,7 +2,7 @@
 
 ghost use Rattle.std.specs.Prelude.{◌≡◌, List, [], IfOk, IfErr, IfSome};
 ghost use Rattle.lab_kept.specs.Worlds.{Passes, Given};
-ghost use Rattle.lab_requests.specs.Keeping.{AreWithin};
+ghost use Rattle.lab_runs.specs.Keeping.{AreWithin};
 ghost use Rattle.lab_serving.specs.Faults.{IsReaderFault};
 ghost use Rattle.lab_serving.specs.Rehearsals.{Forwards, IsFounded, IsServedAt, IsUnfounded, rehearsal_tick};
 ghost use Rattle.lab_serving.specs.Staying.{StaysOn};

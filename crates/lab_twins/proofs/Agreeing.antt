@@ -10,7 +10,7 @@ use Rattle.lab_kept.specs.Worlds.{World, Meaning, SameMeaning}
 use Rattle.lab_machine.specs.Machine.{step}
 use Rattle.lab_routes.specs.declared.commands.Asked.{Asked}
 use Rattle.lab_wire.specs.Replies.{memory_text}
-use Rattle.lab_requests.specs.Requests.{Asks, Steps, TakesRequest, RefusesRequest}
+use Rattle.lab_runs.specs.Requests.{Asks, Steps, TakesRequest, RefusesRequest}
 use Rattle.lab_twins.specs.Twins.{Agree, AgreeOn, IsElsewhere, SameButForMemory, both}
 
 -- ---- one keeper

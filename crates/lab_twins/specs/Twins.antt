@@ -7,8 +7,8 @@ use Rattle.lab_wire.specs.declared.refusals.RequestRefusal.{RequestRefusal}
 use Rattle.lab_wire.specs.declared.replies.Answer.TheVariants.{Refused}
 use Rattle.lab_wire.specs.Replies.{reply_text, memory_text}
 use Rattle.lab_desk.specs.Desk.{Served}
-use Rattle.lab_requests.specs.Keeping.{AreWithin, AreReleasing, KeptFrom}
-use Rattle.lab_requests.specs.Requests.{Asks, TakesRequest, RefusesRequest, MovesFor, Steps, is_idle_request}
+use Rattle.lab_runs.specs.Keeping.{AreWithin, AreReleasing, KeptFrom}
+use Rattle.lab_runs.specs.Requests.{Asks, TakesRequest, RefusesRequest, MovesFor, Steps, is_idle_request}
 use Rattle.lab_twins.specs.declared.desks.Twins.{Twins}
 
 -- ---- each desk by itself: the names are those of the clauses of `Desk::handle`

@@ -1,5 +1,5 @@
 use Rattle.lab_kept.specs.Worlds.{Passes, Given}
-use Rattle.lab_requests.specs.Keeping.{AreWithin}
+use Rattle.lab_runs.specs.Keeping.{AreWithin}
 use Rattle.lab_events.proofs.ReplayLemmas.{SoFar}
 use Rattle.lab_events.proofs.replays.run_events.Given as goal
 

@@ -6,7 +6,7 @@ use Rattle.lab_receptions.specs.Receptions.{IsReception}
 use Rattle.lab_wire.specs.Asked.{asked}
 use Rattle.lab_wire.specs.declared.refusals.RequestRefusal.TheVariants.{Head}
 use Rattle.lab_desk.specs.Serving.{AreAsked, HandlesRequest}
-use Rattle.lab_requests.specs.Keeping.{KeptFrom}
+use Rattle.lab_runs.specs.Keeping.{KeptFrom}
 use Rattle.lab_runs.proofs.Keeping.{still_keeps}
 use Rattle.lab_desk.proofs.Receiving.{handled_by, exhausted, refused_by, asked_as, refused_as, some_asked}
 use Rattle.lab_desk.proofs.desk.Desk.receive.Goals as goal

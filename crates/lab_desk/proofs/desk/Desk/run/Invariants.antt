@@ -1,6 +1,6 @@
 use Rattle.std.proofs.Common.{◌≡◌, ◌≤◌, take, length, vec_capacity}
 use Rattle.lab_kept.specs.Worlds.{Passes, Given}
-use Rattle.lab_requests.specs.Keeping.{AreWithin, AreReleasing, RetainedFrom}
+use Rattle.lab_runs.specs.Keeping.{AreWithin, AreReleasing, RetainedFrom}
 use Rattle.lab_runs.specs.Runs.{Runs}
 use Rattle.lab_desk.proofs.desk.Desk.run.Given as goal
 
