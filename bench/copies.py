@@ -2,7 +2,8 @@
 """Writes what lab_walks_tests compares: the lines of a short day, and the copy of the laboratory after it, which Python's csv writes
 by docs/COPIES.md of the laboratory of bench/laboratory.py, whose hashes are those of hashlib.
 
-    bench/copies.py          prints the day's lines, then the copy of records 1 to 9 for nobody
+    bench/copies.py          prints the day's lines, then the copy of records 1 to 9 for hal, which is examples/copy.csv
+    bench/copies.py nobody   the same with a copy for nobody, as lab_walks_tests has it
     bench/copies.py 3 5      the copy of records 3 to 5 alone
 """
 import csv
@@ -37,12 +38,12 @@ def played():
 def main():
     day = played()
     out = csv.writer(sys.stdout, lineterminator="\n")
-    if len(sys.argv) > 1:
+    if len(sys.argv) > 2:
         first, last = map(int, sys.argv[1:3])
         out.writerows(copy_rows(day.lab, first, last, None, 6000))
     else:
         print("\n".join(day.asked))
-        out.writerows(copy_rows(day.lab, 1, 9, None, 5000))
+        out.writerows(copy_rows(day.lab, 1, 9, None if "nobody" in sys.argv else "hal", 5000))
 
 
 main()
