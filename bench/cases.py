@@ -282,6 +282,10 @@ def which_texts_a_number_takes(s):
     enter("7.5", key="iron", wants='{"error":"no_such_field","number":7}')
     enter("7.5", unit="mg/l", wants='{"error":"wrong_unit","number":9}')
     enter("7.5", unit="", wants=9)
+    # Of several faults the first is told.
+    enter("x", key="iron", unit="mg/l", wants=7)
+    enter("x", unit="mg/l", wants=8)
+    enter("-1", unit="mg/l", wants=9)
 
 
 @case(founders)
@@ -290,22 +294,27 @@ def which_texts_the_other_kinds_take(s):
               {"key": "taken", "label": "Taken", "required": False, "kind": "date"},
               {"key": "clear", "label": "Clear", "required": False, "kind": "yesno"},
               {"key": "note", "label": "Note", "required": False, "kind": "text", "size": 4},
-              {"key": "whole", "label": "Whole", "required": False, "kind": "number", "unit": "", "decimals": 0, "max": "10"}]
+              {"key": "whole", "label": "Whole", "required": False, "kind": "number", "unit": "", "decimals": 0, "max": "10"},
+              {"key": "span", "label": "Span", "required": False, "kind": "number", "unit": "", "decimals": 6, "min": "-1.5", "max": "+2.000001"}]
     s.post(10, "ann", "/forms", form="kinds", approval=True, fields=fields)
     s.post(10, "ann", "/records", form="kinds", sample="S1")
     for key, good, bad in (
         ("colour", ["none", "pale blue"], ["None", "pale", "", "pale blue "]),
-        ("taken", ["1970-01-01", "0001-01-01", "9999-12-31", "2000-02-29", "2024-02-29"],
-         ["1900-02-29", "2023-02-29", "2023-04-31", "2023-13-01", "2023-00-10", "2023-01-00", "0000-01-01", "2023-1-1", "20230101"]),
+        ("taken", ["1970-01-01", "0001-01-01", "9999-12-31", "1600-02-29", "2000-02-29", "2024-02-29", "2004-04-30"],
+         ["1900-02-29", "2100-02-29", "2023-02-29", "2023-04-31", "2023-13-01", "2023-00-10", "2023-01-00", "0000-01-01", "2023-1-1",
+          "2001-1-01", "20230101", "2001/01/01", "+001-01-01", "2001-01-01 ", "10000-01-01"]),
         ("clear", ["yes", "no"], ["Yes", "true", "", "yes "]),
-        ("note", ["a\nb", "éa", "    ", "\"\\,"], ["", "12345", "ééa", "a\tb", "a\u007f", "a\r"]),
+        ("note", ["a\nb", "éa", "水a", "🜄", "    ", "\"\\,"], ["", "12345", "ééa", "水aa", "🜄a", "a\tb", "a\u007f", "a\r"]),
         ("whole", ["10", "-15", "<10", ">10"], ["1.0", "1."]),
+        ("span", ["-1.5", "-1.500000", "2.000001", ">2.000001", "-0.000001"], ["0.0000001"]),
     ):
         for value in good:
             s.post(10, "ann", "/entries", record=1, key=key, value=value, unit="", reason="read so")
         for value in bad:
             s.post(10, "ann", "/entries", record=1, key=key, value=value, unit="", reason="read so", wants=8)
     s.post(10, "ann", "/entries", record=1, key="whole", value="11", unit="", reason="read so", wants=10)
+    for value in ("-1.500001", "2.000002", "<-2", "999999999999999.999999"):
+        s.post(10, "ann", "/entries", record=1, key="span", value=value, unit="", reason="read so", wants=10)
     s.post(10, "ann", "/entries", record=1, key="clear", value="yes", unit="%", reason="read so", wants=9)
 
 
@@ -318,11 +327,25 @@ def what_makes_a_form_bad(s):
     form(4, LEAD, LEAD)
     form(5, *[dict(NOTE, key=f"k{number}") for number in range(61)])
     form(6, dict(LEAD, decimals=7))
+    for bounds in ({"min": "<1"}, {"max": ">1"}, {"min": "0.005"}, {"decimals": 0, "max": "1.5"}, {"max": "x"}, {"min": "1", "max": "0.99"}):
+        form(6, NOTE, dict(LEAD, **bounds))
+    for size in (0, 1001):
+        form(6, LEAD, dict(NOTE, size=size))
+    letters = "abcdefghijklmnopqrstu"
+    choice = {"key": "one", "label": "One", "required": False, "kind": "choice"}
+    for names in ("", letters, "abcb"):
+        form(6, LEAD, dict(choice, choices=list(names)))
     # Of several the first in this order is told.
     form(4, *[dict(NOTE, key=f"k{number % 60}") for number in range(61)])
     form(5, *[dict(NOTE, key=f"k{number}", size=0) for number in range(61)])
     form(1, dict(LEAD, key="Lead"), dict(LEAD, key="Lead"))
     form(88, dict(LEAD, key="Lead"), dict(NOTE, size="200"))
+    # Bounds, sizes and choices at their limits are none of these faults.
+    for version, bounds in enumerate(({"decimals": 0}, {"decimals": 6, "min": "0.000001"}, {"min": "7.5", "max": "7.50"}, {"min": "-1", "max": "+1"}), 1):
+        s.post(10, "ann", "/forms", form="soil", fields=[dict(LEAD, **bounds)], wants={"version": version})
+    for version, (size, names) in enumerate(((1, "a"), (1000, letters[:20]), (200, "aA")), 5):
+        fields = [dict(NOTE, size=size), dict(choice, choices=list(names))]
+        s.post(10, "ann", "/forms", form="soil", fields=fields, wants={"version": version})
     s.post(10, "ann", "/forms", form="soil", fields=[dict(NOTE, key=f"k{number}") for number in range(60)])
 
 

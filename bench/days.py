@@ -4,7 +4,6 @@ and the laboratories of bench/laboratory.py, which is no part of the program and
 
     bench/days.py            writes both files
     bench/days.py --check    says whether they are as they would be written
-    bench/days.py --setup    prints the lines of the laboratory with which most days begin
     bench/days.py --cases FOLDER
                              writes each part by itself, for `rt try --cases FOLDER`, whose hashes are slow: its passwords have
                              one round
@@ -833,11 +832,6 @@ def write_cases(folder):
 
 
 def main():
-    if sys.argv[1:] == ["--setup"]:
-        day = Day()
-        setup(day)
-        print("\n".join(day.asked))
-        return 0
     if sys.argv[1:2] == ["--cases"]:
         write_cases(sys.argv[2])
         return 0

@@ -7,6 +7,7 @@ use crate::roles::Roles;
 use crate::times::seconds_since;
 use lab_names::{Moment, Name, OutOfMemory, PersonCode};
 use lab_secrets::Verifier;
+use std::alloc::AllocError;
 use std::fmt;
 
 /// The seconds for which a lock lasts.
@@ -16,7 +17,7 @@ const SECONDS_OF_LOCK: u64 = 1800;
 const SECONDS_OF_ASK: u64 = 604_800;
 
 /// A person of a laboratory, with the account. Printed for whoever mends a program, it is its code alone.
-#[derive(Clone, Drop)]
+#[derive(Drop)]
 pub struct Person {
     /// The code, which is never given to another.
     pub code: PersonCode,
@@ -37,7 +38,7 @@ pub struct Person {
 }
 
 /// A one-time word that one administrator asked for, and another is to confirm.
-#[derive(Clone, Drop)]
+#[derive(Drop)]
 pub struct Ask {
     /// Who asked.
     pub asker: PersonCode,
@@ -53,6 +54,21 @@ impl Ask {
         ensures { IfOk result (λ copy. copy ≡ self.now) }
     {
         Ok(self.clone()?)
+    }
+}
+
+impl Clone for Ask {
+    ghost use Rattle.std.specs.Prelude.{◌≡◌};
+
+    ghost is_clone = { λ ask copy. copy ≡ ask };
+
+    fn clone(&self) -> Result<Ask, AllocError> {
+        let asker = self.asker.clone()?;
+        Ok(Ask {
+            asker,
+            asked: self.asked,
+            first: self.first,
+        })
     }
 }
 
@@ -94,6 +110,28 @@ impl Person {
             locked: None,
             ..self
         }
+    }
+}
+
+impl Clone for Person {
+    ghost use Rattle.std.specs.Prelude.{◌≡◌};
+
+    ghost is_clone = { λ person copy. copy ≡ person };
+
+    fn clone(&self) -> Result<Person, AllocError> {
+        let code = self.code.clone()?;
+        let name = self.name.clone()?;
+        let ask = self.ask.clone()?;
+        Ok(Person {
+            code,
+            name,
+            roles: self.roles,
+            retired: self.retired,
+            failures: self.failures,
+            locked: self.locked,
+            password: self.password,
+            ask,
+        })
     }
 }
 

@@ -7,6 +7,7 @@ use crate::refusals::PeopleRefusal;
 use crate::times::seconds_since;
 use lab_names::{Moment, Ordinal, OutOfMemory, PersonCode, Tick};
 use lab_secrets::Digest;
+use std::alloc::AllocError;
 
 /// The most seconds since its last request at which a session lives.
 const SECONDS_OF_REST: u64 = 900;
@@ -15,7 +16,7 @@ const SECONDS_OF_REST: u64 = 900;
 const SECONDS_OF_SESSION: u64 = 28_800;
 
 /// One continuous period in which a person works.
-#[derive(Clone, Debug, Drop)]
+#[derive(Debug, Drop)]
 pub struct Session {
     /// The session's number in the laboratory.
     pub number: Ordinal,
@@ -69,6 +70,25 @@ impl Session {
         ensures { self.new ≡ signed_session self.old }
     {
         self.signed = true;
+    }
+}
+
+impl Clone for Session {
+    ghost use Rattle.std.specs.Prelude.{◌≡◌};
+
+    ghost is_clone = { λ session copy. copy ≡ session };
+
+    fn clone(&self) -> Result<Session, AllocError> {
+        let person = self.person.clone()?;
+        Ok(Session {
+            number: self.number,
+            person,
+            token: self.token,
+            opened: self.opened,
+            last: self.last,
+            closed: self.closed,
+            signed: self.signed,
+        })
     }
 }
 

@@ -11,7 +11,7 @@ use Rattle.lab_rows.specs.declared.lines.Counts.{Counts}
 use Rattle.lab_rows.specs.declared.lines.Line.{Line}
 use Rattle.lab_checks_versions.specs.Faults.{IsAnswer, IsNoFlaw}
 use Rattle.lab_checks.specs.Checks.{fault_at, rows_of}
-use Rattle.lab_lines.specs.Fields.{IsRead, line_at}
+use Rattle.lab_lines.specs.Lines.{IsRead, line_at}
 use Rattle.lab_checks_lines.specs.Kept.{IsAt, IsTaken, edition_by, kept_none, verdict_kept}
 use Rattle.lab_checks.specs.Left.{AnswersRest, IsLeftOf}
 use Rattle.lab_checks_versions.specs.declared.faults.CheckFault.{CheckFault}

@@ -18,7 +18,7 @@ use Rattle.lab_rows.specs.declared.lines.Counts.{Counts}
 use Rattle.lab_rows.specs.declared.lines.Line.{Line}
 use Rattle.lab_checks_versions.specs.Faults.{IsAnswer}
 use Rattle.lab_checks.specs.Checks.{rows_of}
-use Rattle.lab_lines.specs.Fields.{line_at}
+use Rattle.lab_lines.specs.Lines.{line_at}
 use Rattle.lab_checks_lines.specs.Kept.{IsAt, IsTaken, edition_by, kept_none, verdict_kept}
 use Rattle.lab_checks.specs.Left.{IsEnough, IsLeft, IsLeftOf}
 use Rattle.lab_checks_versions.specs.declared.faults.CheckFault.{CheckFault}

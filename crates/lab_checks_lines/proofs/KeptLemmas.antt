@@ -23,7 +23,8 @@ use Rattle.lab_rows.specs.declared.lines.SignatureLine.{SignatureLine}
 use Rattle.lab_rows.specs.declared.lines.VersionLine.{VersionLine}
 use Rattle.lab_checks_places.specs.Places.{counts_with}
 use Rattle.lab_checks_versions.specs.Faults.{IsAnswer, IsNoFlaw, IsShown}
-use Rattle.lab_lines.specs.Fields.{HasReasonUnlessFirst, IsReasoned}
+use Rattle.lab_fields.specs.Fields.{HasReasonUnlessFirst}
+use Rattle.lab_lines.specs.Lines.{IsReasoned}
 use Rattle.lab_checks_versions.specs.Hands.{hand_of, amendment_by, amendment_behind, begun, with_entry, with_signature, has_numbers, is_next, flaw_of_hand}
 use Rattle.lab_lines.specs.Kinds.{kind_of, may_come_after, is_end_kind}
 use Rattle.lab_checks_lines.specs.Kept.{is_next_record, is_version_behind, has_kept_numbers, may_come, is_in_place_by, is_in_place_kept, flaw_of_signature_kept, flaw_of_version_kept, flaw_kept, hand_begun, copy_with, about_with, version_with, kept_with, verdict_kept, edition_by, first_copy, ends_in_version, hand_at, kept_none, kept_of, BeginsWithCopy, HasVersion, IsAt, IsTaken, MayBegin}

@@ -5,7 +5,7 @@ ghost use Rattle.lab_versions.specs.Origins.{AmendsUnlessFirst};
 ghost use Rattle.lab_rows.specs.Copies.{is_first_version, is_some_and};
 ghost use Rattle.lab_rows.specs.declared.lines.Line.{Line};
 ghost use Rattle.lab_checks_versions.specs.Faults.{IsAnswer, IsNoFlaw, IsShown};
-ghost use Rattle.lab_lines.specs.Fields.{IsReasoned};
+ghost use Rattle.lab_lines.specs.Lines.{IsReasoned};
 ghost use Rattle.lab_checks_versions.specs.Hands.{amendment_behind, begun, has_numbers, with_entry, with_signature};
 ghost use Rattle.lab_checks_lines.specs.Kept.{IsAt, IsTaken, MayBegin, edition_by, flaw_kept, flaw_of_signature_kept, flaw_of_version_kept, has_kept_numbers, is_in_place_kept, is_next_record, is_version_behind, kept_none, kept_with, may_come, verdict_kept, with_parts};
 ghost use Rattle.lab_checks_versions.specs.declared.hands.VersionAtHand.{VersionAtHand};

@@ -7,6 +7,25 @@ ghost use Rattle.sqlite.specs.Held.{state};
 
 use sqlite::{Alter, Connection, Error, Row, params};
 
+/// The rows of a query with a text.
+pub fn rows_by_text<S: Alter>(
+    conn: &mut Connection<S>,
+    sql: &str,
+    first: &str,
+) -> Result<Vec<Row>, Error>
+    ensures ok { HasCleanDisk (state S.Store conn.new) → IfOk result
+        (λ rows. Shown sql.now (Text first.now ∷ [])
+        (state S.Store conn.old) (state S.Store conn.new) rows.items) }
+    ensures err { HasCleanDisk (state S.Store conn.new) → IfErr result
+        (FailsToQuery sql.now (Text first.now ∷ [])
+        (state S.Store conn.old) (state S.Store conn.new)) }
+    ensures mode { conn.old.in_transaction ≡ false → conn.new.in_transaction ≡ false }
+    ensures survives { Survives (state S.Store conn.old) (state S.Store conn.new)
+        (CommitsShowing sql.now (Text first.now ∷ []) (state S.Store conn.old)) }
+{
+    conn.query_all(sql, params![first])
+}
+
 /// The rows of a query with an id.
 pub fn rows_by_one<S: Alter>(
     conn: &mut Connection<S>,

@@ -50,7 +50,7 @@ use Rattle.lab_effects.specs.declared.done.Done.{Done}
 use Rattle.lab_effects.specs.declared.done.Done.TheVariants.{Refused, Failed, Read, Made}
 use Rattle.lab_effects.specs.Done.{opened_done, changed_done, asked_done, confirmed_done, signature_done, signing_done, done_of}
 use Rattle.lab_effects.specs.Groups.{is_on_accounts, is_on_records}
-use Rattle.lab_effects.specs.Makings.{is_digest_made_by, is_made}
+use Rattle.lab_effects.specs.Makings.{is_digest_made_by, makes}
 
 -- ---- a part of a laboratory, and who asks
 
@@ -397,14 +397,14 @@ known_copy tick = refl
 
 abbrev made_by : Slice → Tick → ℕ → Person → Command → Bool
 made_by part tick moment person command =
-    is_made part (record tick { moment = moment }) (session person.code) person command
+    makes part (record tick { moment = moment }) (session person.code) person command
 
 -- closing makes its changes, and a list its lines; a form is read as it stands, and what isn't asked in a session makes nothing
 pub known_makings : (tick : Tick) (password : List ℕ)
     → (made_by slice tick 1200 dan Close ≡ true) × (made_by slice tick 1200 ann ReadPersons ≡ true)
     × (made_by (with_form (water 1 false)) tick 1200 dan (ReadForm (codes "water") 1) ≡ false)
     × (made_by slice tick 1200 dan (Open (codes "dan") password) ≡ false)
-unfolding is_made
+unfolding makes
 known_makings tick password = (refl, refl, refl, refl)
 
 -- a code that is there is refused with nothing made, and somebody new is made; so it is with a lock and a password, with one's
@@ -418,7 +418,7 @@ pub known_makings_of_accounts : (tick : Tick) (old new : List ℕ) (verifier : V
     × (made_by slice tick 800 gus (MakeForm (codes "water") (record { fields = lead ∷ []; approval = false })) ≡ true)
     × (made_by (with_form (water 1 false)) tick 800 gus (MakeForm (codes "water") (record { fields = lead ∷ []; approval = false }))
     ≡ false)
-unfolding is_made changing attempt_by enrolling setting_roles
+unfolding makes changing attempt_by enrolling setting_roles
 known_makings_of_accounts tick old new verifier = (refl, refl, refl, refl, refl, refl, refl)
 
 -- an open version isn't amended, so no table is made; a signing without its code is refused before its password is looked at,
@@ -431,7 +431,7 @@ pub known_makings_of_records : (tick : Tick) (password digest : List ℕ) (verif
     × (is_digest_made_by (Some (about first)) 1 Authorship (Ok dan) ≡ true)
     × (is_digest_made_by (Some (about first)) 1 Review (Ok dan) ≡ false)
     × (made_by slice tick 1200 dan (ReadRecord 9) ≡ false) × (made_by with_record tick 1200 dan (ReadRecord 1) ≡ true)
-unfolding is_made attempt_by
+unfolding makes attempt_by
 known_makings_of_records tick password digest verifier = (refl, refl, refl, refl, refl, refl, refl)
 
 -- ---- groups

@@ -2,7 +2,7 @@
 ghost use Rattle.std.specs.Prelude.{◌≡◌, false, IfOk, IsTrue, OnErr};
 ghost use Rattle.lab_effects.specs.Done.{done_of};
 ghost use Rattle.lab_effects.specs.Groups.{is_on_accounts, is_on_records};
-ghost use Rattle.lab_effects.specs.Makings.{is_made};
+ghost use Rattle.lab_effects.specs.Makings.{makes};
 
 use lab_access::{PeopleRefusal, Person, Session};
 use lab_account_commands::{
@@ -24,7 +24,7 @@ use std::mem;
 
 /// What a command comes to in the session of the caller, on the part of the laboratory that it needs. The only error is out
 /// of memory, and only where something is made: what is refused is told as it is. What is left of the part isn't said.
-#[tactic(auto, unfolding(lab_effects::specs::Done::done_of, lab_effects::specs::Makings::is_made))]
+#[tactic(auto, unfolding(lab_effects::specs::Done::done_of, lab_effects::specs::Makings::makes))]
 pub fn done_of(
     alloc: Global,
     slice: &mut Slice,
@@ -34,7 +34,7 @@ pub fn done_of(
     command: Command,
 ) -> Result<Done, OutOfMemory>
     ensures done { IfOk result (λ done. done ≡ done_of slice.old tick.now session caller command) }
-    ensures memory { OnErr result (IsTrue (is_made slice.old tick.now session caller command)) }
+    ensures memory { OnErr result (IsTrue (makes slice.old tick.now session caller command)) }
 {
     match command {
         Command::Close => closed_done(alloc, session),
@@ -65,7 +65,7 @@ pub fn done_of(
 }
 
 // The same of a command that makes something of forms and records, or reads.
-#[tactic(auto, unfolding(lab_effects::specs::Done::done_of, lab_effects::specs::Makings::is_made))]
+#[tactic(auto, unfolding(lab_effects::specs::Done::done_of, lab_effects::specs::Makings::makes))]
 fn done_on_records(
     alloc: Global,
     slice: &mut Slice,
@@ -76,7 +76,7 @@ fn done_on_records(
 ) -> Result<Done, OutOfMemory>
     requires { is_on_accounts command ≡ false }
     ensures done { IfOk result (λ done. done ≡ done_of slice.old tick.now session caller command) }
-    ensures memory { OnErr result (IsTrue (is_made slice.old tick.now session caller command)) }
+    ensures memory { OnErr result (IsTrue (makes slice.old tick.now session caller command)) }
 {
     let moment = tick.moment;
     match command {
@@ -115,7 +115,7 @@ fn done_on_records(
 }
 
 // The same of a command that reads. One that asks for no session is none in a session.
-#[tactic(auto, unfolding(lab_effects::specs::Done::done_of, lab_effects::specs::Makings::is_made))]
+#[tactic(auto, unfolding(lab_effects::specs::Done::done_of, lab_effects::specs::Makings::makes))]
 fn done_reading(
     alloc: Global,
     slice: &mut Slice,
@@ -129,7 +129,7 @@ fn done_reading(
     ensures done { IfOk result
         (λ done. done ≡ done_of slice.old tick.now session.now caller.now command.now) }
     ensures memory { OnErr result
-        (IsTrue (is_made slice.old tick.now session.now caller.now command.now)) }
+        (IsTrue (makes slice.old tick.now session.now caller.now command.now)) }
 {
     match command {
         Command::ReadPersons => {

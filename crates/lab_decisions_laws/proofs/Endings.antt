@@ -20,8 +20,8 @@ use Rattle.lab_machine.specs.Machine.{Stepped, stays, made, ended, touched, at_m
 use Rattle.lab_laws.proofs.FitPersons.{touched_fits}
 use Rattle.lab_effects.specs.declared.done.Done.{Done}
 use Rattle.lab_effects.specs.declared.done.Done.TheVariants.{Refused, Failed, Read, Made}
-use Rattle.lab_endings.specs.declared.outcome.Outcome.{Outcome}
-use Rattle.lab_endings.specs.Deciding.{told_row, failing, outcome, ended_made, ended_done, opening_ended, touching}
+use Rattle.lab_outcomes.specs.declared.outcome.Outcome.{Outcome}
+use Rattle.lab_outcomes.specs.Deciding.{told_row, failing, outcome, ended_made, ended_done, opening_ended, touching}
 use Rattle.lab_decisions_laws.proofs.Joining.{changed_on, all_fit_on, changes_know}
 use Rattle.lab_decisions_laws.proofs.OwnCases.{case_of, slice_for}
 use Rattle.lab_decisions_laws.proofs.CaseFits.{Adds, FitsDone}

@@ -17,7 +17,7 @@ use Rattle.lab_kept.specs.Changes.{IsKnown, Fits, AllFit, change, changed}
 use Rattle.lab_machine.specs.Cases.{told, noted, failed}
 use Rattle.lab_laws.proofs.FitAttempts.{FitsAttempt}
 use Rattle.lab_laws.proofs.LimitLists.{longer}
-use Rattle.lab_endings.specs.Deciding.{told_row, noted_rows, two_rows, failing}
+use Rattle.lab_outcomes.specs.Deciding.{told_row, noted_rows, two_rows, failing}
 use Rattle.lab_decisions_laws.proofs.Joining.{set_known, change_knows}
 
 -- changes make another laboratory of one, and fit on a premise

@@ -4,7 +4,7 @@ ghost use Rattle.lab_kept.specs.declared.labs.Lab.{Lab};
 ghost use Rattle.lab_kept.specs.Parts.{part};
 ghost use Rattle.lab_machine.specs.declared.commands.Instruction.{Instruction};
 ghost use Rattle.lab_machine.specs.Needs.{need_of};
-ghost use Rattle.lab_endings.specs.Deciding.{decided};
+ghost use Rattle.lab_outcomes.specs.Deciding.{decided};
 ghost use Rattle.lab_decisions_laws.specs.TakenSteps.{TakesStep};
 
 /// Law: what is decided on the part that an instruction needs, of any laboratory, has the reply of the step, and its changes

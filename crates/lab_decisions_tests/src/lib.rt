@@ -3,10 +3,6 @@
 //! crates above.
 #![tactic(auto)]
 
-mod foundings;
-mod lines;
-mod setups;
 mod stages;
 
-pub use setups::{SETUP, setup};
 pub use stages::{Stage, play};

@@ -1,14 +1,11 @@
 //! A laboratory on which days are played, line by line.
-use crate::foundings::{bare, bare_lab, founded, with_person};
-use crate::lines::{answered, echoed, repeated, shown, summed};
 use lab_asked::{Halt, Words, instruction, number, tick};
-use lab_changes::change;
-use lab_decisions::decide;
-use lab_endings::Outcome;
-use lab_kept::{Change, Counts, Lab, Slice};
-use lab_machine::{Instruction, Reply, needs};
-use lab_names::{Moment, OutOfMemory, Tick};
-use lab_parts::part;
+use lab_day_starts::{bare, bare_lab, copy_of, founded, with_person};
+use lab_day_steps::{answered, changed, decided, echoed, needed, repeated, shown, summed};
+use lab_kept::{Counts, Lab};
+use lab_machine::Reply;
+use lab_names::{Moment, OutOfMemory};
+use lab_outcomes::Outcome;
 use lab_replies::reply_body;
 use lab_told::lab_text;
 use std::alloc::Global;
@@ -16,9 +13,7 @@ use std::alloc::Global;
 /// A laboratory on which days are played.
 #[derive(Drop)]
 pub struct Stage {
-    // The laboratory, and what was told of it last.
-    lab: Lab,
-    told: String,
+    scene: Scene,
     // The laboratory to which `back` goes back.
     kept: Lab,
     // How many it is taken to have, where that isn't what it has.
@@ -27,44 +22,46 @@ pub struct Stage {
     is_quiet: bool,
 }
 
+// A laboratory, and what is told of it.
+#[derive(Drop)]
+struct Scene {
+    lab: Lab,
+    told: String,
+}
+
 impl Stage {
     /// A stage with a laboratory of nobody, which a founding replaces.
     ///
     /// # Errors
     /// Memory ran out.
     pub fn new(alloc: Global) -> Result<Stage, Halt> {
-        let lab = bare_lab(alloc, "nobody", "Nobody", Moment::from_seconds(0)?)?;
-        let told = lab_text(alloc, &lab);
-        let kept = lab.copy();
-        let (lab, (told, kept)) = both(Ok(lab), both(told, kept))?;
-        Ok(Stage {
-            lab,
-            told,
-            kept,
-            counts: None,
-            is_quiet: false,
-        })
-    }
-
-    /// The laboratory.
-    pub fn lab(&self) -> &Lab {
-        &self.lab
+        let scene = told_scene(alloc, nobody(alloc)?)?;
+        match nobody(alloc) {
+            Ok(kept) => Ok(Stage {
+                scene,
+                kept,
+                counts: None,
+                is_quiet: false,
+            }),
+            Err(halt) => {
+                drop(scene);
+                Err(halt)
+            }
+        }
     }
 
     /// Gives the laboratory up.
     pub fn into_lab(self) -> Lab {
-        self.lab
+        lab_of(self.scene)
     }
 }
 
-// Two values, where both are made.
-fn both<A: Drop, B: Drop>(
-    one: Result<A, OutOfMemory>,
-    other: Result<B, OutOfMemory>,
-) -> Result<(A, B), OutOfMemory> {
-    let one = one?;
-    let other = other?;
-    Ok((one, other))
+fn lab_of(scene: Scene) -> Lab {
+    scene.lab
+}
+
+fn nobody(alloc: Global) -> Result<Lab, Halt> {
+    bare_lab(alloc, "nobody", "Nobody", Moment::from_seconds(0)?)
 }
 
 /// Plays a line, and gives what is told of it.
@@ -79,8 +76,8 @@ pub fn play(alloc: Global, stage: &mut Stage, line: &str) -> Result<String, Halt
         "person" => enter_person(alloc, stage, line, &mut words),
         "keep" => keep(alloc, stage, line),
         "back" => go_back(alloc, stage, line),
-        "show" => Ok(shown(alloc, line, stage.told.as_str())?),
-        "sum" => Ok(summed(alloc, line, stage.told.as_bytes())?),
+        "show" => Ok(shown(alloc, line, stage.scene.told.as_str())?),
+        "sum" => Ok(summed(alloc, line, stage.scene.told.as_bytes())?),
         "quiet" => become_quiet(alloc, stage, line),
         "loud" => become_loud(alloc, stage, line),
         "counts" => set_counts(alloc, stage, line, &mut words),
@@ -106,32 +103,37 @@ fn play_word(
 
 // ---- the laboratory, and what is told
 
-// What a line makes: the laboratory, what is told of it, and what is told of the line.
-#[derive(Drop)]
-struct Played {
-    lab: Lab,
-    told: String,
-    text: String,
+// The laboratory with all that is told of it.
+fn told_scene(alloc: Global, lab: Lab) -> Result<Scene, OutOfMemory> {
+    let told = lab_text(alloc, &lab);
+    scene_of(lab, told)
 }
 
-// The laboratory comes in place of the one that was there. Gives what is told of the line.
-fn take_up(stage: &mut Stage, played: Played) -> String {
-    let Played { lab, told, text } = played;
-    stage.lab = lab;
-    stage.told = told;
-    text
-}
-
-// The laboratory that was made, with what is told.
-fn with_texts(
-    lab: Lab,
-    texts: Result<(String, String), OutOfMemory>,
-) -> Result<Played, OutOfMemory> {
-    match texts {
-        Ok((told, text)) => Ok(Played { lab, told, text }),
+// The laboratory with what is told of it, unless memory ran out.
+fn scene_of(lab: Lab, told: Result<String, OutOfMemory>) -> Result<Scene, OutOfMemory> {
+    match told {
+        Ok(told) => Ok(Scene { lab, told }),
         Err(fault) => {
             drop(lab);
             Err(fault)
+        }
+    }
+}
+
+// The scene comes in place of the one that was there, unless memory ran out. Gives what is told of the line.
+fn take_up(
+    stage: &mut Stage,
+    scene: Scene,
+    text: Result<String, OutOfMemory>,
+) -> Result<String, Halt> {
+    match text {
+        Ok(text) => {
+            stage.scene = scene;
+            Ok(text)
+        }
+        Err(_) => {
+            drop(scene);
+            Err(Halt::Memory)
         }
     }
 }
@@ -143,15 +145,9 @@ fn enter_lab(
     line: &str,
     made: Result<Lab, Halt>,
 ) -> Result<String, Halt> {
-    let lab = made?;
-    let texts = entry_texts(alloc, line, &lab);
-    Ok(take_up(stage, with_texts(lab, texts)?))
-}
-
-fn entry_texts(alloc: Global, line: &str, lab: &Lab) -> Result<(String, String), OutOfMemory> {
-    let told = lab_text(alloc, lab)?;
-    let text = shown(alloc, line, told.as_str())?;
-    Ok((told, text))
+    let scene = told_scene(alloc, made?)?;
+    let text = shown(alloc, line, scene.told.as_str());
+    take_up(stage, scene, text)
 }
 
 fn enter_person(
@@ -160,20 +156,21 @@ fn enter_person(
     line: &str,
     words: &mut Words,
 ) -> Result<String, Halt> {
-    let made = with_person(alloc, &stage.lab, words);
+    let made = with_person(alloc, &stage.scene.lab, words);
     enter_lab(alloc, stage, line, made)
 }
 
 fn keep(alloc: Global, stage: &mut Stage, line: &str) -> Result<String, Halt> {
     let text = echoed(alloc, line)?;
-    stage.kept = stage.lab.copy()?;
+    stage.kept = copy_of(alloc, &stage.scene.lab)?;
     Ok(text)
 }
 
 fn go_back(alloc: Global, stage: &mut Stage, line: &str) -> Result<String, Halt> {
-    let lab = stage.kept.copy()?;
-    let texts = both(lab_text(alloc, &lab), echoed(alloc, line));
-    Ok(take_up(stage, with_texts(lab, texts)?))
+    let lab = copy_of(alloc, &stage.kept)?;
+    let scene = told_scene(alloc, lab)?;
+    let text = echoed(alloc, line);
+    take_up(stage, scene, text)
 }
 
 fn become_quiet(alloc: Global, stage: &mut Stage, line: &str) -> Result<String, Halt> {
@@ -185,7 +182,7 @@ fn become_quiet(alloc: Global, stage: &mut Stage, line: &str) -> Result<String, 
 // From here on the laboratory is told of again.
 fn become_loud(alloc: Global, stage: &mut Stage, line: &str) -> Result<String, Halt> {
     let text = echoed(alloc, line)?;
-    stage.told = lab_text(alloc, &stage.lab)?;
+    stage.scene.told = lab_text(alloc, &stage.scene.lab)?;
     stage.is_quiet = false;
     Ok(text)
 }
@@ -224,106 +221,24 @@ fn act(
 ) -> Result<String, Halt> {
     let tick = tick(seconds, words.next_word())?;
     let asked = instruction(alloc, words)?;
-    let played = acted(alloc, stage, line, &tick, asked)?;
-    Ok(take_up(stage, played))
-}
-
-// What the instruction makes of the laboratory.
-fn acted(
-    alloc: Global,
-    stage: &Stage,
-    line: &str,
-    tick: &Tick,
-    asked: Instruction,
-) -> Result<Played, OutOfMemory> {
-    let outcome = decided(alloc, &stage.lab, stage.counts, tick, asked)?;
-    let is_told = !stage.is_quiet || is_refused(&outcome.reply);
-    let reply = reply_body(alloc, &outcome.reply);
-    let lab = changed(alloc, &stage.lab, outcome.changes.as_slice());
+    let outcome = decided(alloc, &stage.scene.lab, stage.counts, &tick, asked)?;
+    let played = play_outcome(alloc, stage, line, &outcome);
     drop(outcome);
-    let (reply, lab) = both(reply, lab)?;
-    let texts = act_texts(alloc, stage, line, text_of(&reply), is_told, &lab);
-    with_texts(lab, texts)
+    played
 }
 
-// The text of a reply's body.
-fn text_of(body: &[u8]) -> &str {
-    str::from_utf8(body).unwrap_or("a body that is no text")
-}
-
-// What is decided on the part that the instruction needs.
-fn decided(
+// The changes are made. Gives what is told of the instruction.
+fn play_outcome(
     alloc: Global,
-    lab: &Lab,
-    counts: Option<Counts>,
-    tick: &Tick,
-    asked: Instruction,
-) -> Result<Outcome, OutOfMemory> {
-    match needed(alloc, lab, counts, tick, &asked) {
-        Ok(slice) => decide(alloc, slice, tick, asked.command),
-        Err(fault) => {
-            drop(asked);
-            Err(fault)
-        }
-    }
-}
-
-fn needed(
-    alloc: Global,
-    lab: &Lab,
-    counts: Option<Counts>,
-    tick: &Tick,
-    asked: &Instruction,
-) -> Result<Slice, OutOfMemory> {
-    let need = needs(tick, asked)?;
-    let slice = part(alloc, lab, &need);
-    drop(need);
-    let mut slice = slice?;
-    if let Some(counts) = counts {
-        slice.counts = counts;
-    }
-    Ok(slice)
-}
-
-// A copy of the laboratory, changed.
-fn changed(alloc: Global, lab: &Lab, changes: &[Change]) -> Result<Lab, OutOfMemory> {
-    let mut lab = lab.copy()?;
-    match change_all(alloc, &mut lab, changes) {
-        Ok(()) => Ok(lab),
-        Err(fault) => {
-            drop(lab);
-            Err(fault)
-        }
-    }
-}
-
-fn change_all(alloc: Global, lab: &mut Lab, changes: &[Change]) -> Result<(), OutOfMemory> {
-    for one in changes {
-        change(alloc, lab, one)?;
-    }
-    Ok(())
-}
-
-// What is told of the laboratory, and of the instruction.
-fn act_texts(
-    alloc: Global,
-    stage: &Stage,
+    stage: &mut Stage,
     line: &str,
-    reply: &str,
-    is_told: bool,
-    lab: &Lab,
-) -> Result<(String, String), OutOfMemory> {
-    let told = told_unless_quiet(alloc, stage.is_quiet, lab)?;
-    let text = if is_told {
-        answered(alloc, line, reply, stage.told.as_str(), told.as_str())?
-    } else {
-        String::new(alloc)
-    };
-    Ok((told, text))
-}
-
-fn is_refused(reply: &Reply) -> bool {
-    matches!(reply, Reply::Refused(_))
+    outcome: &Outcome,
+) -> Result<String, Halt> {
+    let lab = changed(alloc, &stage.scene.lab, outcome.changes.as_slice())?;
+    let told = told_unless_quiet(alloc, stage.is_quiet, &lab);
+    let scene = scene_of(lab, told)?;
+    let text = act_text(alloc, stage, line, &outcome.reply, scene.told.as_str());
+    take_up(stage, scene, text)
 }
 
 fn told_unless_quiet(alloc: Global, is_quiet: bool, lab: &Lab) -> Result<String, OutOfMemory> {
@@ -331,6 +246,31 @@ fn told_unless_quiet(alloc: Global, is_quiet: bool, lab: &Lab) -> Result<String,
         return Ok(String::new(alloc));
     }
     lab_text(alloc, lab)
+}
+
+// What is told of the instruction: the reply, and what is new of the laboratory.
+fn act_text(
+    alloc: Global,
+    stage: &Stage,
+    line: &str,
+    reply: &Reply,
+    after: &str,
+) -> Result<String, OutOfMemory> {
+    if stage.is_quiet && !is_refused(reply) {
+        return Ok(String::new(alloc));
+    }
+    let body = reply_body(alloc, reply)?;
+    let before = stage.scene.told.as_str();
+    answered(alloc, line, text_of(&body), before, after)
+}
+
+fn is_refused(reply: &Reply) -> bool {
+    matches!(reply, Reply::Refused(_))
+}
+
+// The text of a reply's body.
+fn text_of(body: &[u8]) -> &str {
+    str::from_utf8(body).unwrap_or("a body that is no text")
 }
 
 // ---- for figures
@@ -356,7 +296,7 @@ fn repeat_parts(alloc: Global, stage: &Stage, words: &mut Words) -> Result<Strin
 fn decide_once(alloc: Global, stage: &Stage, mut words: Words) -> Result<(), Halt> {
     let tick = tick(words.next_word(), words.next_word())?;
     let asked = instruction(alloc, &mut words)?;
-    let outcome = decided(alloc, &stage.lab, stage.counts, &tick, asked)?;
+    let outcome = decided(alloc, &stage.scene.lab, stage.counts, &tick, asked)?;
     drop(outcome);
     Ok(())
 }
@@ -364,7 +304,7 @@ fn decide_once(alloc: Global, stage: &Stage, mut words: Words) -> Result<(), Hal
 fn part_once(alloc: Global, stage: &Stage, mut words: Words) -> Result<(), Halt> {
     let tick = tick(words.next_word(), words.next_word())?;
     let asked = instruction(alloc, &mut words)?;
-    let slice = needed(alloc, &stage.lab, stage.counts, &tick, &asked);
+    let slice = needed(alloc, &stage.scene.lab, stage.counts, &tick, &asked);
     drop(asked);
     let slice = slice?;
     drop(slice);

@@ -1,14 +1,14 @@
 -- Serving one request over a connection: which request it was that came, what was done of it, and
 -- what went out: the interim answer where one is due, and then the reply (RFC 9110, section 10.1.1;
 -- RFC 9112, section 9).
-use Rattle.std.specs.Prelude.{◌≡◌, ◌⊎◌, ◌<◌, ◌++◌, ℕ, List, [], Option, Some, None, Result, Ok, Err, IsTrue, IsFalse, codes, length, take}
+use Rattle.std.specs.Prelude.{◌≡◌, ◌⊎◌, ◌<◌, ◌++◌, ℕ, List, [], Option, Some, None, Result, Ok, Err, IsTrue, IsFalse, length, take}
 use Rattle.std.specs.Io.KnownBytes.{Appends}
 use Rattle.lab_names.specs.declared.tick.Tick.{Tick}
 use Rattle.lab_kept.specs.declared.changes.Change.{Change}
 use Rattle.lab_kept.specs.Worlds.{World, CommitsAs, IsDurable, Quiet, StaysSafe}
 use Rattle.lab_wire.specs.Asked.{asked}
-use Rattle.lab_desk.specs.declared.faults.ServeFault.{ServeFault}
-use Rattle.lab_desk.specs.declared.faults.ServeFault.TheVariants.{Read, Interim, Reply}
+use Rattle.lab_desk_faults.specs.declared.faults.ServeFault.{ServeFault}
+use Rattle.lab_desk_faults.specs.declared.faults.ServeFault.TheVariants.{Read, Interim, Reply}
 use Rattle.lab_runs.specs.Requests.{Asks, MovesFor, RefusesRequest, Steps, TakesRequest, is_idle_request}
 
 -- ---- what was handled
@@ -87,11 +87,3 @@ Writes interim reply (Err (Interim sent)) before after =
     Appends before after (take sent interim) × (sent < length interim)
 Writes interim reply (Err (Reply sent)) before after =
     Appends before after (interim ++ take sent reply) × (sent < length reply)
-
--- ---- words
-
--- the word of a fault of serving; no reply can tell of one, so none has a number
-abbrev pub serve_fault_word : ServeFault → List ℕ
-serve_fault_word Read = codes "read_fault"
-serve_fault_word (Interim sent) = codes "write_fault"
-serve_fault_word (Reply sent) = codes "write_fault"

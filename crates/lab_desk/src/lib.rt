@@ -3,12 +3,11 @@
 #![tactic(auto)]
 
 mod desk;
-mod faults;
 mod runs;
 mod serving;
 
 pub use crate::desk::Desk;
-pub use crate::faults::{RunFault, ServeFault};
+pub use lab_desk_faults::{RunFault, ServeFault};
 pub use lab_foundings::FoundFault;
 pub use lab_kept::{Keeper, PlacingFault};
 pub use lab_machine::BirthRefusal;

@@ -6,10 +6,10 @@ ghost use Rattle.std.specs.Io.KnownBytes.{Keeps};
 ghost use Rattle.lab_kept.specs.Worlds.{Passes, Given};
 ghost use Rattle.lab_runs.specs.Keeping.{AreWithin, AreReleasing, KeptFrom, RetainedFrom, ReleasedFrom};
 ghost use Rattle.lab_runs.specs.Runs.{IsRun, Runs, RunsCut, Sends};
-ghost use Rattle.lab_desk.specs.Faults.{IfWrite, IfMemory};
+ghost use Rattle.lab_desk_faults.specs.Faults.{IfWrite, IfMemory};
 
 use crate::desk::Desk;
-use crate::faults::RunFault;
+use lab_desk_faults::RunFault;
 use lab_kept::Keeper;
 use lab_messages::{WriteFault, write_reply};
 use lab_runs::Event;

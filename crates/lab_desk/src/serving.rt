@@ -8,7 +8,7 @@ ghost use Rattle.lab_runs.specs.Keeping.{AreWithin, AreReleasing, KeptFrom};
 ghost use Rattle.lab_desk.specs.Serving.{HandlesRequest, OnHandled, OnUnhandled, GreetsBy, Writes};
 
 use crate::desk::Desk;
-use crate::faults::ServeFault;
+use lab_desk_faults::ServeFault;
 use lab_heads::HeadFault;
 use lab_kept::Keeper;
 use lab_messages::write_reply;

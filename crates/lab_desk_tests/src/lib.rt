@@ -1,11 +1,9 @@
-//! Tests of `lab_desk`, on whole answers. They stand apart, so that the crate isn't proved once more
+//! Tests of `lab_desk` over a connection, on whole answers. They stand apart, so that the crate isn't proved once more
 //! with them.
 #![tactic(auto)]
 
 #[cfg(test)]
 mod made;
-#[cfg(test)]
-mod run_tests;
 #[cfg(test)]
 mod streams;
 #[cfg(test)]

@@ -1,28 +1,9 @@
-//! Bodies of foundings, requests, and the whole replies that they should get.
+//! The body of a founding, a request, and all that goes out for it, by docs/HTTP.md.
 
 pub(crate) const BODY: &[u8] =
     b"{\"founders\":[{\"code\":\"ann\",\"name\":\"N\",\"password\":\"twelve bytes\"},\
     {\"code\":\"bob\",\"name\":\"N\",\"password\":\"twelve bytes\"},\
     {\"code\":\"cid\",\"name\":\"N\",\"password\":\"twelve bytes\"}],\"name\":\"Aqua Lab\"}";
-
-pub(crate) const NAMELESS: &[u8] =
-    b"{\"founders\":[{\"code\":\"ann\",\"name\":\"N\",\"password\":\"twelve bytes\"},\
-    {\"code\":\"bob\",\"name\":\"N\",\"password\":\"twelve bytes\"},\
-    {\"code\":\"cid\",\"name\":\"N\",\"password\":\"twelve bytes\"}],\"name\":\"\"}";
-
-/// Two founders have one code.
-pub(crate) const TWO_BOBS: &[u8] =
-    b"{\"founders\":[{\"code\":\"ann\",\"name\":\"N\",\"password\":\"twelve bytes\"},\
-    {\"code\":\"bob\",\"name\":\"N\",\"password\":\"twelve bytes\"},\
-    {\"code\":\"bob\",\"name\":\"N\",\"password\":\"twelve bytes\"}],\"name\":\"Aqua Lab\"}";
-
-/// The last password has eleven bytes.
-pub(crate) const SHORT_WORD: &[u8] =
-    b"{\"founders\":[{\"code\":\"ann\",\"name\":\"N\",\"password\":\"twelve bytes\"},\
-    {\"code\":\"bob\",\"name\":\"N\",\"password\":\"twelve bytes\"},\
-    {\"code\":\"cid\",\"name\":\"N\",\"password\":\"eleven byte\"}],\"name\":\"Aqua Lab\"}";
-
-pub(crate) const CARD: &[u8] = b"GET /labs/aqua HTTP/1.1\r\nHost: d\r\n\r\n";
 
 /// The card is asked for by a client that waits with a byte, which is none of what it asks; and the interim answer and the
 /// reply that it gets.
@@ -33,14 +14,3 @@ pub(crate) const WAITING_CARD_REPLY: &[u8] = b"HTTP/1.1 100 Continue\r\n\r\n\
     HTTP/1.1 200 OK\r\nDate: Thu, 01 Jan 1970 00:01:40 GMT\r\n\
     Content-Type: application/json\r\nContent-Length: 32\r\nConnection: close\r\n\r\n\
     {\"lab\":\"aqua\",\"name\":\"Aqua Lab\"}";
-
-pub(crate) const NO_SUCH_LAB: &[u8] = b"GET /labs/zinc HTTP/1.1\r\nHost: d\r\n\r\n";
-
-pub(crate) const CARD_REPLY: &[u8] = b"HTTP/1.1 200 OK\r\nDate: Thu, 01 Jan 1970 00:01:40 GMT\r\n\
-    Content-Type: application/json\r\nContent-Length: 32\r\nConnection: close\r\n\r\n\
-    {\"lab\":\"aqua\",\"name\":\"Aqua Lab\"}";
-
-pub(crate) const NO_SUCH_LAB_REPLY: &[u8] =
-    b"HTTP/1.1 404 Not Found\r\nDate: Thu, 01 Jan 1970 00:01:40 GMT\r\n\
-    Content-Type: application/json\r\nContent-Length: 35\r\nConnection: close\r\n\r\n\
-    {\"error\":\"no_such_lab\",\"number\":40}";

@@ -2,8 +2,9 @@
 use crate::made::{code, empty_desk, tick};
 use crate::streams::{Dripping, Filling};
 use crate::texts::{BODY, WAITING_CARD, WAITING_CARD_REPLY};
-use lab_desk::{Desk, ServeFault};
+use lab_desk::{Desk, ServeFault, Tick};
 use lab_lists::Lists;
+use std::alloc::Global;
 use std::process::Abort;
 
 fn desk_with_aqua<R: Abort + AllocGlobal>(rt: &R) -> Desk<Lists> {
@@ -28,34 +29,30 @@ fn end_at(room: usize) -> (Result<(), ServeFault>, usize) {
     (Ok(()), 0)
 }
 
-// The card is asked for by a waiting client, and the writer has room for so many bytes: how that ends, and how many bytes are
-// left unread. What goes out is the front of the interim answer and the reply.
-fn served<R: Abort + AllocGlobal>(
-    rt: &R,
-    desk: &mut Desk<Lists>,
-    room: usize,
-) -> (Result<(), ServeFault>, usize) {
+// Whether a request ends as it should where the writer has room for so many bytes: the card is asked for by a waiting client, and
+// what goes out is the front of the interim answer and the reply.
+fn ends_well(alloc: Global, desk: &mut Desk<Lists>, tick: &Tick, room: usize) -> bool {
     let mut reader = Dripping {
         bytes: WAITING_CARD,
     };
     let mut writer = Filling {
         room,
-        taken: Vec::new(rt.alloc()),
+        taken: Vec::new(alloc),
     };
-    let served = desk.serve_one(&mut reader, &mut writer, &tick(rt, 100, 9));
-    let is_front = WAITING_CARD_REPLY.starts_with(&writer.taken);
-    assert!(rt; is_front && writer.taken.len() == room);
+    let served = desk.serve_one(&mut reader, &mut writer, tick);
+    let is_front = WAITING_CARD_REPLY.starts_with(&writer.taken) && writer.taken.len() == room;
     let unread = reader.bytes.len();
     drop(reader);
     drop(writer);
-    (served, unread)
+    is_front && (served, unread) == end_at(room)
 }
 
 #[test]
 fn a_writer_may_fail_at_each_byte(rt: HostRuntime) {
+    let tick = tick(&rt, 100, 9);
     let mut desk = desk_with_aqua(&rt);
     for room in 0..WAITING_CARD_REPLY.len() + 1 {
-        assert!(rt; served(&rt, &mut desk, room) == end_at(room));
+        assert!(rt; ends_well(rt.alloc(), &mut desk, &tick, room));
     }
     drop(desk);
 }

@@ -26,39 +26,39 @@ is_digest_made_by filed version signing (Err failure) = false
 is_digest_made_by filed version signing (Ok person) = is_digest_made_at filed version signing
 
 -- in a session; a form and the trail are read as they stand in the part
-unfoldable pub is_made : Slice → Tick → Session → Person → Command → Bool
-is_made slice tick session caller Card = false
-is_made slice tick session caller (Open code password) = false
-is_made slice tick session caller Close = true
-is_made slice tick session caller (ChangePassword old new) =
+unfoldable pub makes : Slice → Tick → Session → Person → Command → Bool
+makes slice tick session caller Card = false
+makes slice tick session caller (Open code password) = false
+makes slice tick session caller Close = true
+makes slice tick session caller (ChangePassword old new) =
     is_ok (changing caller session old new tick)
-is_made slice tick session caller (Enrol code name roles) =
+makes slice tick session caller (Enrol code name roles) =
     is_ok (enrolling code name roles slice.person slice.counts.persons)
-is_made slice tick session caller ReadPersons = true
-is_made slice tick session caller (AskIssue code) = is_ok (asking caller.code slice.person tick)
-is_made slice tick session caller (ConfirmIssue code) =
+makes slice tick session caller ReadPersons = true
+makes slice tick session caller (AskIssue code) = is_ok (asking caller.code slice.person tick)
+makes slice tick session caller (ConfirmIssue code) =
     is_ok (confirming caller.code slice.person tick)
-is_made slice tick session caller (SetRoles code roles) =
+makes slice tick session caller (SetRoles code roles) =
     is_ok (setting_roles caller.code slice.person roles)
-is_made slice tick session caller (Retire code) = is_ok (retiring caller.code slice.person)
-is_made slice tick session caller (Unlock code) = is_ok (unlocking caller.code slice.person)
-is_made slice tick session caller (MakeForm code form) = is_ok (making code form slice.form)
-is_made slice tick session caller (ReadForm code version) = false
-is_made slice tick session caller (OpenRecord form sample) =
+makes slice tick session caller (Retire code) = is_ok (retiring caller.code slice.person)
+makes slice tick session caller (Unlock code) = is_ok (unlocking caller.code slice.person)
+makes slice tick session caller (MakeForm code form) = is_ok (making code form slice.form)
+makes slice tick session caller (ReadForm code version) = false
+makes slice tick session caller (OpenRecord form sample) =
     is_ok (opening_record slice.form slice.filed sample caller.code tick.moment
     slice.counts.records)
-is_made slice tick session caller (Enter number item reason) =
+makes slice tick session caller (Enter number item reason) =
     is_ok (entering slice.code slice.filed item reason caller.code tick.moment)
-is_made slice tick session caller (Amend number reason altered) =
+makes slice tick session caller (Amend number reason altered) =
     is_table_made slice.filed reason altered
-is_made slice tick session caller (Sign number version digest signing password code) =
+makes slice tick session caller (Sign number version digest signing password code) =
     if is_code_wanted session code then false
     else is_digest_made_by slice.filed version signing
     (signing_attempt caller code password tick.moment)
-is_made slice tick session caller (ReadRecord number) =
+makes slice tick session caller (ReadRecord number) =
     is_ok (reading_record slice.code slice.filed)
-is_made slice tick session caller (ReadVersion number version) =
+makes slice tick session caller (ReadVersion number version) =
     is_ok (reading_version slice.code slice.filed version)
-is_made slice tick session caller (ReadRecords from to) = true
-is_made slice tick session caller (ReadTrail from to) = false
-is_made slice tick session caller (TakeCopy from to) = true
+makes slice tick session caller (ReadRecords from to) = true
+makes slice tick session caller (ReadTrail from to) = false
+makes slice tick session caller (TakeCopy from to) = true

@@ -1,28 +1,16 @@
-//! How a command ends on a part of a laboratory: what notes that its request came, what a failed password changes, what the trail
-//! is told, and what a full trail refuses.
-ghost use Rattle.std.specs.Prelude.{◌≡◌, ◌++◌, ◌∷◌, [], Some, IfOk};
-ghost use Rattle.lab_kept.specs.Trails.{row_of};
-ghost use Rattle.lab_endings.specs.Deciding.{failing, outcome, ended_made, ended_by, touching};
+//! How a command ends on a part of a laboratory: what notes that its request came, what is made of a failed password, and what a
+//! full trail refuses.
+ghost use Rattle.std.specs.Prelude.{◌≡◌, ◌∷◌, [], IfOk};
+ghost use Rattle.lab_outcomes.specs.Deciding.{failing, outcome, ended_made, ended_by, touching};
 
-use crate::drafts::{fail, next_number, row_of};
-use crate::outcome::Outcome;
 use lab_access::{Failure, PeopleRefusal, Session};
 use lab_effects::{Done, joined, pair, single};
 use lab_kept::{Change, Deed, Occasion};
 use lab_machine::Reply;
-use lab_names::{Moment, Ordinal, OutOfMemory, PersonCode, Series};
+use lab_names::{Moment, OutOfMemory, PersonCode, Series};
+use lab_outcomes::{Outcome, failed, next_number, refused, told};
 use lab_rules::Refusal;
 use std::alloc::Global;
-
-/// A command that is refused, with what is changed nevertheless.
-pub fn refused(changes: Series<Change>, refusal: Refusal) -> Outcome
-    ensures { result ≡ outcome (Reply.Refused refusal) changes }
-{
-    Outcome {
-        reply: Reply::Refused(refusal),
-        changes,
-    }
-}
 
 /// That a request came by the session at the moment. The only error is out of memory.
 pub fn touching(
@@ -136,25 +124,6 @@ pub fn end(
     }
 }
 
-// A password that was given for a command failed.
-fn failed(
-    alloc: Global,
-    before: Series<Change>,
-    rows: u64,
-    strays: u64,
-    moment: Moment,
-    occasion: Occasion,
-    failure: Failure,
-) -> Result<Outcome, OutOfMemory>
-    ensures { IfOk result (λ told. told
-        ≡ outcome (Reply.Refused (Refusal.People PeopleRefusal.Credentials))
-        (before ++ failing rows strays moment occasion failure)) }
-{
-    let mut changes = before;
-    fail(alloc, &mut changes, rows, strays, moment, occasion, failure)?;
-    Ok(refused(changes, Refusal::People(PeopleRefusal::Credentials)))
-}
-
 // Something is made: a full trail refuses last; else the deed is told.
 fn ended_made(
     alloc: Global,
@@ -184,23 +153,4 @@ fn ended_made(
             Err(fault)
         }
     }
-}
-
-// Changes, and behind them the row that tells of the deed.
-fn told(
-    alloc: Global,
-    before: Series<Change>,
-    own: Series<Change>,
-    number: Ordinal,
-    moment: Moment,
-    person: &PersonCode,
-    deed: &Deed,
-) -> Result<Series<Change>, OutOfMemory>
-    ensures { IfOk result (λ changes. changes ≡ before ++ own
-        ++ Change.TrailAdded (row_of number moment (Some person.now) deed.now) ∷ []) }
-{
-    let row = row_of(alloc, number, moment, person, deed)?;
-    let mut changes = joined(before, own)?;
-    changes.push(Change::TrailAdded(row))?;
-    Ok(changes)
 }

@@ -9,11 +9,11 @@ use Rattle.std.proofs.lemmas.List.Folds.{concat-append}
 use Rattle.lab_messages.specs.declared.sending.WriteFault.{WriteFault as Untold}
 use Rattle.lab_kept.specs.Worlds.{World}
 use Rattle.lab_runs.specs.declared.events.Event.{Event}
-use Rattle.lab_desk.specs.declared.faults.RunFault.{RunFault}
-use Rattle.lab_desk.specs.declared.faults.RunFault.TheVariants.{Memory as RunMemory, Write}
+use Rattle.lab_desk_faults.specs.declared.faults.RunFault.{RunFault}
+use Rattle.lab_desk_faults.specs.declared.faults.RunFault.TheVariants.{Memory as RunMemory, Write}
 use Rattle.std.proofs.lemmas.List.{map-append}
 use Rattle.lab_runs.specs.Runs.{Handled, IsRun, Runs, RunsCut, answers_of}
-use Rattle.lab_desk.specs.Faults.{IfWrite, IfMemory}
+use Rattle.lab_desk_faults.specs.Faults.{IfWrite, IfMemory}
 use Rattle.lab_events.specs.declared.fault.ReplayFault.{ReplayFault}
 use Rattle.lab_events.specs.declared.fault.ReplayFault.TheVariants.{BadEvent, ReadFault, WriteFault, Storage, Memory}
 use Rattle.lab_events.specs.Event.{next_event}

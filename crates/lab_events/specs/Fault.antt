@@ -1,7 +1,7 @@
 -- The words by which the program tells on standard error why it stopped.
 use Rattle.std.specs.Prelude.{List, ℕ, codes, ◌++◌}
-use Rattle.lab_desk.specs.declared.faults.RunFault.{RunFault}
-use Rattle.lab_desk.specs.declared.faults.RunFault.TheVariants.{Memory as RunMemory, Write}
+use Rattle.lab_desk_faults.specs.declared.faults.RunFault.{RunFault}
+use Rattle.lab_desk_faults.specs.declared.faults.RunFault.TheVariants.{Memory as RunMemory, Write}
 use Rattle.lab_names.specs.declared.faults.NameFault.{NameFault}
 use Rattle.lab_names.specs.declared.faults.NameFault.TheVariants.{BadName, Memory as NoMemory}
 use Rattle.lab_events.specs.declared.fault.ReplayFault.{ReplayFault}

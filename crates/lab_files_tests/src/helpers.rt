@@ -1,5 +1,5 @@
 //! Calls without clauses, so that the proof of a test doesn't carry what a connection holds after each.
-use lab_files::{FileFault, create, open};
+use lab_files::{FileFault, create};
 use sqlite::{Connection, MemStore};
 use std::process::Abort;
 
@@ -17,10 +17,6 @@ pub(crate) fn make(conn: &mut File) -> Result<(), FileFault> {
         return Err(FileFault::Storage);
     }
     create(conn)
-}
-
-pub(crate) fn reopen(conn: &mut File) -> Result<(), FileFault> {
-    open(conn)
 }
 
 /// The number that a question shows; none where the store refuses.

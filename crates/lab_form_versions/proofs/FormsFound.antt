@@ -1,19 +1,19 @@
--- What was read of the rows of a form, its fields and choices, as what the tables have.
-use Rattle.std.proofs.Common.{◌≡◌, ℕ, ℤ, Bool, true, false, List, [], ◌∷◌, map, filter, slice_get, Option, Some, None, option_map, unwrap_or, Ok, Err, cond, bytes_eq, codes, refl, sym, ap, ◌∙◌}
+-- What was read of the rows of a form and its fields, as what the tables have.
+use Rattle.std.proofs.Common.{◌≡◌, ℤ, false, List, [], ◌∷◌, map, filter, slice_get, Option, Some, None, option_map, unwrap_or, Ok, Err, refl, sym, ap, ◌∙◌}
 use Rattle.std.specs.Option.{option_map_or}
 use Rattle.std.specs.Ordering.{int_eq}
 use Rattle.std.specs.Prelude.{Result}
 use Rattle.sqlite_keyed.specs.Keyed.{get_by}
 use Rattle.sqlite_keyed.proofs.ListLemmas.{slice_get-filter, map-map, map_same}
-use Rattle.lab_forms.specs.declared.kinds.Kind.{Kind}
-use Rattle.lab_forms.specs.declared.kinds.Kind.TheVariants.{Number, Text as Words, Choice, Date, YesNo}
 use Rattle.lab_kept.specs.declared.records.FormVersion.{FormVersion}
-use Rattle.lab_tables.specs.Rows.{FormRow, FieldRow, KindColumns, Tables, form_id}
+use Rattle.lab_tables.specs.Rows.{FormRow, FieldRow, Tables, form_id}
 use Rattle.lab_tables.specs.Columns.{kind_in}
 use Rattle.lab_tables.specs.Meaning.{fields_of, field_in, names_of, form_in, form_at}
+use Rattle.lab_field_kinds.specs.Shown.{kind_cells}
+use Rattle.lab_field_kinds.proofs.KindsFound.{kind_named}
 use Rattle.lab_form_versions.specs.declared.heads.FormHead.{FormHead}
-use Rattle.lab_form_versions.specs.Forms.{form_head, form_by, field_head, field_heads_of, field_by, is_choice, kind_with}
-use Rattle.lab_form_versions.specs.Shown.{form_shown, forms_shown, form_read, field_shown, fields_shown, field_read, kind_cells, name_shown, names_shown, name_read}
+use Rattle.lab_form_versions.specs.Forms.{form_head, form_by, field_head, field_heads_of, field_by}
+use Rattle.lab_form_versions.specs.Shown.{form_shown, forms_shown, form_read, field_shown, fields_shown, field_read}
 use Rattle.lab_columns.proofs.Found.{flag_back, text_back, number_back}
 
 -- ---- a version of a form
@@ -56,33 +56,6 @@ field_back one = λ i. record (field_head one) { required = flag_back one.requir
 
 pub fields_found : (t : Tables) (form : ℤ) → map field_read (fields_shown t form) ≡ field_heads_of t form
 fields_found t form = map-map field_read field_shown _ ∙ map_same _ _ field_back _
-
--- ---- their choices
-
-pub names_found : (t : Tables) (field : ℤ) → map name_read (names_shown t field) ≡ names_of t field
-names_found t field = map-map name_read name_shown _
-
--- a kind that isn't a choice needs no names
-pub kind_asked : (kind : Kind) (names : List (List ℕ)) → kind_with kind (cond (is_choice kind) names []) ≡ kind_with kind names
-kind_asked (Number unit decimals min max) names = refl
-kind_asked (Words size) names = refl
-kind_asked (Choice choices) names = refl
-kind_asked Date names = refl
-kind_asked YesNo names = refl
-
-kind_named : (columns : KindColumns) (names : List (List ℕ)) → kind_with (kind_in columns []) names ≡ kind_in columns names
-kind_named columns names =
-    go (bytes_eq columns.word (codes "number")) (bytes_eq columns.word (codes "text")) (bytes_eq columns.word (codes "choice")) (bytes_eq columns.word (codes "date"))
-  where
-    go : (a b c d : Bool) → kind_with (cond a (Number (unwrap_or columns.unit []) (unwrap_or columns.decimals 0) columns.low columns.high)
-        (cond b (Words (unwrap_or columns.size 0)) (cond c (Choice []) (cond d Date YesNo)))) names
-        ≡ cond a (Number (unwrap_or columns.unit []) (unwrap_or columns.decimals 0) columns.low columns.high)
-        (cond b (Words (unwrap_or columns.size 0)) (cond c (Choice names) (cond d Date YesNo)))
-    go true b c d = refl
-    go false true c d = refl
-    go false false true d = refl
-    go false false false true = refl
-    go false false false false = refl
 
 field_built : (t : Tables) (one : FieldRow) → field_by t (field_head one) ≡ field_in t one
 field_built t one = λ i. record (field_in t one) { kind = kind_named one.kind (names_of t one.id) i }

@@ -36,12 +36,3 @@ field_columns = col 1 0 ∷ col 1 4 ∷ col 1 5 ∷ col 1 6 ∷ col 1 7 ∷ col 
 pub field_means : Means field_text (own_query 10 (is_param 2 0 ∷ []) field_columns 3) field_names
 unfolding understood everything
 field_means = record { read = (_, refl); command = refl; unlisted = refl; plain = (refl, refl) }
-
--- ---- the names of a choice
-
-abbrev pub name_text : List ℕ
-name_text = codes "SELECT name FROM choices WHERE field = ?1 ORDER BY place"
-
-pub name_means : Means name_text (own_query 13 (is_param 2 0 ∷ []) (col 1 4 ∷ []) 3) (codes "name" ∷ [])
-unfolding understood everything
-name_means = record { read = (_, refl); command = refl; unlisted = refl; plain = (refl, refl) }

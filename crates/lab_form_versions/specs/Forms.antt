@@ -1,15 +1,14 @@
--- Versions of forms, their fields and choices, as they are read: each row by its id, and what stands
+-- Versions of forms and their fields, as they are read: each row by its id, and what stands
 -- in rows of their own put together.
-use Rattle.std.specs.Prelude.{ℕ, ℤ, Bool, true, false, List, [], map, filter, unwrap_or}
+use Rattle.std.specs.Prelude.{ℤ, List, [], map, filter}
 use Rattle.std.specs.Ordering.{int_eq}
 use Rattle.sqlite_keyed.specs.Lists.{sort_by}
 use Rattle.lab_forms.specs.declared.forms.Field.{Field}
-use Rattle.lab_forms.specs.declared.kinds.Kind.{Kind}
-use Rattle.lab_forms.specs.declared.kinds.Kind.TheVariants.{Number, Text, Choice, Date, YesNo}
 use Rattle.lab_kept.specs.declared.records.FormVersion.{FormVersion}
-use Rattle.lab_tables.specs.Rows.{FormRow, FieldRow, KindColumns, Tables}
+use Rattle.lab_tables.specs.Rows.{FormRow, FieldRow, Tables}
 use Rattle.lab_tables.specs.Columns.{kind_in}
 use Rattle.lab_tables.specs.Meaning.{by_field, fields_of, names_of}
+use Rattle.lab_field_kinds.specs.Kinds.{kind_with}
 use Rattle.lab_form_versions.specs.declared.heads.FormHead.{FormHead}
 use Rattle.lab_form_versions.specs.declared.heads.FieldHead.{FieldHead}
 
@@ -42,26 +41,6 @@ field_head one = record {
 abbrev pub field_heads_of : Tables → ℤ → List FieldHead
 field_heads_of t form =
     map field_head (sort_by by_field (filter (λ (one : FieldRow). int_eq one.form form) t.fields))
-
--- a number, by what its columns say
-abbrev pub number_kind : KindColumns → Kind
-number_kind columns =
-    Number (unwrap_or columns.unit []) (unwrap_or columns.decimals 0) columns.low columns.high
-
--- only a choice has names
-abbrev pub is_choice : Kind → Bool
-is_choice (Number unit decimals min max) = false
-is_choice (Text size) = false
-is_choice (Choice choices) = true
-is_choice Date = false
-is_choice YesNo = false
-
-abbrev pub kind_with : Kind → List (List ℕ) → Kind
-kind_with (Number unit decimals min max) names = Number unit decimals min max
-kind_with (Text size) names = Text size
-kind_with (Choice choices) names = Choice names
-kind_with Date names = Date
-kind_with YesNo names = YesNo
 
 -- the field that has the row, with its choices
 abbrev pub field_by : Tables → FieldHead → Field

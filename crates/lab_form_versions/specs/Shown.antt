@@ -1,13 +1,14 @@
 -- The rows that each query shows of the tables, in its order, and what such a row is read as.
-use Rattle.std.specs.Prelude.{ℕ, ℤ, List, [], ◌∷◌, map, filter}
+use Rattle.std.specs.Prelude.{ℤ, List, [], ◌∷◌, map, filter}
 use Rattle.std.specs.Ordering.{int_eq}
 use Rattle.sqlite_keyed.specs.Lists.{sort_by}
 use Rattle.sqlite_value.specs.declared.value.Value.TheVariants.{Int, Text}
 use Rattle.sqlite_value.specs.Order.{Row, column, bytes}
 use Rattle.sqlite_rules.specs.Edit.{id_in}
-use Rattle.lab_tables.specs.Rows.{FormRow, FieldRow, ChoiceRow, KindColumns, Tables, number, flag, optional, number_in, flag_in, optional_in}
+use Rattle.lab_tables.specs.Rows.{FormRow, FieldRow, Tables, number, flag, optional, number_in, flag_in}
 use Rattle.lab_tables.specs.Columns.{kind_in}
-use Rattle.lab_tables.specs.Meaning.{by_field, by_choice}
+use Rattle.lab_tables.specs.Meaning.{by_field}
+use Rattle.lab_field_kinds.specs.Shown.{kind_cells}
 use Rattle.lab_form_versions.specs.declared.heads.FormHead.{FormHead}
 use Rattle.lab_form_versions.specs.declared.heads.FieldHead.{FieldHead}
 
@@ -42,16 +43,6 @@ fields_shown t form =
     map field_shown
     (sort_by by_field (filter (λ (one : FieldRow). int_eq one.form form) t.fields))
 
-abbrev pub kind_cells : Row → KindColumns
-kind_cells row = record {
-  word = bytes (column row 4);
-  unit = optional_in bytes (column row 5);
-  decimals = optional_in number_in (column row 6);
-  low = optional_in bytes (column row 7);
-  high = optional_in bytes (column row 8);
-  size = optional_in number_in (column row 9);
-}
-
 abbrev pub field_read : Row → FieldHead
 field_read row = record {
   id = id_in (column row 0);
@@ -60,16 +51,3 @@ field_read row = record {
   required = flag_in (column row 3);
   kind = kind_in (kind_cells row) [];
 }
-
--- ---- the names of a choice
-
-abbrev pub name_shown : ChoiceRow → Row
-name_shown one = Text one.name ∷ []
-
-abbrev pub names_shown : Tables → ℤ → List Row
-names_shown t field =
-    map name_shown
-    (sort_by by_choice (filter (λ (one : ChoiceRow). int_eq one.field field) t.choices))
-
-abbrev pub name_read : Row → List ℕ
-name_read row = bytes (column row 0)

@@ -18,7 +18,7 @@ use std::marker::Model;
 const FIELDS_LIMIT: usize = 60;
 
 /// A field of a form.
-#[derive(Clone, Debug, Drop)]
+#[derive(Debug, Drop)]
 pub struct Field {
     /// By what it is known in its form.
     pub key: Key,
@@ -36,6 +36,24 @@ impl Field {
         ensures { IfOk result (λ copy. copy ≡ self.now) }
     {
         Ok(self.clone()?)
+    }
+}
+
+impl Clone for Field {
+    ghost use Rattle.std.specs.Prelude.{◌≡◌};
+
+    ghost is_clone = { λ field copy. copy ≡ field };
+
+    fn clone(&self) -> Result<Field, AllocError> {
+        let key = self.key.clone()?;
+        let label = self.label.clone()?;
+        let kind = self.kind.clone()?;
+        Ok(Field {
+            key,
+            label,
+            required: self.required,
+            kind,
+        })
     }
 }
 

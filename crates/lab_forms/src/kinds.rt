@@ -163,7 +163,7 @@ impl Worded for Name {
 }
 
 /// What a field takes as a value.
-#[derive(Clone, Debug, Drop)]
+#[derive(Debug, Drop)]
 pub enum Kind {
     /// A number of at most so many decimals, 0 to 6, in the unit, from the least to the greatest where they are there.
     Number {
@@ -298,6 +298,39 @@ impl Kind {
                     && is_not_above(amount, bound_of(*decimals, max))
             }
             _ => true,
+        }
+    }
+}
+
+impl Clone for Kind {
+    ghost use Rattle.std.specs.Prelude.{◌≡◌};
+
+    ghost is_clone = { λ kind copy. copy ≡ kind };
+
+    fn clone(&self) -> Result<Kind, AllocError> {
+        match self {
+            Kind::Number {
+                unit,
+                decimals,
+                min,
+                max,
+            } => {
+                let unit = unit.clone()?;
+                let min = min.clone()?;
+                let max = max.clone()?;
+                Ok(Kind::Number {
+                    unit,
+                    decimals: *decimals,
+                    min,
+                    max,
+                })
+            }
+            Kind::Text { size } => Ok(Kind::Text { size: *size }),
+            Kind::Choice { choices } => Ok(Kind::Choice {
+                choices: choices.clone()?,
+            }),
+            Kind::Date => Ok(Kind::Date),
+            Kind::YesNo => Ok(Kind::YesNo),
         }
     }
 }

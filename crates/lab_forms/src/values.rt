@@ -4,12 +4,13 @@ ghost use Rattle.std.specs.Cmp.Lexicographic.{pointwise, nat_list_eq_equiv};
 ghost use Rattle.std.specs.Cmp.{partial_equiv_from_equiv};
 
 use lab_names::{Note, OutOfMemory};
+use std::alloc::AllocError;
 use std::marker::Model;
 
 /// A value that a form has read, as it was written: `7.5` and `7.50` are two values.
 ///
 /// A contract sees it as the list of its text's bytes.
-#[derive(Clone, Debug, Drop)]
+#[derive(Debug, Drop)]
 pub struct Value {
     text: Note,
 }
@@ -49,6 +50,17 @@ impl Value {
         ensures { IfOk result (λ copy. copy ≡ self.now) }
     {
         Ok(self.clone()?)
+    }
+}
+
+impl Clone for Value {
+    ghost use Rattle.std.specs.Prelude.{◌≡◌};
+
+    ghost is_clone = { λ value copy. copy ≡ value };
+
+    fn clone(&self) -> Result<Value, AllocError> {
+        let text = self.text.clone()?;
+        Ok(Value { text })
     }
 }
 

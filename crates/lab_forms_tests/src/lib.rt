@@ -2,12 +2,4 @@
 #![tactic(auto)]
 
 #[cfg(test)]
-mod copy_tests;
-#[cfg(test)]
-mod made;
-#[cfg(test)]
-mod making_tests;
-#[cfg(test)]
-mod reading_tests;
-#[cfg(test)]
-mod refusal_tests;
+mod tests;

@@ -1,9 +1,8 @@
 //! Whether a laboratory of a code is there, and the placing of one by a commit.
 
-ghost use Rattle.std.specs.Prelude.{◌≡◌, ◌≢◌, [], ◌∷◌, IfOk, IfErr, OnOk, find, is_some, slice_get, false};
-ghost use Rattle.sqlite_value.specs.declared.value.Value.TheVariants.{Text};
+ghost use Rattle.std.specs.Prelude.{◌≡◌, ◌≢◌, IfOk, IfErr, OnOk, find, is_some, slice_get};
 ghost use Rattle.sqlite.specs.Held.{state};
-ghost use Rattle.sqlite.specs.State.{HasCleanDisk, IsUnchanged, KeepsCommit, Survives, Shown, CommitsShowing, FailsToQuery};
+ghost use Rattle.sqlite.specs.State.{HasCleanDisk, IsUnchanged, KeepsCommit};
 ghost use Rattle.lab_kept.specs.declared.faults.PlacingFault.TheVariants.{LabExists};
 ghost use Rattle.lab_tables.specs.Meaning.{has_code};
 ghost use Rattle.lab_tables.specs.Ready.{IsAtRest, IsReady, PassesBy, tables_of};
@@ -12,10 +11,11 @@ ghost use Rattle.lab_founding.specs.Commits.{Ends};
 ghost use Rattle.lab_writing_newborns.specs.Founding.{AddsRows};
 
 use lab_columns::ReadFault;
+use lab_columns::asking::rows_by_text;
 use lab_kept::{Lab, PlacingFault};
 use lab_names::LabCode;
 use lab_writing_newborns::add_rows;
-use sqlite::{Alter, Connection, Error, Row, params};
+use sqlite::{Alter, Connection, Error, Row};
 
 /// What an error of the store is told as.
 fn placing_fault(error: Error) -> PlacingFault
@@ -25,25 +25,6 @@ fn placing_fault(error: Error) -> PlacingFault
         ReadFault::Storage => PlacingFault::Storage,
         ReadFault::Memory => PlacingFault::Memory,
     }
-}
-
-/// The rows of a query with a text.
-fn rows_by_text<S: Alter>(
-    conn: &mut Connection<S>,
-    sql: &str,
-    first: &str,
-) -> Result<Vec<Row>, Error>
-    ensures ok { HasCleanDisk (state S.Store conn.new) → IfOk result
-        (λ rows. Shown sql.now (Text first.now ∷ [])
-        (state S.Store conn.old) (state S.Store conn.new) rows.items) }
-    ensures err { HasCleanDisk (state S.Store conn.new) → IfErr result
-        (FailsToQuery sql.now (Text first.now ∷ [])
-        (state S.Store conn.old) (state S.Store conn.new)) }
-    ensures mode { conn.old.in_transaction ≡ false → conn.new.in_transaction ≡ false }
-    ensures survives { Survives (state S.Store conn.old) (state S.Store conn.new)
-        (CommitsShowing sql.now (Text first.now ∷ []) (state S.Store conn.old)) }
-{
-    conn.query_all(sql, params![first])
 }
 
 /// The row of the laboratory with the code.

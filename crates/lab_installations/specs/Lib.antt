@@ -1,4 +1,1 @@
 pub mod FileWorlds
-pub mod Foundings
-pub mod Serving
-pub mod Copying

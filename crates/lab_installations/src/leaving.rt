@@ -5,7 +5,7 @@ use lab_store::Store;
 use sqlite::{Alter, Connection};
 
 /// Closes a file. A fault is passed over, since nothing is lost by it.
-pub(crate) fn leave<S: Alter>(store: Store<S>)
+pub fn leave<S: Alter>(store: Store<S>)
 where
     Connection<S>: Closing,
 {

@@ -1,16 +1,11 @@
-//! What an installation does with a file of laboratories: it founds, serves and copies, and tells on
-//! standard error why it stopped. Files, clock, chance, sockets and streams are handed in.
+//! What the tasks over a file of laboratories share: what its tables mean as a keeper's, and how it
+//! is closed; and, by one name, the files, clock and chance that are handed to them.
 #![tactic(auto)]
 
-mod copying;
-mod founding;
 mod leaving;
-mod serving;
 
-pub use crate::copying::copy;
-pub use crate::founding::{found, found_over};
-pub use crate::serving::serve;
 pub use lab_shelves::{
     Closing, HostShelf, Progress, Shelf, SystemChance, SystemClock, TaskFault, TerminalProgress,
     Unheard,
 };
+pub use leaving::leave;

@@ -104,7 +104,8 @@ fn admitted_in<R: Rule>(bytes: &[u8]) -> Option<&str>
     if R::admits(text) { Some(text) } else { None }
 }
 
-fn text_in(bytes: &[u8]) -> Option<&str>
+/// The text that the bytes are, where they are text.
+pub fn text_in(bytes: &[u8]) -> Option<&str>
     ensures { option_map (λ text. text.now) result
         ≡ (if is_utf8 bytes.now then Some bytes.now else None) }
 {
@@ -186,8 +187,8 @@ fn reason_in(bytes: &[u8]) -> Option<Option<&str>>
     Some(Some(admitted_in::<Notes>(bytes)?))
 }
 
-// The moment that has this text.
-fn moment_of(text: &str) -> Option<Moment>
+/// The moment that has this text.
+pub fn moment_of(text: &str) -> Option<Moment>
     ensures { result ≡ moment_of text.now }
 {
     Moment::parse(text).ok()

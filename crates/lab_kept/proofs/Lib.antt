@@ -1,5 +1,4 @@
 pub mod ReleaseLemmas
-pub mod Copies
 pub mod LastRows
 pub mod KnownValues
 pub mod KnownLaboratories

@@ -19,8 +19,9 @@ impl Record {
         ensures { IfOk result (λ digest. digest ≡ digest_of lab.now self.now version.now) }
     {
         let parts = self.parts_of(lab, version)?;
-        let text = write_version(alloc, &parts)?;
-        Ok(digest(&text))
+        let text = write_version(alloc, &parts);
+        drop(parts);
+        Ok(digest(&text?))
     }
 
     // What the text of the version says, as copies.

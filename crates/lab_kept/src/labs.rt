@@ -1,13 +1,11 @@
 //! One laboratory, whole.
-ghost use Rattle.std.specs.Prelude.{◌≡◌, IfOk};
-
 use crate::records::{FormVersion, Record};
 use crate::trails::TrailRow;
 use lab_access::{Person, Session};
-use lab_names::{LabCode, Moment, Name, OutOfMemory, Series};
+use lab_names::{LabCode, Moment, Name, Series};
 
 /// One laboratory, whole.
-#[derive(Clone, Drop)]
+#[derive(Drop)]
 pub struct Lab {
     /// The code by which requests name it.
     pub code: LabCode,
@@ -27,13 +25,4 @@ pub struct Lab {
     pub records: Series<Record>,
     /// Its trail, by number.
     pub trail: Series<TrailRow>,
-}
-
-impl Lab {
-    /// A copy. The only error is out of memory.
-    pub fn copy(&self) -> Result<Lab, OutOfMemory>
-        ensures { IfOk result (λ copy. copy ≡ self.now) }
-    {
-        Ok(self.clone()?)
-    }
 }

@@ -24,7 +24,7 @@ pub enum RecordWanted {
 }
 
 /// Which list is needed.
-#[derive(Clone, Copy, Debug, PartialEq, Eq)]
+#[derive(Clone, Copy)]
 pub enum ListWanted {
     /// All persons.
     Persons,
@@ -50,7 +50,7 @@ pub struct Need {
 }
 
 /// How many a laboratory has.
-#[derive(Clone, Copy, Debug, PartialEq, Eq)]
+#[derive(Clone, Copy)]
 pub struct Counts {
     /// Persons, retired ones too.
     pub persons: u64,

@@ -7,9 +7,10 @@ ghost use Rattle.lab_kept.specs.Values.{meaning_of, version_state, has_entered};
 use lab_forms::Form;
 use lab_names::{Key, Moment, Name, Ordinal, OutOfMemory, PersonCode, Series};
 use lab_seal::{Digest, EntryRows, Format, Meaning, Origin, Seal, State};
+use std::alloc::AllocError;
 
 /// One version of a form.
-#[derive(Clone, Drop)]
+#[derive(Drop)]
 pub struct FormVersion {
     /// By what the form is known.
     pub code: Key,
@@ -20,7 +21,7 @@ pub struct FormVersion {
 }
 
 /// A signature of a version, with the printed name, the moment and the meaning (21 CFR 11.50(a)).
-#[derive(Clone, Drop)]
+#[derive(Drop)]
 pub struct Signature {
     /// Who signed.
     pub person: PersonCode,
@@ -37,7 +38,7 @@ pub struct Signature {
 }
 
 /// A version of a record.
-#[derive(Clone, Drop)]
+#[derive(Drop)]
 pub struct Version {
     /// The format of its text.
     pub format: Format,
@@ -54,7 +55,7 @@ pub struct Version {
 }
 
 /// A record: a form filled in for a sample.
-#[derive(Clone, Drop)]
+#[derive(Drop)]
 pub struct Record {
     /// Its number in the laboratory.
     pub number: Ordinal,
@@ -75,12 +76,48 @@ impl FormVersion {
     }
 }
 
+impl Clone for FormVersion {
+    ghost use Rattle.std.specs.Prelude.{◌≡◌};
+
+    ghost is_clone = { λ form copy. copy ≡ form };
+
+    fn clone(&self) -> Result<FormVersion, AllocError> {
+        let code = self.code.clone()?;
+        let form = self.form.clone()?;
+        Ok(FormVersion {
+            code,
+            version: self.version,
+            form,
+        })
+    }
+}
+
 impl Signature {
     /// A copy. The only error is out of memory.
     pub fn copy(&self) -> Result<Signature, OutOfMemory>
         ensures { IfOk result (λ copy. copy ≡ self.now) }
     {
         Ok(self.clone()?)
+    }
+}
+
+impl Clone for Signature {
+    ghost use Rattle.std.specs.Prelude.{◌≡◌};
+
+    ghost is_clone = { λ signature copy. copy ≡ signature };
+
+    fn clone(&self) -> Result<Signature, AllocError> {
+        let person = self.person.clone()?;
+        let name = self.name.clone()?;
+        let meaning = self.meaning.clone()?;
+        Ok(Signature {
+            person,
+            name,
+            meaning,
+            moment: self.moment,
+            digest: self.digest,
+            seal: self.seal,
+        })
     }
 }
 
@@ -100,6 +137,27 @@ impl Version {
         ensures { IfOk result (λ copy. copy ≡ self.now) }
     {
         Ok(self.clone()?)
+    }
+}
+
+impl Clone for Version {
+    ghost use Rattle.std.specs.Prelude.{◌≡◌};
+
+    ghost is_clone = { λ version copy. copy ≡ version };
+
+    fn clone(&self) -> Result<Version, AllocError> {
+        let origin = self.origin.clone()?;
+        let opener = self.opener.clone()?;
+        let rows = self.rows.clone()?;
+        let signatures = self.signatures.clone()?;
+        Ok(Version {
+            format: self.format,
+            origin,
+            opener,
+            opened: self.opened,
+            rows,
+            signatures,
+        })
     }
 }
 
@@ -133,6 +191,24 @@ impl Record {
         ensures { IfOk result (λ copy. copy ≡ self.now) }
     {
         Ok(self.clone()?)
+    }
+}
+
+impl Clone for Record {
+    ghost use Rattle.std.specs.Prelude.{◌≡◌};
+
+    ghost is_clone = { λ kept copy. copy ≡ kept };
+
+    fn clone(&self) -> Result<Record, AllocError> {
+        let form = self.form.clone()?;
+        let sample = self.sample.clone()?;
+        let versions = self.versions.clone()?;
+        Ok(Record {
+            number: self.number,
+            form,
+            sample,
+            versions,
+        })
     }
 }
 

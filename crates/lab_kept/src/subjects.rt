@@ -6,7 +6,7 @@ ghost use Rattle.lab_kept.specs.Trails.{occasion_word, spaced_role, slashed, sub
 use crate::trails::{Deed, Occasion, Subject};
 use itoa::Buffer;
 use lab_access::Role;
-use lab_names::{Ordinal, OutOfMemory, PersonCode};
+use lab_names::{Key, Ordinal, OutOfMemory, PersonCode};
 use std::alloc::Global;
 
 impl Occasion {
@@ -50,30 +50,19 @@ fn push_subject(alloc: Global, text: &mut String, deed: &Deed) -> Result<(), Out
         Deed::Enrol { person, roles } | Deed::Roles { person, roles } => {
             push_roles(text, person, &roles.list(alloc)?)
         }
-        Deed::Form { form, version } => {
-            push_text(text, form.as_str())?;
-            push_slashed(text, *version)
-        }
+        Deed::Form { form, version } => push_form(text, form, *version),
         Deed::Record { record } => push_number(text, *record),
         Deed::Entry {
             record,
             version,
             key,
-        } => {
-            push_version(text, *record, *version)?;
-            push_text(text, "/")?;
-            push_text(text, key.as_str())
-        }
+        } => push_in_version(text, *record, *version, key.as_str()),
         Deed::Amend { record, version } => push_version(text, *record, *version),
         Deed::Sign {
             record,
             version,
             meaning,
-        } => {
-            push_version(text, *record, *version)?;
-            push_text(text, "/")?;
-            push_text(text, meaning.word())
-        }
+        } => push_in_version(text, *record, *version, meaning.word()),
     }
 }
 
@@ -104,6 +93,30 @@ fn push_version(text: &mut String, number: Ordinal, version: Ordinal) -> Result<
         ≡ string_bytes text.old ++ decimal number ++ slashed version) }
 {
     push_number(text, number)?;
+    push_slashed(text, version)
+}
+
+// What belongs to a version, by its record's number, its own and the word of the part.
+fn push_in_version(
+    text: &mut String,
+    number: Ordinal,
+    version: Ordinal,
+    part: &str,
+) -> Result<(), OutOfMemory>
+    ensures { OnOk result (string_bytes text.new
+        ≡ string_bytes text.old ++ decimal number ++ slashed version ++ codes "/" ++ part.now) }
+{
+    push_version(text, number, version)?;
+    push_text(text, "/")?;
+    push_text(text, part)
+}
+
+// A form's key and a version's number.
+fn push_form(text: &mut String, form: &Key, version: Ordinal) -> Result<(), OutOfMemory>
+    ensures { OnOk result (string_bytes text.new
+        ≡ string_bytes text.old ++ form.now ++ slashed version) }
+{
+    push_text(text, form.as_str())?;
     push_slashed(text, version)
 }
 

@@ -9,7 +9,7 @@ use std::alloc::AllocError;
 use std::marker::Model;
 
 /// What a row of the trail tells of.
-#[derive(Clone, Copy, Debug, PartialEq, Eq)]
+#[derive(Clone, Copy)]
 pub enum Action {
     /// The laboratory was founded.
     Found,
@@ -75,7 +75,7 @@ impl Action {
 }
 
 /// What a password was given for.
-#[derive(Clone, Copy, Debug, PartialEq, Eq)]
+#[derive(Clone, Copy)]
 pub enum Occasion {
     /// To open a session.
     Opening,
@@ -244,7 +244,7 @@ impl Clone for Subject {
 }
 
 /// A row of the trail.
-#[derive(Clone, Drop)]
+#[derive(Drop)]
 pub struct TrailRow {
     /// Its number in the laboratory, from 1 on.
     pub number: Ordinal,
@@ -264,5 +264,23 @@ impl TrailRow {
         ensures { IfOk result (λ copy. copy ≡ self.now) }
     {
         Ok(self.clone()?)
+    }
+}
+
+impl Clone for TrailRow {
+    ghost use Rattle.std.specs.Prelude.{◌≡◌};
+
+    ghost is_clone = { λ row copy. copy ≡ row };
+
+    fn clone(&self) -> Result<TrailRow, AllocError> {
+        let person = self.person.clone()?;
+        let subject = self.subject.clone()?;
+        Ok(TrailRow {
+            number: self.number,
+            moment: self.moment,
+            person,
+            action: self.action,
+            subject,
+        })
     }
 }

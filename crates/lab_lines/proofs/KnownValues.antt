@@ -13,7 +13,7 @@ use Rattle.lab_items.specs.Reading.{number_of}
 use Rattle.lab_rows.specs.Reading.{line_of, copy_line, record_line, version_line, entry_line, signature_line, end_line}
 use Rattle.lab_rows.specs.declared.lines.Edition.TheVariants.{Two}
 use Rattle.lab_rows.specs.declared.lines.Line.TheVariants as line
-use Rattle.lab_lines.specs.Fields.{HasReasonUnlessFirst, IsRead, field_in, line_at}
+use Rattle.lab_lines.specs.Lines.{IsRead, field_in, line_at}
 use Rattle.lab_lines.specs.Kinds.{is_end_kind, may_come_after}
 use Rattle.lab_lines.specs.declared.faults.RowFault.TheVariants.{BadRow}
 use Rattle.lab_lines.specs.declared.kinds.Kind.TheVariants.{Copy, Record, Version, Entry, Signature, End}
@@ -63,16 +63,6 @@ pub known_order : (may_come_after Copy End ≡ true) × (may_come_after Copy Ver
     × (may_come_after End End ≡ false) × (may_come_after Version Copy ≡ false)
     × (is_end_kind End ≡ true) × (is_end_kind Signature ≡ false)
 known_order = (refl, refl, refl, refl, refl, refl, refl, refl, refl, refl, refl, refl)
-
--- version 2 has a reason, and version 1 none
-pub known_reasons : HasReasonUnlessFirst 1 None × HasReasonUnlessFirst 2 (Some (codes "misread"))
-    × (HasReasonUnlessFirst 2 None → ⊥) × (HasReasonUnlessFirst 1 (Some (codes "misread")) → ⊥)
-known_reasons = (
-  refl,
-  λ same. true≢false (ap (λ number. number == 2) same),
-  λ same. true≢false (ap (λ number. number == 2) same),
-  λ other. other refl,
-)
 
 some_is : {A : Type 0} (one : A) → Some one ≡ None → ⊥
 some_is one wrong = absurd cc

@@ -1,17 +1,15 @@
 -- Thirteen fields as columns, and the header's.
 use Rattle.std.proofs.Common.{◌≡◌, ◌≢◌, ℕ, false, List, [], ◌∷◌, length, Some, None, refl, ap, sym, ◌∙◌, arith}
-use Rattle.std.specs.Prelude.{◌==◌, if◌then◌else◌, map}
-use Rattle.std.specs.List.{list_all}
 use Rattle.std.specs.Str.{bytes_eq}
 use Rattle.std.specs.Cmp.Lexicographic.{pointwise, unequal}
-use Rattle.std.proofs.lemmas.List.Folds.{list_all-map}
 use Rattle.csv.specs.Records.{field_at}
 use Rattle.lab_items.proofs.ReadLemmas.{some_same}
 use Rattle.lab_rows.specs.Rows.{Columns, fields_in, header_row}
 use Rattle.lab_rows.specs.Copies.{is_header}
-use Rattle.lab_rows.specs.Reading.{all_empty, columns_of}
-use Rattle.lab_lines.specs.Fields.{field_in, columns_in, has_header_names}
-use Rattle.lab_lines.specs.declared.columns.RowFields.{RowFields}
+use Rattle.lab_rows.specs.Reading.{columns_of}
+use Rattle.lab_fields.specs.Fields.{columns_in}
+use Rattle.lab_fields.specs.declared.columns.RowFields.{RowFields}
+use Rattle.lab_lines.specs.Lines.{field_in, has_header_names}
 
 no_some : {A P : Type 0} (x : A) → None ≡ Some x → P
 no_some x e = let never : None ≡ Some x = e in absurd (cc)
@@ -73,12 +71,6 @@ not_thirteen (a ∷ b ∷ c ∷ d ∷ e ∷ f ∷ g ∷ h ∷ i ∷ j ∷ k ∷ 
 not_thirteen (a ∷ b ∷ c ∷ d ∷ e ∷ f ∷ g ∷ h ∷ i ∷ j ∷ k ∷ l ∷ []) other = refl
 not_thirteen (a ∷ b ∷ c ∷ d ∷ e ∷ f ∷ g ∷ h ∷ i ∷ j ∷ k ∷ l ∷ m ∷ []) other = absurd (other refl)
 not_thirteen (a ∷ b ∷ c ∷ d ∷ e ∷ f ∷ g ∷ h ∷ i ∷ j ∷ k ∷ l ∷ m ∷ n ∷ rest) other = refl
-
--- ---- fields in which nothing stands
-
-pub empty_by : {A : Type 0} (h : A → List ℕ) (fields : List A)
-    → all_empty (map h fields) ≡ (if list_all (λ field. length (h field) == 0) fields then Some tt else None)
-empty_by h fields = ap (λ b. if b then Some tt else None) (list_all-map (λ text. length text == 0) h fields)
 
 -- ---- the header
 

@@ -1,3 +1,3 @@
-pub mod Fields
+pub mod Lines
 pub mod Kinds
 pub mod Parts

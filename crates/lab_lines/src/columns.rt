@@ -3,30 +3,14 @@ ghost use Rattle.std.specs.Prelude.{◌≡◌, option_map};
 ghost use Rattle.csv.specs.Records.{fields_of};
 ghost use Rattle.lab_rows.specs.Copies.{is_header};
 ghost use Rattle.lab_rows.specs.Reading.{columns_of};
-ghost use Rattle.lab_lines.specs.Fields.{columns_in, field_in, has_header_names};
+ghost use Rattle.lab_fields.specs.Fields.{columns_in};
+ghost use Rattle.lab_lines.specs.Lines.{field_in, has_header_names};
 
 use csv::ByteRecord;
+use lab_fields::RowFields;
 
 /// How many columns a row has.
 const COLUMN_COUNT: usize = 13;
-
-/// The thirteen fields of a row.
-#[derive(Drop)]
-pub(crate) struct RowFields<'a> {
-    pub(crate) kind: &'a [u8],
-    pub(crate) lab: &'a [u8],
-    pub(crate) record_number: &'a [u8],
-    pub(crate) version: &'a [u8],
-    pub(crate) key: &'a [u8],
-    pub(crate) value: &'a [u8],
-    pub(crate) unit: &'a [u8],
-    pub(crate) person: &'a [u8],
-    pub(crate) name: &'a [u8],
-    pub(crate) moment: &'a [u8],
-    pub(crate) reason: &'a [u8],
-    pub(crate) digest: &'a [u8],
-    pub(crate) seal: &'a [u8],
-}
 
 /// The columns of a row that has thirteen fields.
 pub(crate) fn row_fields(row: &ByteRecord) -> Option<RowFields<'_>>

@@ -3,7 +3,6 @@
 
 mod columns;
 mod faults;
-mod fields;
 mod kinds;
 mod lines;
 mod parts;

@@ -3,15 +3,17 @@ ghost use Rattle.std.specs.Prelude.{◌≡◌, IfOk};
 ghost use Rattle.csv.specs.Records.{fields_of};
 ghost use Rattle.lab_rows.specs.Copies.{is_approval, is_of_edition, is_older};
 ghost use Rattle.lab_rows.specs.Reading.{copy_line, record_line, version_line, entry_line, signature_line, end_line, line_of};
-ghost use Rattle.lab_lines.specs.Fields.{HasReasonUnlessFirst, IsRead, IsReasoned, columns_in, line_at};
+ghost use Rattle.lab_fields.specs.Fields.{HasReasonUnlessFirst, columns_in};
+ghost use Rattle.lab_lines.specs.Lines.{IsRead, IsReasoned, line_at};
 
-use crate::columns::{RowFields, row_fields};
+use crate::columns::row_fields;
 use crate::faults::RowFault;
-use crate::fields;
-use crate::parts::{
-    copy_parts, end_parts, entry_parts, record_parts, signature_parts, version_parts,
-};
+use crate::parts::{copy_parts, end_parts, record_parts};
 use csv::ByteRecord;
+use lab_fields::RowFields;
+use lab_fields::fields::{is_word, own_meaning, own_person, own_reason};
+use lab_items::fields::own;
+use lab_lines_versions::{entry_parts, signature_parts, version_parts};
 use lab_names::{Keys, LabCodes, Names, Notes, PersonCodes, Units};
 use lab_rows::{
     CopyLine, Edition, EndLine, EntryLine, EntryRow, Format, Line, Meaning, RecordLine, SealParts,
@@ -71,17 +73,17 @@ fn line_of(alloc: Global, row: &RowFields<'_>) -> Result<Line, RowFault>
     ensures value { IsRead (line_of (columns_in row.now)) result }
     ensures reasoned { IfOk result IsReasoned }
 {
-    if fields::is_word(row.kind, "copy") {
+    if is_word(row.kind, "copy") {
         Ok(Line::Copy(copy_line(alloc, row)?))
-    } else if fields::is_word(row.kind, "record") {
+    } else if is_word(row.kind, "record") {
         Ok(Line::Record(record_line(alloc, row)?))
-    } else if fields::is_word(row.kind, "version") {
+    } else if is_word(row.kind, "version") {
         Ok(Line::Version(version_line(alloc, row)?))
-    } else if fields::is_word(row.kind, "entry") {
+    } else if is_word(row.kind, "entry") {
         Ok(Line::Entry(entry_line(alloc, row)?))
-    } else if fields::is_word(row.kind, "signature") {
+    } else if is_word(row.kind, "signature") {
         Ok(Line::Signature(signature_line(alloc, row)?))
-    } else if fields::is_word(row.kind, "end") {
+    } else if is_word(row.kind, "end") {
         Ok(Line::End(end_line(alloc, row)?))
     } else {
         Err(RowFault::BadRow)
@@ -96,11 +98,11 @@ fn copy_line(alloc: Global, row: &RowFields<'_>) -> Result<CopyLine, RowFault>
     };
     Ok(CopyLine {
         edition: parts.edition,
-        lab: fields::own::<LabCodes>(alloc, parts.lab)?,
+        lab: own::<LabCodes>(alloc, parts.lab)?,
         from: parts.from,
         to: parts.to,
-        person: fields::own_person(alloc, parts.person)?,
-        name: fields::own::<Names>(alloc, parts.name)?,
+        person: own_person(alloc, parts.person)?,
+        name: own::<Names>(alloc, parts.name)?,
         moment: parts.moment,
     })
 }
@@ -112,11 +114,11 @@ fn record_line(alloc: Global, row: &RowFields<'_>) -> Result<RecordLine, RowFaul
         return Err(RowFault::BadRow);
     };
     Ok(RecordLine {
-        lab: fields::own::<LabCodes>(alloc, parts.lab)?,
+        lab: own::<LabCodes>(alloc, parts.lab)?,
         record_number: parts.record_number,
         form_version: parts.form_version,
-        form: fields::own::<Keys>(alloc, parts.form)?,
-        sample: fields::own::<Names>(alloc, parts.sample)?,
+        form: own::<Keys>(alloc, parts.form)?,
+        sample: own::<Names>(alloc, parts.sample)?,
     })
 }
 
@@ -128,14 +130,14 @@ fn version_line(alloc: Global, row: &RowFields<'_>) -> Result<VersionLine, RowFa
         return Err(RowFault::BadRow);
     };
     Ok(VersionLine {
-        lab: fields::own::<LabCodes>(alloc, parts.lab)?,
+        lab: own::<LabCodes>(alloc, parts.lab)?,
         record_number: parts.record_number,
         number: parts.number,
         format: parts.format,
         state: parts.state,
-        opener: fields::own::<PersonCodes>(alloc, parts.opener)?,
+        opener: own::<PersonCodes>(alloc, parts.opener)?,
         opened: parts.opened,
-        reason: fields::own_reason(alloc, parts.reason)?,
+        reason: own_reason(alloc, parts.reason)?,
         digest: parts.digest,
     })
 }
@@ -147,16 +149,16 @@ fn entry_line(alloc: Global, row: &RowFields<'_>) -> Result<EntryLine, RowFault>
         return Err(RowFault::BadRow);
     };
     Ok(EntryLine {
-        lab: fields::own::<LabCodes>(alloc, parts.lab)?,
+        lab: own::<LabCodes>(alloc, parts.lab)?,
         record_number: parts.record_number,
         version: parts.version,
         row: EntryRow {
-            key: fields::own::<Keys>(alloc, parts.key)?,
-            value: fields::own::<Notes>(alloc, parts.value)?,
-            unit: fields::own::<Units>(alloc, parts.unit)?,
-            person: fields::own::<PersonCodes>(alloc, parts.person)?,
+            key: own::<Keys>(alloc, parts.key)?,
+            value: own::<Notes>(alloc, parts.value)?,
+            unit: own::<Units>(alloc, parts.unit)?,
+            person: own::<PersonCodes>(alloc, parts.person)?,
             moment: parts.moment,
-            reason: fields::own_reason(alloc, parts.reason)?,
+            reason: own_reason(alloc, parts.reason)?,
         },
     })
 }
@@ -172,10 +174,10 @@ fn signature_line(alloc: Global, row: &RowFields<'_>) -> Result<SignatureLine, R
         version: parts.version,
         parts: SealParts {
             version: parts.digest,
-            lab: fields::own::<LabCodes>(alloc, parts.lab)?,
-            person: fields::own::<PersonCodes>(alloc, parts.person)?,
-            name: fields::own::<Names>(alloc, parts.name)?,
-            meaning: fields::own_meaning(alloc, parts.meaning)?,
+            lab: own::<LabCodes>(alloc, parts.lab)?,
+            person: own::<PersonCodes>(alloc, parts.person)?,
+            name: own::<Names>(alloc, parts.name)?,
+            meaning: own_meaning(alloc, parts.meaning)?,
             moment: parts.moment,
         },
         seal: parts.seal,
@@ -189,7 +191,7 @@ fn end_line(alloc: Global, row: &RowFields<'_>) -> Result<EndLine, RowFault>
         return Err(RowFault::BadRow);
     };
     Ok(EndLine {
-        lab: fields::own::<LabCodes>(alloc, parts.lab)?,
+        lab: own::<LabCodes>(alloc, parts.lab)?,
         counts: parts.counts,
     })
 }

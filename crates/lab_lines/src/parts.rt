@@ -1,14 +1,13 @@
-//! What rows stand for, as far as it can be told without taking memory: each text is still that of the row.
+//! What rows stand for that are none of a version's, as far as it can be told without taking
+//! memory: each text is still that of the row.
 ghost use Rattle.std.specs.Prelude.{◌≡◌, IfSome, option_map};
-ghost use Rattle.lab_rows.specs.Reading.{copy_line, record_line, version_line, entry_line, signature_line, end_line};
-ghost use Rattle.lab_lines.specs.Fields.{columns_in};
-ghost use Rattle.lab_lines.specs.Parts.{AreCopyTexts, AreEndTexts, AreEntryTexts, AreRecordTexts, AreSignatureTexts, AreVersionTexts, copy_of, end_of, entry_of, record_of, signature_of, version_of};
+ghost use Rattle.lab_rows.specs.Reading.{copy_line, record_line, end_line};
+ghost use Rattle.lab_fields.specs.Fields.{columns_in};
+ghost use Rattle.lab_lines.specs.Parts.{AreCopyTexts, AreEndTexts, AreRecordTexts, copy_of, end_of, record_of};
 
-use crate::columns::RowFields;
-use crate::fields;
-use crate::fields::MeaningParts;
-use lab_names::{Keys, LabCodes, Names, Notes, PersonCodes, Units};
-use lab_rows::{Counts, Digest, Edition, Format, Moment, Ordinal, Seal, State};
+use lab_fields::{RowFields, fields};
+use lab_names::{Keys, LabCodes, Names};
+use lab_rows::{Counts, Edition, Moment, Ordinal};
 
 /// What a copy row tells.
 #[derive(Drop)]
@@ -30,48 +29,6 @@ pub(crate) struct RecordParts<'a> {
     pub(crate) form_version: Ordinal,
     pub(crate) form: &'a str,
     pub(crate) sample: &'a str,
-}
-
-/// What a version row tells.
-#[derive(Drop)]
-pub(crate) struct VersionRowParts<'a> {
-    pub(crate) lab: &'a str,
-    pub(crate) record_number: Ordinal,
-    pub(crate) number: Ordinal,
-    pub(crate) format: Format,
-    pub(crate) state: State,
-    pub(crate) opener: &'a str,
-    pub(crate) opened: Moment,
-    pub(crate) reason: Option<&'a str>,
-    pub(crate) digest: Digest,
-}
-
-/// What an entry row tells.
-#[derive(Drop)]
-pub(crate) struct EntryParts<'a> {
-    pub(crate) lab: &'a str,
-    pub(crate) record_number: Ordinal,
-    pub(crate) version: Ordinal,
-    pub(crate) key: &'a str,
-    pub(crate) value: &'a str,
-    pub(crate) unit: &'a str,
-    pub(crate) person: &'a str,
-    pub(crate) moment: Moment,
-    pub(crate) reason: Option<&'a str>,
-}
-
-/// What a signature row tells.
-#[derive(Drop)]
-pub(crate) struct SignatureParts<'a> {
-    pub(crate) lab: &'a str,
-    pub(crate) record_number: Ordinal,
-    pub(crate) version: Ordinal,
-    pub(crate) meaning: MeaningParts<'a>,
-    pub(crate) person: &'a str,
-    pub(crate) name: &'a str,
-    pub(crate) moment: Moment,
-    pub(crate) digest: Digest,
-    pub(crate) seal: Seal,
 }
 
 /// What an end row tells.
@@ -124,90 +81,6 @@ pub(crate) fn record_parts<'a>(row: &RowFields<'a>) -> Option<RecordParts<'a>>
         form_version,
         form,
         sample,
-    })
-}
-
-#[tactic(auto, unfolding(lab_rows::specs::Reading::version_line))]
-pub(crate) fn version_parts<'a>(row: &RowFields<'a>) -> Option<VersionRowParts<'a>>
-    ensures value { option_map version_of result ≡ version_line (columns_in row.now) }
-    ensures texts { IfSome result AreVersionTexts }
-{
-    let lab = fields::text::<LabCodes>(row.lab)?;
-    let record_number = fields::ordinal(row.record_number)?;
-    let number = fields::ordinal(row.version)?;
-    let format = fields::format(row.key, row.name)?;
-    let state = fields::state(row.value)?;
-    let opener = fields::text::<PersonCodes>(row.person)?;
-    let opened = fields::moment(row.moment)?;
-    let reason = fields::version_reason(number, row.reason)?;
-    let digest = fields::digest(row.digest)?;
-    fields::empty(&[row.unit, row.seal])?;
-    Some(VersionRowParts {
-        lab,
-        record_number,
-        number,
-        format,
-        state,
-        opener,
-        opened,
-        reason,
-        digest,
-    })
-}
-
-#[tactic(auto, unfolding(lab_rows::specs::Reading::entry_line))]
-pub(crate) fn entry_parts<'a>(row: &RowFields<'a>) -> Option<EntryParts<'a>>
-    ensures value { option_map entry_of result ≡ entry_line (columns_in row.now) }
-    ensures texts { IfSome result AreEntryTexts }
-{
-    let lab = fields::text::<LabCodes>(row.lab)?;
-    let record_number = fields::ordinal(row.record_number)?;
-    let version = fields::ordinal(row.version)?;
-    let key = fields::text::<Keys>(row.key)?;
-    let value = fields::text::<Notes>(row.value)?;
-    let unit = fields::text::<Units>(row.unit)?;
-    let person = fields::text::<PersonCodes>(row.person)?;
-    let moment = fields::moment(row.moment)?;
-    let reason = fields::reason(row.reason)?;
-    fields::empty(&[row.name, row.digest, row.seal])?;
-    Some(EntryParts {
-        lab,
-        record_number,
-        version,
-        key,
-        value,
-        unit,
-        person,
-        moment,
-        reason,
-    })
-}
-
-#[tactic(auto, unfolding(lab_rows::specs::Reading::signature_line))]
-pub(crate) fn signature_parts<'a>(row: &RowFields<'a>) -> Option<SignatureParts<'a>>
-    ensures value { option_map signature_of result ≡ signature_line (columns_in row.now) }
-    ensures texts { IfSome result AreSignatureTexts }
-{
-    let lab = fields::text::<LabCodes>(row.lab)?;
-    let record_number = fields::ordinal(row.record_number)?;
-    let version = fields::ordinal(row.version)?;
-    let meaning = fields::meaning(row.value, row.reason)?;
-    let person = fields::text::<PersonCodes>(row.person)?;
-    let name = fields::text::<Names>(row.name)?;
-    let moment = fields::moment(row.moment)?;
-    let digest = fields::digest(row.digest)?;
-    let seal = fields::seal(row.seal)?;
-    fields::empty(&[row.key, row.unit])?;
-    Some(SignatureParts {
-        lab,
-        record_number,
-        version,
-        meaning,
-        person,
-        name,
-        moment,
-        digest,
-        seal,
     })
 }
 

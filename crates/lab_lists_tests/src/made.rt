@@ -1,7 +1,5 @@
-//! What laboratories and changes are made of.
-use lab_kept::{
-    Action, Change, Moment, Newborn, Ordinal, Password, Person, Roles, Series, Subject, TrailRow,
-};
+//! What a laboratory and changes are made of.
+use lab_kept::{Change, Moment, Newborn, Password, Person, Roles, Series};
 use lab_names::{Rule, Text};
 use std::process::Abort;
 
@@ -27,11 +25,11 @@ fn person(rt: &(impl Abort + AllocGlobal), code: &str) -> Person {
     }
 }
 
-/// A laboratory whose founders come in another order than that of their codes.
-pub(crate) fn newborn(rt: &(impl Abort + AllocGlobal), code: &str, name: &str) -> Newborn {
+/// The laboratory aqua, whose founders come in another order than that of their codes.
+pub(crate) fn newborn(rt: &(impl Abort + AllocGlobal), name: &str) -> Newborn {
     Newborn {
         moment: moment(rt, 500),
-        code: text(rt, code),
+        code: text(rt, "aqua"),
         name: text(rt, name),
         first: person(rt, "eve"),
         second: person(rt, "ann"),
@@ -39,26 +37,13 @@ pub(crate) fn newborn(rt: &(impl Abort + AllocGlobal), code: &str, name: &str) -
     }
 }
 
-fn trail_row(rt: &(impl Abort + AllocGlobal)) -> TrailRow {
-    let subject = String::from_str(rt.alloc(), "cid").expect(rt, "memory");
-    TrailRow {
-        number: Ordinal::new(2).expect(rt, "a number"),
-        moment: moment(rt, 1200),
-        person: None,
-        action: Action::Found,
-        subject: Subject::new(subject),
-    }
-}
-
-/// A person, a row of the trail, and more strays: the second count is made after the first.
+/// A later moment, four strays, and a person.
 pub(crate) fn changes(rt: &(impl Abort + AllocGlobal)) -> Series<Change> {
     let mut changes = Series::new(rt.alloc());
     for change in [
         Change::Last(moment(rt, 1200)),
-        Change::Strays(9),
-        Change::PersonAdded(person(rt, "cid")),
-        Change::TrailAdded(trail_row(rt)),
         Change::Strays(4),
+        Change::PersonAdded(person(rt, "cid")),
     ] {
         changes.push(change).expect(rt, "memory");
     }

@@ -6,10 +6,6 @@ use Rattle.lab_tables.specs.Rows.{LabRow, Tables}
 use Rattle.lab_tables.specs.WellKept.{IsWellKept, has_counted}
 use Rattle.lab_tables.specs.Meaning.{lab_in, has_code, meaning}
 use Rattle.lab_reading.specs.Heads.{lab_head}
-use Rattle.lab_loading.specs.declared.lists.Listed.{Listed}
-use Rattle.lab_loading.specs.declared.people.Callers.{Callers}
-use Rattle.lab_loading.specs.declared.people.People.{People}
-use Rattle.lab_loading.specs.declared.things.Things.{Things}
 use Rattle.lab_loading.specs.Parts.{slice_by}
 use Rattle.lab_loading.proofs.Counted.{found_among, counted, all_counted}
 
@@ -23,17 +19,3 @@ loaded t kept need code = go (find (has_code code) t.labs) (found_among (has_cod
     go : (o : Option LabRow) → IfSome o (λ row. has_counted t row ≡ true) → option_map (slice_by t need) (option_map lab_head o) ≡ part_of need (option_map (lab_in t) o)
     go None h = refl
     go (Some row) h = ap Some (slice_is t need row h)
-
--- ---- records of equal members are equal
-
-pub same_listed : (one other : Listed) → one.persons ≡ other.persons → one.records ≡ other.records → one.trail ≡ other.trail → one ≡ other
-same_listed one other persons records trail = λ i. record other { persons = persons i; records = records i; trail = trail i }
-
-pub same_callers : (one other : Callers) → one.session ≡ other.session → one.caller ≡ other.caller → one ≡ other
-same_callers one other session caller = λ i. record other { session = session i; caller = caller i }
-
-pub same_people : (one other : People) → one.session ≡ other.session → one.caller ≡ other.caller → one.person ≡ other.person → one ≡ other
-same_people one other session caller person = λ i. record other { session = session i; caller = caller i; person = person i }
-
-pub same_things : (one other : Things) → one.form ≡ other.form → one.filed ≡ other.filed → one ≡ other
-same_things one other form filed = λ i. record other { form = form i; filed = filed i }

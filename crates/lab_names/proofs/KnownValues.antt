@@ -6,6 +6,9 @@ use Rattle.std.proofs.lemmas.Str.{is_utf8-from_IsUtf8}
 use Rattle.lab_names.specs.Calendar.{day_of, is_leap_year, days_of_spans, second_of_date, year_of, place_in_year, month_of, day_of_month, weekday_of, hour_of, minute_of, second_of, span_of, place_of}
 use Rattle.lab_names.specs.Moment.{last_moment, last_day, moment_text, moment_of}
 use Rattle.lab_names.proofs.CalendarLemmas.{IsDateOf, AreSame, own_date, same_date}
+use Rattle.lab_names.specs.Faults.{memory_entry, name_fault_entry, moment_fault_entry}
+use Rattle.lab_names.specs.declared.faults.NameFault.TheVariants.{BadName}
+use Rattle.lab_names.specs.declared.faults.MomentFault.TheVariants.{BadMoment}
 use Rattle.lab_names.specs.Names.{is_lab_code, is_person_code, is_key, is_name, is_note, is_unit}
 
 pub known_moments : (moment_text 0 ≡ codes "1970-01-01T00:00:00Z")
@@ -72,3 +75,9 @@ known_notes = (rw (plain (codes " two words ") refl refl), rw (plain (65 ∷ 10 
 pub known_units : (is_unit (codes "") ≡ true) × (is_unit (codes "mg/L") ≡ true) × (is_unit (codes "abcdefghijklmnopqrstu") ≡ false) × (is_unit (codes "mg/L ") ≡ false)
 unfolding is_unit is_name lib.Utf8.encode
 known_units = (refl, rw (plain (codes "mg/L") refl refl), refl, rw (plain (codes "mg/L ") refl refl))
+
+-- numbers and words of docs/REFUSALS.md
+pub known_faults : (memory_entry.number ≡ 90) × (memory_entry.word ≡ codes "memory")
+    × ((name_fault_entry BadName).number ≡ 1) × ((name_fault_entry BadName).word ≡ codes "bad_name")
+    × ((moment_fault_entry BadMoment).number ≡ 2) × ((moment_fault_entry BadMoment).word ≡ codes "bad_moment")
+known_faults = (refl, refl, refl, refl, refl, refl)

@@ -1,66 +1,28 @@
 //! A record's rows on their way out of the tables: each version is read, its rows go out, and it is
 //! let go.
 
-ghost use Rattle.std.specs.Prelude.{◌≡◌, None, [], ◌∷◌, ◌++◌, map, IfErr, IfOk, IsTrue, OnOk, option_to_list};
+ghost use Rattle.std.specs.Prelude.{◌≡◌, None, [], ◌∷◌, ◌++◌, map, IfErr, IsTrue, OnOk, option_to_list};
 ghost use Rattle.sqlite.specs.State.{HasCleanDisk, IsUnchanged};
 ghost use Rattle.sqlite.specs.Held.{state};
 ghost use Rattle.lab_copy.specs.Outs.{Sends};
-ghost use Rattle.lab_kept.specs.Digests.{digest_of};
-ghost use Rattle.lab_pages.specs.Pages.{cover_rows, page_rows, pages_rows};
+ghost use Rattle.lab_page_rows.specs.Pages.{cover_rows, pages_rows};
 ghost use Rattle.lab_reading.specs.Leaves.{leaf_by};
 ghost use Rattle.lab_lookups.specs.Wholes.{record_by};
 ghost use Rattle.lab_rows.specs.Csv.{csv_text};
-ghost use Rattle.lab_tables.specs.Meaning.{chained, leaves_of, meaning, version_after};
+ghost use Rattle.lab_tables.specs.Meaning.{chained, leaves_of, meaning};
 ghost use Rattle.lab_tables.specs.Ready.{IsReady, PassesBy, tables_of};
 ghost use Rattle.lab_walks.specs.Faults.{CopyFaultFits};
 ghost use Rattle.lab_walks.specs.Walks.{counted_all, record_at, record_rows};
 
-use crate::covers::{cover_at, head_at};
-use crate::faults::told;
-use crate::leaves::{give_cover, give_leaf};
 use lab_copy::CopyOut;
 use lab_kept::Record;
 use lab_names::{LabCode, Ordinal};
-use lab_reading::{RecordHead, VersionHead, leaf_at, versions_at};
-use lab_secrets::Digest;
+use lab_page_rows::{cover_at, give_cover, give_page, head_at, told};
+use lab_reading::{RecordHead, VersionHead, versions_at};
 use lab_walks::CopyOutFault;
 use sqlite::{Alter, Connection};
 use std::alloc::Global;
 use std::io::Write;
-
-/// Writes the rows of the version with the row, behind one of the digest or none, and answers its
-/// digest.
-fn give_page<S: Alter, W: Write>(
-    alloc: Global,
-    conn: &mut Connection<S>,
-    lab: &LabCode,
-    cover: &Record,
-    before: Option<Digest>,
-    head: VersionHead,
-    out: &mut CopyOut,
-    writer: &mut W,
-) -> Result<Digest, CopyOutFault>
-    ensures passes { PassesBy (state S.Store conn.old) (state S.Store conn.new) }
-    ensures same { HasCleanDisk (state S.Store conn.new) →
-        OnOk result (IsUnchanged (state S.Store conn.old) (state S.Store conn.new)) }
-    ensures text { IsReady (state S.Store conn.old) → HasCleanDisk (state S.Store conn.new) →
-        Sends (W.contents writer.old) (W.contents writer.new) (csv_text (page_rows lab.now cover.now
-        (version_after cover.now before (leaf_by (tables_of (state S.Store conn.old)) head)))) result }
-    ensures counts { IsReady (state S.Store conn.old) → HasCleanDisk (state S.Store conn.new) →
-        OnOk result (out.new ≡ record out.old {
-          counts = counted_all out.old.counts (page_rows lab.now cover.now
-              (version_after cover.now before (leaf_by (tables_of (state S.Store conn.old)) head)));
-        }) }
-    ensures digest { IsReady (state S.Store conn.old) → HasCleanDisk (state S.Store conn.new) →
-        IfOk result (λ digest. digest ≡ digest_of lab.now cover.now
-        (version_after cover.now before (leaf_by (tables_of (state S.Store conn.old)) head))) }
-    ensures fault { IfErr result (CopyFaultFits ⊥ (Unit {0}) (Unit {0})) }
-{
-    match leaf_at(alloc, conn, head) {
-        Ok(leaf) => give_leaf(alloc, lab, cover, before, leaf, out, writer),
-        Err(fault) => Err(told(fault)),
-    }
-}
 
 /// Writes the rows of the versions with the rows, each behind the digest of the one before it.
 fn give_pages<S: Alter, W: Write>(

@@ -1,3 +1,4 @@
 pub mod Heads
 pub mod Shown
 pub mod Leaves
+pub mod Laboratories

@@ -8,10 +8,10 @@ ghost use Rattle.lab_tables.specs.Ready.{IsReady, PassesBy, tables_of};
 ghost use Rattle.lab_reading.specs.Heads.{lab_head};
 ghost use Rattle.lab_reading.specs.Shown.{labs_shown, lab_read};
 
-use crate::asking::rows_by_text;
 use crate::cells::count_of;
 use crate::heads::LabHead;
 use lab_columns::ReadFault;
+use lab_columns::asking::rows_by_text;
 use lab_columns::cells::{id_of, moment_of, text_of};
 use lab_names::LabCode;
 use sqlite::{Alter, Connection, Error, Row};

@@ -1,4 +1,4 @@
-//! The body of a founding, requests, and the whole replies that they should get, by docs/HTTP.md.
+//! The body of a founding, a request, and the whole replies that it should get, by docs/HTTP.md.
 
 pub(crate) const BODY: &[u8] =
     b"{\"founders\":[{\"code\":\"ann\",\"name\":\"N\",\"password\":\"twelve bytes\"},\
@@ -9,13 +9,6 @@ pub(crate) const BODY: &[u8] =
 pub(crate) const OPEN: &[u8] =
     b"POST /labs/aqua/open HTTP/1.1\r\nHost: d\r\nContent-Length: 40\r\n\r\n\
     {\"code\":\"ann\",\"password\":\"twelve bytes\"}";
-
-pub(crate) const BAD_HEAD: &[u8] = b"GET /labs/aqua HTTP/1.1\r\n\r\n";
-
-pub(crate) const BAD_HEAD_REPLY: &[u8] =
-    b"HTTP/1.1 400 Bad Request\r\nDate: Thu, 01 Jan 1970 00:01:40 GMT\r\n\
-    Content-Type: application/json\r\nContent-Length: 32\r\nConnection: close\r\n\r\n\
-    {\"error\":\"bad_head\",\"number\":80}";
 
 pub(crate) const STORAGE_REPLY: &[u8] =
     b"HTTP/1.1 503 Service Unavailable\r\nDate: Thu, 01 Jan 1970 00:01:40 GMT\r\n\

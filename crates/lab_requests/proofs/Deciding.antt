@@ -12,7 +12,7 @@ use Rattle.lab_kept.specs.Worlds.{Meaning, SetsOne, Changes}
 use Rattle.lab_machine.specs.declared.commands.Instruction.{Instruction}
 use Rattle.lab_machine.specs.Needs.{need_of}
 use Rattle.lab_laws.specs.Asking.{IsCommandFormed}
-use Rattle.lab_endings.specs.Deciding.{decided}
+use Rattle.lab_outcomes.specs.Deciding.{decided}
 use Rattle.lab_decisions_laws.proofs.Passing.{decided_is}
 use Rattle.lab_wire.specs.declared.replies.Answer.TheVariants.{Replied}
 use Rattle.lab_wire.specs.Replies.{reply_text}

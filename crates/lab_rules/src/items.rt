@@ -56,7 +56,7 @@ impl Clone for Typed {
 }
 
 /// A value of an amendment, as it was typed.
-#[derive(Clone, Drop)]
+#[derive(Drop)]
 pub struct Item {
     /// The field's key.
     pub key: Key,
@@ -64,6 +64,19 @@ pub struct Item {
     pub value: Typed,
     /// Its unit.
     pub unit: Unit,
+}
+
+impl Clone for Item {
+    ghost use Rattle.std.specs.Prelude.{◌≡◌};
+
+    ghost is_clone = { λ item copy. copy ≡ item };
+
+    fn clone(&self) -> Result<Item, AllocError> {
+        let key = self.key.clone()?;
+        let value = self.value.clone()?;
+        let unit = self.unit.clone()?;
+        Ok(Item { key, value, unit })
+    }
 }
 
 /// The values of an amendment, in order. No key stands twice: a body with one is refused where it is read.

@@ -8,7 +8,7 @@ use lab_names::{Key, Ordinal};
 use lab_secrets::Digest;
 
 /// What a laboratory's machine refuses, with what it tells.
-#[derive(Clone, Debug, Drop)]
+#[derive(Debug, Drop)]
 pub enum Refusal {
     /// There is no such laboratory.
     NoSuchLab,

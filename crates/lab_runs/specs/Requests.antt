@@ -12,7 +12,7 @@ use Rattle.lab_kept.specs.Worlds.{World, Meaning, SameMeaning, SetsOne, Lives, L
 use Rattle.lab_machine.specs.declared.commands.Instruction.{Instruction}
 use Rattle.lab_machine.specs.Machine.{step}
 use Rattle.lab_machine.specs.Needs.{need_of}
-use Rattle.lab_endings.specs.Deciding.{decided}
+use Rattle.lab_outcomes.specs.Deciding.{decided}
 use Rattle.lab_laws.specs.Stepping.{WhereThere}
 use Rattle.lab_routes.specs.declared.commands.Asked.{Asked}
 use Rattle.lab_wire.specs.declared.refusals.RequestRefusal.{RequestRefusal}

@@ -3,9 +3,10 @@
 ghost use Rattle.std.specs.Prelude.{◌≡◌, IfOk};
 
 use lab_names::{LabCode, OutOfMemory, Series, Tick};
+use std::alloc::AllocError;
 
 /// One event of an installation. It isn't printed: it has passwords, tokens, and the words that tokens are made of.
-#[derive(Clone, Drop)]
+#[derive(Drop)]
 pub enum Event {
     /// A laboratory is to be founded.
     Found {
@@ -34,5 +35,29 @@ impl Event {
         ensures { IfOk result (λ copy. copy ≡ self.now) }
     {
         Ok(self.clone()?)
+    }
+}
+
+impl Clone for Event {
+    ghost use Rattle.std.specs.Prelude.{◌≡◌};
+
+    ghost is_clone = { λ event copy. copy ≡ event };
+
+    fn clone(&self) -> Result<Event, AllocError> {
+        match self {
+            Event::Found { lab, tick, body } => {
+                let lab = lab.clone()?;
+                let body = body.clone()?;
+                Ok(Event::Found {
+                    lab,
+                    tick: *tick,
+                    body,
+                })
+            }
+            Event::Call { tick, bytes } => Ok(Event::Call {
+                tick: *tick,
+                bytes: bytes.clone()?,
+            }),
+        }
     }
 }

@@ -6,6 +6,7 @@ ghost use Rattle.lab_seal.specs.Seals.{meaning_word, meaning_reason};
 
 use lab_names::{LabCode, Moment, Name, Note, OutOfMemory, PersonCode};
 use lab_secrets::Digest;
+use std::alloc::AllocError;
 use std::marker::Model;
 
 /// The seal of a signature, 32 bytes.
@@ -62,7 +63,7 @@ impl Seal {
 }
 
 /// What a person signs a version as.
-#[derive(Clone, Debug, Drop)]
+#[derive(Debug, Drop)]
 pub enum Meaning {
     /// The author's signature.
     Authorship,
@@ -105,8 +106,23 @@ impl Meaning {
     }
 }
 
+impl Clone for Meaning {
+    ghost use Rattle.std.specs.Prelude.{◌≡◌};
+
+    ghost is_clone = { λ meaning copy. copy ≡ meaning };
+
+    fn clone(&self) -> Result<Meaning, AllocError> {
+        match self {
+            Meaning::Authorship => Ok(Meaning::Authorship),
+            Meaning::Review => Ok(Meaning::Review),
+            Meaning::Rejection(reason) => Ok(Meaning::Rejection(reason.clone()?)),
+            Meaning::Approval => Ok(Meaning::Approval),
+        }
+    }
+}
+
 /// A signature, as its seal covers it.
-#[derive(Clone, Debug, Drop)]
+#[derive(Debug, Drop)]
 pub struct SealParts {
     /// The digest of the version that is signed.
     pub version: Digest,
@@ -128,5 +144,26 @@ impl SealParts {
         ensures { IfOk result (λ copy. copy ≡ self.now) }
     {
         Ok(self.clone()?)
+    }
+}
+
+impl Clone for SealParts {
+    ghost use Rattle.std.specs.Prelude.{◌≡◌};
+
+    ghost is_clone = { λ parts copy. copy ≡ parts };
+
+    fn clone(&self) -> Result<SealParts, AllocError> {
+        let lab = self.lab.clone()?;
+        let person = self.person.clone()?;
+        let name = self.name.clone()?;
+        let meaning = self.meaning.clone()?;
+        Ok(SealParts {
+            version: self.version,
+            lab,
+            person,
+            name,
+            meaning,
+            moment: self.moment,
+        })
     }
 }

@@ -167,14 +167,6 @@ fn verifiers_accept_their_password_alone(rt: HostRuntime) {
     }
 }
 
-// Whoever prints a verifier, as a part of something else too, shows no secret.
-#[test]
-fn verifiers_print_no_secret(rt: HostRuntime) {
-    let verifier = Verifier::make(b"correct horse 1", SALT, 2);
-    let printed = format!(in rt.alloc(); "{verifier:?}").expect(&rt, "memory");
-    assert!(rt; printed.as_str() == "Verifier");
-}
-
 const WORDS: [u64; 8] = [1, 2, 3, 4, 0x0102_0304_0506_0708, u64::MAX, 7, 8];
 
 // The digest of the token is the one that `sha256sum` gives of its 32 bytes.
@@ -198,24 +190,4 @@ fn digits_are_read(rt: HostRuntime) {
     let words = Token::from_words(&WORDS).digits();
     let read = Token::from_digits(token).map(|token| token.digits());
     assert!(rt; read == Some(words) && words == *token);
-}
-
-// One digit fewer or more, an upper one, one past `f`, a sign and a space are no digits of 32
-// bytes.
-const OTHER_DIGITS: [&[u8]; 7] = [
-    b"",
-    b"000000000000000100000000000000020000000000000003000000000000000",
-    b"00000000000000010000000000000002000000000000000300000000000000040",
-    b"000000000000000100000000000000020000000000000003000000000000000A",
-    b"000000000000000100000000000000020000000000000003000000000000000g",
-    b"+000000000000001000000000000000200000000000000030000000000000004",
-    b" 000000000000001000000000000000200000000000000030000000000000004",
-];
-
-#[test]
-fn other_digits_are_refused(rt: HostRuntime) {
-    for digits in OTHER_DIGITS {
-        assert!(rt; Digest::from_digits(digits).is_none());
-        assert!(rt; Token::from_digits(digits).is_none());
-    }
 }

@@ -1,4 +1,3 @@
 pub mod TextLemmas
 pub mod VisitLemmas
-pub mod RehearsalLemmas
 pub mod KnownValues

@@ -7,9 +7,9 @@ use Rattle.lab_runs.specs.Keeping.{AreWithin}
 use Rattle.lab_runs.proofs.Keeping.{still_keeps}
 use Rattle.lab_runs.proofs.Releasing.{released_stay}
 use Rattle.lab_runs.proofs.Retaining.{retained_on, still_retained}
-use Rattle.lab_desk.specs.declared.faults.ServeFault.TheVariants.{Read, Interim, Reply}
-use Rattle.lab_serving.specs.declared.faults.ConnectionFault.TheVariants.{Serving, Memory}
-use Rattle.lab_serving.specs.Sources.{Gives}
+use Rattle.lab_desk_faults.specs.declared.faults.ServeFault.TheVariants.{Read, Interim, Reply}
+use Rattle.lab_outside.specs.declared.faults.ConnectionFault.TheVariants.{Serving, Memory}
+use Rattle.lab_outside.specs.Sources.{Gives}
 use Rattle.lab_serving.specs.Staying.{Stays, StaysOn}
 use Rattle.lab_serving.specs.Visits.{AreGiven, AreVisits, Ending, IsVisit, OnUnserved, Visit}
 

@@ -1,4 +1,4 @@
--- The line that a server prints, and the request of a rehearsal (RFC 9112, section 2).
+-- The line that a server prints, and how much of a text was printed.
 use Rattle.std.specs.Prelude.{◌++◌, ℕ, List, Option, Result, Ok, Err, codes, decimal, take}
 use Rattle.std.specs.Io.KnownBytes.{Appends}
 
@@ -17,8 +17,3 @@ abbrev pub IsAnnounced : {F : Type 0} → Result (Unit {0}) F → Option (List �
     Type 0
 IsAnnounced ending before after =
     (port : ℕ) × IsPrinted (listening_line port) ending before after
-
--- the card of the laboratory of this code is asked for
-abbrev pub card_request : List ℕ → List ℕ
-card_request code =
-    codes "GET /labs/" ++ code ++ codes " HTTP/1.1\r\nHost: localhost\r\n\r\n"

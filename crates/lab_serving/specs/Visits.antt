@@ -5,11 +5,11 @@ use Rattle.std.specs.Io.KnownBytes.{Appends, Keeps}
 use Rattle.lab_names.specs.declared.tick.Tick.{Tick}
 use Rattle.lab_kept.specs.declared.changes.Change.{Change}
 use Rattle.lab_kept.specs.Worlds.{World}
-use Rattle.lab_desk.specs.declared.faults.ServeFault.{ServeFault}
+use Rattle.lab_desk_faults.specs.declared.faults.ServeFault.{ServeFault}
 use Rattle.lab_desk.specs.Serving.{HandlesRequest, OnHandled, OnUnhandled, Writes}
-use Rattle.lab_serving.specs.declared.faults.ConnectionFault.{ConnectionFault}
-use Rattle.lab_serving.specs.declared.faults.ConnectionFault.TheVariants.{Serving, Memory}
-use Rattle.lab_serving.specs.Sources.{Gives}
+use Rattle.lab_outside.specs.declared.faults.ConnectionFault.{ConnectionFault}
+use Rattle.lab_outside.specs.declared.faults.ConnectionFault.TheVariants.{Serving, Memory}
+use Rattle.lab_outside.specs.Sources.{Gives}
 
 -- how serving a connection ended
 abbrev pub Ending : Type 0

@@ -1,9 +1,9 @@
 //! Connections that come one after the other.
 
 ghost use Rattle.std.specs.Prelude.{◌≡◌, ℕ, List, [], ◌∷◌, Option, None, IfOk};
-ghost use Rattle.lab_serving.specs.Sources.{Gives};
+ghost use Rattle.lab_outside.specs.Sources.{Gives};
 
-use crate::faults::ListenFault;
+use lab_outside::ListenFault;
 use std::io::{Read, Write};
 
 /// A connection: what its client sends, and what goes to its client.

@@ -1,24 +1,19 @@
-//! Sockets: a listener of this machine, and what is served and rehearsed over it.
+//! Sockets: a listener of this machine, and what is served over it.
 
-ghost use Rattle.std.specs.Prelude.{◌≡◌, ℕ, List, IfSome, IfErr};
-ghost use Rattle.std.specs.Io.KnownBytes.{Appends};
+ghost use Rattle.std.specs.Prelude.{◌≡◌, IfErr};
 ghost use Rattle.lab_kept.specs.Worlds.{Passes, Given};
 ghost use Rattle.lab_runs.specs.Keeping.{AreWithin};
 ghost use Rattle.lab_serving.specs.Staying.{StaysOn};
-ghost use Rattle.lab_serving.specs.Tasks.{FoundsBy, IsRehearsal, IsServing, Prints};
+ghost use Rattle.lab_serving.specs.Tasks.{IsServing};
 ghost use Rattle.lab_serving.specs.Texts.{IsAnnounced};
-ghost use Rattle.lab_serving.specs.declared.faults.ServerFault.TheVariants.{Read as NoneListened};
+ghost use Rattle.lab_outside.specs.declared.faults.ServerFault.TheVariants.{Read as NoneListened};
 ghost use Rattle.lab_serving.specs.Visits.{ServesCount};
 
 use crate::connections::{Connection, Connections};
-use crate::faults::{ListenFault, RehearsalFault, ServerFault};
-use crate::outside::{Chance, Clock};
-use crate::rehearsals::{found_in_memory, rehearse_over};
 use crate::serving::serve_over;
-use crate::told::tell;
-use lab_desk::{Desk, Keeper, LabCode};
+use lab_desk::{Desk, Keeper};
 use lab_messages::WriteFault;
-use lab_names::Moment;
+use lab_outside::{Chance, Clock, ListenFault, ServerFault, tell};
 use std::alloc::Global;
 use std::io::{ErrorKind, Read, Write};
 use std::net::{
@@ -131,7 +126,13 @@ pub fn listen<N: Net>(net: &N, port: u16) -> Result<N::Listener, ServerFault>
 }
 
 /// A client's connection to a port of this machine.
-fn connect<N: Net>(net: &N, port: u16) -> Result<Connection<N::Stream, N::Stream>, ServerFault> {
+///
+/// # Errors
+/// The network gives none.
+pub fn connect<N: Net>(
+    net: &N,
+    port: u16,
+) -> Result<Connection<N::Stream, N::Stream>, ServerFault> {
     match TcpStream::connect(net, loopback(port)) {
         Ok(stream) => Ok(ends_of(stream)?),
         Err(_) => Err(ServerFault::Read),
@@ -190,78 +191,6 @@ where
     ensures passes { Passes (S.world desk.old.keeper) (S.world desk.new.keeper) }
 {
     match serve_listener(alloc, desk, listener, clock, chance, count, output) {
-        Ok(()) => Ok(0),
-        Err(fault) => {
-            tell(errors, fault.word())?;
-            Ok(1)
-        }
-    }
-}
-
-/// Asks a desk for the card of a laboratory over a socket of this machine, and prints what it gets.
-fn rehearse_on<N: Net, S: Keeper + Drop, W: Write>(
-    net: &N,
-    alloc: Global,
-    desk: &mut Desk<S>,
-    lab: &LabCode,
-    moment: Moment,
-    output: &mut W,
-) -> Result<(), ServerFault>
-    ensures { (printed : List ℕ)
-        × Appends (W.contents output.old) (W.contents output.new) printed }
-{
-    let listener = listen(net, 0)?;
-    let mut listening = Listening::new(listener)?;
-    let mut client = connect(net, listening.port())?;
-    rehearse_over(
-        alloc,
-        desk,
-        lab,
-        moment,
-        &mut client,
-        &mut listening,
-        output,
-    )
-}
-
-/// Founds a laboratory in memory, and asks for its card.
-fn found_and_ask<N: Net, B: Read, W: Write>(
-    net: &N,
-    alloc: Global,
-    lab: &LabCode,
-    moment: Moment,
-    body: &mut B,
-    output: &mut W,
-) -> Result<(), RehearsalFault>
-    ensures founded { IfSome (B.remaining body.old) (λ bytes. FoundsBy lab.now bytes result) }
-    ensures printed { (printed : List ℕ) × Prints result printed
-        × Appends (W.contents output.old) (W.contents output.new) printed }
-{
-    let mut desk = found_in_memory(alloc, lab, body)?;
-    Ok(rehearse_on(net, alloc, &mut desk, lab, moment, output)?)
-}
-
-/// `labdesk rehearse`: founds a laboratory in memory from its body, at the first of all moments,
-/// asks for its card over a socket of this machine at the moment that is given, and prints what it
-/// gets. Tells on standard error why the founding was refused, or what failed. Answers the status:
-/// 0 where a reply was printed, and else 1.
-///
-/// # Errors
-/// It failed, and standard error failed before the whole line was told.
-pub fn rehearse<N: Net, B: Read, W: Write, E: Write>(
-    net: &N,
-    alloc: Global,
-    lab: &LabCode,
-    moment: Moment,
-    body: &mut B,
-    output: &mut W,
-    errors: &mut E,
-) -> Result<u8, WriteFault>
-    ensures { IsRehearsal (B.remaining body.old) lab.now
-        (W.contents output.old) (W.contents output.new)
-        (E.contents errors.old) (E.contents errors.new) result }
-{
-    match found_and_ask(net, alloc, lab, moment, body, output) {
         Ok(()) => Ok(0),
         Err(fault) => {
             tell(errors, fault.word())?;

@@ -10,11 +10,10 @@ ghost use Rattle.lab_serving.specs.Texts.{IsPrinted, listening_line};
 ghost use Rattle.lab_serving.specs.Visits.{AreCounted, AreGiven, AreVisits, OnServed, OnUnserved, Sends, Visit};
 
 use crate::connections::{Connection, Connections};
-use crate::faults::{ConnectionFault, ServerFault};
-use crate::outside::{Chance, Clock, draw};
 use lab_desk::{Desk, Keeper};
 use lab_messages::write_reply;
 use lab_names::Tick;
+use lab_outside::{Chance, Clock, ConnectionFault, ServerFault, draw};
 use std::alloc::Global;
 use std::io::{BufReader, Read, Write};
 
@@ -35,7 +34,7 @@ fn announce<W: Write>(alloc: Global, output: &mut W, port: u16) -> Result<(), Se
 ///
 /// # Errors
 /// Those of serving a request, and that there was no memory for the buffer: nothing is changed.
-pub(crate) fn serve_connection<S: Keeper + Drop, R: Read + Drop, W: Write>(
+pub fn serve_connection<S: Keeper + Drop, R: Read + Drop, W: Write>(
     alloc: Global,
     desk: &mut Desk<S>,
     reader: R,

@@ -3,8 +3,8 @@ use Rattle.std.proofs.Common.{◌≡◌, decimal, codes, lit<, ◌∙◌, refl, 
 use Rattle.std.proofs.lemmas.Fmt.{decimal-digits_of}
 use Rattle.std.specs.Str.{bytes_eq}
 use Rattle.lab_files.specs.declared.faults.FileFault.TheVariants.{NotADeskFile, SchemaOld, SchemaNew}
-use Rattle.lab_serving.specs.declared.faults.ServerFault.TheVariants.{Read}
-use Rattle.lab_serving.specs.Faults.{told_line}
+use Rattle.lab_outside.specs.declared.faults.ServerFault.TheVariants.{Read}
+use Rattle.lab_outside.specs.Faults.{told_line}
 use Rattle.lab_shelves.specs.declared.faults.TaskFault.TheVariants.{File, Server}
 use Rattle.lab_shelves.specs.Faults.{task_fault_line, task_fault_value, unopened_fault, IsToldOf}
 

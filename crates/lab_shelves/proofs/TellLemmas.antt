@@ -1,7 +1,7 @@
 -- What was told of a fault: its line, or that memory ran out.
 use Rattle.std.proofs.Common.{◌≡◌, ℕ, List, Option, None, Some, ap₂, refl, sym}
 use Rattle.std.specs.Prelude.{IsSome}
-use Rattle.lab_serving.specs.Faults.{told_line}
+use Rattle.lab_outside.specs.Faults.{told_line}
 use Rattle.lab_shelves.specs.declared.faults.TaskFault.{TaskFault}
 use Rattle.lab_shelves.specs.Faults.{task_fault_line, task_fault_value, task_fault_word, valued}
 

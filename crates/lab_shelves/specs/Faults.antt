@@ -7,7 +7,7 @@ use Rattle.lab_files.specs.declared.faults.FileFault.TheVariants.{Memory as File
 use Rattle.lab_files.specs.Faults.{file_fault_entry, file_fault_value}
 use Rattle.lab_foundings.specs.Faults.{found_fault_entry}
 use Rattle.lab_walks.specs.Faults.{copy_fault_word}
-use Rattle.lab_serving.specs.Faults.{IsTold, server_fault_word, told_line}
+use Rattle.lab_outside.specs.Faults.{IsTold, server_fault_word, told_line}
 use Rattle.lab_shelves.specs.declared.faults.TaskFault.{TaskFault}
 use Rattle.lab_shelves.specs.declared.faults.TaskFault.TheVariants.{File, Founding, Copying, Server}
 

@@ -3,10 +3,9 @@
 ghost use Rattle.std.specs.Prelude.{◌≡◌};
 ghost use Rattle.lab_shelves.specs.Faults.{task_fault_value, task_fault_word};
 
-use lab_desk::FoundFault;
 use lab_files::FileFault;
 use lab_names::OutOfMemory;
-use lab_serving::{DrawFault, ServerFault};
+use lab_outside::{DrawFault, FoundFault, ServerFault};
 use lab_walks::CopyOutFault;
 use std::fmt;
 use thiserror::Error;
@@ -105,7 +104,7 @@ impl From<ServerFault> for TaskFault {
 
 /// The clock or the source of random words failed.
 impl From<DrawFault> for TaskFault {
-    ghost use Rattle.lab_serving.specs.declared.faults.ServerFault.TheVariants.{Read};
+    ghost use Rattle.lab_outside.specs.declared.faults.ServerFault.TheVariants.{Read};
     ghost use Rattle.lab_shelves.specs.declared.faults.TaskFault.TheVariants.{Server};
 
     ghost from_gives = { λ _ gives. gives ≡ Server Read };
@@ -117,7 +116,7 @@ impl From<DrawFault> for TaskFault {
 
 /// Memory ran out.
 impl From<OutOfMemory> for TaskFault {
-    ghost use Rattle.lab_serving.specs.declared.faults.ServerFault.TheVariants.{Memory};
+    ghost use Rattle.lab_outside.specs.declared.faults.ServerFault.TheVariants.{Memory};
     ghost use Rattle.lab_shelves.specs.declared.faults.TaskFault.TheVariants.{Server};
 
     ghost from_gives = { λ _ gives. gives ≡ Server Memory };

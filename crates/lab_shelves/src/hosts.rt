@@ -3,7 +3,7 @@
 use crate::shelves::Shelf;
 use lab_files::FileFault;
 use lab_names::Moment;
-use lab_serving::{Chance, Clock, DrawFault};
+use lab_outside::{Chance, Clock, DrawFault};
 use lab_walks::Progress;
 use rand::TryRng;
 use rand::rngs::SysRng;

@@ -2,13 +2,13 @@
 
 ghost use Rattle.std.specs.Prelude.{◌⊎◌, Some};
 ghost use Rattle.lab_names.specs.Faults.{memory_entry};
-ghost use Rattle.lab_serving.specs.Faults.{IsTold, told_line};
+ghost use Rattle.lab_outside.specs.Faults.{IsTold, told_line};
 ghost use Rattle.lab_shelves.specs.Faults.{Declines, IsToldOf, valued};
 
 use crate::faults::TaskFault;
 use lab_messages::WriteFault;
 use lab_names::OutOfMemory;
-use lab_serving::tell;
+use lab_outside::tell;
 use std::alloc::Global;
 use std::io::Write;
 

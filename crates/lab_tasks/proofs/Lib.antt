@@ -1,2 +1,1 @@
 pub mod DoneLemmas
-pub mod ExplainLemmas

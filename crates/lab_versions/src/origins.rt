@@ -8,7 +8,7 @@ use std::alloc::AllocError;
 use std::marker::Model;
 
 /// What a later version amends, and why.
-#[derive(Clone, Debug, Drop)]
+#[derive(Debug, Drop)]
 pub struct Amendment {
     /// The digest of the version before.
     pub previous: Digest,
@@ -25,13 +25,41 @@ impl Amendment {
     }
 }
 
+impl Clone for Amendment {
+    ghost use Rattle.std.specs.Prelude.{◌≡◌};
+
+    ghost is_clone = { λ amendment copy. copy ≡ amendment };
+
+    fn clone(&self) -> Result<Amendment, AllocError> {
+        let reason = self.reason.clone()?;
+        Ok(Amendment {
+            previous: self.previous,
+            reason,
+        })
+    }
+}
+
 /// The number of a version, and what it amends.
-#[derive(Clone, Debug, Drop)]
+#[derive(Debug, Drop)]
 pub struct OriginParts {
     /// The version's number.
     pub number: Ordinal,
     /// What it amends, and why.
     pub amendment: Option<Amendment>,
+}
+
+impl Clone for OriginParts {
+    ghost use Rattle.std.specs.Prelude.{◌≡◌};
+
+    ghost is_clone = { λ parts copy. copy ≡ parts };
+
+    fn clone(&self) -> Result<OriginParts, AllocError> {
+        let amendment = self.amendment.clone()?;
+        Ok(OriginParts {
+            number: self.number,
+            amendment,
+        })
+    }
 }
 
 /// Where a version comes from: the first version amends none, and every later one does.

@@ -6,7 +6,7 @@ use std::alloc::AllocError;
 use std::marker::Model;
 
 /// A row of a version: a value that a person entered under a key.
-#[derive(Clone, Debug, Drop)]
+#[derive(Debug, Drop)]
 pub struct EntryRow {
     /// The field's key.
     pub key: Key,
@@ -28,6 +28,28 @@ impl EntryRow {
         ensures { IfOk result (λ copy. copy ≡ self.now) }
     {
         Ok(self.clone()?)
+    }
+}
+
+impl Clone for EntryRow {
+    ghost use Rattle.std.specs.Prelude.{◌≡◌};
+
+    ghost is_clone = { λ row copy. copy ≡ row };
+
+    fn clone(&self) -> Result<EntryRow, AllocError> {
+        let key = self.key.clone()?;
+        let value = self.value.clone()?;
+        let unit = self.unit.clone()?;
+        let person = self.person.clone()?;
+        let reason = self.reason.clone()?;
+        Ok(EntryRow {
+            key,
+            value,
+            unit,
+            person,
+            moment: self.moment,
+            reason,
+        })
     }
 }
 

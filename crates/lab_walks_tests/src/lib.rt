@@ -1,6 +1,5 @@
-//! Tests of `lab_walks` and `lab_twins` over laboratories in a list: a copy that goes out, compared byte
-//! for byte with a text from outside, and a desk beside another that holds more. They stand apart, so
-//! that the crates aren't proved once more with them.
+//! Tests of `lab_walks` over a laboratory in a list: a copy that goes out, compared byte for byte with a text from outside. They
+//! stand apart, so that the crate isn't proved once more with them.
 #![tactic(auto)]
 
 #[cfg(test)]
@@ -9,7 +8,3 @@ mod days;
 mod kept;
 #[cfg(test)]
 mod tests;
-#[cfg(test)]
-mod texts;
-#[cfg(test)]
-mod twin_tests;

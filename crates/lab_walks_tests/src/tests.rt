@@ -2,13 +2,14 @@
 use crate::days::COPY;
 use crate::kept::{lists, moment, text};
 use lab_kept::{LabCode, Ordinal};
-use lab_walks::{CopyOutFault, Unheard, WholeRecords, copy_out};
+use lab_walks::{Unheard, WholeRecords, copy_out};
 use std::process::Abort;
 
-// The text of a copy of records 1 to 9 at second 5000.
-fn copy(rt: &(impl Abort + AllocGlobal), code: &LabCode) -> Result<Vec<u8>, CopyOutFault> {
-    let mut lists = lists(rt, code);
+// Whether the copy of records 1 to 9 at second 5000 goes out, and is this text.
+fn goes_out<R: Abort + AllocGlobal>(rt: &R, code: &LabCode, wanted: &str) -> bool {
     let to = Ordinal::new(9).expect(rt, "an ordinal");
+    let moment = moment(rt, 5000);
+    let mut lists = lists(rt, code);
     let mut out = Vec::new(rt.alloc());
     let done = copy_out(
         rt.alloc(),
@@ -17,19 +18,18 @@ fn copy(rt: &(impl Abort + AllocGlobal), code: &LabCode) -> Result<Vec<u8>, Copy
         code,
         Ordinal::FIRST,
         to,
-        moment(rt, 5000),
+        moment,
         &mut out,
         &mut Unheard,
     );
     drop(lists);
-    done.map(|_| out)
+    done.is_ok() && out.as_slice() == wanted.as_bytes()
 }
 
 #[test]
 fn all_records_go_out(rt: HostRuntime) {
     let code = text(&rt, "aqua");
-    let text = copy(&rt, &code).expect(&rt, "a copy");
-    assert!(rt; text.as_slice() == COPY.as_bytes());
-    drop(text);
+    let is_out = goes_out(&rt, &code, COPY);
     drop(code);
+    assert!(rt; is_out);
 }

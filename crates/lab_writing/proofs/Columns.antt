@@ -1,9 +1,10 @@
 -- What a column holds stays as it is when it is stored there.
-use Rattle.std.proofs.Common.{◌≡◌, ℕ, ℤ, pos, Bool, true, false, List, Option, Some, None, refl}
+use Rattle.std.proofs.Common.{◌≡◌, ℕ, ℤ, pos, Bool, true, false, List, [], ◌∷◌, Option, Some, None, refl}
 use Rattle.sqlite_value.specs.declared.value.Value.TheVariants.{Int, Blob as Bytes, Text as Words}
 use Rattle.sqlite_schema.specs.declared.schema.Kind.TheVariants.{Integer, Text, Blob}
-use Rattle.sqlite_rules.specs.Cast.{cast}
-use Rattle.lab_tables.specs.Rows.{number, flag, optional}
+use Rattle.sqlite_rules.specs.Cast.{cast, cast_row}
+use Rattle.lab_tables.specs.Schema as schema
+use Rattle.lab_tables.specs.Rows.{SessionRow, session_row, number, flag, optional}
 use Rattle.lab_writing.proofs.Writes.{cast_int, cast_null}
 
 pub cast_flag : (one : Bool) → cast Integer (flag one) ≡ flag one
@@ -25,3 +26,6 @@ cast_words (Some words) = refl
 pub cast_blob : (one : Option (List ℕ)) → cast Blob (optional Bytes one) ≡ optional Bytes one
 cast_blob None = refl
 cast_blob (Some bytes) = refl
+
+pub session_stays : (one : SessionRow) → cast_row schema.sessions (session_row one) ≡ session_row one
+session_stays one = λ i. cast_int one.id i ∷ cast_null i ∷ cast_int one.lab i ∷ cast_int one.person i ∷ cast_int (pos one.number) i ∷ Bytes one.token ∷ cast_int (pos one.opened) i ∷ cast_int (pos one.last) i ∷ cast_flag one.closed i ∷ cast_flag one.signed i ∷ []

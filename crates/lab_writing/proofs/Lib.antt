@@ -6,5 +6,4 @@ pub mod Placed
 pub mod LabWrites
 pub mod Lookups
 pub mod KeyLemmas
-pub mod Commits
 pub mod KnownValues

@@ -1,10 +1,9 @@
 -- What the statement that closes a session means, and what it makes of the tables.
 use Rattle.std.proofs.Common.{◌≡◌, ℕ, ℤ, pos, true, List, [], ◌∷◌, codes, Ok, refl, int_eq}
-use Rattle.sqlite_value.specs.declared.value.Value.TheVariants.{Null, Int, Blob}
+use Rattle.sqlite_value.specs.declared.value.Value.TheVariants.{Null, Int}
 use Rattle.sqlite_schema.specs.declared.command.Command.TheVariants.{Update}
 use Rattle.sqlite_sql.specs.Term.{Term, lit, col}
 use Rattle.sqlite_tied.specs.Compute.{everything}
-use Rattle.sqlite_rules.specs.Cast.{cast_row}
 use Rattle.sqlite_keyed.specs.Lists.{update_where}
 use Rattle.sqlite_keyed.proofs.KeyedLemmas.{IsKeyedBy-update_where}
 use Rattle.sqlite.specs.Listing.{understood}
@@ -12,16 +11,13 @@ use Rattle.sqlite.specs.State.{State, Executes}
 use Rattle.sqlite.proofs.Callers.{IsPlain, command_of}
 use Rattle.lab_tables.specs.Schema.{lab_schema}
 use Rattle.lab_tables.specs.Schema as schema
-use Rattle.lab_tables.specs.Rows.{SessionRow, session_row, session_id, tables_in, number}
+use Rattle.lab_tables.specs.Rows.{SessionRow, session_row, session_id, tables_in}
 use Rattle.lab_tables.specs.Held.{IsTyped}
 use Rattle.lab_tables_laws.proofs.HeldLaws.{stored_if_typed, held_if_stored}
 use Rattle.lab_writing.proofs.Tables.{stored_sessions, rising_sessions}
-use Rattle.lab_writing.proofs.Columns.{cast_flag}
-use Rattle.lab_writing.proofs.Writes.{cast_int, cast_null, by_id_query, set_by_id}
+use Rattle.lab_writing.proofs.Columns.{session_stays}
+use Rattle.lab_writing.proofs.Writes.{by_id_query, set_by_id}
 use Rattle.lab_writing.proofs.Inside.{Wrote}
-
-session_stays : (one : SessionRow) → cast_row schema.sessions (session_row one) ≡ session_row one
-session_stays one = λ i. cast_int one.id i ∷ cast_null i ∷ cast_int one.lab i ∷ cast_int one.person i ∷ cast_int (pos one.number) i ∷ Blob one.token ∷ cast_int (pos one.opened) i ∷ cast_int (pos one.last) i ∷ cast_flag one.closed i ∷ cast_flag one.signed i ∷ []
 
 abbrev pub close_text : List ℕ
 close_text = codes "UPDATE sessions SET closed = 1 WHERE id = ?1"

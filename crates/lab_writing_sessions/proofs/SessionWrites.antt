@@ -20,7 +20,7 @@ use Rattle.lab_tables.specs.Changes.{put_session, set_session}
 use Rattle.lab_tables.specs.Held.{IsTyped}
 use Rattle.lab_tables_laws.proofs.HeldLaws.{stored_if_typed, held_if_stored}
 use Rattle.lab_writing.proofs.Tables.{stored_sessions, rising_sessions}
-use Rattle.lab_writing.proofs.Columns.{cast_flag}
+use Rattle.lab_writing.proofs.Columns.{cast_flag, session_stays}
 use Rattle.lab_writing.proofs.Writes.{cast_int, cast_null, by_id_query, set_by_id, update_same, add_next}
 use Rattle.lab_writing.proofs.Inside.{Wrote}
 
@@ -46,9 +46,6 @@ session_values one = Int one.lab ∷ Int one.person ∷ number one.number ∷ Bl
 
 session_cast : (one : SessionRow) → cast_row schema.sessions (Null ∷ Null ∷ session_values one) ≡ Null ∷ Null ∷ session_values one
 session_cast one = λ i. cast_null i ∷ cast_null i ∷ cast_int one.lab i ∷ cast_int one.person i ∷ cast_int (pos one.number) i ∷ Blob one.token ∷ cast_int (pos one.opened) i ∷ cast_int (pos one.last) i ∷ cast_flag one.closed i ∷ cast_flag one.signed i ∷ []
-
-session_stays : (one : SessionRow) → cast_row schema.sessions (session_row one) ≡ session_row one
-session_stays one = λ i. cast_int one.id i ∷ cast_null i ∷ cast_int one.lab i ∷ cast_int one.person i ∷ cast_int (pos one.number) i ∷ Blob one.token ∷ cast_int (pos one.opened) i ∷ cast_int (pos one.last) i ∷ cast_flag one.closed i ∷ cast_flag one.signed i ∷ []
 
 pub adds_session : (one : SessionRow) (old new : State) (count : ℕ) → IsTyped old.now → one.id ≡ next_key session_id (tables_in old.now.trees).sessions → Executes add_session_text (session_values one) old new (Ok count)
     → Wrote (put_session one (tables_in old.now.trees)) new.now

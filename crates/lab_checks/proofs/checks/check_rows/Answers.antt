@@ -3,7 +3,7 @@ use Rattle.std.proofs.Common.{◌≡◌, ◌∙◌, Bool, true, false, List, ℕ
 use Rattle.std.proofs.lemmas.Result.{err_from_is_err_and}
 use Rattle.csv.specs.Reading.{ReadRecord}
 use Rattle.csv.specs.Records.{fields_of}
-use Rattle.lab_lines.specs.Fields.{IsRead, line_at}
+use Rattle.lab_lines.specs.Lines.{IsRead, line_at}
 use Rattle.lab_checks.proofs.CheckLemmas.{next_none, next_unread, next_taken, next_fault}
 use Rattle.lab_checks.proofs.checks.check_rows.Goals as goal
 

@@ -1,7 +1,7 @@
 use Rattle.std.proofs.Common.{◌∙◌}
 use Rattle.csv.specs.Records.{fields_of}
+use Rattle.lab_fields.specs.Fields.{columns_in}
 use Rattle.lab_lines.proofs.RowLemmas.{header_found, header_missing}
-use Rattle.lab_lines.specs.Fields.{columns_in}
 use Rattle.lab_lines.proofs.columns.is_header.Goals as goal
 
 pub returns-in-Some : goal.returns-in-Some

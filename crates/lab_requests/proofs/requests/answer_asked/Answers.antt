@@ -5,7 +5,7 @@ use Rattle.std.specs.Prelude.{◌≡◌, IfOk}
 use Rattle.std.proofs.lemmas.Bool.{false≢true}
 use Rattle.lab_kept.specs.Parts.{part_of}
 use Rattle.lab_machine.specs.Machine.{step}
-use Rattle.lab_endings.specs.Deciding.{decided}
+use Rattle.lab_outcomes.specs.Deciding.{decided}
 use Rattle.lab_requests.proofs.Deciding.{builds, none_there, idle_none, fits_there, made_steps, on_ok, either}
 use Rattle.lab_requests.proofs.requests.answer_asked.Goals as goal
 

@@ -2,7 +2,7 @@
 use Rattle.std.proofs.Common.{map, inl, inr}
 use Rattle.lab_words.proofs.AskLemmas.{asked_is}
 use Rattle.lab_tasks.proofs.DoneLemmas.{never_done}
-use Rattle.lab_tasks.proofs.ExplainLemmas.{explained_by, unexplained}
+use Rattle.lab_words_explained.proofs.ExplainLemmas.{explained_by, unexplained}
 use Rattle.lab_tasks.proofs.command_line.labdesk.Goals as goal
 
 pub returns-in-Ok-clause-done : goal.returns-in-Ok-clause-done

@@ -1,0 +1,140 @@
+//! What the rows of a version stand for, as far as it can be told without taking memory: each text
+//! is still that of the row.
+ghost use Rattle.std.specs.Prelude.{◌≡◌, IfSome, option_map};
+ghost use Rattle.lab_rows.specs.Reading.{version_line, entry_line, signature_line};
+ghost use Rattle.lab_fields.specs.Fields.{columns_in};
+ghost use Rattle.lab_lines_versions.specs.Parts.{AreEntryTexts, AreSignatureTexts, AreVersionTexts, entry_of, signature_of, version_of};
+
+use lab_fields::fields::MeaningParts;
+use lab_fields::{RowFields, fields};
+use lab_names::{Keys, LabCodes, Names, Notes, PersonCodes, Units};
+use lab_rows::{Digest, Format, Moment, Ordinal, Seal, State};
+
+/// What a version row tells.
+#[derive(Drop)]
+pub struct VersionRowParts<'a> {
+    pub lab: &'a str,
+    pub record_number: Ordinal,
+    pub number: Ordinal,
+    pub format: Format,
+    pub state: State,
+    pub opener: &'a str,
+    pub opened: Moment,
+    pub reason: Option<&'a str>,
+    pub digest: Digest,
+}
+
+/// What an entry row tells.
+#[derive(Drop)]
+pub struct EntryParts<'a> {
+    pub lab: &'a str,
+    pub record_number: Ordinal,
+    pub version: Ordinal,
+    pub key: &'a str,
+    pub value: &'a str,
+    pub unit: &'a str,
+    pub person: &'a str,
+    pub moment: Moment,
+    pub reason: Option<&'a str>,
+}
+
+/// What a signature row tells.
+#[derive(Drop)]
+pub struct SignatureParts<'a> {
+    pub lab: &'a str,
+    pub record_number: Ordinal,
+    pub version: Ordinal,
+    pub meaning: MeaningParts<'a>,
+    pub person: &'a str,
+    pub name: &'a str,
+    pub moment: Moment,
+    pub digest: Digest,
+    pub seal: Seal,
+}
+
+/// What a version row stands for.
+#[tactic(auto, unfolding(lab_rows::specs::Reading::version_line))]
+pub fn version_parts<'a>(row: &RowFields<'a>) -> Option<VersionRowParts<'a>>
+    ensures value { option_map version_of result ≡ version_line (columns_in row.now) }
+    ensures texts { IfSome result AreVersionTexts }
+{
+    let lab = fields::text::<LabCodes>(row.lab)?;
+    let record_number = fields::ordinal(row.record_number)?;
+    let number = fields::ordinal(row.version)?;
+    let format = fields::format(row.key, row.name)?;
+    let state = fields::state(row.value)?;
+    let opener = fields::text::<PersonCodes>(row.person)?;
+    let opened = fields::moment(row.moment)?;
+    let reason = fields::version_reason(number, row.reason)?;
+    let digest = fields::digest(row.digest)?;
+    fields::empty(&[row.unit, row.seal])?;
+    Some(VersionRowParts {
+        lab,
+        record_number,
+        number,
+        format,
+        state,
+        opener,
+        opened,
+        reason,
+        digest,
+    })
+}
+
+/// What an entry row stands for.
+#[tactic(auto, unfolding(lab_rows::specs::Reading::entry_line))]
+pub fn entry_parts<'a>(row: &RowFields<'a>) -> Option<EntryParts<'a>>
+    ensures value { option_map entry_of result ≡ entry_line (columns_in row.now) }
+    ensures texts { IfSome result AreEntryTexts }
+{
+    let lab = fields::text::<LabCodes>(row.lab)?;
+    let record_number = fields::ordinal(row.record_number)?;
+    let version = fields::ordinal(row.version)?;
+    let key = fields::text::<Keys>(row.key)?;
+    let value = fields::text::<Notes>(row.value)?;
+    let unit = fields::text::<Units>(row.unit)?;
+    let person = fields::text::<PersonCodes>(row.person)?;
+    let moment = fields::moment(row.moment)?;
+    let reason = fields::reason(row.reason)?;
+    fields::empty(&[row.name, row.digest, row.seal])?;
+    Some(EntryParts {
+        lab,
+        record_number,
+        version,
+        key,
+        value,
+        unit,
+        person,
+        moment,
+        reason,
+    })
+}
+
+/// What a signature row stands for.
+#[tactic(auto, unfolding(lab_rows::specs::Reading::signature_line))]
+pub fn signature_parts<'a>(row: &RowFields<'a>) -> Option<SignatureParts<'a>>
+    ensures value { option_map signature_of result ≡ signature_line (columns_in row.now) }
+    ensures texts { IfSome result AreSignatureTexts }
+{
+    let lab = fields::text::<LabCodes>(row.lab)?;
+    let record_number = fields::ordinal(row.record_number)?;
+    let version = fields::ordinal(row.version)?;
+    let meaning = fields::meaning(row.value, row.reason)?;
+    let person = fields::text::<PersonCodes>(row.person)?;
+    let name = fields::text::<Names>(row.name)?;
+    let moment = fields::moment(row.moment)?;
+    let digest = fields::digest(row.digest)?;
+    let seal = fields::seal(row.seal)?;
+    fields::empty(&[row.key, row.unit])?;
+    Some(SignatureParts {
+        lab,
+        record_number,
+        version,
+        meaning,
+        person,
+        name,
+        moment,
+        digest,
+        seal,
+    })
+}

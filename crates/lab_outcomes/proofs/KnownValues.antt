@@ -1,0 +1,52 @@
+-- Values from outside, so that a wrong rule in the definitions does not check: what a trail of a
+-- thousand million rows has no room for.
+use Rattle.std.proofs.Common.{◌≡◌, ℕ, [], ◌∷◌, codes, refl, Some}
+use Rattle.lab_access.specs.declared.persons.Person.{Person}
+use Rattle.lab_access.specs.declared.refusals.Failure.TheVariants.{Counted, Locking, AlreadyLocked, Stray}
+use Rattle.lab_access.specs.declared.refusals.PeopleRefusal.TheVariants.{LabFull}
+use Rattle.lab_access.specs.declared.sessions.Closing.TheVariants.{All}
+use Rattle.lab_kept.specs.declared.changes.Change.{Change}
+use Rattle.lab_kept.specs.declared.changes.Change.TheVariants.{Strays, PersonSet, SessionsClosed, TrailAdded}
+use Rattle.lab_kept.specs.declared.trails.Deed.TheVariants.{Open, Refuse, Lock}
+use Rattle.lab_kept.specs.declared.trails.Occasion.TheVariants.{Opening}
+use Rattle.lab_kept.specs.Trails.{row_of}
+use Rattle.lab_rules.specs.declared.refusals.Refusal.TheVariants.{People}
+use Rattle.lab_machine.specs.declared.replies.Reply.TheVariants.{Refused, Closed}
+use Rattle.lab_outcomes.specs.Deciding.{failing, outcome, ended_made}
+
+-- the row of that number, that the person's password was refused, or that the account was locked
+abbrev refused_row : ℕ → Person → Change
+refused_row number person = TrailAdded (row_of number 500 (Some person.code) (Refuse Opening))
+
+abbrev locked_row : ℕ → Person → Change
+locked_row number person = TrailAdded (row_of number 500 (Some person.code) (Lock person.code))
+
+-- a password that locks: with room for two rows, for one, and for none
+pub known_locks : (person : Person)
+    → (failing 999999998 0 500 Opening (Locking person)
+    ≡ PersonSet person ∷ SessionsClosed person.code All ∷ refused_row 999999999 person
+    ∷ locked_row 1000000000 person ∷ [])
+    × (failing 999999999 0 500 Opening (Locking person)
+    ≡ PersonSet person ∷ SessionsClosed person.code All ∷ refused_row 1000000000 person ∷ [])
+    × (failing 1000000000 0 500 Opening (Locking person)
+    ≡ PersonSet person ∷ SessionsClosed person.code All ∷ [])
+known_locks person = (refl, refl, refl)
+
+-- one that is counted, one that meets a lock, and one that is nobody's
+pub known_failures : (person : Person)
+    → (failing 999999999 0 500 Opening (Counted person)
+    ≡ PersonSet person ∷ refused_row 1000000000 person ∷ [])
+    × (failing 1000000000 0 500 Opening (Counted person) ≡ PersonSet person ∷ [])
+    × (failing 0 0 500 Opening (AlreadyLocked person) ≡ refused_row 1 person ∷ [])
+    × (failing 1000000000 0 500 Opening (AlreadyLocked person) ≡ [])
+    × (failing 0 7 500 Opening Stray ≡ Strays 8 ∷ [])
+known_failures person = (refl, refl, refl, refl, refl)
+
+-- what is made is told, and refused where the trail is full
+pub known_ends : (before own : Change)
+    → (ended_made (before ∷ []) 999999999 500 (codes "dan") (Closed 3) (Open 3) (own ∷ [])
+    ≡ outcome (Closed 3)
+    (before ∷ own ∷ TrailAdded (row_of 1000000000 500 (Some (codes "dan")) (Open 3)) ∷ []))
+    × (ended_made (before ∷ []) 1000000000 500 (codes "dan") (Closed 3) (Open 3) (own ∷ [])
+    ≡ outcome (Refused (People LabFull)) (before ∷ []))
+known_ends before own = (refl, refl)

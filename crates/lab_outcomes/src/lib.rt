@@ -1,0 +1,11 @@
+//! What is decided on a part of a laboratory, as it is defined, and what its ends are put together from: the rows that the trail is
+//! given, what a failed password changes, and what is told (21 CFR 11.10(e) and 11.300(d)).
+#![tactic(auto)]
+
+mod drafts;
+mod outcome;
+mod telling;
+
+pub use drafts::next_number;
+pub use outcome::Outcome;
+pub use telling::{failed, refused, told};

@@ -1,0 +1,3 @@
+pub mod ReadLemmas
+pub mod ToldLemmas
+pub mod KnownValues

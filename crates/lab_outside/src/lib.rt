@@ -1,0 +1,18 @@
+//! What a program takes from outside, whoever hands it in: the moments of a clock, words of chance,
+//! and the bytes of a reader; the faults that stop it there, and how a fault is told on standard
+//! error.
+#![tactic(auto)]
+
+mod faults;
+mod outside;
+mod reading;
+mod told;
+
+pub use faults::{ConnectionFault, ListenFault, RehearsalFault, ServerFault};
+pub use lab_desk_faults::ServeFault;
+pub use lab_foundings::FoundFault;
+pub use lab_messages::WriteFault;
+pub use lab_names::{Moment, Tick};
+pub use outside::{Chance, Clock, DrawFault, draw};
+pub use reading::read_all;
+pub use told::tell;

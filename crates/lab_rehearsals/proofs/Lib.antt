@@ -1,0 +1,2 @@
+pub mod RehearsalLemmas
+pub mod KnownValues

@@ -1,0 +1,2 @@
+pub mod Rehearsals
+pub mod Tasks

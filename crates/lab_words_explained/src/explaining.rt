@@ -1,0 +1,80 @@
+//! Words that ask for no task: what becomes of them.
+
+ghost use Rattle.std.specs.Prelude.{[], ◌∷◌, ◌≡◌, IfOk};
+ghost use Rattle.clap.specs.Words.{HasKind, kind_of};
+ghost use Rattle.clap.specs.declared.error.kind.ErrorKind.TheVariants.{ValueValidation};
+ghost use Rattle.lab_words_explained.specs.Explaining.{Explains, IsExplained};
+
+use clap::Error;
+use clap::error::ErrorKind;
+use lab_messages::WriteFault;
+use lab_outside::{ServerFault, tell};
+use lab_words_commands::copy_command;
+use std::alloc::{AllocError, Global};
+use std::io::Write;
+
+/// What is told of a range of records that ends before it begins.
+const MISORDERED: &str = "the number of '--from <A>' is above that of '--to <B>'";
+
+/// Tells why the words name no task, and answers the status: 0 for help or the version, which go to
+/// the output, 2 for a fault in the words, and 1 where memory ran out or the text could not be
+/// written.
+///
+/// # Errors
+/// What gives the status 1 could not be told, as standard error failed.
+pub fn explain<W: Write, E: Write>(
+    error: &Error,
+    output: &mut W,
+    errors: &mut E,
+) -> Result<u8, WriteFault>
+    ensures { Explains (kind_of error.now) (W.contents output.old) (W.contents output.new)
+        (E.contents errors.old) (E.contents errors.new) result }
+{
+    if error.kind() == ErrorKind::OutOfMemory {
+        tell(errors, ServerFault::Memory.word())?;
+        return Ok(1);
+    }
+    if error.use_stderr() {
+        let _ = write!(errors, "{error}");
+        return Ok(2);
+    }
+    if write!(output, "{error}").is_err() {
+        tell(errors, ServerFault::Write.word())?;
+        return Ok(1);
+    }
+    Ok(0)
+}
+
+// The fault of a range of records that ends before it begins, as clap tells its own.
+fn order_fault(alloc: Global) -> Result<Error, AllocError>
+    ensures { IfOk result (λ error. kind_of error ≡ ValueValidation) }
+{
+    let mut command = copy_command(alloc)?.bin_name("labdesk copy")?;
+    command.error(ErrorKind::ValueValidation, MISORDERED)
+}
+
+// The same, or that memory ran out.
+fn order_error(alloc: Global) -> Error
+    ensures { HasKind (ValueValidation ∷ []) result }
+{
+    match order_fault(alloc) {
+        Ok(error) => error,
+        Err(error) => Error::from(error),
+    }
+}
+
+/// Tells that the range of records of a copy ends before it begins, as a fault in the words.
+///
+/// # Errors
+/// Memory ran out, and that could not be told, as standard error failed.
+pub fn explain_order<W: Write, E: Write>(
+    alloc: Global,
+    output: &mut W,
+    errors: &mut E,
+) -> Result<u8, WriteFault>
+    ensures { IsExplained (ValueValidation ∷ []) (W.contents output.old) (W.contents output.new)
+        (E.contents errors.old) (E.contents errors.new) result }
+{
+    let error = order_error(alloc);
+    explain(&error, output, errors)
+}
