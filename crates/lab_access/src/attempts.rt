@@ -67,7 +67,7 @@ fn try_password(person: Person, is_own: bool, text: &str, moment: Moment) -> Res
 }
 
 // One failed password more; the fifth locks.
-fn fail(person: Person, moment: Moment) -> Failure
+fn fail(mut person: Person, moment: Moment) -> Failure
     ensures { result ≡ failure_of person moment }
 {
     let before = match person.locked {
@@ -75,15 +75,11 @@ fn fail(person: Person, moment: Moment) -> Failure
         None => person.failures,
     };
     if before < FAILURES_TO_LOCK - 1 {
-        return Failure::Counted(Person {
-            failures: before + 1,
-            locked: None,
-            ..person
-        });
+        person.failures = before + 1;
+        person.locked = None;
+        return Failure::Counted(person);
     }
-    Failure::Locking(Person {
-        failures: FAILURES_TO_LOCK,
-        locked: Some(moment),
-        ..person
-    })
+    person.failures = FAILURES_TO_LOCK;
+    person.locked = Some(moment);
+    Failure::Locking(person)
 }

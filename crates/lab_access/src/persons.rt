@@ -17,7 +17,6 @@ const SECONDS_OF_LOCK: u64 = 1800;
 const SECONDS_OF_ASK: u64 = 604_800;
 
 /// A person of a laboratory, with the account. Printed for whoever mends a program, it is its code alone.
-#[derive(Drop)]
 pub struct Person {
     /// The code, which is never given to another.
     pub code: PersonCode,
@@ -37,8 +36,23 @@ pub struct Person {
     pub ask: Option<Ask>,
 }
 
+// It is written out, so that a caller doesn't prove again how each part is dropped.
+impl Drop for Person {
+    fn drop(self) {
+        let Person {
+            code: _,
+            name: _,
+            roles: _,
+            retired: _,
+            failures: _,
+            locked: _,
+            password: _,
+            ask: _,
+        } = self;
+    }
+}
+
 /// A one-time word that one administrator asked for, and another is to confirm.
-#[derive(Drop)]
 pub struct Ask {
     /// Who asked.
     pub asker: PersonCode,
@@ -46,6 +60,17 @@ pub struct Ask {
     pub asked: Moment,
     /// By which the first half is known again.
     pub first: Verifier,
+}
+
+// It is written out, so that a caller doesn't prove again how each part is dropped.
+impl Drop for Ask {
+    fn drop(self) {
+        let Ask {
+            asker: _,
+            asked: _,
+            first: _,
+        } = self;
+    }
 }
 
 impl Ask {
@@ -102,14 +127,29 @@ impl Person {
     }
 
     /// The person with no failed password and no lock.
-    pub fn unlocked(self) -> Person
+    pub fn unlocked(mut self) -> Person
         ensures { result ≡ unlocked_person self }
     {
-        Person {
-            failures: 0,
-            locked: None,
-            ..self
-        }
+        self.failures = 0;
+        self.locked = None;
+        self
+    }
+
+    /// The person's code, alone.
+    pub fn into_code(self) -> PersonCode
+        ensures { result ≡ self.code }
+    {
+        let Person {
+            code,
+            name: _,
+            roles: _,
+            retired: _,
+            failures: _,
+            locked: _,
+            password: _,
+            ask: _,
+        } = self;
+        code
     }
 }
 

@@ -16,7 +16,7 @@ const SECONDS_OF_REST: u64 = 900;
 const SECONDS_OF_SESSION: u64 = 28_800;
 
 /// One continuous period in which a person works.
-#[derive(Debug, Drop)]
+#[derive(Debug)]
 pub struct Session {
     /// The session's number in the laboratory.
     pub number: Ordinal,
@@ -32,6 +32,21 @@ pub struct Session {
     pub closed: bool,
     /// Whether something was signed in it, so that the code needn't be given again.
     pub signed: bool,
+}
+
+// It is written out, so that a caller doesn't prove again how each part is dropped.
+impl Drop for Session {
+    fn drop(self) {
+        let Session {
+            number: _,
+            person: _,
+            token: _,
+            opened: _,
+            last: _,
+            closed: _,
+            signed: _,
+        } = self;
+    }
 }
 
 impl Session {

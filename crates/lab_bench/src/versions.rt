@@ -29,8 +29,8 @@ pub(crate) fn read_versions(alloc: Global, calls: u32, rows: u32) -> Result<u64>
 fn rows_read(alloc: Global, text: &[u8], calls: u32) -> Result<u64, TextFault> {
     let mut sum = 0u64;
     for _ in 0..calls {
-        let rows = read_version(alloc, text)?.rows;
-        sum = sum.wrapping_add(rows.rows().len() as u64);
+        let version = read_version(alloc, text)?;
+        sum = sum.wrapping_add(version.rows.rows().len() as u64);
     }
     Ok(sum)
 }

@@ -25,13 +25,25 @@ use std::alloc::Global;
 
 /// What is kept of the lines so far: the copy row, the last record's row, the version whose rows are coming, the kind of the last
 /// line, and how many lines of each kind there are.
-#[derive(Drop)]
 pub struct Kept {
     copy: Option<CopyLine>,
     about: Option<RecordLine>,
     version: Option<VersionAtHand>,
     last: Option<Kind>,
     counts: Counts,
+}
+
+// It is written out, so that a caller doesn't prove again how each part is dropped.
+impl Drop for Kept {
+    fn drop(self) {
+        let Kept {
+            copy: _,
+            about: _,
+            version: _,
+            last: _,
+            counts: _,
+        } = self;
+    }
 }
 
 impl Kept {

@@ -21,7 +21,6 @@ use std::mem;
 
 /// The version whose rows are coming: the number of its row, the version as its digest covers it, the state and the digest in its
 /// row, and the meanings and signers of its signatures.
-#[derive(Drop)]
 pub struct VersionAtHand {
     row: u64,
     parts: VersionParts,
@@ -29,6 +28,20 @@ pub struct VersionAtHand {
     digest: Digest,
     meanings: Series<Meaning>,
     signers: Series<PersonCode>,
+}
+
+// It is written out, so that a caller doesn't prove again how each part is dropped.
+impl Drop for VersionAtHand {
+    fn drop(self) {
+        let VersionAtHand {
+            row: _,
+            parts: _,
+            state: _,
+            digest: _,
+            meanings: _,
+            signers: _,
+        } = self;
+    }
 }
 
 impl VersionAtHand {

@@ -46,7 +46,7 @@ pub fn done_of(
             enrolling_done(alloc, code, name, roles, &slice.person, persons)
         }
         Command::AskIssue { code: _code } => {
-            asking_done(alloc, caller.code, slice.person.take(), tick)
+            asking_done(alloc, caller.into_code(), slice.person.take(), tick)
         }
         Command::ConfirmIssue { code: _code } => {
             confirming_done(alloc, &caller.code, slice.person.take(), tick)
@@ -84,15 +84,15 @@ fn done_on_records(
         Command::OpenRecord {
             form: _form,
             sample,
-        } => { opening_record_done(alloc, slice, sample, caller.code, moment) }
+        } => { opening_record_done(alloc, slice, sample, caller.into_code(), moment) }
         Command::Enter { item, reason, .. } => {
-            entering_done(alloc, slice, item, reason, caller.code, moment)
+            entering_done(alloc, slice, item, reason, caller.into_code(), moment)
         }
         Command::Amend {
             reason,
             altered,
             ..
-        } => { amending_done(alloc, slice, reason, &altered, caller.code, moment) }
+        } => { amending_done(alloc, slice, reason, &altered, caller.into_code(), moment) }
         Command::Sign {
             version,
             digest,

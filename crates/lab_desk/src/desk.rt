@@ -22,12 +22,23 @@ use std::alloc::Global;
 use std::marker::Model;
 
 /// A desk over a keeper: it answers requests, and founds laboratories.
-#[derive(Drop)]
 pub struct Desk<S> {
     alloc: Global,
     keeper: S,
     memory: Vec<u8>,
     last: Option<Vec<u8>>,
+}
+
+// It is written out, so that a caller doesn't prove again how each part is dropped.
+impl<S: Drop> Drop for Desk<S> {
+    fn drop(self) {
+        let Desk {
+            alloc: _,
+            keeper: _,
+            memory: _,
+            last: _,
+        } = self;
+    }
 }
 
 impl<S> Model for Desk<S> {
@@ -293,6 +304,12 @@ impl<S: Keeper + Drop> Desk<S> {
     pub fn into_keeper(self) -> S
         ensures { result ≡ self.keeper }
     {
-        self.keeper
+        let Desk {
+            alloc: _,
+            keeper,
+            memory: _,
+            last: _,
+        } = self;
+        keeper
     }
 }

@@ -13,7 +13,7 @@ use lab_forms::FormFault;
 use lab_kept::{ROWS_LIMIT, Record, Version};
 use lab_names::{Key, LabCode, Moment, Note, OutOfMemory, PersonCode};
 use lab_rules::{CommandFault, EntryMade, Item, Refusal, fail};
-use lab_seal::{Digest, EntryRow, EntryRows, State};
+use lab_seal::{Digest, EntryRow, State};
 use std::alloc::Global;
 
 /// A value as it is entered into the last version of the record that was looked up, while that is open; a key that has a
@@ -186,11 +186,7 @@ fn with_row(version: &Version, row: &EntryRow) -> Result<Version, OutOfMemory>
     ensures { IfOk result (λ next. next ≡ with_row row.now version.now) }
 {
     let row = row.copy()?;
-    let copy = version.copy()?;
-    let mut rows = copy.rows.into_rows();
-    rows.push(row)?;
-    Ok(Version {
-        rows: EntryRows::new(rows),
-        ..copy
-    })
+    let mut next = version.copy()?;
+    next.rows.push(row)?;
+    Ok(next)
 }

@@ -83,23 +83,10 @@ pub fn is_choice(kind: &Kind) -> bool
 pub fn kind_with(kind: Kind, names: Vec<Name>) -> Kind
     ensures { result ≡ kind_with kind names.items }
 {
-    match kind {
+    match &kind {
         Kind::Choice { .. } => Kind::Choice {
             choices: Choices::new(names),
         },
-        Kind::Number {
-            unit,
-            decimals,
-            min,
-            max,
-        } => Kind::Number {
-            unit,
-            decimals,
-            min,
-            max,
-        },
-        Kind::Text { size } => Kind::Text { size },
-        Kind::Date => Kind::Date,
-        Kind::YesNo => Kind::YesNo,
+        Kind::Number { .. } | Kind::Text { .. } | Kind::Date | Kind::YesNo => kind,
     }
 }

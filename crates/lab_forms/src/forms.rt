@@ -18,7 +18,7 @@ use std::marker::Model;
 const FIELDS_LIMIT: usize = 60;
 
 /// A field of a form.
-#[derive(Debug, Drop)]
+#[derive(Debug)]
 pub struct Field {
     /// By what it is known in its form.
     pub key: Key,
@@ -28,6 +28,18 @@ pub struct Field {
     pub required: bool,
     /// What it takes.
     pub kind: Kind,
+}
+
+// It is written out, so that a caller doesn't prove again how each part is dropped.
+impl Drop for Field {
+    fn drop(self) {
+        let Field {
+            key: _,
+            label: _,
+            required: _,
+            kind: _,
+        } = self;
+    }
 }
 
 impl Field {
@@ -92,10 +104,20 @@ impl Worded for Field {
 /// approval before it is released.
 ///
 /// A contract sees it as a sheet of the list of its fields and of that wish.
-#[derive(Debug, Drop)]
+#[derive(Debug)]
 pub struct Form {
     fields: Vec<Field>,
     approval: bool,
+}
+
+// It is written out, so that a caller doesn't prove again how each part is dropped.
+impl Drop for Form {
+    fn drop(self) {
+        let Form {
+            fields: _,
+            approval: _,
+        } = self;
+    }
 }
 
 impl Model for Form {

@@ -21,9 +21,16 @@ const CHOICES_LIMIT: usize = 20;
 /// tested where a form is made.
 ///
 /// A contract sees it as the list of its bytes.
-#[derive(Debug, Drop)]
+#[derive(Debug)]
 pub struct Bound {
     text: String,
+}
+
+// It is written out, so that a caller doesn't prove again how each part is dropped.
+impl Drop for Bound {
+    fn drop(self) {
+        let Bound { text: _ } = self;
+    }
 }
 
 impl Model for Bound {
@@ -85,9 +92,16 @@ impl Eq for Bound {
 /// The names among which a value is chosen, in their order.
 ///
 /// A contract sees them as the list of the names.
-#[derive(Debug, Drop)]
+#[derive(Debug)]
 pub struct Choices {
     names: Vec<Name>,
+}
+
+// It is written out, so that a caller doesn't prove again how each part is dropped.
+impl Drop for Choices {
+    fn drop(self) {
+        let Choices { names: _ } = self;
+    }
 }
 
 impl Model for Choices {
@@ -163,7 +177,7 @@ impl Worded for Name {
 }
 
 /// What a field takes as a value.
-#[derive(Debug, Drop)]
+#[derive(Debug)]
 pub enum Kind {
     /// A number of at most so many decimals, 0 to 6, in the unit, from the least to the greatest where they are there.
     Number {
@@ -184,6 +198,24 @@ pub enum Kind {
     Date,
     /// `yes` or `no`.
     YesNo,
+}
+
+// It is written out, so that a caller doesn't prove again how each part is dropped.
+impl Drop for Kind {
+    fn drop(self) {
+        match self {
+            Kind::Number {
+                unit: _,
+                decimals: _,
+                min: _,
+                max: _,
+            } => {}
+            Kind::Text { size: _ } => {}
+            Kind::Choice { choices: _ } => {}
+            Kind::Date => {}
+            Kind::YesNo => {}
+        }
+    }
 }
 
 fn bound_of(decimals: u32, bound: &Option<Bound>) -> Option<i128>

@@ -10,9 +10,16 @@ use std::marker::Model;
 /// A value that a form has read, as it was written: `7.5` and `7.50` are two values.
 ///
 /// A contract sees it as the list of its text's bytes.
-#[derive(Debug, Drop)]
+#[derive(Debug)]
 pub struct Value {
     text: Note,
+}
+
+// It is written out, so that a caller doesn't prove again how each part is dropped.
+impl Drop for Value {
+    fn drop(self) {
+        let Value { text: _ } = self;
+    }
 }
 
 impl Model for Value {
@@ -42,7 +49,8 @@ impl Value {
     pub fn into_note(self) -> Note
         ensures { result ≡ self }
     {
-        self.text
+        let Value { text } = self;
+        text
     }
 
     /// A copy.

@@ -31,14 +31,12 @@ fn tick() -> Result<Tick> {
 fn person(alloc: Global) -> Result<Person> {
     let changed = Moment::from_seconds(500)?;
     let (code, name) = both(text(alloc, "dan"), text(alloc, "Dan Dorn"))?;
-    let newcomer = enrol(code, name, Roles::none(), None, 3)?;
-    Ok(Person {
-        password: Password::Chosen {
-            verifier: Verifier::make(PASSWORD.as_bytes(), [7; 16], 2),
-            changed,
-        },
-        ..newcomer
-    })
+    let mut newcomer = enrol(code, name, Roles::none(), None, 3)?;
+    newcomer.password = Password::Chosen {
+        verifier: Verifier::make(PASSWORD.as_bytes(), [7; 16], 2),
+        changed,
+    };
+    Ok(newcomer)
 }
 
 fn opened(alloc: Global) -> Result<Opened> {

@@ -42,8 +42,9 @@ fn later_origin(alloc: Global) -> Result<Origin> {
 }
 
 fn later_version(alloc: Global) -> Result<VersionParts> {
-    let (origin, first) = both(later_origin(alloc), version(alloc, 1))?;
-    Ok(VersionParts { origin, ..first })
+    let (origin, mut later) = both(later_origin(alloc), version(alloc, 1))?;
+    later.origin = origin;
+    Ok(later)
 }
 
 fn seal_parts(alloc: Global) -> Result<SealParts> {

@@ -6,7 +6,6 @@ use lab_names::{Moment, Ordinal, PersonCode};
 use lab_seal::EntryRow;
 
 /// One change of a laboratory.
-#[derive(Drop)]
 pub enum Change {
     /// The moment of the last activity becomes this one.
     Last(Moment),
@@ -47,4 +46,35 @@ pub enum Change {
     },
     /// A row is added to the trail.
     TrailAdded(TrailRow),
+}
+
+// It is written out, so that a caller doesn't prove again how each part is dropped.
+impl Drop for Change {
+    fn drop(self) {
+        match self {
+            Change::Last(_) => {}
+            Change::Strays(_) => {}
+            Change::PersonAdded(_) => {}
+            Change::PersonSet(_) => {}
+            Change::SessionAdded(_) => {}
+            Change::SessionSet(_) => {}
+            Change::SessionsClosed {
+                person: _,
+                closing: _,
+            } => {}
+            Change::FormAdded(_) => {}
+            Change::RecordAdded(_) => {}
+            Change::RowAdded { record: _, row: _ } => {}
+            Change::VersionOpened {
+                record: _,
+                version: _,
+            } => {}
+            Change::SignatureAdded {
+                record: _,
+                version: _,
+                signature: _,
+            } => {}
+            Change::TrailAdded(_) => {}
+        }
+    }
 }

@@ -5,7 +5,6 @@ use lab_access::{Person, Session};
 use lab_names::{LabCode, Moment, Name, Series};
 
 /// One laboratory, whole.
-#[derive(Drop)]
 pub struct Lab {
     /// The code by which requests name it.
     pub code: LabCode,
@@ -25,4 +24,21 @@ pub struct Lab {
     pub records: Series<Record>,
     /// Its trail, by number.
     pub trail: Series<TrailRow>,
+}
+
+// It is written out, so that a caller doesn't prove again how each part is dropped.
+impl Drop for Lab {
+    fn drop(self) {
+        let Lab {
+            code: _,
+            name: _,
+            last: _,
+            strays: _,
+            persons: _,
+            sessions: _,
+            forms: _,
+            records: _,
+            trail: _,
+        } = self;
+    }
 }

@@ -1,4 +1,6 @@
 //! Which part of a laboratory is needed, and that part.
+ghost use Rattle.std.specs.Prelude.{◌≡◌};
+
 use crate::records::{FormVersion, Record};
 use crate::trails::TrailRow;
 use lab_access::{Person, Session};
@@ -6,7 +8,6 @@ use lab_names::{Key, LabCode, Moment, Name, Ordinal, PersonCode, Series};
 use lab_seal::Digest;
 
 /// Which version of a form is needed.
-#[derive(Drop)]
 pub enum FormWanted {
     /// The last version of the form.
     Last { code: Key },
@@ -14,13 +15,35 @@ pub enum FormWanted {
     Exact { code: Key, version: Ordinal },
 }
 
+// It is written out, so that a caller doesn't prove again how each part is dropped.
+impl Drop for FormWanted {
+    fn drop(self) {
+        match self {
+            FormWanted::Last { code: _ } => {}
+            FormWanted::Exact {
+                code: _,
+                version: _,
+            } => {}
+        }
+    }
+}
+
 /// Which record is needed.
-#[derive(Drop)]
 pub enum RecordWanted {
     /// The record of the number.
     Numbered { number: Ordinal },
     /// The record of the form and the sample, whatever the form's version.
     About { form: Key, sample: Name },
+}
+
+// It is written out, so that a caller doesn't prove again how each part is dropped.
+impl Drop for RecordWanted {
+    fn drop(self) {
+        match self {
+            RecordWanted::Numbered { number: _ } => {}
+            RecordWanted::About { form: _, sample: _ } => {}
+        }
+    }
 }
 
 /// Which list is needed.
@@ -35,7 +58,6 @@ pub enum ListWanted {
 }
 
 /// Which part of a laboratory is needed. Nothing else of it is.
-#[derive(Drop)]
 pub struct Need {
     /// The session whose token has the digest, and its person.
     pub token: Option<Digest>,
@@ -47,6 +69,19 @@ pub struct Need {
     pub filed: Option<RecordWanted>,
     /// A list.
     pub list: Option<ListWanted>,
+}
+
+// It is written out, so that a caller doesn't prove again how each part is dropped.
+impl Drop for Need {
+    fn drop(self) {
+        let Need {
+            token: _,
+            person: _,
+            form: _,
+            filed: _,
+            list: _,
+        } = self;
+    }
 }
 
 /// How many a laboratory has.
@@ -63,7 +98,6 @@ pub struct Counts {
 }
 
 /// A part of a laboratory.
-#[derive(Drop)]
 pub struct Slice {
     /// The laboratory's code.
     pub code: LabCode,
@@ -91,4 +125,72 @@ pub struct Slice {
     pub records: Series<Record>,
     /// The rows of the trail that are needed.
     pub trail: Series<TrailRow>,
+}
+
+// It is written out, so that a caller doesn't prove again how each part is dropped.
+impl Drop for Slice {
+    fn drop(self) {
+        let Slice {
+            code: _,
+            name: _,
+            last: _,
+            strays: _,
+            counts: _,
+            session: _,
+            caller: _,
+            person: _,
+            form: _,
+            filed: _,
+            persons: _,
+            records: _,
+            trail: _,
+        } = self;
+    }
+}
+
+impl Slice {
+    /// The record that is needed, alone.
+    pub fn into_filed(self) -> Option<Record>
+        ensures { result ≡ self.filed }
+    {
+        let Slice {
+            code: _,
+            name: _,
+            last: _,
+            strays: _,
+            counts: _,
+            session: _,
+            caller: _,
+            person: _,
+            form: _,
+            filed,
+            persons: _,
+            records: _,
+            trail: _,
+        } = self;
+        filed
+    }
+
+    /// The laboratory's code and name, alone.
+    pub fn into_naming(self) -> (LabCode, Name)
+        ensures code { result.0 ≡ self.code }
+        ensures name { result.1 ≡ self.name }
+    {
+        let Slice {
+            code,
+            name,
+            last: _,
+            strays: _,
+            counts: _,
+            session: _,
+            caller: _,
+            person: _,
+            form: _,
+            filed: _,
+            persons: _,
+            records: _,
+            trail: _,
+        } = self;
+        (code, name)
+    }
 }

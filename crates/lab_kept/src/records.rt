@@ -10,7 +10,6 @@ use lab_seal::{Digest, EntryRows, Format, Meaning, Origin, Seal, State};
 use std::alloc::AllocError;
 
 /// One version of a form.
-#[derive(Drop)]
 pub struct FormVersion {
     /// By what the form is known.
     pub code: Key,
@@ -20,8 +19,18 @@ pub struct FormVersion {
     pub form: Form,
 }
 
+// It is written out, so that a caller doesn't prove again how each part is dropped.
+impl Drop for FormVersion {
+    fn drop(self) {
+        let FormVersion {
+            code: _,
+            version: _,
+            form: _,
+        } = self;
+    }
+}
+
 /// A signature of a version, with the printed name, the moment and the meaning (21 CFR 11.50(a)).
-#[derive(Drop)]
 pub struct Signature {
     /// Who signed.
     pub person: PersonCode,
@@ -37,8 +46,21 @@ pub struct Signature {
     pub seal: Seal,
 }
 
+// It is written out, so that a caller doesn't prove again how each part is dropped.
+impl Drop for Signature {
+    fn drop(self) {
+        let Signature {
+            person: _,
+            name: _,
+            meaning: _,
+            moment: _,
+            digest: _,
+            seal: _,
+        } = self;
+    }
+}
+
 /// A version of a record.
-#[derive(Drop)]
 pub struct Version {
     /// The format of its text.
     pub format: Format,
@@ -54,8 +76,21 @@ pub struct Version {
     pub signatures: Series<Signature>,
 }
 
+// It is written out, so that a caller doesn't prove again how each part is dropped.
+impl Drop for Version {
+    fn drop(self) {
+        let Version {
+            format: _,
+            origin: _,
+            opener: _,
+            opened: _,
+            rows: _,
+            signatures: _,
+        } = self;
+    }
+}
+
 /// A record: a form filled in for a sample.
-#[derive(Drop)]
 pub struct Record {
     /// Its number in the laboratory.
     pub number: Ordinal,
@@ -65,6 +100,18 @@ pub struct Record {
     pub sample: Name,
     /// Its versions, the first of them first.
     pub versions: Series<Version>,
+}
+
+// It is written out, so that a caller doesn't prove again how each part is dropped.
+impl Drop for Record {
+    fn drop(self) {
+        let Record {
+            number: _,
+            form: _,
+            sample: _,
+            versions: _,
+        } = self;
+    }
 }
 
 impl FormVersion {
@@ -162,6 +209,20 @@ impl Clone for Version {
 }
 
 impl Record {
+    /// The version of a form that it fills in, and its sample, alone.
+    pub fn into_heading(self) -> (FormVersion, Name)
+        ensures form { result.0 ≡ self.form }
+        ensures sample { result.1 ≡ self.sample }
+    {
+        let Record {
+            number: _,
+            form,
+            sample,
+            versions: _,
+        } = self;
+        (form, sample)
+    }
+
     /// The version that has the number.
     pub fn version(&self, number: Ordinal) -> Option<&Version>
         ensures { option_copied result ≡ version_of self.now.versions number }

@@ -13,10 +13,16 @@ use std::marker::Model;
 ///
 /// A contract sees the laboratory that it is once they are made. They are made at once; only where memory ran out in the middle are
 /// some left, and the next call makes them before all else.
-#[derive(Drop)]
 pub struct Held {
     lab: Lab,
     left: Vec<Change>,
+}
+
+// It is written out, so that a caller doesn't prove again how each part is dropped.
+impl Drop for Held {
+    fn drop(self) {
+        let Held { lab: _, left: _ } = self;
+    }
 }
 
 impl Model for Held {

@@ -27,14 +27,14 @@ fn record_with(
     ensures { IfOk result
         (λ kept. kept ≡ record_with lab.now head form (map leaf_of leaves.items)) }
 {
-    let cover = Record {
+    let mut cover = Record {
         number: head.number,
         form,
         sample: head.sample,
         versions: Series::new(alloc),
     };
-    let versions = chain(alloc, lab, &cover, leaves)?;
-    Ok(Record { versions, ..cover })
+    cover.versions = chain(alloc, lab, &cover, leaves)?;
+    Ok(cover)
 }
 
 /// The record with the row, of the laboratory with the code, with its form and all its versions.

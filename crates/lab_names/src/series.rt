@@ -7,9 +7,16 @@ use std::marker::Model;
 /// Values in order.
 ///
 /// A contract sees them as a list, so that two series of equal values are equal, whatever memory they stand in.
-#[derive(Debug, Drop)]
+#[derive(Debug)]
 pub struct Series<T> {
     list: Vec<T>,
+}
+
+// It is written out, so that a caller doesn't prove again how each part is dropped.
+impl<T: Drop> Drop for Series<T> {
+    fn drop(self) {
+        let Series { list: _ } = self;
+    }
 }
 
 impl<T> Model for Series<T> {
@@ -41,7 +48,8 @@ impl<T> Series<T> {
     pub fn into_vec(self) -> Vec<T>
         ensures { result.items ≡ self }
     {
-        self.list
+        let Series { list } = self;
+        list
     }
 
     /// The values.

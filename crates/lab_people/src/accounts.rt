@@ -37,14 +37,14 @@ pub struct Effect {
 #[tactic(auto, unfolding(crate::specs::Accounts::changing))]
 pub fn change_password(
     person: Person,
-    session: Session,
+    mut session: Session,
     old: &str,
     new: &str,
     tick: &Tick,
 ) -> Result<PasswordChanged, PeopleFault>
     ensures { result ≡ changing person session old.now new.now tick.now }
 {
-    let person = attempt(Some(person), old, tick.moment)?;
+    let mut person = attempt(Some(person), old, tick.moment)?;
     if !Password::admits(new) {
         return Err(PeopleRefusal::BadPassword.into());
     }
@@ -52,15 +52,11 @@ pub fn change_password(
         return Err(PeopleRefusal::SamePassword.into());
     }
     let closing = Closing::Others(session.number);
+    person.password = Password::choose(new, salt(&tick.words), tick.moment);
+    session.signed = false;
     Ok(PasswordChanged {
-        person: Person {
-            password: Password::choose(new, salt(&tick.words), tick.moment),
-            ..person
-        },
-        session: Session {
-            signed: false,
-            ..session
-        },
+        person,
+        session,
         closing,
     })
 }
@@ -129,9 +125,10 @@ pub fn set_roles(
 ) -> Result<Effect, PeopleRefusal>
     ensures { result ≡ setting_roles caller.now person roles }
 {
-    let person = person_meant_by(caller, person)?;
+    let mut person = person_meant_by(caller, person)?;
+    person.roles = roles;
     Ok(Effect {
-        person: Person { roles, ..person },
+        person,
         closing: Closing::Nothing,
     })
 }
@@ -144,12 +141,10 @@ pub fn set_roles(
 pub fn retire(caller: &PersonCode, person: Option<Person>) -> Result<Effect, PeopleRefusal>
     ensures { result ≡ retiring caller.now person }
 {
-    let person = person_meant_by(caller, person)?;
+    let mut person = person_meant_by(caller, person)?;
+    person.retired = true;
     Ok(Effect {
-        person: Person {
-            retired: true,
-            ..person
-        },
+        person,
         closing: Closing::All,
     })
 }

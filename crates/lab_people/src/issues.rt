@@ -40,23 +40,20 @@ pub fn ask_issue(
 ) -> Result<Issued, PeopleRefusal>
     ensures { result ≡ asking caller person tick.now }
 {
-    let person = person_meant_by(&caller, person)?;
+    let mut person = person_meant_by(&caller, person)?;
     if let Some(ask) = person.standing_ask(tick.moment)
         && ask.asker != caller
     {
         return Err(PeopleRefusal::IssueOpen);
     }
     let half = Half::from_words(&tick.words);
-    let ask = Ask {
+    person.ask = Some(Ask {
         asker: caller,
         asked: tick.moment,
         first: verifier_of_half(&half, tick),
-    };
+    });
     Ok(Issued {
-        person: Person {
-            ask: Some(ask),
-            ..person
-        },
+        person,
         half,
         closing: Closing::Nothing,
     })
@@ -75,7 +72,7 @@ pub fn confirm_issue(
 ) -> Result<Issued, PeopleRefusal>
     ensures { result ≡ confirming caller.now person tick.now }
 {
-    let person = person_meant_by(caller, person)?;
+    let mut person = person_meant_by(caller, person)?;
     let Some(ask) = person.standing_ask(tick.moment) else {
         return Err(PeopleRefusal::NoIssue);
     };
@@ -84,17 +81,14 @@ pub fn confirm_issue(
     }
     let first = ask.first;
     let half = Half::from_words(&tick.words);
-    let password = Password::OneTime {
+    person.password = Password::OneTime {
         first,
         second: verifier_of_half(&half, tick),
         confirmed: tick.moment,
     };
+    person.ask = None;
     Ok(Issued {
-        person: Person {
-            password,
-            ask: None,
-            ..person
-        },
+        person,
         half,
         closing: Closing::All,
     })

@@ -37,10 +37,12 @@ pub fn read_record(
         return Err(CommandFault::Refused(Refusal::NoSuchRecord));
     };
     let versions = version_lines(alloc, lab, &kept)?;
+    let number = kept.number;
+    let (form, sample) = kept.into_heading();
     Ok(RecordRead {
-        number: kept.number,
-        form: kept.form,
-        sample: kept.sample,
+        number,
+        form,
+        sample,
         versions,
     })
 }
@@ -162,13 +164,8 @@ fn version_read(kept: Record, parts: VersionReadParts) -> VersionRead
       values = parts.values;
     } }
 {
-    let Record {
-        number,
-        form,
-        sample,
-        versions,
-    } = kept;
-    drop(versions);
+    let number = kept.number;
+    let (form, sample) = kept.into_heading();
     VersionRead {
         number,
         form,

@@ -16,7 +16,6 @@ pub struct VersionState {
 }
 
 /// A record with the states of its versions.
-#[derive(Drop)]
 pub struct RecordRead {
     /// Its number.
     pub number: Ordinal,
@@ -28,8 +27,19 @@ pub struct RecordRead {
     pub versions: Series<VersionState>,
 }
 
+// It is written out, so that a caller doesn't prove again how each part is dropped.
+impl Drop for RecordRead {
+    fn drop(self) {
+        let RecordRead {
+            number: _,
+            form: _,
+            sample: _,
+            versions: _,
+        } = self;
+    }
+}
+
 /// A version of a record, with what it comes to.
-#[derive(Drop)]
 pub struct VersionRead {
     /// The record's number.
     pub number: Ordinal,
@@ -49,8 +59,23 @@ pub struct VersionRead {
     pub values: Series<EntryRow>,
 }
 
+// It is written out, so that a caller doesn't prove again how each part is dropped.
+impl Drop for VersionRead {
+    fn drop(self) {
+        let VersionRead {
+            number: _,
+            form: _,
+            sample: _,
+            version: _,
+            state: _,
+            digest: _,
+            altered: _,
+            values: _,
+        } = self;
+    }
+}
+
 /// A record, by its last version.
-#[derive(Drop)]
 pub struct RecordState {
     /// Its number.
     pub number: Ordinal,
@@ -64,8 +89,20 @@ pub struct RecordState {
     pub state: Option<State>,
 }
 
+// It is written out, so that a caller doesn't prove again how each part is dropped.
+impl Drop for RecordState {
+    fn drop(self) {
+        let RecordState {
+            number: _,
+            form: _,
+            sample: _,
+            current: _,
+            state: _,
+        } = self;
+    }
+}
+
 /// A person, as persons are read.
-#[derive(Drop)]
 pub struct PersonLine {
     /// The code.
     pub code: PersonCode,
@@ -77,4 +114,17 @@ pub struct PersonLine {
     pub retired: bool,
     /// Whether the account is locked at the moment.
     pub locked: bool,
+}
+
+// It is written out, so that a caller doesn't prove again how each part is dropped.
+impl Drop for PersonLine {
+    fn drop(self) {
+        let PersonLine {
+            code: _,
+            name: _,
+            roles: _,
+            retired: _,
+            locked: _,
+        } = self;
+    }
 }

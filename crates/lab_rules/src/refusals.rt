@@ -8,7 +8,7 @@ use lab_names::{Key, Ordinal};
 use lab_secrets::Digest;
 
 /// What a laboratory's machine refuses, with what it tells.
-#[derive(Debug, Drop)]
+#[derive(Debug)]
 pub enum Refusal {
     /// There is no such laboratory.
     NoSuchLab,
@@ -52,6 +52,35 @@ pub enum Refusal {
     CodeWanted,
     /// The form wants no approval.
     ApprovalNotWanted,
+}
+
+// It is written out, so that a caller doesn't prove again how each part is dropped.
+impl Drop for Refusal {
+    fn drop(self) {
+        match self {
+            Refusal::NoSuchLab => {}
+            Refusal::ClockBehind => {}
+            Refusal::People(_) => {}
+            Refusal::Form(_) => {}
+            Refusal::NoSuchForm => {}
+            Refusal::RecordExists(_) => {}
+            Refusal::NoSuchRecord => {}
+            Refusal::NoSuchVersion => {}
+            Refusal::NotOpen => {}
+            Refusal::ReasonWanted => {}
+            Refusal::NothingAltered => {}
+            Refusal::NotAltered(_) => {}
+            Refusal::AmendmentOpen => {}
+            Refusal::EntriesMissing => {}
+            Refusal::StaleDigest(_) => {}
+            Refusal::AlreadySigned => {}
+            Refusal::OwnWork => {}
+            Refusal::NotAuthor => {}
+            Refusal::NotSigned => {}
+            Refusal::CodeWanted => {}
+            Refusal::ApprovalNotWanted => {}
+        }
+    }
 }
 
 impl Refusal {

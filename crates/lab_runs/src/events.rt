@@ -6,7 +6,6 @@ use lab_names::{LabCode, OutOfMemory, Series, Tick};
 use std::alloc::AllocError;
 
 /// One event of an installation. It isn't printed: it has passwords, tokens, and the words that tokens are made of.
-#[derive(Drop)]
 pub enum Event {
     /// A laboratory is to be founded.
     Found {
@@ -24,6 +23,20 @@ pub enum Event {
         /// The bytes of the request.
         bytes: Series<u8>,
     },
+}
+
+// It is written out, so that a caller doesn't prove again how each part is dropped.
+impl Drop for Event {
+    fn drop(self) {
+        match self {
+            Event::Found {
+                lab: _,
+                tick: _,
+                body: _,
+            } => {}
+            Event::Call { tick: _, bytes: _ } => {}
+        }
+    }
 }
 
 impl Event {

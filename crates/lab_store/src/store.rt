@@ -25,10 +25,16 @@ use std::io::Write;
 use std::marker::Model;
 
 /// The laboratories of a file, over a connection at rest that was created or opened by `lab_files`.
-#[derive(Drop)]
 pub struct Store<S: Alter> {
     conn: Connection<S>,
     alloc: Global,
+}
+
+// It is written out, so that a caller doesn't prove again how each part is dropped.
+impl<S: Alter + Drop> Drop for Store<S> {
+    fn drop(self) {
+        let Store { conn: _, alloc: _ } = self;
+    }
 }
 
 impl<S: Alter> Model for Store<S> {

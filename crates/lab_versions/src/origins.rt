@@ -8,12 +8,22 @@ use std::alloc::AllocError;
 use std::marker::Model;
 
 /// What a later version amends, and why.
-#[derive(Debug, Drop)]
+#[derive(Debug)]
 pub struct Amendment {
     /// The digest of the version before.
     pub previous: Digest,
     /// Why there is another version.
     pub reason: Note,
+}
+
+// It is written out, so that a caller doesn't prove again how each part is dropped.
+impl Drop for Amendment {
+    fn drop(self) {
+        let Amendment {
+            previous: _,
+            reason: _,
+        } = self;
+    }
 }
 
 impl Amendment {
@@ -40,12 +50,22 @@ impl Clone for Amendment {
 }
 
 /// The number of a version, and what it amends.
-#[derive(Debug, Drop)]
+#[derive(Debug)]
 pub struct OriginParts {
     /// The version's number.
     pub number: Ordinal,
     /// What it amends, and why.
     pub amendment: Option<Amendment>,
+}
+
+// It is written out, so that a caller doesn't prove again how each part is dropped.
+impl Drop for OriginParts {
+    fn drop(self) {
+        let OriginParts {
+            number: _,
+            amendment: _,
+        } = self;
+    }
 }
 
 impl Clone for OriginParts {
@@ -65,9 +85,16 @@ impl Clone for OriginParts {
 /// Where a version comes from: the first version amends none, and every later one does.
 ///
 /// A contract sees its parts.
-#[derive(Debug, Drop)]
+#[derive(Debug)]
 pub struct Origin {
     parts: OriginParts,
+}
+
+// It is written out, so that a caller doesn't prove again how each part is dropped.
+impl Drop for Origin {
+    fn drop(self) {
+        let Origin { parts: _ } = self;
+    }
 }
 
 impl Model for Origin {

@@ -1,12 +1,12 @@
 //! The rows of a version: what persons entered, in order.
-ghost use Rattle.std.specs.Prelude.{◌≡◌, IfOk};
+ghost use Rattle.std.specs.Prelude.{◌≡◌, ◌++◌, ◌∷◌, [], IfOk, OnOk, OnErr};
 
 use lab_names::{Key, Moment, Note, OutOfMemory, PersonCode, Unit};
 use std::alloc::AllocError;
 use std::marker::Model;
 
 /// A row of a version: a value that a person entered under a key.
-#[derive(Debug, Drop)]
+#[derive(Debug)]
 pub struct EntryRow {
     /// The field's key.
     pub key: Key,
@@ -20,6 +20,20 @@ pub struct EntryRow {
     pub moment: Moment,
     /// Why it was entered in place of an earlier one.
     pub reason: Option<Note>,
+}
+
+// It is written out, so that a caller doesn't prove again how each part is dropped.
+impl Drop for EntryRow {
+    fn drop(self) {
+        let EntryRow {
+            key: _,
+            value: _,
+            unit: _,
+            person: _,
+            moment: _,
+            reason: _,
+        } = self;
+    }
 }
 
 impl EntryRow {
@@ -56,9 +70,16 @@ impl Clone for EntryRow {
 /// Rows in the order in which they were entered.
 ///
 /// A contract sees them as the list of the rows.
-#[derive(Debug, Drop)]
+#[derive(Debug)]
 pub struct EntryRows {
     rows: Vec<EntryRow>,
+}
+
+// It is written out, so that a caller doesn't prove again how each part is dropped.
+impl Drop for EntryRows {
+    fn drop(self) {
+        let EntryRows { rows: _ } = self;
+    }
 }
 
 impl Model for EntryRows {
@@ -83,6 +104,14 @@ impl EntryRows {
         ensures { result.now ≡ self.now }
     {
         self.rows.as_slice()
+    }
+
+    /// Adds a row at the end.
+    pub fn push(&mut self, row: EntryRow) -> Result<(), OutOfMemory>
+        ensures added { OnOk result (self.new ≡ self.old ++ row ∷ []) }
+        ensures same { OnErr result (self.new ≡ self.old) }
+    {
+        Ok(self.rows.push(row)?)
     }
 
     /// Gives the list back.

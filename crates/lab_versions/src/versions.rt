@@ -19,7 +19,6 @@ pub enum Format {
 }
 
 /// The version of a record, as its digest covers it.
-#[derive(Drop)]
 pub struct VersionParts {
     /// The format of the text.
     pub format: Format,
@@ -41,6 +40,24 @@ pub struct VersionParts {
     pub opened: Moment,
     /// The rows in the order in which they were entered.
     pub rows: EntryRows,
+}
+
+// It is written out, so that a caller doesn't prove again how each part is dropped.
+impl Drop for VersionParts {
+    fn drop(self) {
+        let VersionParts {
+            format: _,
+            lab: _,
+            record_number: _,
+            origin: _,
+            form: _,
+            form_version: _,
+            sample: _,
+            opener: _,
+            opened: _,
+            rows: _,
+        } = self;
+    }
 }
 
 impl VersionParts {

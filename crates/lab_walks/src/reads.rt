@@ -77,13 +77,7 @@ fn need_of(number: u32) -> Need
 fn filed_in(slice: Option<Slice>) -> Option<Record>
     ensures { result ≡ option_and_then (λ slice. slice.filed) slice }
 {
-    match slice {
-        Some(slice) => {
-            let Slice { filed, .. } = slice;
-            filed
-        }
-        None => None,
-    }
+    slice?.into_filed()
 }
 
 /// The number of the last record of a range that is kept: the records are numbered from 1 on.
@@ -101,7 +95,7 @@ pub(crate) fn last_kept(slice: &Slice, to: Ordinal) -> u32
 pub(crate) fn first_line(slice: Slice, from: Ordinal, to: Ordinal, moment: Moment) -> CopyLine
     ensures { result ≡ copy_line slice.code slice.name (desk_order from to moment) }
 {
-    let Slice { code, name, .. } = slice;
+    let (code, name) = slice.into_naming();
     CopyLine {
         edition: Edition::Two,
         lab: code,
