@@ -2,13 +2,12 @@
 ghost use Rattle.std.specs.Prelude.{◌≡◌, [], ◌∷◌, Ok, is_ok, IfOk, IsTrue, OnErr};
 ghost use Rattle.lab_people.specs.Accounts.{changing, enrolling, setting_roles, retiring, unlocking};
 ghost use Rattle.lab_people.specs.Issues.{asking, confirming};
-ghost use Rattle.lab_effects.specs.Done.{then_person_done, changed_done, enrolled_done, person_changes, asked_done, confirmed_done, roles_done, retired_done, unlocked_done};
+ghost use Rattle.lab_machine.specs.Done.{then_person_done, changed_done, enrolled_done, person_changes, asked_done, confirmed_done, roles_done, retired_done, unlocked_done};
 
 use crate::counts::enrol_counted;
 use lab_access::{Closing, PeopleFault, Person, Roles, Session};
-use lab_effects::{Done, pair, single, triple};
 use lab_kept::{Change, Deed, Occasion};
-use lab_machine::Reply;
+use lab_machine::{Done, Reply, pair, single, triple};
 use lab_names::{Moment, Name, OutOfMemory, PersonCode, Series, Tick};
 use lab_people::{
     Effect, Issued, PasswordChanged, ask_issue, change_password, confirm_issue, retire, set_roles,

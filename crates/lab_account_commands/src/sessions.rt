@@ -1,13 +1,12 @@
 //! What the opening and the closing of a session come to.
 ghost use Rattle.std.specs.Prelude.{◌≡◌, Ok, is_ok, IfOk, IsTrue, OnErr};
 ghost use Rattle.lab_access.specs.Openings.{opening};
-ghost use Rattle.lab_effects.specs.Done.{opened_done, closed_done};
+ghost use Rattle.lab_machine.specs.Done.{opened_done, closed_done};
 
 use crate::counts::open_counted;
 use lab_access::{Opened, PeopleFault, Person, Session};
-use lab_effects::{Done, pair, single};
 use lab_kept::{Change, Deed, Occasion};
-use lab_machine::Reply;
+use lab_machine::{Done, Reply, pair, single};
 use lab_names::{OutOfMemory, PersonCode, Tick};
 use lab_rules::{Refusal, Typed};
 use std::alloc::Global;

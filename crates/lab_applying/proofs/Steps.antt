@@ -16,8 +16,8 @@ use Rattle.lab_tables_laws.proofs.KeptByRules.{ids_by_order, keys_by_rules, arro
 use Rattle.lab_tables_keeping.specs.ByRules.{IsByRules}
 use Rattle.lab_tables_changes.specs.Steps.{AppliesWhereKept, StepsBy}
 use Rattle.lab_writing.specs.Calls.{Steps}
-use Rattle.lab_writing_closings.specs.Closings.{ClosesOf}
-use Rattle.lab_writing_closings.proofs.ClosedAlike.{closes_as_said}
+use Rattle.lab_writing_sessions.specs.Closings.{ClosesOf}
+use Rattle.lab_writing_sessions.proofs.ClosedAlike.{closes_as_said}
 
 rules_of : (db : Database) → IsTyped db → IsDatabase db → IsByRules (tables_in db.trees)
 rules_of db typed sound =

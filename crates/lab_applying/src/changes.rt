@@ -14,11 +14,9 @@ use lab_filing_forms::add_form;
 use lab_filing_records::{add_record, open_version};
 use lab_kept::{Change, Closing};
 use lab_names::{Moment, PersonCode};
-use lab_writing::{RowId, set_last, set_strays};
-use lab_writing_closings::close_sessions;
+use lab_writing::{RowId, add_told, set_last, set_strays};
 use lab_writing_persons::{add_person, set_person};
-use lab_writing_sessions::{add_session, set_session};
-use lab_writing_trail::add_told;
+use lab_writing_sessions::{add_session, close_sessions, set_session};
 use sqlite::{Alter, Error, Transaction};
 
 /// Sets the last moment.

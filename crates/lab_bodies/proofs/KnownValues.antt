@@ -17,7 +17,7 @@ use Rattle.lab_members.specs.Members.{has_members}
 use Rattle.lab_bodies.specs.Accounts.{opening_named, closing_named, person_named, issue_named, confirmation_named, retirement_named, unlocking_named}
 use Rattle.lab_bodies_records.specs.Records.{is_amendment_body, item_read, altered_read, amendment_named}
 use Rattle.lab_bodies_records.specs.Signatures.{is_signature_body, signature_read, signature_named}
-use Rattle.lab_bodies_forms.specs.Forms.{is_field_body, is_form_body, field_read, form_read, form_named}
+use Rattle.lab_bodies.specs.Forms.{is_field_body, is_form_body, field_read, form_read, form_named}
 use Rattle.lab_bodies.specs.Foundings.{is_founding_body, founder_read, founding_named}
 use Rattle.lab_bodies.specs.declared.bodies.Post.TheVariants as post
 use Rattle.lab_bodies.specs.Bodies.{post_named}

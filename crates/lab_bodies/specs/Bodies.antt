@@ -12,7 +12,7 @@ use Rattle.lab_bodies.specs.declared.bodies.Post.TheVariants.{Open, Close, Chang
 use Rattle.lab_members.specs.Values.{json_of}
 use Rattle.lab_members.specs.Readings.{Reading}
 use Rattle.lab_bodies.specs.Accounts.{opening_named, closing_named, password_named, enrolment_named, issue_named, confirmation_named, roles_named, retirement_named, unlocking_named}
-use Rattle.lab_bodies_forms.specs.Forms.{form_named}
+use Rattle.lab_bodies.specs.Forms.{form_named}
 use Rattle.lab_bodies_records.specs.Records.{record_named, entry_named, amendment_named}
 use Rattle.lab_bodies_records.specs.Signatures.{signature_named}
 

@@ -1,3 +1,4 @@
 pub mod Accounts
 pub mod Bodies
 pub mod Foundings
+pub mod Forms

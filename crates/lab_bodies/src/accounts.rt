@@ -4,9 +4,10 @@ ghost use Rattle.serde_json.specs.View.{view};
 ghost use Rattle.lab_bodies.specs.Accounts.{opening_named, closing_named, password_named, enrolment_named, roles_named, person_named, issue_named, confirmation_named, retirement_named, unlocking_named};
 ghost use Rattle.lab_members.specs.Readings.{Faulty};
 
-use lab_bodies_parts::typed_at;
 use lab_machine::Command;
-use lab_members::{BodyFault, BodyRefusal, Member, has_members, must, named_at, roles_at, wanted};
+use lab_members::{
+    BodyFault, BodyRefusal, Member, has_members, must, named_at, roles_at, typed_at, wanted,
+};
 use lab_names::{Names, PersonCode, PersonCodes};
 use serde_json::Value;
 use std::alloc::Global;

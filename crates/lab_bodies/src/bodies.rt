@@ -5,8 +5,7 @@ ghost use Rattle.lab_members.specs.Readings.{Faulty};
 ghost use Rattle.lab_bodies.specs.Foundings.{founding_named};
 ghost use Rattle.lab_bodies.specs.Bodies.{body_named, post_named, BodyFaultFits};
 
-use crate::{accounts, foundings};
-use lab_bodies_forms::form;
+use crate::{accounts, forms, foundings};
 use lab_bodies_records::{amendment, entry, record, signature};
 use lab_machine::{Command, Founding};
 use lab_members::{BodyFault, value_of};
@@ -96,7 +95,7 @@ fn posted(alloc: Global, post: Post, value: &Value) -> Result<Command, BodyFault
         Post::SetRoles => accounts::setting_roles(alloc, value),
         Post::Retire => accounts::retirement(alloc, value),
         Post::Unlock => accounts::unlocking(alloc, value),
-        Post::MakeForm => form(alloc, value),
+        Post::MakeForm => forms::form(alloc, value),
         Post::OpenRecord => record(alloc, value),
         Post::Enter => entry(alloc, value),
         Post::Amend => amendment(alloc, value),

@@ -4,10 +4,9 @@ ghost use Rattle.serde_json.specs.View.{view};
 ghost use Rattle.lab_bodies.specs.Foundings.{is_founding_body, founder_read, founding_behind, founding_of_three, founding_by, founding_named};
 ghost use Rattle.lab_members.specs.Readings.{Faulty};
 
-use lab_bodies_parts::typed_at;
 use lab_machine::{Founder, Founding};
 use lab_members::{
-    BodyFault, BodyRefusal, Member, each_has, elements_at, has_members, must, named_at,
+    BodyFault, BodyRefusal, Member, each_has, elements_at, has_members, must, named_at, typed_at,
 };
 use lab_names::{Names, PersonCodes};
 use serde_json::Value;

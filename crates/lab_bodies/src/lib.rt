@@ -4,6 +4,7 @@
 
 mod accounts;
 mod bodies;
+mod forms;
 mod foundings;
 
 pub use bodies::{Post, command_of, founding_of};

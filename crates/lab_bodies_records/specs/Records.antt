@@ -12,7 +12,7 @@ use Rattle.lab_members.specs.declared.refusals.BodyRefusal.TheVariants.{Form}
 use Rattle.lab_members.specs.declared.members.MemberKind.TheVariants.{Text, Ordinal, List as AnyList}
 use Rattle.lab_members.specs.Members.{MemberRule, must, may, has_members, at, ordinal_in, elements_at, each_has}
 use Rattle.lab_members.specs.Readings.{Reading, then_read, wanted, text_at, named_at, named_if_at, shaped}
-use Rattle.lab_bodies_parts.specs.Parts.{each_read}
+use Rattle.lab_members.specs.Parts.{each_read}
 
 -- a record is opened for a form and a sample
 abbrev pub record_members : List MemberRule

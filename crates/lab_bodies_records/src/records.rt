@@ -6,12 +6,11 @@ ghost use Rattle.lab_forms.specs.Words.{has_text_twice};
 ghost use Rattle.lab_bodies_records.specs.Records.{record_named, entry_named, is_amendment_body, item_key, different, altered_read, amendment_named};
 ghost use Rattle.lab_members.specs.Readings.{Faulty};
 
-use lab_bodies_parts::{Element, each_of, typed_at};
 use lab_forms::FormRefusal;
 use lab_machine::Command;
 use lab_members::{
-    BodyFault, BodyRefusal, Member, each_has, elements_at, has_members, may, must, named_at,
-    named_if_at, ordinal_at, wanted,
+    BodyFault, BodyRefusal, Element, Member, each_has, each_of, elements_at, has_members, may,
+    must, named_at, named_if_at, ordinal_at, typed_at, wanted,
 };
 use lab_names::{Keys, Names, Notes, Units};
 use lab_rules::{Altered, Item};

@@ -6,11 +6,10 @@ ghost use Rattle.lab_members.specs.Members.{has_members};
 ghost use Rattle.lab_bodies_records.specs.Signatures.{meant_word, names_meant, meant_of, meant_in, signature_members, is_signature_body, signing_read, signature_by, signature_read, signature_named};
 ghost use Rattle.lab_members.specs.Readings.{Faulty};
 
-use lab_bodies_parts::typed_at;
 use lab_machine::Command;
 use lab_members::{
     BodyFault, BodyRefusal, Member, digest_at, has_members, may, must, named_if_at, ordinal_at,
-    str_at, wanted,
+    str_at, typed_at, wanted,
 };
 use lab_names::{Notes, Ordinal, PersonCodes};
 use lab_rules::Signing;

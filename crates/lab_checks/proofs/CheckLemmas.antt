@@ -12,13 +12,13 @@ use Rattle.lab_rows.specs.declared.lines.Line.{Line}
 use Rattle.lab_checks_versions.specs.Faults.{IsAnswer, IsNoFlaw}
 use Rattle.lab_checks.specs.Checks.{fault_at, rows_of}
 use Rattle.lab_lines.specs.Lines.{IsRead, line_at}
-use Rattle.lab_checks_lines.specs.Kept.{IsAt, IsTaken, edition_by, kept_none, verdict_kept}
+use Rattle.lab_checks.specs.Kept.{IsAt, IsTaken, edition_by, kept_none, verdict_kept}
 use Rattle.lab_checks.specs.Left.{AnswersRest, IsLeftOf}
 use Rattle.lab_checks_versions.specs.declared.faults.CheckFault.{CheckFault}
 use Rattle.lab_checks_versions.specs.declared.faults.CheckFault.TheVariants.{Flawed, Read, Memory}
 use Rattle.lab_lines.specs.declared.faults.RowFault.{RowFault}
 use Rattle.lab_lines.specs.declared.faults.RowFault.TheVariants as row_fault
-use Rattle.lab_checks_lines.specs.declared.kept.Kept.{Kept}
+use Rattle.lab_checks.specs.declared.kept.Kept.{Kept}
 use Rattle.lab_checks.proofs.ReadLemmas.{record_reads, when_known, no_header, bad_header, begun_left, at_end, bad_row, taken_left, taken_fault}
 
 -- a fault that says nothing of a copy

@@ -1,3 +1,4 @@
 pub mod CheckLemmas
 pub mod ReadLemmas
 pub mod KnownValues
+pub mod KeptLemmas

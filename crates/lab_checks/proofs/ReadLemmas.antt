@@ -19,12 +19,12 @@ use Rattle.lab_rows.specs.declared.lines.Line.{Line}
 use Rattle.lab_checks_versions.specs.Faults.{IsAnswer}
 use Rattle.lab_checks.specs.Checks.{rows_of}
 use Rattle.lab_lines.specs.Lines.{line_at}
-use Rattle.lab_checks_lines.specs.Kept.{IsAt, IsTaken, edition_by, kept_none, verdict_kept}
+use Rattle.lab_checks.specs.Kept.{IsAt, IsTaken, edition_by, kept_none, verdict_kept}
 use Rattle.lab_checks.specs.Left.{IsEnough, IsLeft, IsLeftOf}
 use Rattle.lab_checks_versions.specs.declared.faults.CheckFault.{CheckFault}
 use Rattle.lab_checks_versions.specs.declared.faults.CheckFault.TheVariants.{Flawed, Read, Memory}
-use Rattle.lab_checks_lines.specs.declared.kept.Kept.{Kept}
-use Rattle.lab_checks_lines.proofs.KeptLemmas.{at_none, edition_is, verdict_at_end}
+use Rattle.lab_checks.specs.declared.kept.Kept.{Kept}
+use Rattle.lab_checks.proofs.KeptLemmas.{at_none, edition_is, verdict_at_end}
 use Rattle.lab_checks_versions.proofs.ListLemmas.{never, no_some, some_same}
 
 -- ---- each record takes a byte at least, and ends between records

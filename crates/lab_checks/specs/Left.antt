@@ -9,9 +9,9 @@ use Rattle.lab_rows.specs.declared.flaws.Flaw.{Flaw}
 use Rattle.lab_rows.specs.declared.lines.Counts.{Counts}
 use Rattle.lab_rows.specs.declared.lines.Line.{Line}
 use Rattle.lab_checks_versions.specs.Faults.{IsAnswer}
-use Rattle.lab_checks_lines.specs.Kept.{IsAt, kept_none}
+use Rattle.lab_checks.specs.Kept.{IsAt, kept_none}
 use Rattle.lab_checks_versions.specs.declared.faults.CheckFault.{CheckFault}
-use Rattle.lab_checks_lines.specs.declared.kept.Kept.{Kept}
+use Rattle.lab_checks.specs.declared.kept.Kept.{Kept}
 
 -- no record is begun, and there are no more records than this in the bytes
 pub record IsEnough (fuel : ℕ) (state : State) (bytes : List ℕ) : Type 0 where

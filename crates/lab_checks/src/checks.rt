@@ -7,13 +7,13 @@ ghost use Rattle.csv.specs.declared.reader.Trim.TheVariants as trim;
 ghost use Rattle.lab_rows.specs.Copies.{verdict};
 ghost use Rattle.lab_checks_versions.specs.Faults.{IsAnswer, IsNoFlaw};
 ghost use Rattle.lab_checks.specs.Checks.{fault_at, rows_of};
-ghost use Rattle.lab_checks_lines.specs.Kept.{kept_none};
+ghost use Rattle.lab_checks.specs.Kept.{kept_none};
 ghost use Rattle.lab_checks.specs.Left.{AnswersRest};
 ghost use Rattle.lab_checks.specs.declared.asks.AskedReader.{AskedReader};
 
 use crate::asks::AskedReader;
+use crate::kept::Kept;
 use csv::{ByteRecord, ErrorKind, Reader, ReaderBuilder};
-use lab_checks_lines::Kept;
 use lab_checks_versions::CheckFault;
 use lab_lines::{RowFault, is_header, read_line};
 use lab_rows::{Counts, Flaw, OutOfMemory};

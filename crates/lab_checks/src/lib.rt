@@ -3,6 +3,7 @@
 
 mod asks;
 mod checks;
+mod kept;
 
 pub use checks::check_copy;
 pub use lab_checks_versions::CheckFault;

@@ -46,11 +46,11 @@ use Rattle.lab_rules.specs.Making.{first_version}
 use Rattle.lab_machine.specs.declared.commands.Command.{Command}
 use Rattle.lab_machine.specs.declared.commands.Command.TheVariants.{Card, Open, Close, ChangePassword, Enrol, ReadPersons, AskIssue, ConfirmIssue, SetRoles, Retire, Unlock, MakeForm, ReadForm, OpenRecord, Enter, Amend, Sign, ReadRecord, ReadVersion, ReadRecords, ReadTrail, TakeCopy}
 use Rattle.lab_machine.specs.declared.replies.Reply.TheVariants as reply
-use Rattle.lab_effects.specs.declared.done.Done.{Done}
-use Rattle.lab_effects.specs.declared.done.Done.TheVariants.{Refused, Failed, Read, Made}
-use Rattle.lab_effects.specs.Done.{opened_done, changed_done, asked_done, confirmed_done, signature_done, signing_done, done_of}
-use Rattle.lab_effects.specs.Groups.{is_on_accounts, is_on_records}
-use Rattle.lab_effects.specs.Makings.{is_digest_made_by, makes}
+use Rattle.lab_machine.specs.declared.done.Done.{Done}
+use Rattle.lab_machine.specs.declared.done.Done.TheVariants.{Refused, Failed, Read, Made}
+use Rattle.lab_machine.specs.Done.{opened_done, changed_done, asked_done, confirmed_done, signature_done, signing_done, done_of}
+use Rattle.lab_machine.specs.Groups.{is_on_accounts, is_on_records}
+use Rattle.lab_machine.specs.Makings.{is_digest_made_by, makes}
 
 -- ---- a part of a laboratory, and who asks
 

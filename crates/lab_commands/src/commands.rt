@@ -1,17 +1,16 @@
 //! What each command comes to in a session.
 ghost use Rattle.std.specs.Prelude.{◌≡◌, false, IfOk, IsTrue, OnErr};
-ghost use Rattle.lab_effects.specs.Done.{done_of};
-ghost use Rattle.lab_effects.specs.Groups.{is_on_accounts, is_on_records};
-ghost use Rattle.lab_effects.specs.Makings.{makes};
+ghost use Rattle.lab_machine.specs.Done.{done_of};
+ghost use Rattle.lab_machine.specs.Groups.{is_on_accounts, is_on_records};
+ghost use Rattle.lab_machine.specs.Makings.{makes};
 
 use lab_access::{PeopleRefusal, Person, Session};
 use lab_account_commands::{
     asking_done, changing_done, closed_done, confirming_done, enrolling_done, retiring_done,
     setting_roles_done, unlocking_done,
 };
-use lab_effects::Done;
 use lab_kept::Slice;
-use lab_machine::{Command, Reply};
+use lab_machine::{Command, Done, Reply};
 use lab_names::{OutOfMemory, Series, Tick};
 use lab_record_commands::{
     Asked, amending_done, asked_signing_done, copied_rows, entering_done, form_read_done,
@@ -24,7 +23,7 @@ use std::mem;
 
 /// What a command comes to in the session of the caller, on the part of the laboratory that it needs. The only error is out
 /// of memory, and only where something is made: what is refused is told as it is. What is left of the part isn't said.
-#[tactic(auto, unfolding(lab_effects::specs::Done::done_of, lab_effects::specs::Makings::makes))]
+#[tactic(auto, unfolding(lab_machine::specs::Done::done_of, lab_machine::specs::Makings::makes))]
 pub fn done_of(
     alloc: Global,
     slice: &mut Slice,
@@ -65,7 +64,7 @@ pub fn done_of(
 }
 
 // The same of a command that makes something of forms and records, or reads.
-#[tactic(auto, unfolding(lab_effects::specs::Done::done_of, lab_effects::specs::Makings::makes))]
+#[tactic(auto, unfolding(lab_machine::specs::Done::done_of, lab_machine::specs::Makings::makes))]
 fn done_on_records(
     alloc: Global,
     slice: &mut Slice,
@@ -115,7 +114,7 @@ fn done_on_records(
 }
 
 // The same of a command that reads. One that asks for no session is none in a session.
-#[tactic(auto, unfolding(lab_effects::specs::Done::done_of, lab_effects::specs::Makings::makes))]
+#[tactic(auto, unfolding(lab_machine::specs::Done::done_of, lab_machine::specs::Makings::makes))]
 fn done_reading(
     alloc: Global,
     slice: &mut Slice,

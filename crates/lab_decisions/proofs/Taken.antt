@@ -8,7 +8,7 @@ use Rattle.lab_access.specs.declared.refusals.PeopleFault.{PeopleFault}
 use Rattle.lab_kept.specs.declared.needs.Slice.{Slice}
 use Rattle.lab_machine.specs.declared.commands.Command.{Command}
 use Rattle.lab_machine.specs.declared.passages.Passage.{Passage}
-use Rattle.lab_effects.specs.Done.{opened_done, done_of}
+use Rattle.lab_machine.specs.Done.{opened_done, done_of}
 use Rattle.lab_outcomes.specs.Deciding.{decided_by}
 use Rattle.lab_decisions.specs.Makings.{is_refusal, is_made_by}
 

@@ -11,9 +11,9 @@ use Rattle.lab_machine.specs.declared.commands.Command.TheVariants.{Open}
 use Rattle.lab_machine.specs.declared.passages.Passage.{Passage}
 use Rattle.lab_machine.specs.declared.passages.Passage.TheVariants.{Early, NeedsNone, Stranger, Barred, Passes}
 use Rattle.lab_machine.specs.Machine.{passage}
-use Rattle.lab_effects.specs.declared.done.Done.{Done}
-use Rattle.lab_effects.specs.declared.done.Done.TheVariants.{Refused, Failed, Read, Made}
-use Rattle.lab_effects.specs.Done.{opened_done}
+use Rattle.lab_machine.specs.declared.done.Done.{Done}
+use Rattle.lab_machine.specs.declared.done.Done.TheVariants.{Refused, Failed, Read, Made}
+use Rattle.lab_machine.specs.Done.{opened_done}
 
 abbrev pub is_refusal : Done → Bool
 is_refusal (Refused refusal) = true

@@ -1,19 +1,17 @@
 //! What is decided on a part of a laboratory.
 ghost use Rattle.std.specs.Prelude.{◌≡◌, [], None, IfOk, IsTrue, OnErr};
 ghost use Rattle.lab_laws.specs.Asking.{IsCommandFormed};
-ghost use Rattle.lab_effects.specs.Done.{done_of};
+ghost use Rattle.lab_machine.specs.Done.{done_of};
 ghost use Rattle.lab_outcomes.specs.Deciding.{outcome, ended_done, touching, decided_without, decided_by, decided};
 ghost use Rattle.lab_decisions.specs.Makings.{is_made_without, is_made_by, is_made};
 
 use lab_access::{PeopleRefusal, Person, Session};
 use lab_account_commands::opening_done;
 use lab_commands::done_of;
-use lab_effects::Done;
-use lab_endings::{end, opening_failed, opening_made, touching};
 use lab_kept::{Change, Slice};
-use lab_machine::{Command, Passage, Reply, pass};
+use lab_machine::{Command, Done, Passage, Reply, pass};
 use lab_names::{Moment, OutOfMemory, PersonCode, Series, Tick};
-use lab_outcomes::{Outcome, refused};
+use lab_outcomes::{Outcome, end, opening_failed, opening_made, refused, touching};
 use lab_rules::{Refusal, Typed};
 use std::alloc::Global;
 

@@ -13,9 +13,9 @@ use Rattle.lab_kept.specs.Changes.{SamePerson, IsAskKnown, IsKnown, Fits, AllFit
 use Rattle.lab_rules.specs.declared.refusals.Refusal.{Refusal}
 use Rattle.lab_machine.specs.declared.replies.Reply.{Reply}
 use Rattle.lab_laws.proofs.FitAttempts.{FitsAttempt}
-use Rattle.lab_effects.specs.declared.done.Done.{Done}
-use Rattle.lab_effects.specs.declared.done.Done.TheVariants.{Refused, Failed, Read, Made}
-use Rattle.lab_effects.specs.Done.{then_done, then_person_done, then_read_done, person_changes}
+use Rattle.lab_machine.specs.declared.done.Done.{Done}
+use Rattle.lab_machine.specs.declared.done.Done.TheVariants.{Refused, Failed, Read, Made}
+use Rattle.lab_machine.specs.Done.{then_done, then_person_done, then_read_done, person_changes}
 
 -- the changes fit, none is to the trail, and the person is known
 pub record Adds (Premise : Type 0) (lab : Lab) (person : List ℕ) (changes : List Change)

@@ -18,8 +18,8 @@ use Rattle.lab_machine.specs.declared.replies.Reply.TheVariants.{Refused as Told
 use Rattle.lab_machine.specs.Cases.{told, failed}
 use Rattle.lab_machine.specs.Machine.{Stepped, stays, made, ended, touched, at_moment, opened}
 use Rattle.lab_laws.proofs.FitPersons.{touched_fits}
-use Rattle.lab_effects.specs.declared.done.Done.{Done}
-use Rattle.lab_effects.specs.declared.done.Done.TheVariants.{Refused, Failed, Read, Made}
+use Rattle.lab_machine.specs.declared.done.Done.{Done}
+use Rattle.lab_machine.specs.declared.done.Done.TheVariants.{Refused, Failed, Read, Made}
 use Rattle.lab_outcomes.specs.declared.outcome.Outcome.{Outcome}
 use Rattle.lab_outcomes.specs.Deciding.{told_row, failing, outcome, ended_made, ended_done, opening_ended, touching}
 use Rattle.lab_decisions_laws.proofs.Joining.{changed_on, all_fit_on, changes_know}

@@ -16,9 +16,9 @@ use Rattle.lab_machine.specs.declared.passages.Passage.{Passage}
 use Rattle.lab_machine.specs.declared.passages.Passage.TheVariants.{Early, NeedsNone, Stranger, Barred, Passes}
 use Rattle.lab_machine.specs.declared.replies.Reply.{Reply}
 use Rattle.lab_machine.specs.declared.replies.Reply.TheVariants.{Refused as ToldRefused}
-use Rattle.lab_effects.specs.declared.done.Done.{Done}
-use Rattle.lab_effects.specs.declared.done.Done.TheVariants.{Refused, Failed, Read, Made}
-use Rattle.lab_effects.specs.Done.{opened_done, done_of}
+use Rattle.lab_machine.specs.declared.done.Done.{Done}
+use Rattle.lab_machine.specs.declared.done.Done.TheVariants.{Refused, Failed, Read, Made}
+use Rattle.lab_machine.specs.Done.{opened_done, done_of}
 use Rattle.lab_outcomes.specs.declared.outcome.Outcome.{Outcome}
 use Rattle.lab_outcomes.specs.Deciding.{told_row, outcome, ended_done, opening_ended, touching, decided_without, decided_by}
 use Rattle.lab_decisions_laws.specs.TakenSteps.{NotesFirst}

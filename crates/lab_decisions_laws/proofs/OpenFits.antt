@@ -19,9 +19,9 @@ use Rattle.lab_kept.specs.Changes.{IsKnown, Fits, changed}
 use Rattle.lab_kept.specs.Lookups.{person_at, session_at}
 use Rattle.lab_machine.specs.Machine.{at_moment}
 use Rattle.lab_laws.proofs.FitAttempts.{FitsAttempt, attempt_fits}
-use Rattle.lab_effects.specs.declared.done.Done.{Done}
-use Rattle.lab_effects.specs.declared.done.Done.TheVariants.{Made}
-use Rattle.lab_effects.specs.Done.{opened_done}
+use Rattle.lab_machine.specs.declared.done.Done.{Done}
+use Rattle.lab_machine.specs.declared.done.Done.TheVariants.{Made}
+use Rattle.lab_machine.specs.Done.{opened_done}
 use Rattle.lab_decisions_laws.proofs.Joining.{change_knows}
 use Rattle.lab_decisions_laws.proofs.CaseFits.{FitsDone}
 

@@ -21,9 +21,9 @@ use Rattle.lab_machine.specs.declared.replies.Reply.{Reply}
 use Rattle.lab_machine.specs.Cases.{Case, Refuses, Fails, Reads, Makes}
 use Rattle.lab_machine.specs.Needs.{person_in, form_in, record_in, list_in}
 use Rattle.lab_machine.specs.Own.{then_case, then_person, then_read, opened_case, changed_case, with_person_closed}
-use Rattle.lab_effects.specs.declared.done.Done.{Done}
-use Rattle.lab_effects.specs.declared.done.Done.TheVariants.{Refused, Failed, Read, Made}
-use Rattle.lab_effects.specs.Done.{then_done, then_person_done, then_read_done, opened_done, changed_done, person_changes}
+use Rattle.lab_machine.specs.declared.done.Done.{Done}
+use Rattle.lab_machine.specs.declared.done.Done.TheVariants.{Refused, Failed, Read, Made}
+use Rattle.lab_machine.specs.Done.{then_done, then_person_done, then_read_done, opened_done, changed_done, person_changes}
 
 -- the case, with the changes made
 abbrev pub case_of : Lab → Done → Case

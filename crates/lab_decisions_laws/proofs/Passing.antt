@@ -26,7 +26,7 @@ use Rattle.lab_machine.specs.Machine.{named_session, allowed_passage, session_pa
 use Rattle.lab_laws.specs.Asking.{IsCommandFormed}
 use Rattle.lab_laws.proofs.FitAccounts.{own_code}
 use Rattle.lab_laws.proofs.LimitParts.{session_set, session_token}
-use Rattle.lab_effects.specs.Done.{done_of, opened_done}
+use Rattle.lab_machine.specs.Done.{done_of, opened_done}
 use Rattle.lab_outcomes.specs.Deciding.{ended_done, opening_ended, touching, decided_by}
 use Rattle.lab_decisions_laws.proofs.OwnCases.{slice_for, opened_is}
 use Rattle.lab_decisions_laws.proofs.RuleCases.{own_is}

@@ -9,8 +9,7 @@ use Rattle.lab_people.specs.Accounts.{changing, enrolling, setting_roles, retiri
 use Rattle.lab_people.specs.Issues.{asking, confirming}
 use Rattle.lab_kept.specs.declared.labs.Lab.{Lab}
 use Rattle.lab_kept.specs.declared.trails.Deed.TheVariants.{Issue as IssueDeed, Confirm as ConfirmDeed, Roles as RolesDeed, Retire as RetireDeed, Unlock as UnlockDeed}
-use Rattle.lab_kept.specs.Lookups.{last_form, exact_form, record_of, record_about}
-use Rattle.lab_kept.specs.Lookups.{person_at}
+use Rattle.lab_kept.specs.Lookups.{last_form, exact_form, record_of, record_about, person_at}
 use Rattle.lab_rules.specs.declared.outcomes.Signing.{Signing}
 use Rattle.lab_rules.specs.declared.refusals.Refusal.TheVariants.{CodeWanted}
 use Rattle.lab_rules.specs.Making.{making, opening_record}
@@ -22,7 +21,7 @@ use Rattle.lab_machine.specs.declared.commands.Command.TheVariants.{Card, Open, 
 use Rattle.lab_machine.specs.declared.replies.Reply.TheVariants.{HalfTold, RolesSet, PersonDone, FormRead, RecordRead, VersionRead}
 use Rattle.lab_machine.specs.Own.{own, enrolled_case, asked_case, confirmed_case, roles_case, retired_case, unlocked_case, form_case, record_case, entry_case, amendment_case, signature_case, signing_by}
 use Rattle.lab_machine.specs.Machine.{touched}
-use Rattle.lab_effects.specs.Done.{done_of, enrolled_done, asked_done, confirmed_done, roles_done, retired_done, unlocked_done, form_done, record_done, entry_done, amendment_done, signature_done, signing_done}
+use Rattle.lab_machine.specs.Done.{done_of, enrolled_done, asked_done, confirmed_done, roles_done, retired_done, unlocked_done, form_done, record_done, entry_done, amendment_done, signature_done, signing_done}
 use Rattle.lab_decisions_laws.proofs.OwnCases.{case_of, slice_for, then_case_is, then_person_is, then_read_is, wanted_is, person_is, changed_is}
 
 -- what follows the password of a signing

@@ -17,8 +17,7 @@ use Rattle.lab_people.specs.Issues.{asking, confirming}
 use Rattle.lab_kept.specs.declared.labs.Lab.{Lab}
 use Rattle.lab_kept.specs.declared.changes.Change.TheVariants.{PersonSet, SessionSet}
 use Rattle.lab_kept.specs.Changes.{IsKnown, Fits, change}
-use Rattle.lab_kept.specs.Lookups.{last_form, exact_form, record_of, record_about}
-use Rattle.lab_kept.specs.Lookups.{person_at}
+use Rattle.lab_kept.specs.Lookups.{last_form, exact_form, record_of, record_about, person_at}
 use Rattle.lab_rules.specs.declared.outcomes.Signing.{Signing}
 use Rattle.lab_rules.specs.declared.refusals.Refusal.TheVariants.{CodeWanted}
 use Rattle.lab_rules.specs.Making.{making, opening_record}
@@ -35,7 +34,7 @@ use Rattle.lab_laws.proofs.FitSignatures.{signature_fits}
 use Rattle.lab_laws.proofs.FitPersons.{enrolled_fits, session_fits, closed_fits, signed_fits}
 use Rattle.lab_laws.proofs.FitAccounts.{roles_fit, retired_fits, unlocked_fits, asked_fits, confirmed_fits}
 use Rattle.lab_laws.proofs.FitAttempts.{FitsAttempt, attempt_fits}
-use Rattle.lab_effects.specs.Done.{done_of, changed_done, enrolled_done, asked_done, confirmed_done, roles_done, retired_done, unlocked_done, form_done, record_done, entry_done, amendment_done, signature_done, signing_done}
+use Rattle.lab_machine.specs.Done.{done_of, changed_done, enrolled_done, asked_done, confirmed_done, roles_done, retired_done, unlocked_done, form_done, record_done, entry_done, amendment_done, signature_done, signing_done}
 use Rattle.lab_decisions_laws.proofs.Joining.{set_known, change_knows}
 use Rattle.lab_decisions_laws.proofs.OwnCases.{slice_for}
 use Rattle.lab_decisions_laws.proofs.CaseFits.{FitsDone, then_done_fits, then_person_fits, then_read_fits, wanted_fits, person_adds, renewed_fits}

@@ -5,4 +5,6 @@
 #[cfg(test)]
 mod create_tests;
 #[cfg(test)]
+mod founding_tests;
+#[cfg(test)]
 mod helpers;

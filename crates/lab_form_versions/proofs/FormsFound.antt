@@ -9,8 +9,8 @@ use Rattle.lab_kept.specs.declared.records.FormVersion.{FormVersion}
 use Rattle.lab_tables.specs.Rows.{FormRow, FieldRow, Tables, form_id}
 use Rattle.lab_tables.specs.Columns.{kind_in}
 use Rattle.lab_tables.specs.Meaning.{fields_of, field_in, names_of, form_in, form_at}
-use Rattle.lab_field_kinds.specs.Shown.{kind_cells}
-use Rattle.lab_field_kinds.proofs.KindsFound.{kind_named}
+use Rattle.lab_form_versions.specs.KindsShown.{kind_cells}
+use Rattle.lab_form_versions.proofs.KindsFound.{kind_named}
 use Rattle.lab_form_versions.specs.declared.heads.FormHead.{FormHead}
 use Rattle.lab_form_versions.specs.Forms.{form_head, form_by, field_head, field_heads_of, field_by}
 use Rattle.lab_form_versions.specs.Shown.{form_shown, forms_shown, form_read, field_shown, fields_shown, field_read}

@@ -8,7 +8,7 @@ use Rattle.lab_kept.specs.declared.records.FormVersion.{FormVersion}
 use Rattle.lab_tables.specs.Rows.{FormRow, FieldRow, Tables}
 use Rattle.lab_tables.specs.Columns.{kind_in}
 use Rattle.lab_tables.specs.Meaning.{by_field, fields_of, names_of}
-use Rattle.lab_field_kinds.specs.Kinds.{kind_with}
+use Rattle.lab_form_versions.specs.Kinds.{kind_with}
 use Rattle.lab_form_versions.specs.declared.heads.FormHead.{FormHead}
 use Rattle.lab_form_versions.specs.declared.heads.FieldHead.{FieldHead}
 

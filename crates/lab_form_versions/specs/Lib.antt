@@ -1,2 +1,4 @@
 pub mod Shown
 pub mod Forms
+pub mod KindsShown
+pub mod Kinds

@@ -8,7 +8,7 @@ use Rattle.sqlite_rules.specs.Edit.{id_in}
 use Rattle.lab_tables.specs.Rows.{FormRow, FieldRow, Tables, number, flag, optional, number_in, flag_in}
 use Rattle.lab_tables.specs.Columns.{kind_in}
 use Rattle.lab_tables.specs.Meaning.{by_field}
-use Rattle.lab_field_kinds.specs.Shown.{kind_cells}
+use Rattle.lab_form_versions.specs.KindsShown.{kind_cells}
 use Rattle.lab_form_versions.specs.declared.heads.FormHead.{FormHead}
 use Rattle.lab_form_versions.specs.declared.heads.FieldHead.{FieldHead}
 

@@ -8,11 +8,12 @@ ghost use Rattle.lab_tables.specs.Meaning.{fields_of};
 ghost use Rattle.lab_form_versions.specs.Forms.{field_heads_of, field_by};
 ghost use Rattle.lab_form_versions.specs.Shown.{fields_shown, field_read};
 
+use crate::choices::names_if;
 use crate::heads::FieldHead;
+use crate::kinds::{is_choice, kind_of_row, kind_with};
 use lab_columns::ReadFault;
 use lab_columns::asking::rows_by_one;
 use lab_columns::cells::{flag_of, id_of, text_of};
-use lab_field_kinds::{is_choice, kind_of_row, kind_with, names_if};
 use lab_forms::Field;
 use sqlite::{Alter, Connection, Error, Row};
 use std::alloc::Global;

@@ -2,10 +2,12 @@
 //! retrieval of records; 21 CFR 11.10(c)). Nothing is written.
 #![tactic(auto)]
 
+mod cells;
+mod choices;
 mod fields;
 mod forms;
 mod heads;
+mod kinds;
 
-pub use fields::fields_at;
 pub use forms::{first_form, form_at, form_of_row, form_whole};
-pub use heads::{FieldHead, FormHead};
+pub use heads::FormHead;

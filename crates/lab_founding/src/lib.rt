@@ -4,5 +4,6 @@
 
 mod founding;
 mod places;
+mod rows;
 
 pub use founding::found;

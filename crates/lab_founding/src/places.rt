@@ -8,13 +8,13 @@ ghost use Rattle.lab_tables.specs.Meaning.{has_code};
 ghost use Rattle.lab_tables.specs.Ready.{IsAtRest, IsReady, PassesBy, tables_of};
 ghost use Rattle.lab_reading.specs.Shown.{labs_shown};
 ghost use Rattle.lab_founding.specs.Commits.{Ends};
-ghost use Rattle.lab_writing_newborns.specs.Founding.{AddsRows};
+ghost use Rattle.lab_founding.specs.Newborns.{AddsRows};
 
+use crate::rows::add_rows;
 use lab_columns::ReadFault;
 use lab_columns::asking::rows_by_text;
 use lab_kept::{Lab, PlacingFault};
 use lab_names::LabCode;
-use lab_writing_newborns::add_rows;
 use sqlite::{Alter, Connection, Error, Row};
 
 /// What an error of the store is told as.

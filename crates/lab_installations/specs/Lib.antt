@@ -1,1 +1,4 @@
 pub mod FileWorlds
+pub mod Foundings
+pub mod Copying
+pub mod Serving

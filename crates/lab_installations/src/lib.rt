@@ -2,10 +2,16 @@
 //! is closed; and, by one name, the files, clock and chance that are handed to them.
 #![tactic(auto)]
 
+mod copying;
+mod founding;
 mod leaving;
+mod serving;
 
+pub use copying::copy;
+pub use founding::{found, found_over};
+pub use lab_outside::{Chance, Clock};
 pub use lab_shelves::{
     Closing, HostShelf, Progress, Shelf, SystemChance, SystemClock, TaskFault, TerminalProgress,
     Unheard,
 };
-pub use leaving::leave;
+pub use serving::serve;

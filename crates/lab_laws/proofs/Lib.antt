@@ -31,3 +31,4 @@ pub mod KeepSteps
 pub mod RunLemmas
 pub mod StayLemmas
 pub mod KnownValues
+pub mod InspectionLemmas

@@ -6,6 +6,7 @@
 mod births;
 mod bound;
 mod dual;
+mod inspections;
 mod keeping;
 mod limits;
 mod runs;
@@ -13,6 +14,7 @@ mod runs;
 pub use births::{a_birth_is_right, a_laboratory_is_born_once};
 pub use bound::a_step_keeps_bound;
 pub use dual::a_step_keeps_dual;
+pub use inspections::a_copy_handed_out_is_sound;
 pub use keeping::a_step_keeps_what_was;
 pub use limits::{a_form_is_asked_rightly, a_step_keeps_limits};
 pub use runs::a_run_is_right;

@@ -14,7 +14,7 @@ use Rattle.lab_tables.specs.Rows.{LabRow, SessionRow, RecordRow, TrailRow, Table
 use Rattle.lab_tables.specs.WellKept.{IsWellKept, has_counted}
 use Rattle.lab_tables.specs.Meaning.{session_in, by_session, record_in, by_record, told_in, by_trail, lab_in}
 use Rattle.lab_reading.specs.Heads.{lab_head}
-use Rattle.lab_loading_lists.specs.Parts.{counts_by}
+use Rattle.lab_loading.specs.Lists.{counts_by}
 
 -- what is found is among all
 pub found_among : {X : Type 0} (p : X → Bool) (Q : X → Type 0) (xs : List X) → AllByRecursion Q xs → IfSome (find p xs) Q

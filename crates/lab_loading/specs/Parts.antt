@@ -6,12 +6,12 @@ use Rattle.lab_kept.specs.declared.needs.Counts.{Counts}
 use Rattle.lab_tables.specs.Rows.{Tables}
 use Rattle.lab_reading.specs.declared.heads.LabHead.{LabHead}
 use Rattle.lab_reading.specs.Laboratories.{lab_by}
-use Rattle.lab_loading_lists.specs.declared.lists.Listed.{Listed}
-use Rattle.lab_loading_lists.specs.Parts.{counts_by, listed_by}
-use Rattle.lab_loading_people.specs.declared.people.People.{People}
-use Rattle.lab_loading_people.specs.Parts.{people_by}
-use Rattle.lab_loading_records.specs.declared.things.Things.{Things}
-use Rattle.lab_loading_records.specs.Parts.{things_by}
+use Rattle.lab_loading.specs.declared.lists.Listed.{Listed}
+use Rattle.lab_loading.specs.Lists.{counts_by, listed_by}
+use Rattle.lab_loading.specs.declared.people.People.{People}
+use Rattle.lab_loading.specs.People.{people_by}
+use Rattle.lab_loading.specs.declared.things.Things.{Things}
+use Rattle.lab_loading.specs.Things.{things_by}
 
 abbrev pub slice_of : LabHead → Counts → Listed → People → Things → Slice
 slice_of head counts listed people things = record {

@@ -2,6 +2,9 @@
 //! records; 21 CFR 11.10(c), (d)). Nothing is written.
 #![tactic(auto)]
 
+mod lists;
 mod loading;
+mod people;
+mod things;
 
 pub use loading::load;

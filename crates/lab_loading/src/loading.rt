@@ -8,11 +8,11 @@ ghost use Rattle.lab_tables.specs.Meaning.{meaning};
 ghost use Rattle.lab_tables.specs.Ready.{IsReady, PassesBy, tables_of};
 ghost use Rattle.lab_loading.specs.Parts.{slice_with, slice_counted, slice_by};
 
+use crate::lists::{Listed, counts_at, listed_at};
+use crate::people::people_at;
+use crate::things::things_at;
 use lab_columns::ReadFault;
 use lab_kept::{Counts, Need, Slice};
-use lab_loading_lists::{Listed, counts_at, listed_at};
-use lab_loading_people::people_at;
-use lab_loading_records::things_at;
 use lab_names::LabCode;
 use lab_reading::{LabHead, lab_at};
 use sqlite::{Alter, Connection};

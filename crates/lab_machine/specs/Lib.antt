@@ -4,3 +4,6 @@ pub mod Own
 pub mod Machine
 pub mod Births
 pub mod Needs
+pub mod Done
+pub mod Groups
+pub mod Makings

@@ -4,12 +4,16 @@
 
 mod births;
 mod commands;
+mod done;
+mod lists;
 mod passages;
 mod replies;
 mod wanted;
 
 pub use births::{BirthRefusal, Founder, Founding, bear};
 pub use commands::{Command, Instruction};
+pub use done::Done;
+pub use lists::{joined, pair, single, triple};
 pub use passages::{Passage, pass};
 pub use replies::Reply;
 pub use wanted::needs;

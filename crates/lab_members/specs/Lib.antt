@@ -2,3 +2,4 @@ pub mod Refusals
 pub mod Values
 pub mod Members
 pub mod Readings
+pub mod Parts

@@ -26,10 +26,10 @@ use Rattle.lab_machine.specs.declared.replies.Reply.{Reply}
 use Rattle.lab_machine.specs.declared.replies.Reply.TheVariants.{Refused as ToldRefused, Card as ShowsCard}
 use Rattle.lab_machine.specs.Cases.{more_strays}
 use Rattle.lab_machine.specs.Machine.{passage}
-use Rattle.lab_effects.specs.declared.done.Done.{Done}
-use Rattle.lab_effects.specs.declared.done.Done.TheVariants.{Refused, Failed, Read, Made}
+use Rattle.lab_machine.specs.declared.done.Done.{Done}
+use Rattle.lab_machine.specs.declared.done.Done.TheVariants.{Refused, Failed, Read, Made}
 use Rattle.lab_outcomes.specs.declared.outcome.Outcome.{Outcome}
-use Rattle.lab_effects.specs.Done.{opened_done, done_of}
+use Rattle.lab_machine.specs.Done.{opened_done, done_of}
 
 -- ---- the rows that the trail is given, where it has so many
 

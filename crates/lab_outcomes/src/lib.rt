@@ -3,9 +3,11 @@
 #![tactic(auto)]
 
 mod drafts;
+mod endings;
 mod outcome;
 mod telling;
 
 pub use drafts::next_number;
+pub use endings::{end, opening_failed, opening_made, touching};
 pub use outcome::Outcome;
 pub use telling::{failed, refused, told};

@@ -16,8 +16,8 @@ use Rattle.lab_lookups.specs.Wholes.{record_by}
 use Rattle.lab_retrieval.proofs.Found.{leaves_found}
 use Rattle.lab_lookups.proofs.FiledFound.{numbered_found}
 use Rattle.lab_walks.specs.Walks.{record_at, record_rows}
-use Rattle.lab_page_rows.specs.Pages.{cover_by, cover_rows, head_at, head_in, pages_rows}
-use Rattle.lab_page_rows.proofs.RowLemmas.{record_in_parts}
+use Rattle.lab_pages.specs.Pages.{cover_by, cover_rows, head_at, head_in, pages_rows}
+use Rattle.lab_pages.proofs.RowLemmas.{record_in_parts}
 
 found_by : (t : Tables) → IsWellKept t → (code : List ℕ) (number : ℕ) (found : Option LabRow) →
     find (has_code code) t.labs ≡ found →

@@ -15,8 +15,8 @@ use Rattle.lab_tables.specs.Meaning.{Leaf, chained, version_after}
 use Rattle.lab_reading.specs.declared.heads.VersionHead.{VersionHead}
 use Rattle.lab_reading.specs.Leaves.{leaf_by}
 use Rattle.lab_walks.proofs.OutLemmas.{given_on, given_rows}
-use Rattle.lab_page_rows.specs.Pages.{page_rows, pages_rows}
-use Rattle.lab_page_rows.proofs.RowLemmas.{page_alone, pages_both, pages_first, text_of_both}
+use Rattle.lab_pages.specs.Pages.{page_rows, pages_rows}
+use Rattle.lab_pages.proofs.RowLemmas.{page_alone, pages_both, pages_first, text_of_both}
 
 -- of all versions those before the rest went out and were counted; the next is behind this digest
 pub record HasGone (lab : List ℕ) (cover : Record) (before : Option (List ℕ))

@@ -1,3 +1,5 @@
 pub mod StateLemmas
 pub mod GoneLemmas
 pub mod FoundLemmas
+pub mod RowLemmas
+pub mod KnownValues

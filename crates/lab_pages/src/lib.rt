@@ -3,6 +3,9 @@
 //! Nothing is written to the file.
 #![tactic(auto)]
 
+mod covers;
+mod faults;
+mod leaves;
 mod pages;
 
 pub use pages::give_record_at;

@@ -5,7 +5,7 @@ ghost use Rattle.std.specs.Prelude.{◌≡◌, None, [], ◌∷◌, ◌++◌, ma
 ghost use Rattle.sqlite.specs.State.{HasCleanDisk, IsUnchanged};
 ghost use Rattle.sqlite.specs.Held.{state};
 ghost use Rattle.lab_copy.specs.Outs.{Sends};
-ghost use Rattle.lab_page_rows.specs.Pages.{cover_rows, pages_rows};
+ghost use Rattle.lab_pages.specs.Pages.{cover_rows, pages_rows};
 ghost use Rattle.lab_reading.specs.Leaves.{leaf_by};
 ghost use Rattle.lab_lookups.specs.Wholes.{record_by};
 ghost use Rattle.lab_rows.specs.Csv.{csv_text};
@@ -14,10 +14,12 @@ ghost use Rattle.lab_tables.specs.Ready.{IsReady, PassesBy, tables_of};
 ghost use Rattle.lab_walks.specs.Faults.{CopyFaultFits};
 ghost use Rattle.lab_walks.specs.Walks.{counted_all, record_at, record_rows};
 
+use crate::covers::{cover_at, head_at};
+use crate::faults::told;
+use crate::leaves::{give_cover, give_page};
 use lab_copy::CopyOut;
 use lab_kept::Record;
 use lab_names::{LabCode, Ordinal};
-use lab_page_rows::{cover_at, give_cover, give_page, head_at, told};
 use lab_reading::{RecordHead, VersionHead, versions_at};
 use lab_walks::CopyOutFault;
 use sqlite::{Alter, Connection};

@@ -3,13 +3,12 @@ ghost use Rattle.std.specs.Prelude.{◌≡◌, is_ok, IfOk, IsTrue, OnErr, map};
 ghost use Rattle.lab_rules.specs.Reading.{reading_form, reading_record, reading_version, record_line, person_line};
 ghost use Rattle.lab_copies.specs.CopyLines.{copy_rows};
 ghost use Rattle.lab_machine.specs.Own.{copy_order};
-ghost use Rattle.lab_effects.specs.Done.{then_read_done};
+ghost use Rattle.lab_machine.specs.Done.{then_read_done};
 
 use lab_access::Person;
 use lab_copies::{CopyOrder, CopyRow, copy_rows};
-use lab_effects::Done;
 use lab_kept::{FormVersion, Record, Slice};
-use lab_machine::Reply;
+use lab_machine::{Done, Reply};
 use lab_names::{LabCode, Moment, Ordinal, OutOfMemory, PersonCode, Series};
 use lab_rules::{
     CommandFault, PersonLine, RecordState, person_line, read_form, read_record, read_version,

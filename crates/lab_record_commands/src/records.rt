@@ -5,15 +5,14 @@ ghost use Rattle.lab_access.specs.Sessions.{signed_session};
 ghost use Rattle.lab_rules.specs.Making.{making, opening_record};
 ghost use Rattle.lab_entries.specs.Entering.{entering, is_table_made, amending};
 ghost use Rattle.lab_signatures.specs.Signing.{is_code_wanted, is_digest_made_at};
-ghost use Rattle.lab_effects.specs.Done.{then_done, form_done, record_done, entry_done, amendment_done, signature_done, signing_done};
-ghost use Rattle.lab_effects.specs.Makings.{is_digest_made_by};
+ghost use Rattle.lab_machine.specs.Done.{then_done, form_done, record_done, entry_done, amendment_done, signature_done, signing_done};
+ghost use Rattle.lab_machine.specs.Makings.{is_digest_made_by};
 
 use lab_access::{Person, Session, attempt_signing};
-use lab_effects::{Done, single, triple};
 use lab_entries::{amend, enter};
 use lab_forms::Form;
 use lab_kept::{Change, Deed, FormVersion, Meaning, Occasion, Record, Signature, Slice};
-use lab_machine::Reply;
+use lab_machine::{Done, Reply, single, triple};
 use lab_names::{Key, Moment, Name, Note, Ordinal, OutOfMemory, PersonCode};
 use lab_rules::{
     Altered, AmendmentMade, CommandFault, EntryMade, Item, Refusal, SignatureMade, Signing, Typed,

@@ -26,10 +26,10 @@ use Rattle.lab_machine.specs.declared.replies.Reply.{Reply}
 use Rattle.lab_machine.specs.declared.replies.Reply.TheVariants as reply
 use Rattle.lab_replies_parts.specs.Parts.{text_or_empty, state_data, current_data}
 use Rattle.lab_replies_parts.specs.Refusals.{refused_data, people_members, refusal_data}
-use Rattle.lab_replies_people.specs.Persons.{roles_data, person_data}
-use Rattle.lab_replies_people.specs.Forms.{with_kind, field_members, field_data, form_data}
-use Rattle.lab_replies_records.specs.Records.{signed_data, version_state_data, current_of, record_data, row_data, signature_data, value_data, reason_of, version_data, record_state_data}
-use Rattle.lab_replies_people.specs.Trails.{trail_row_data}
+use Rattle.lab_replies_parts.specs.Persons.{roles_data, person_data}
+use Rattle.lab_replies_parts.specs.Forms.{with_kind, field_members, field_data, form_data}
+use Rattle.lab_replies.specs.Records.{signed_data, version_state_data, current_of, record_data, row_data, signature_data, value_data, reason_of, version_data, record_state_data}
+use Rattle.lab_replies_parts.specs.Trails.{trail_row_data}
 use Rattle.lab_replies.specs.Replies.{body_of, HasNoFloat}
 use Rattle.lab_replies_parts.proofs.FloatLemmas.{neither, list_floats, texts_floats}
 

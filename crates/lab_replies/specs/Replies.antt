@@ -11,10 +11,10 @@ use Rattle.lab_replies.specs.declared.replies.Body.{Body as BodyOfCode}
 use Rattle.lab_replies.specs.declared.replies.Body.TheVariants as bodies
 use Rattle.lab_replies_parts.specs.Parts.{object_from}
 use Rattle.lab_replies_parts.specs.Refusals.{refusal_data}
-use Rattle.lab_replies_people.specs.Persons.{opened_data, closed_data, changed_data, person_done_data, half_data, roles_set_data, persons_data}
-use Rattle.lab_replies_people.specs.Forms.{form_made_data, form_data}
-use Rattle.lab_replies_records.specs.Records.{record_opened_data, entered_data, amended_data, signed_data, record_data, version_data, records_data}
-use Rattle.lab_replies_people.specs.Trails.{trail_data}
+use Rattle.lab_replies_parts.specs.Persons.{opened_data, closed_data, changed_data, person_done_data, half_data, roles_set_data, persons_data}
+use Rattle.lab_replies_parts.specs.Forms.{form_made_data, form_data}
+use Rattle.lab_replies.specs.Records.{record_opened_data, entered_data, amended_data, signed_data, record_data, version_data, records_data}
+use Rattle.lab_replies_parts.specs.Trails.{trail_data}
 
 -- a laboratory's card
 abbrev pub card_data : List ℕ → List ℕ → Data

@@ -4,18 +4,17 @@ ghost use Rattle.serde_json.specs.View.{view};
 ghost use Rattle.lab_rows.specs.Csv.{csv_text};
 ghost use Rattle.lab_replies.specs.Replies.{card_data, body_shown, body_of, body_text, HasNoFloat, reply_text};
 
+use crate::records::{
+    amended_value, entered_value, record_opened_value, record_value, records_value, signed_value,
+    version_value,
+};
 use lab_copy::{CopyRow, write_copy};
 use lab_machine::Reply;
 use lab_names::{LabCode, Name, OutOfMemory};
 use lab_replies_parts::members::{object_of, text};
-use lab_replies_parts::refusal_value;
-use lab_replies_people::{
+use lab_replies_parts::{
     changed_value, closed_value, form_made_value, form_value, half_value, opened_value,
-    person_done_value, persons_value, roles_set_value, trail_value,
-};
-use lab_replies_records::{
-    amended_value, entered_value, record_opened_value, record_value, records_value, signed_value,
-    version_value,
+    person_done_value, persons_value, refusal_value, roles_set_value, trail_value,
 };
 use serde_json::Value;
 use std::alloc::Global;

@@ -2,8 +2,17 @@
 //! a refusal. It knows no reply.
 #![tactic(auto)]
 
+mod forms;
 pub mod members;
 pub mod parts;
+mod persons;
 mod refusals;
+mod trails;
 
+pub use forms::{form_made_value, form_value};
+pub use persons::{
+    changed_value, closed_value, half_value, opened_value, person_done_value, persons_value,
+    roles_set_value,
+};
 pub use refusals::{entry_value, refusal_value};
+pub use trails::trail_value;

@@ -21,13 +21,13 @@ use Rattle.lab_verdicts.specs.Verdicts.{IsCheck}
 use Rattle.lab_shelves.specs.Faults.{unopened_fault}
 use Rattle.lab_installations.specs.FileWorlds.{file_moves, file_places, file_rests, file_world}
 use Rattle.lab_shelves.specs.Files.{IsOpened, IsOurs}
-use Rattle.lab_file_founding.specs.Foundings.{Drawing}
+use Rattle.lab_installations.specs.Foundings.{Drawing}
 use Rattle.lab_replays.specs.Replays.{IsReplay, ReplaysFromNothing}
-use Rattle.lab_file_serving.specs.Serving.{ServesFile}
+use Rattle.lab_installations.specs.Serving.{ServesFile}
 use Rattle.lab_tasks.specs.CommandLine.{IsDone}
 use Rattle.lab_words_explained.specs.Explaining.{Stopped}
-use Rattle.lab_tasks_laboratories.specs.Laboratories.{IsCopiedIf, body_in}
-use Rattle.lab_tasks_laboratories.proofs.UnbegunLemmas.{IsUnbegun, declines_task, never_begun, no_copying, no_founding, no_rehearsal, printed_none}
+use Rattle.lab_tasks.specs.Laboratories.{IsCopiedIf, body_in}
+use Rattle.lab_tasks.proofs.UnbegunLemmas.{IsUnbegun, declines_task, never_begun, no_copying, no_founding, no_rehearsal, printed_none}
 use Rattle.lab_words.specs.Tasks.{Asked, founds, serves, copies, checks, replays, rehearses}
 
 -- ---- each task, not begun

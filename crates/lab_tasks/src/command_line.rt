@@ -2,18 +2,18 @@
 
 ghost use Rattle.std.specs.Prelude.{map};
 ghost use Rattle.clap.specs.Words.{fault_of};
-ghost use Rattle.lab_file_founding.specs.Foundings.{drawing_of};
+ghost use Rattle.lab_installations.specs.Foundings.{drawing_of};
 ghost use Rattle.lab_words_commands.specs.Apps.{labdesk_app};
 ghost use Rattle.lab_tasks.specs.CommandLine.{IsDone};
 ghost use Rattle.lab_words_explained.specs.Explaining.{IsExplained};
 ghost use Rattle.lab_words.specs.Tasks.{Asked, Asks, IsTask};
 
-use lab_file_serving::serve;
-use lab_installations::{Closing, Progress, Shelf};
+use crate::hosts::Host;
+use crate::laboratories::{copy_for, found_for, rehearse_for};
+use lab_installations::{Closing, Progress, Shelf, serve};
 use lab_messages::WriteFault;
 use lab_outside::{Chance, Clock};
 use lab_replays::replay;
-use lab_tasks_laboratories::{Host, copy_for, found_for, rehearse_for};
 use lab_verdicts::check;
 use lab_words::{Task, task_of};
 use lab_words_explained::explain;

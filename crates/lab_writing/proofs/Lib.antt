@@ -7,3 +7,5 @@ pub mod LabWrites
 pub mod Lookups
 pub mod KeyLemmas
 pub mod KnownValues
+pub mod TrailWrites
+pub mod TrailAddedLemmas

@@ -1,3 +1,4 @@
 pub mod Calls
 pub mod Ids
 pub mod Shown
+pub mod TrailAdded

@@ -7,9 +7,11 @@ mod labs;
 mod named;
 mod places;
 pub mod statements;
+mod trails;
 pub mod values;
 
 pub use labs::{set_last, set_strays};
 pub use named::{first_id, id_of, lab_id_at, person_id_at, person_if_any, session_id_at};
 pub use places::place_behind;
 pub use statements::RowId;
+pub use trails::add_told;

@@ -1,3 +1,6 @@
 pub mod SessionWrites
 pub mod Added
 pub mod KnownValues
+pub mod ClosingWrites
+pub mod ClosingLemmas
+pub mod ClosedAlike

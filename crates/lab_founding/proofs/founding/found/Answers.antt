@@ -5,7 +5,7 @@ use Rattle.lab_kept.specs.Births.{newborn_lab}
 use Rattle.lab_tables.specs.Meaning.{has_code}
 use Rattle.lab_tables.specs.Ready.{tables_of}
 use Rattle.lab_founding.specs.Commits.{Ends}
-use Rattle.lab_writing_newborns.specs.Founding.{AddsRows}
+use Rattle.lab_founding.specs.Newborns.{AddsRows}
 use Rattle.lab_founding.specs.Founding.{IsPlacedBy}
 use Rattle.lab_founding.proofs.Endings.{ends_after, none_found}
 use Rattle.lab_founding.proofs.Placed.{is_placed}

@@ -2,7 +2,7 @@ use Rattle.std.proofs.Common.{◌∙◌, ap}
 use Rattle.sqlite.specs.Effect.{Database}
 use Rattle.lab_tables.specs.Rows.{tables_in}
 use Rattle.lab_reading.specs.Laboratories.{lab_by}
-use Rattle.lab_loading_records.specs.Parts.{things_by}
+use Rattle.lab_loading.specs.Things.{things_by}
 use Rattle.lab_loading.specs.Parts.{slice_of}
 use Rattle.lab_loading.proofs.loading.slice_with.Goals as goal
 

@@ -5,8 +5,8 @@ use Rattle.std.proofs.lemmas.Result.{err_from_is_err_and}
 use Rattle.sqlite.specs.Held.{state}
 use Rattle.lab_tables.specs.Meaning.{chained, leaves_of}
 use Rattle.lab_tables.specs.Ready.{tables_of}
-use Rattle.lab_page_rows.specs.Pages.{cover_rows, pages_rows}
-use Rattle.lab_page_rows.proofs.RowLemmas.{cut_in_first, given_as, given_behind, sends_as, sends_behind}
+use Rattle.lab_pages.specs.Pages.{cover_rows, pages_rows}
+use Rattle.lab_pages.proofs.RowLemmas.{cut_in_first, given_as, given_behind, sends_as, sends_behind}
 use Rattle.lab_pages.proofs.StateLemmas.{passes_none}
 use Rattle.lab_pages.proofs.pages.give_covered.Goals as goal
 

@@ -7,8 +7,8 @@ use Rattle.lab_copy.proofs.SendLemmas.{none_went}
 use Rattle.lab_tables.specs.Rows.{tables_in}
 use Rattle.lab_tables.specs.Ready.{tables_of}
 use Rattle.lab_tables.specs.Meaning.{chained, leaves_of}
-use Rattle.lab_page_rows.specs.Pages.{cover_rows, pages_rows}
-use Rattle.lab_page_rows.proofs.RowLemmas.{given_as, sends_as}
+use Rattle.lab_pages.specs.Pages.{cover_rows, pages_rows}
+use Rattle.lab_pages.proofs.RowLemmas.{given_as, sends_as}
 use Rattle.lab_pages.proofs.FoundLemmas.{headed_as}
 use Rattle.lab_pages.proofs.pages.give_headed.Goals as goal
 

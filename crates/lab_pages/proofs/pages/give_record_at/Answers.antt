@@ -7,7 +7,7 @@ use Rattle.lab_copy.proofs.SendLemmas.{none_went}
 use Rattle.lab_tables.specs.Rows.{tables_in}
 use Rattle.lab_tables.specs.Ready.{tables_of}
 use Rattle.lab_walks.proofs.OutLemmas.{given_rows}
-use Rattle.lab_page_rows.proofs.RowLemmas.{given_as, sends_as, whole_as}
+use Rattle.lab_pages.proofs.RowLemmas.{given_as, sends_as, whole_as}
 use Rattle.lab_pages.proofs.FoundLemmas.{none_sought, sought_as}
 use Rattle.lab_pages.proofs.pages.give_record_at.Goals as goal
 

@@ -6,7 +6,7 @@ use Rattle.sqlite.specs.Held.{state}
 use Rattle.lab_copy.proofs.SendLemmas.{none_went}
 use Rattle.lab_tables.specs.Rows.{tables_in}
 use Rattle.lab_tables.specs.Ready.{tables_of}
-use Rattle.lab_page_rows.proofs.RowLemmas.{given_as, sends_as}
+use Rattle.lab_pages.proofs.RowLemmas.{given_as, sends_as}
 use Rattle.lab_pages.proofs.FoundLemmas.{leaves_as}
 use Rattle.lab_pages.proofs.pages.give_versions.Goals as goal
 

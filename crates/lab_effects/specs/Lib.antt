@@ -1,3 +1,0 @@
-pub mod Done
-pub mod Groups
-pub mod Makings

@@ -1,0 +1,20 @@
+use Rattle.std.proofs.Common.{◌∙◌, ap}
+use Rattle.sqlite.specs.Effect.{Database}
+use Rattle.sqlite.specs.Held.{state}
+use Rattle.lab_kept.specs.Lookups.{caller_of}
+use Rattle.lab_tables.specs.Rows.{tables_in}
+use Rattle.lab_tables.specs.Ready.{tables_of}
+use Rattle.lab_reading.specs.Laboratories.{lab_by}
+use Rattle.lab_loading.proofs.PeopleLemmas.{same_callers}
+use Rattle.lab_loading.proofs.people.callers_at.Goals as goal
+
+pub returns-clause-callers : goal.returns-clause-callers
+returns-clause-callers g c ready clean live =
+    let t = tables_of (state g.S.Store c.args.conn.now) in
+    let lab = c.args.lab.now in
+    let was = c.in_ok-caller.ensures.passes.clean clean in
+    let same = c.in_ok-session.ensures.same was live in
+    let session = c.in_ok-session.ensures.session ready was in
+    same_callers _ _ session (c.in_ok-caller.ensures.caller (c.in_ok-session.ensures.passes.ready ready) clean
+    ∙ ap (λ (db : Database). caller_of (lab_by (tables_in db.trees) lab) c.in_ok-session.session) same.0.now_is
+    ∙ ap (caller_of (lab_by t lab)) session)

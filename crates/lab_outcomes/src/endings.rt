@@ -1,0 +1,157 @@
+//! How a command ends on a part of a laboratory: what notes that its request came, what is made of a failed password, and what a
+//! full trail refuses.
+ghost use Rattle.std.specs.Prelude.{◌≡◌, ◌∷◌, [], IfOk};
+ghost use Rattle.lab_outcomes.specs.Deciding.{failing, outcome, ended_made, ended_by, touching};
+
+use crate::drafts::next_number;
+use crate::outcome::Outcome;
+use crate::telling::{failed, refused, told};
+use lab_access::{Failure, PeopleRefusal, Session};
+use lab_kept::{Change, Deed, Occasion};
+use lab_machine::{Done, Reply, joined, pair, single};
+use lab_names::{Moment, OutOfMemory, PersonCode, Series};
+use lab_rules::Refusal;
+use std::alloc::Global;
+
+/// That a request came by the session at the moment. The only error is out of memory.
+pub fn touching(
+    alloc: Global,
+    moment: Moment,
+    session: &Session,
+) -> Result<Series<Change>, OutOfMemory>
+    ensures { IfOk result (λ changes. changes ≡ touching moment session.now) }
+{
+    let mut touched = session.copy()?;
+    touched.touch(moment);
+    pair(alloc, Change::Last(moment), Change::SessionSet(touched))
+}
+
+/// The end of an opening whose password failed: its moment is noted. The only error is out of memory.
+pub fn opening_failed(
+    alloc: Global,
+    rows: u64,
+    strays: u64,
+    moment: Moment,
+    occasion: Occasion,
+    failure: Failure,
+) -> Result<Outcome, OutOfMemory>
+    ensures { IfOk result (λ told. told
+        ≡ outcome (Reply.Refused (Refusal.People PeopleRefusal.Credentials))
+        (Change.Last moment ∷ failing rows strays moment occasion failure)) }
+{
+    match single(alloc, Change::Last(moment)) {
+        Ok(before) => failed(alloc, before, rows, strays, moment, occasion, failure),
+        Err(fault) => {
+            drop(failure);
+            Err(fault)
+        }
+    }
+}
+
+/// The end of an opening that is accepted: its moment is noted. The only error is out of memory.
+pub fn opening_made(
+    alloc: Global,
+    rows: u64,
+    moment: Moment,
+    code: &PersonCode,
+    reply: Reply,
+    deed: Deed,
+    own: Series<Change>,
+) -> Result<Outcome, OutOfMemory>
+    ensures { IfOk result (λ outcome. outcome
+        ≡ ended_made [] rows moment code.now reply deed (Change.Last moment ∷ own)) }
+{
+    match with_moment(alloc, moment, own) {
+        Ok(own) => ended_made(
+            alloc,
+            Series::new(alloc),
+            rows,
+            moment,
+            code,
+            reply,
+            deed,
+            own,
+        ),
+        Err(fault) => {
+            drop(reply);
+            drop(deed);
+            Err(fault)
+        }
+    }
+}
+
+// The moment of the last activity, and changes behind it.
+fn with_moment(
+    alloc: Global,
+    moment: Moment,
+    own: Series<Change>,
+) -> Result<Series<Change>, OutOfMemory>
+    ensures { IfOk result (λ changes. changes ≡ Change.Last moment ∷ own) }
+{
+    match single(alloc, Change::Last(moment)) {
+        Ok(first) => joined(first, own),
+        Err(fault) => {
+            drop(own);
+            Err(fault)
+        }
+    }
+}
+
+/// The end of a command in a session. The only error is out of memory.
+pub fn end(
+    alloc: Global,
+    before: Series<Change>,
+    rows: u64,
+    strays: u64,
+    moment: Moment,
+    person: &PersonCode,
+    done: Done,
+) -> Result<Outcome, OutOfMemory>
+    ensures { IfOk result
+        (λ outcome. outcome ≡ ended_by rows strays moment person.now before done) }
+{
+    match done {
+        Done::Refused(refusal) => Ok(refused(before, refusal)),
+        Done::Failed(occasion, failure) => {
+            failed(alloc, before, rows, strays, moment, occasion, failure)
+        }
+        Done::Read(reply) => Ok(Outcome {
+            reply,
+            changes: before,
+        }),
+        Done::Made(reply, deed, own) => {
+            ended_made(alloc, before, rows, moment, person, reply, deed, own)
+        }
+    }
+}
+
+// Something is made: a full trail refuses last; else the deed is told.
+fn ended_made(
+    alloc: Global,
+    before: Series<Change>,
+    rows: u64,
+    moment: Moment,
+    person: &PersonCode,
+    reply: Reply,
+    deed: Deed,
+    own: Series<Change>,
+) -> Result<Outcome, OutOfMemory>
+    ensures { IfOk result (λ outcome. outcome
+        ≡ ended_made before rows moment person.now reply deed own) }
+{
+    let Some(number) = next_number(rows) else {
+        drop(reply);
+        drop(deed);
+        drop(own);
+        return Ok(refused(before, Refusal::People(PeopleRefusal::LabFull)));
+    };
+    let changes = told(alloc, before, own, number, moment, person, &deed);
+    drop(deed);
+    match changes {
+        Ok(changes) => Ok(Outcome { reply, changes }),
+        Err(fault) => {
+            drop(reply);
+            Err(fault)
+        }
+    }
+}

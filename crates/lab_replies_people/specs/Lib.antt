@@ -1,3 +1,0 @@
-pub mod Persons
-pub mod Forms
-pub mod Trails

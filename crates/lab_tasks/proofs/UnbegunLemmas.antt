@@ -1,0 +1,99 @@
+-- Of the tasks of one laboratory: its name is a code, or none is begun; and nothing was begun since
+-- memory ran out.
+use Rattle.std.proofs.Common.{◌≡◌, ℕ, List, [], Option, Some, None, Result, Err, Bool, true, false, inl}
+use Rattle.std.specs.Prelude.{IfSome}
+use Rattle.std.specs.Io.KnownBytes.{Appends, Keeps}
+use Rattle.std.proofs.KnownBytes.{Appends-kept, Appends-nil}
+use Rattle.lab_names.specs.Faults.{NameFaultFits, memory_entry, name_fault_entry}
+use Rattle.lab_names.specs.Names.{is_lab_code}
+use Rattle.lab_names.specs.declared.faults.NameFault.{NameFault}
+use Rattle.lab_names.specs.declared.faults.NameFault.TheVariants.{BadName, Memory as NoMemory}
+use Rattle.lab_messages.specs.declared.sending.WriteFault.{WriteFault as Untold}
+use Rattle.lab_kept.specs.declared.labs.Lab.{Lab}
+use Rattle.lab_kept.specs.Worlds.{World}
+use Rattle.lab_rehearsals.specs.Tasks.{FoundsBy, IsRehearsal}
+use Rattle.lab_outside.specs.declared.faults.RehearsalFault.TheVariants.{Server as RehearsalServer}
+use Rattle.lab_outside.specs.declared.faults.ServerFault.TheVariants.{Memory as ServerMemory}
+use Rattle.lab_shelves.specs.Faults.{Declines as DeclinesTask, unopened_fault}
+use Rattle.lab_installations.specs.Copying.{IsCopying}
+use Rattle.lab_installations.specs.Foundings.{Drawing, IsFounding}
+use Rattle.lab_words_explained.specs.Explaining.{Stopped}
+use Rattle.lab_tasks.specs.Laboratories.{Declines, OfCode, OfCodeIf}
+
+-- ---- of a code
+
+module _ (before after told_before told_after : Option (List ℕ)) (status : Result ℕ Untold) where
+  -- nothing was begun, and that memory ran out was told
+  abbrev pub IsUnbegun : Type 0
+  IsUnbegun = Keeps before after × Stopped memory_entry.word told_before told_after status
+
+  module _ (Done : Type 0) (unbegun : IsUnbegun → Done) where
+    refused : (admitted : Bool) (fault : NameFault) → NameFaultFits admitted fault
+        → Declines (name_fault_entry fault).word before after told_before told_after status
+        → OfCodeIf before after told_before told_after status Done admitted
+    refused true BadName fits declines = absurd (cc)
+    refused true (NoMemory missing) fits declines = unbegun declines
+    refused false fault fits declines = (fault, declines)
+
+    -- a text that was refused as a code
+    pub declined : (lab : List ℕ) (fault : NameFault) → NameFaultFits (is_lab_code lab) fault
+        → Declines (name_fault_entry fault).word before after told_before told_after status
+        → OfCode before after told_before told_after status Done lab
+    declined lab fault fits declines = refused (is_lab_code lab) fault fits declines
+
+    pub never_begun : (admitted : Bool) → IsUnbegun → OfCodeIf before after told_before told_after status Done admitted
+    never_begun true told = unbegun told
+    never_begun false told = (NoMemory (record {}), told)
+
+  admitted_done : (Done : Type 0) (admitted : Bool) → admitted ≡ true → Done
+      → OfCodeIf before after told_before told_after status Done admitted
+  admitted_done Done true is done = done
+  admitted_done Done false is done = absurd (cc)
+
+  -- a text that is one
+  pub done_of_code : (Done : Type 0) (lab : List ℕ) → is_lab_code lab ≡ true → Done
+      → OfCode before after told_before told_after status Done lab
+  done_of_code Done lab is done = admitted_done Done (is_lab_code lab) is done
+
+-- ---- each task, not begun
+
+module _ (before after told_before told_after : Option (List ℕ)) (status : Result ℕ Untold) where
+  pub declines_task : IsUnbegun before after told_before told_after status → DeclinesTask unopened_fault status told_before told_after
+  declines_task told = (told.1.0, inl told.1.1)
+
+  pub no_founding : {S : Type 0} (world : S → World) (places : S → S → Lab → Type 0) (drawing : Drawing) (opened : S → Type 0)
+      (code : List ℕ) (body : Option (List ℕ)) → IsUnbegun before after told_before told_after status
+      → IsFounding world places drawing opened code body before after told_before told_after status
+  no_founding world places drawing opened code body told = record {
+    ending = Err unopened_fault;
+    ends = tt;
+    prints = told.0;
+    told = declines_task told;
+  }
+
+  pub no_copying : {S : Type 0} (world : S → World) (rests : S → S → Type 0) (opened : S → Type 0) (moments later : Option (List ℕ))
+      (code : List ℕ) (from to : ℕ) → IsUnbegun before after told_before told_after status
+      → IsCopying world rests opened moments later code from to before after told_before told_after status
+  no_copying world rests opened moments later code from to told = record {
+    ending = Err unopened_fault;
+    copies = told.0;
+    told = declines_task told;
+  }
+
+  pub printed_none : Keeps before after → Appends before after []
+  printed_none same = Appends-kept before before after [] (Appends-nil before) same
+
+  founds_none : (code : List ℕ) (body : Option (List ℕ)) → IfSome body (λ bytes. FoundsBy code bytes (Err (RehearsalServer ServerMemory)))
+  founds_none code None = tt
+  founds_none code (Some bytes) = tt
+
+  pub no_rehearsal : (code : List ℕ) (body : Option (List ℕ)) → IsUnbegun before after told_before told_after status
+      → IsRehearsal body code before after told_before told_after status
+  no_rehearsal code body told = record {
+    ending = Err (RehearsalServer ServerMemory);
+    founded = founds_none code body;
+    printed = [];
+    prints = tt;
+    wrote = printed_none told.0;
+    told = told.1;
+  }

@@ -1,0 +1,17 @@
+-- A text that is no code is told as such, and in a code's name the first bytes of the input are founded.
+use Rattle.std.proofs.Common.{ap₂, option_map, take}
+use Rattle.std.proofs.KnownBytes.{Keeps-refl}
+use Rattle.lab_tasks.proofs.UnbegunLemmas.{declined, done_of_code, no_founding}
+use Rattle.lab_tasks.proofs.laboratories.found_for.Goals as goal
+
+pub returns-in-Err : goal.returns-in-Err
+returns-in-Err g c =
+    declined _ _ _ _ _ _ (no_founding _ _ _ _ _ _ _ _ _ _ _)
+    c.args.lab.now c.in-Err.fault c.in-Err.ensures.fault
+    (Keeps-refl _, rw c.word.ensures at c.decline.ensures)
+
+pub returns : goal.returns
+returns g c =
+    let body = ap₂ (λ n r. option_map (take n) (g.R.Read.remaining r)) c.take-body.ensures.limit c.take-body.ensures.inner in
+    done_of_code _ _ _ _ _ _ c.args.lab.now c.in-Ok.ensures.admitted
+    (rw (c.in-Ok.ensures.value, body) at c.found.ensures)

@@ -1,0 +1,182 @@
+//! Tasks of one laboratory, which the words name by a text.
+
+ghost use Rattle.std.specs.Prelude.{◌≡◌, ℕ, pos, List, IsTrue, Err, nat_le};
+ghost use Rattle.lab_names.specs.Moment.{is_moment};
+ghost use Rattle.lab_names.specs.Ordinals.{is_ordinal};
+ghost use Rattle.lab_outside.specs.Faults.{Tells};
+ghost use Rattle.lab_installations.specs.Foundings.{drawing_of};
+ghost use Rattle.lab_tasks.specs.Laboratories.{IsCopied, IsCopiedIf, IsFounded, IsRehearsed, body_in};
+
+use crate::hosts::Host;
+use lab_installations::{Closing, Progress, Shelf, copy, found};
+use lab_messages::WriteFault;
+use lab_names::{LabCode, Moment, Ordinal};
+use lab_outside::{Chance, Clock, tell};
+use lab_rehearsals::rehearse;
+use lab_words_explained::explain_order;
+use sqlite::Connection;
+use std::alloc::Global;
+use std::io::{Read, Write};
+use std::net::Net;
+
+/// The most bytes of a body.
+const BODY_LIMIT: u64 = 1_000_000;
+
+// Tells a word, and answers the status of a fault.
+fn decline<E: Write>(errors: &mut E, word: &str) -> Result<u8, WriteFault>
+    ensures { Tells (λ (fault : List ℕ). fault) (Err word.now) result
+        (E.contents errors.old) (E.contents errors.new) }
+{
+    tell(errors, word)?;
+    Ok(1)
+}
+
+/// `labdesk found`, of the laboratory of this text in the file at the path, its body being the
+/// first bytes of the input. Answers the status.
+///
+/// # Errors
+/// A fault could not be told whole, as standard error failed.
+pub fn found_for<N, H: Shelf, C: Clock, X: Chance, P, R: Read + Drop, W: Write, E: Write>(
+    alloc: Global,
+    host: &mut Host<'_, N, H, C, X, P>,
+    file: &str,
+    lab: &str,
+    input: R,
+    output: &mut W,
+    errors: &mut E,
+) -> Result<u8, WriteFault>
+where
+    Connection<H::Disk>: Closing,
+    ensures { IsFounded H.Disk.Store (W.contents output.old) (W.contents output.new)
+        (E.contents errors.old) (E.contents errors.new) result
+        (drawing_of (C.coming host.old.clock) (C.coming host.new.clock)
+        (X.coming host.old.chance) (X.coming host.new.chance)) lab.now
+        (body_in (R.remaining input)) }
+{
+    let lab = match LabCode::parse(alloc, lab) {
+        Ok(lab) => lab,
+        Err(fault) => return decline(errors, fault.word()),
+    };
+    let mut body = input.take(BODY_LIMIT);
+    found(
+        alloc,
+        &mut host.shelf,
+        file,
+        &lab,
+        &mut host.clock,
+        &mut host.chance,
+        &mut body,
+        output,
+        errors,
+    )
+}
+
+// The number of a record. clap lets no other number through.
+fn ordinal(number: u32) -> Ordinal
+    ensures { IsTrue (is_ordinal number) → result ≡ number }
+{
+    Ordinal::new(number).unwrap_or(Ordinal::FIRST)
+}
+
+// A copy of the records of a range, of the laboratory of this text.
+fn copy_range<N, H: Shelf, C: Clock, X, P: Progress, W: Write, E: Write>(
+    alloc: Global,
+    host: &mut Host<'_, N, H, C, X, P>,
+    file: &str,
+    lab: &str,
+    from: Ordinal,
+    to: Ordinal,
+    output: &mut W,
+    errors: &mut E,
+) -> Result<u8, WriteFault>
+where
+    Connection<H::Disk>: Closing,
+    ensures { IsCopied H.Disk.Store (W.contents output.old) (W.contents output.new)
+        (E.contents errors.old) (E.contents errors.new) result
+        (C.coming host.old.clock) (C.coming host.new.clock) lab.now from to }
+{
+    let lab = match LabCode::parse(alloc, lab) {
+        Ok(lab) => lab,
+        Err(fault) => return decline(errors, fault.word()),
+    };
+    copy(
+        alloc,
+        &mut host.shelf,
+        file,
+        &lab,
+        from,
+        to,
+        &mut host.clock,
+        output,
+        errors,
+        &mut host.progress,
+    )
+}
+
+/// `labdesk copy`, of the records from a number to a number, of the laboratory of this text in the
+/// file at the path. Answers the status.
+///
+/// # Errors
+/// A fault could not be told whole, as standard error failed.
+pub fn copy_for<N, H: Shelf, C: Clock, X, P: Progress, W: Write, E: Write>(
+    alloc: Global,
+    host: &mut Host<'_, N, H, C, X, P>,
+    file: &str,
+    lab: &str,
+    from: u32,
+    to: u32,
+    output: &mut W,
+    errors: &mut E,
+) -> Result<u8, WriteFault>
+where
+    Connection<H::Disk>: Closing,
+    ensures { IsTrue (is_ordinal from) → IsTrue (is_ordinal to) →
+        IsCopiedIf H.Disk.Store (W.contents output.old) (W.contents output.new)
+        (E.contents errors.old) (E.contents errors.new) result
+        (C.coming host.old.clock) (C.coming host.new.clock) lab.now from to (nat_le from to) }
+{
+    if from > to {
+        return explain_order(alloc, output, errors);
+    }
+    copy_range(
+        alloc,
+        host,
+        file,
+        lab,
+        ordinal(from),
+        ordinal(to),
+        output,
+        errors,
+    )
+}
+
+/// `labdesk rehearse`, of the laboratory of this text after so many seconds, its body being the
+/// first bytes of the input. Answers the status.
+///
+/// # Errors
+/// A fault could not be told whole, as standard error failed.
+pub fn rehearse_for<N: Net, R: Read + Drop, W: Write, E: Write>(
+    net: &N,
+    alloc: Global,
+    lab: &str,
+    seconds: i64,
+    input: R,
+    output: &mut W,
+    errors: &mut E,
+) -> Result<u8, WriteFault>
+    ensures { (moment : ℕ) → IsTrue (is_moment moment) → seconds ≡ pos moment →
+        IsRehearsed (W.contents output.old) (W.contents output.new)
+        (E.contents errors.old) (E.contents errors.new) result lab.now
+        (body_in (R.remaining input)) }
+{
+    let moment = match Moment::from_seconds(seconds) {
+        Ok(moment) => moment,
+        Err(fault) => return decline(errors, fault.word()),
+    };
+    let lab = match LabCode::parse(alloc, lab) {
+        Ok(lab) => lab,
+        Err(fault) => return decline(errors, fault.word()),
+    };
+    let mut body = input.take(BODY_LIMIT);
+    rehearse(net, alloc, &lab, moment, &mut body, output, errors)
+}

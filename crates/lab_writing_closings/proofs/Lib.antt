@@ -1,4 +1,0 @@
-pub mod SessionWrites
-pub mod ClosingLemmas
-pub mod ClosedAlike
-pub mod KnownValues

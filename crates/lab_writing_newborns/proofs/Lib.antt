@@ -1,3 +1,0 @@
-pub mod LabMore
-pub mod AllRows
-pub mod KnownValues

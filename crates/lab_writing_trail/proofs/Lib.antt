@@ -1,3 +1,0 @@
-pub mod TrailWrites
-pub mod Added
-pub mod KnownValues
