@@ -2,7 +2,6 @@
 
 ghost use Rattle.std.specs.Prelude.{◌≡◌, [], ◌∷◌, ◌++◌, map, length, option_map, slice_get, IfOk, OnOk, IsTrue};
 ghost use Rattle.sqlite.specs.State.{HasCleanDisk, IsUnchanged};
-ghost use Rattle.sqlite.specs.Held.{state};
 ghost use Rattle.lab_tables.specs.Ready.{IsReady, PassesBy, tables_of};
 ghost use Rattle.lab_access.specs.Persons.{person_of};
 ghost use Rattle.lab_tables.specs.Meaning.{persons_of};
@@ -15,19 +14,19 @@ use crate::passwords::{ask_of_row, password_of_row, roles_of};
 use lab_access::{Ask, Person};
 use lab_columns::asking::{rows_by_code, rows_by_one};
 use lab_columns::cells::{flag_of, small_of, text_of};
-use lab_columns::{ReadFault, code_at};
+use lab_columns::{ReadFault, Readable, code_at};
 use lab_names::PersonCode;
-use sqlite::{Alter, Connection, Error, Row};
+use sqlite::{Error, Row};
 use std::alloc::Global;
 
 /// The row of the person with the code, in the laboratory with the id.
-fn person_rows<S: Alter>(conn: &mut Connection<S>, lab: i64, code: &str) -> Result<Vec<Row>, Error>
-    ensures passes { PassesBy (state S.Store conn.old) (state S.Store conn.new) }
-    ensures same { HasCleanDisk (state S.Store conn.new) →
-        OnOk result (IsUnchanged (state S.Store conn.old) (state S.Store conn.new)) }
-    ensures rows { IsReady (state S.Store conn.old) → HasCleanDisk (state S.Store conn.new) →
+fn person_rows<D: Readable>(conn: &mut D, lab: i64, code: &str) -> Result<Vec<Row>, Error>
+    ensures passes { PassesBy (D.state conn.old) (D.state conn.new) }
+    ensures same { HasCleanDisk (D.state conn.new) →
+        OnOk result (IsUnchanged (D.state conn.old) (D.state conn.new)) }
+    ensures rows { IsReady (D.state conn.old) → HasCleanDisk (D.state conn.new) →
         IfOk result (λ rows. rows.items
-        ≡ person_shown_by (tables_of (state S.Store conn.old)) lab code.now) }
+        ≡ person_shown_by (tables_of (D.state conn.old)) lab code.now) }
 {
     rows_by_code(
         conn,
@@ -38,13 +37,13 @@ fn person_rows<S: Alter>(conn: &mut Connection<S>, lab: i64, code: &str) -> Resu
 }
 
 /// The rows of the persons of the laboratory with the id, in the order of their codes.
-fn persons_rows<S: Alter>(conn: &mut Connection<S>, lab: i64) -> Result<Vec<Row>, Error>
-    ensures passes { PassesBy (state S.Store conn.old) (state S.Store conn.new) }
-    ensures same { HasCleanDisk (state S.Store conn.new) →
-        OnOk result (IsUnchanged (state S.Store conn.old) (state S.Store conn.new)) }
-    ensures rows { IsReady (state S.Store conn.old) → HasCleanDisk (state S.Store conn.new) →
+fn persons_rows<D: Readable>(conn: &mut D, lab: i64) -> Result<Vec<Row>, Error>
+    ensures passes { PassesBy (D.state conn.old) (D.state conn.new) }
+    ensures same { HasCleanDisk (D.state conn.new) →
+        OnOk result (IsUnchanged (D.state conn.old) (D.state conn.new)) }
+    ensures rows { IsReady (D.state conn.old) → HasCleanDisk (D.state conn.new) →
         IfOk result
-        (λ rows. rows.items ≡ persons_shown (tables_of (state S.Store conn.old)) lab) }
+        (λ rows. rows.items ≡ persons_shown (tables_of (D.state conn.old)) lab) }
 {
     rows_by_one(
         conn,
@@ -54,13 +53,13 @@ fn persons_rows<S: Alter>(conn: &mut Connection<S>, lab: i64) -> Result<Vec<Row>
 }
 
 /// The codes of the persons of the laboratory with the id, in order.
-fn all_code_rows<S: Alter>(conn: &mut Connection<S>, lab: i64) -> Result<Vec<Row>, Error>
-    ensures passes { PassesBy (state S.Store conn.old) (state S.Store conn.new) }
-    ensures same { HasCleanDisk (state S.Store conn.new) →
-        OnOk result (IsUnchanged (state S.Store conn.old) (state S.Store conn.new)) }
-    ensures rows { IsReady (state S.Store conn.old) → HasCleanDisk (state S.Store conn.new) →
+fn all_code_rows<D: Readable>(conn: &mut D, lab: i64) -> Result<Vec<Row>, Error>
+    ensures passes { PassesBy (D.state conn.old) (D.state conn.new) }
+    ensures same { HasCleanDisk (D.state conn.new) →
+        OnOk result (IsUnchanged (D.state conn.old) (D.state conn.new)) }
+    ensures rows { IsReady (D.state conn.old) → HasCleanDisk (D.state conn.new) →
         IfOk result
-        (λ rows. rows.items ≡ all_codes_shown (tables_of (state S.Store conn.old)) lab) }
+        (λ rows. rows.items ≡ all_codes_shown (tables_of (D.state conn.old)) lab) }
 {
     rows_by_one(
         conn,
@@ -115,17 +114,17 @@ fn persons_of_rows(alloc: Global, rows: &[Row]) -> Result<Vec<PersonHead>, ReadF
 }
 
 /// What was asked for, with the code of whoever asked.
-fn ask_whole<S: Alter>(
+fn ask_whole<D: Readable>(
     alloc: Global,
-    conn: &mut Connection<S>,
+    conn: &mut D,
     ask: Option<AskHead>,
 ) -> Result<Option<Ask>, ReadFault>
-    ensures passes { PassesBy (state S.Store conn.old) (state S.Store conn.new) }
-    ensures same { HasCleanDisk (state S.Store conn.new) → IsTrue (state S.Store conn.old).is_open →
-        OnOk result (IsUnchanged (state S.Store conn.old) (state S.Store conn.new)) }
-    ensures ask { IsReady (state S.Store conn.old) → HasCleanDisk (state S.Store conn.new) →
+    ensures passes { PassesBy (D.state conn.old) (D.state conn.new) }
+    ensures same { HasCleanDisk (D.state conn.new) → IsTrue (D.state conn.old).is_open →
+        OnOk result (IsUnchanged (D.state conn.old) (D.state conn.new)) }
+    ensures ask { IsReady (D.state conn.old) → HasCleanDisk (D.state conn.new) →
         IfOk result (λ whole. whole
-        ≡ option_map (ask_by (tables_of (state S.Store conn.old))) ask) }
+        ≡ option_map (ask_by (tables_of (D.state conn.old))) ask) }
 {
     match ask {
         Some(ask) => {
@@ -141,16 +140,16 @@ fn ask_whole<S: Alter>(
 }
 
 /// The person of the row.
-fn person_whole<S: Alter>(
+fn person_whole<D: Readable>(
     alloc: Global,
-    conn: &mut Connection<S>,
+    conn: &mut D,
     head: PersonHead,
 ) -> Result<Person, ReadFault>
-    ensures passes { PassesBy (state S.Store conn.old) (state S.Store conn.new) }
-    ensures same { HasCleanDisk (state S.Store conn.new) → IsTrue (state S.Store conn.old).is_open →
-        OnOk result (IsUnchanged (state S.Store conn.old) (state S.Store conn.new)) }
-    ensures person { IsReady (state S.Store conn.old) → HasCleanDisk (state S.Store conn.new) →
-        IfOk result (λ person. person ≡ person_by (tables_of (state S.Store conn.old)) head) }
+    ensures passes { PassesBy (D.state conn.old) (D.state conn.new) }
+    ensures same { HasCleanDisk (D.state conn.new) → IsTrue (D.state conn.old).is_open →
+        OnOk result (IsUnchanged (D.state conn.old) (D.state conn.new)) }
+    ensures person { IsReady (D.state conn.old) → HasCleanDisk (D.state conn.new) →
+        IfOk result (λ person. person ≡ person_by (tables_of (D.state conn.old)) head) }
 {
     let ask = ask_whole(alloc, conn, head.ask)?;
     Ok(Person {
@@ -166,17 +165,17 @@ fn person_whole<S: Alter>(
 }
 
 /// The person of the row, where there is one.
-fn person_if<S: Alter>(
+fn person_if<D: Readable>(
     alloc: Global,
-    conn: &mut Connection<S>,
+    conn: &mut D,
     head: Option<PersonHead>,
 ) -> Result<Option<Person>, ReadFault>
-    ensures passes { PassesBy (state S.Store conn.old) (state S.Store conn.new) }
-    ensures same { HasCleanDisk (state S.Store conn.new) → IsTrue (state S.Store conn.old).is_open →
-        OnOk result (IsUnchanged (state S.Store conn.old) (state S.Store conn.new)) }
-    ensures person { IsReady (state S.Store conn.old) → HasCleanDisk (state S.Store conn.new) →
+    ensures passes { PassesBy (D.state conn.old) (D.state conn.new) }
+    ensures same { HasCleanDisk (D.state conn.new) → IsTrue (D.state conn.old).is_open →
+        OnOk result (IsUnchanged (D.state conn.old) (D.state conn.new)) }
+    ensures person { IsReady (D.state conn.old) → HasCleanDisk (D.state conn.new) →
         IfOk result (λ person. person
-        ≡ option_map (person_by (tables_of (state S.Store conn.old))) head) }
+        ≡ option_map (person_by (tables_of (D.state conn.old))) head) }
 {
     match head {
         Some(head) => {
@@ -188,18 +187,18 @@ fn person_if<S: Alter>(
 }
 
 /// The person of the row, behind others.
-fn add_person<S: Alter>(
+fn add_person<D: Readable>(
     alloc: Global,
-    conn: &mut Connection<S>,
+    conn: &mut D,
     made: &mut Vec<Person>,
     head: PersonHead,
 ) -> Result<(), ReadFault>
-    ensures passes { PassesBy (state S.Store conn.old) (state S.Store conn.new) }
-    ensures same { HasCleanDisk (state S.Store conn.new) → IsTrue (state S.Store conn.old).is_open →
-        OnOk result (IsUnchanged (state S.Store conn.old) (state S.Store conn.new)) }
-    ensures person { IsReady (state S.Store conn.old) → HasCleanDisk (state S.Store conn.new) →
+    ensures passes { PassesBy (D.state conn.old) (D.state conn.new) }
+    ensures same { HasCleanDisk (D.state conn.new) → IsTrue (D.state conn.old).is_open →
+        OnOk result (IsUnchanged (D.state conn.old) (D.state conn.new)) }
+    ensures person { IsReady (D.state conn.old) → HasCleanDisk (D.state conn.new) →
         OnOk result (made.new.items
-        ≡ made.old.items ++ person_by (tables_of (state S.Store conn.old)) head ∷ []) }
+        ≡ made.old.items ++ person_by (tables_of (D.state conn.old)) head ∷ []) }
 {
     let person = person_whole(alloc, conn, head)?;
     made.push(person)?;
@@ -207,18 +206,18 @@ fn add_person<S: Alter>(
 }
 
 /// The persons of the rows, behind others.
-fn add_persons<S: Alter>(
+fn add_persons<D: Readable>(
     alloc: Global,
-    conn: &mut Connection<S>,
+    conn: &mut D,
     made: &mut Vec<Person>,
     heads: Vec<PersonHead>,
 ) -> Result<(), ReadFault>
-    ensures passes { PassesBy (state S.Store conn.old) (state S.Store conn.new) }
-    ensures same { HasCleanDisk (state S.Store conn.new) → IsTrue (state S.Store conn.old).is_open →
-        OnOk result (IsUnchanged (state S.Store conn.old) (state S.Store conn.new)) }
-    ensures persons { IsReady (state S.Store conn.old) → HasCleanDisk (state S.Store conn.new) →
-        IsTrue (state S.Store conn.old).is_open → OnOk result (made.new.items
-        ≡ made.old.items ++ map (person_by (tables_of (state S.Store conn.old))) heads.items) }
+    ensures passes { PassesBy (D.state conn.old) (D.state conn.new) }
+    ensures same { HasCleanDisk (D.state conn.new) → IsTrue (D.state conn.old).is_open →
+        OnOk result (IsUnchanged (D.state conn.old) (D.state conn.new)) }
+    ensures persons { IsReady (D.state conn.old) → HasCleanDisk (D.state conn.new) →
+        IsTrue (D.state conn.old).is_open → OnOk result (made.new.items
+        ≡ made.old.items ++ map (person_by (tables_of (D.state conn.old))) heads.items) }
 {
     for head in heads {
         add_person(alloc, conn, made, head)?;
@@ -227,35 +226,35 @@ fn add_persons<S: Alter>(
 }
 
 /// The own rows of the persons of the laboratory with the id, in the order of their codes.
-fn person_heads_at<S: Alter>(
+fn person_heads_at<D: Readable>(
     alloc: Global,
-    conn: &mut Connection<S>,
+    conn: &mut D,
     lab: i64,
 ) -> Result<Vec<PersonHead>, ReadFault>
-    ensures passes { PassesBy (state S.Store conn.old) (state S.Store conn.new) }
-    ensures same { HasCleanDisk (state S.Store conn.new) →
-        OnOk result (IsUnchanged (state S.Store conn.old) (state S.Store conn.new)) }
-    ensures heads { IsReady (state S.Store conn.old) → HasCleanDisk (state S.Store conn.new) →
+    ensures passes { PassesBy (D.state conn.old) (D.state conn.new) }
+    ensures same { HasCleanDisk (D.state conn.new) →
+        OnOk result (IsUnchanged (D.state conn.old) (D.state conn.new)) }
+    ensures heads { IsReady (D.state conn.old) → HasCleanDisk (D.state conn.new) →
         IfOk result
-        (λ made. made.items ≡ person_heads_of (tables_of (state S.Store conn.old)) lab) }
+        (λ made. made.items ≡ person_heads_of (tables_of (D.state conn.old)) lab) }
 {
     let rows = persons_rows(conn, lab)?;
     persons_of_rows(alloc, &rows)
 }
 
 /// The person who has or had the code, in the laboratory with the id.
-pub fn person_at<S: Alter>(
+pub fn person_at<D: Readable>(
     alloc: Global,
-    conn: &mut Connection<S>,
+    conn: &mut D,
     lab: i64,
     code: &PersonCode,
 ) -> Result<Option<Person>, ReadFault>
-    ensures passes { PassesBy (state S.Store conn.old) (state S.Store conn.new) }
-    ensures same { HasCleanDisk (state S.Store conn.new) →
-        OnOk result (IsUnchanged (state S.Store conn.old) (state S.Store conn.new)) }
-    ensures person { IsReady (state S.Store conn.old) → HasCleanDisk (state S.Store conn.new) →
+    ensures passes { PassesBy (D.state conn.old) (D.state conn.new) }
+    ensures same { HasCleanDisk (D.state conn.new) →
+        OnOk result (IsUnchanged (D.state conn.old) (D.state conn.new)) }
+    ensures person { IsReady (D.state conn.old) → HasCleanDisk (D.state conn.new) →
         IfOk result (λ person. person
-        ≡ person_of (persons_of (tables_of (state S.Store conn.old)) lab) code.now) }
+        ≡ person_of (persons_of (tables_of (D.state conn.old)) lab) code.now) }
 {
     let rows = person_rows(conn, lab, code.as_str())?;
     let head = first_person(alloc, &rows)?;
@@ -263,16 +262,16 @@ pub fn person_at<S: Alter>(
 }
 
 /// The persons of the laboratory with the id, in the order of their codes.
-pub fn persons_at<S: Alter>(
+pub fn persons_at<D: Readable>(
     alloc: Global,
-    conn: &mut Connection<S>,
+    conn: &mut D,
     lab: i64,
 ) -> Result<Vec<Person>, ReadFault>
-    ensures passes { PassesBy (state S.Store conn.old) (state S.Store conn.new) }
-    ensures same { HasCleanDisk (state S.Store conn.new) →
-        OnOk result (IsUnchanged (state S.Store conn.old) (state S.Store conn.new)) }
-    ensures persons { IsReady (state S.Store conn.old) → HasCleanDisk (state S.Store conn.new) →
-        IfOk result (λ made. made.items ≡ persons_of (tables_of (state S.Store conn.old)) lab) }
+    ensures passes { PassesBy (D.state conn.old) (D.state conn.new) }
+    ensures same { HasCleanDisk (D.state conn.new) →
+        OnOk result (IsUnchanged (D.state conn.old) (D.state conn.new)) }
+    ensures persons { IsReady (D.state conn.old) → HasCleanDisk (D.state conn.new) →
+        IfOk result (λ made. made.items ≡ persons_of (tables_of (D.state conn.old)) lab) }
 {
     let heads = person_heads_at(alloc, conn, lab)?;
     let mut made = Vec::new(alloc);
@@ -281,13 +280,13 @@ pub fn persons_at<S: Alter>(
 }
 
 /// How many persons the laboratory with the id has.
-pub fn person_count<S: Alter>(conn: &mut Connection<S>, lab: i64) -> Result<u64, ReadFault>
-    ensures passes { PassesBy (state S.Store conn.old) (state S.Store conn.new) }
-    ensures same { HasCleanDisk (state S.Store conn.new) →
-        OnOk result (IsUnchanged (state S.Store conn.old) (state S.Store conn.new)) }
-    ensures count { IsReady (state S.Store conn.old) → HasCleanDisk (state S.Store conn.new) →
+pub fn person_count<D: Readable>(conn: &mut D, lab: i64) -> Result<u64, ReadFault>
+    ensures passes { PassesBy (D.state conn.old) (D.state conn.new) }
+    ensures same { HasCleanDisk (D.state conn.new) →
+        OnOk result (IsUnchanged (D.state conn.old) (D.state conn.new)) }
+    ensures count { IsReady (D.state conn.old) → HasCleanDisk (D.state conn.new) →
         IfOk result
-        (λ count. count ≡ length (persons_of (tables_of (state S.Store conn.old)) lab)) }
+        (λ count. count ≡ length (persons_of (tables_of (D.state conn.old)) lab)) }
 {
     let rows = all_code_rows(conn, lab)?;
     Ok(rows.len() as u64)

@@ -10,6 +10,7 @@ ghost use Rattle.lab_applying.specs.Commits.{Ends};
 
 use crate::changes::all_inside;
 use lab_columns::ReadFault;
+use lab_connections::Tables;
 use lab_kept::Change;
 use lab_names::LabCode;
 use lab_reading::lab_at;
@@ -39,27 +40,27 @@ fn commit_all<S: Alter>(
 /// then as before.
 pub fn apply<S: Alter>(
     alloc: Global,
-    conn: &mut Connection<S>,
+    tables: &mut Tables<S>,
     code: &LabCode,
     changes: &[Change],
 ) -> Result<(), ReadFault>
-    requires at_rest { IsAtRest (state S.Store conn.old) }
-    ensures at_rest { IsAtRest (state S.Store conn.new) }
-    ensures clean { HasCleanDisk (state S.Store conn.new) → HasCleanDisk (state S.Store conn.old) }
-    ensures live { HasCleanDisk (state S.Store conn.new) →
-        IsTrue (state S.Store conn.new).is_open → IsTrue (state S.Store conn.old).is_open }
-    ensures ends { IsReady (state S.Store conn.old) → Ends (AreMadeIfAny code.now changes.now) result
-        (state S.Store conn.old) (state S.Store conn.new) }
-    ensures quiet { changes.now ≡ [] → IsReady (state S.Store conn.old) →
-        LeavesNoMore (state S.Store conn.old) (state S.Store conn.new) }
+    requires at_rest { IsAtRest (state S.Store tables.old.conn) }
+    ensures at_rest { IsAtRest (state S.Store tables.new.conn) }
+    ensures clean { HasCleanDisk (state S.Store tables.new.conn) → HasCleanDisk (state S.Store tables.old.conn) }
+    ensures live { HasCleanDisk (state S.Store tables.new.conn) →
+        IsTrue (state S.Store tables.new.conn).is_open → IsTrue (state S.Store tables.old.conn).is_open }
+    ensures ends { IsReady (state S.Store tables.old.conn) → Ends (AreMadeIfAny code.now changes.now) result
+        (state S.Store tables.old.conn) (state S.Store tables.new.conn) }
+    ensures quiet { changes.now ≡ [] → IsReady (state S.Store tables.old.conn) →
+        LeavesNoMore (state S.Store tables.old.conn) (state S.Store tables.new.conn) }
 {
-    let found = lab_at(alloc, conn, code)?;
+    let found = lab_at(alloc, tables, code)?;
     if changes.is_empty() {
         return Ok(());
     }
     let Some(head) = found else {
         return Err(ReadFault::Storage);
     };
-    commit_all(conn, RowId { id: head.id }, changes)?;
+    commit_all(&mut tables.conn, RowId { id: head.id }, changes)?;
     Ok(())
 }

@@ -2,7 +2,6 @@
 
 ghost use Rattle.std.specs.Prelude.{◌≡◌, Some, option_map, slice_get, IfOk, OnOk, IsTrue};
 ghost use Rattle.sqlite.specs.State.{HasCleanDisk, IsUnchanged};
-ghost use Rattle.sqlite.specs.Held.{state};
 ghost use Rattle.lab_tables.specs.Ready.{IsReady, PassesBy, tables_of};
 ghost use Rattle.lab_tables.specs.Meaning.{code_of};
 ghost use Rattle.lab_columns.specs.Shown.{codes_shown, code_read};
@@ -10,17 +9,18 @@ ghost use Rattle.lab_columns.specs.Shown.{codes_shown, code_read};
 use crate::asking::rows_by_one;
 use crate::cells::text_of;
 use crate::faults::ReadFault;
+use crate::readable::Readable;
 use lab_names::PersonCode;
-use sqlite::{Alter, Connection, Error, Row};
+use sqlite::{Error, Row};
 use std::alloc::Global;
 
 /// The code of the person with the id, as a row.
-fn code_rows<S: Alter>(conn: &mut Connection<S>, id: i64) -> Result<Vec<Row>, Error>
-    ensures passes { PassesBy (state S.Store conn.old) (state S.Store conn.new) }
-    ensures same { HasCleanDisk (state S.Store conn.new) →
-        OnOk result (IsUnchanged (state S.Store conn.old) (state S.Store conn.new)) }
-    ensures rows { IsReady (state S.Store conn.old) → HasCleanDisk (state S.Store conn.new) →
-        IfOk result (λ rows. rows.items ≡ codes_shown (tables_of (state S.Store conn.old)) id) }
+fn code_rows<D: Readable>(conn: &mut D, id: i64) -> Result<Vec<Row>, Error>
+    ensures passes { PassesBy (D.state conn.old) (D.state conn.new) }
+    ensures same { HasCleanDisk (D.state conn.new) →
+        OnOk result (IsUnchanged (D.state conn.old) (D.state conn.new)) }
+    ensures rows { IsReady (D.state conn.old) → HasCleanDisk (D.state conn.new) →
+        IfOk result (λ rows. rows.items ≡ codes_shown (tables_of (D.state conn.old)) id) }
 {
     rows_by_one(conn, "SELECT code FROM persons WHERE id = ?1", id)
 }
@@ -36,33 +36,29 @@ fn first_code(alloc: Global, rows: &[Row]) -> Result<PersonCode, ReadFault>
 }
 
 /// The code of the person with the id. That there is nobody is a fault of the store.
-pub fn code_at<S: Alter>(
-    alloc: Global,
-    conn: &mut Connection<S>,
-    id: i64,
-) -> Result<PersonCode, ReadFault>
-    ensures passes { PassesBy (state S.Store conn.old) (state S.Store conn.new) }
-    ensures same { HasCleanDisk (state S.Store conn.new) →
-        OnOk result (IsUnchanged (state S.Store conn.old) (state S.Store conn.new)) }
-    ensures code { IsReady (state S.Store conn.old) → HasCleanDisk (state S.Store conn.new) →
-        IfOk result (λ code. code ≡ code_of (tables_of (state S.Store conn.old)) id) }
+pub fn code_at<D: Readable>(alloc: Global, conn: &mut D, id: i64) -> Result<PersonCode, ReadFault>
+    ensures passes { PassesBy (D.state conn.old) (D.state conn.new) }
+    ensures same { HasCleanDisk (D.state conn.new) →
+        OnOk result (IsUnchanged (D.state conn.old) (D.state conn.new)) }
+    ensures code { IsReady (D.state conn.old) → HasCleanDisk (D.state conn.new) →
+        IfOk result (λ code. code ≡ code_of (tables_of (D.state conn.old)) id) }
 {
     let rows = code_rows(conn, id)?;
     first_code(alloc, &rows)
 }
 
 /// The code of the person with the id, where there is an id.
-pub fn code_if<S: Alter>(
+pub fn code_if<D: Readable>(
     alloc: Global,
-    conn: &mut Connection<S>,
+    conn: &mut D,
     id: Option<i64>,
 ) -> Result<Option<PersonCode>, ReadFault>
-    ensures passes { PassesBy (state S.Store conn.old) (state S.Store conn.new) }
-    ensures same { HasCleanDisk (state S.Store conn.new) → IsTrue (state S.Store conn.old).is_open →
-        OnOk result (IsUnchanged (state S.Store conn.old) (state S.Store conn.new)) }
-    ensures code { IsReady (state S.Store conn.old) → HasCleanDisk (state S.Store conn.new) →
+    ensures passes { PassesBy (D.state conn.old) (D.state conn.new) }
+    ensures same { HasCleanDisk (D.state conn.new) → IsTrue (D.state conn.old).is_open →
+        OnOk result (IsUnchanged (D.state conn.old) (D.state conn.new)) }
+    ensures code { IsReady (D.state conn.old) → HasCleanDisk (D.state conn.new) →
         IfOk result
-        (λ code. code ≡ option_map (code_of (tables_of (state S.Store conn.old))) id) }
+        (λ code. code ≡ option_map (code_of (tables_of (D.state conn.old))) id) }
 {
     match id {
         Some(id) => {

@@ -6,6 +6,8 @@ pub mod asking;
 pub mod cells;
 mod codes;
 mod faults;
+mod readable;
 
 pub use codes::{code_at, code_if};
 pub use faults::ReadFault;
+pub use readable::Readable;

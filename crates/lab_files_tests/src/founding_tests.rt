@@ -1,6 +1,7 @@
 //! A founding that is refused. Calls stand in functions without clauses, so that the proof of the test doesn't carry what a
 //! connection holds after each.
 use lab_access::{Password, Person, Roles};
+use lab_connections::Tables;
 use lab_files::{FileFault, create};
 use lab_founding::found;
 use lab_kept::{Newborn, PlacingFault};
@@ -9,7 +10,7 @@ use sqlite::{Connection, MemStore};
 use std::alloc::Global;
 use std::process::Abort;
 
-type File = Connection<MemStore>;
+type File = Tables<MemStore>;
 
 // A code or a name.
 fn text<R: Rule>(rt: &(impl Abort + AllocGlobal), text: &str) -> Text<R> {
@@ -42,30 +43,31 @@ fn newborn(rt: &(impl Abort + AllocGlobal)) -> Newborn {
 }
 
 fn database(rt: &(impl Abort + AllocGlobal)) -> File {
-    Connection::open_in_memory(rt.alloc()).expect(rt, "a database")
+    let conn = Connection::open_in_memory(rt.alloc()).expect(rt, "a database");
+    Tables { conn }
 }
 
-fn made(conn: &mut File) -> Result<(), FileFault> {
-    if !conn.is_autocommit() {
+fn made(tables: &mut File) -> Result<(), FileFault> {
+    if !tables.conn.is_autocommit() {
         return Err(FileFault::Storage);
     }
-    create(conn)
+    create(&mut tables.conn)
 }
 
-fn founded(alloc: Global, conn: &mut File, newborn: Newborn) -> Result<(), PlacingFault> {
-    if !conn.is_autocommit() {
+fn founded(alloc: Global, tables: &mut File, newborn: Newborn) -> Result<(), PlacingFault> {
+    if !tables.conn.is_autocommit() {
         drop(newborn);
         return Err(PlacingFault::Memory);
     }
-    found(alloc, conn, newborn)
+    found(alloc, tables, newborn)
 }
 
 #[test]
 fn founders_of_one_code_are_refused(rt: HostRuntime) {
     let newborn = newborn(&rt);
-    let mut conn = database(&rt);
-    let made = made(&mut conn);
-    let founded = founded(rt.alloc(), &mut conn, newborn);
-    drop(conn);
+    let mut tables = database(&rt);
+    let made = made(&mut tables);
+    let founded = founded(rt.alloc(), &mut tables, newborn);
+    drop(tables);
     assert!(rt; made == Ok(()) && founded == Err(PlacingFault::Storage));
 }

@@ -2,7 +2,6 @@
 
 ghost use Rattle.std.specs.Prelude.{◌≡◌, [], ◌∷◌, ◌++◌, map, IfOk, OnOk, IsTrue};
 ghost use Rattle.sqlite.specs.State.{HasCleanDisk, IsUnchanged};
-ghost use Rattle.sqlite.specs.Held.{state};
 ghost use Rattle.lab_tables.specs.Ready.{IsReady, PassesBy, tables_of};
 ghost use Rattle.lab_tables.specs.Meaning.{fields_of};
 ghost use Rattle.lab_form_versions.specs.Forms.{field_heads_of, field_by};
@@ -11,21 +10,21 @@ ghost use Rattle.lab_form_versions.specs.Shown.{fields_shown, field_read};
 use crate::choices::names_if;
 use crate::heads::FieldHead;
 use crate::kinds::{is_choice, kind_of_row, kind_with};
-use lab_columns::ReadFault;
 use lab_columns::asking::rows_by_one;
 use lab_columns::cells::{flag_of, id_of, text_of};
+use lab_columns::{ReadFault, Readable};
 use lab_forms::Field;
-use sqlite::{Alter, Connection, Error, Row};
+use sqlite::{Error, Row};
 use std::alloc::Global;
 
 /// The fields of the version of a form with the id, in the order of their places.
-fn field_rows<S: Alter>(conn: &mut Connection<S>, form: i64) -> Result<Vec<Row>, Error>
-    ensures passes { PassesBy (state S.Store conn.old) (state S.Store conn.new) }
-    ensures same { HasCleanDisk (state S.Store conn.new) →
-        OnOk result (IsUnchanged (state S.Store conn.old) (state S.Store conn.new)) }
-    ensures rows { IsReady (state S.Store conn.old) → HasCleanDisk (state S.Store conn.new) →
+fn field_rows<D: Readable>(conn: &mut D, form: i64) -> Result<Vec<Row>, Error>
+    ensures passes { PassesBy (D.state conn.old) (D.state conn.new) }
+    ensures same { HasCleanDisk (D.state conn.new) →
+        OnOk result (IsUnchanged (D.state conn.old) (D.state conn.new)) }
+    ensures rows { IsReady (D.state conn.old) → HasCleanDisk (D.state conn.new) →
         IfOk result
-        (λ rows. rows.items ≡ fields_shown (tables_of (state S.Store conn.old)) form) }
+        (λ rows. rows.items ≡ fields_shown (tables_of (D.state conn.old)) form) }
 {
     rows_by_one(
         conn,
@@ -64,33 +63,33 @@ fn fields_of_rows(alloc: Global, rows: &[Row]) -> Result<Vec<FieldHead>, ReadFau
 }
 
 /// The own rows of the fields of the version of a form with the id, in the order of their places.
-fn field_heads_at<S: Alter>(
+fn field_heads_at<D: Readable>(
     alloc: Global,
-    conn: &mut Connection<S>,
+    conn: &mut D,
     form: i64,
 ) -> Result<Vec<FieldHead>, ReadFault>
-    ensures passes { PassesBy (state S.Store conn.old) (state S.Store conn.new) }
-    ensures same { HasCleanDisk (state S.Store conn.new) →
-        OnOk result (IsUnchanged (state S.Store conn.old) (state S.Store conn.new)) }
-    ensures heads { IsReady (state S.Store conn.old) → HasCleanDisk (state S.Store conn.new) →
+    ensures passes { PassesBy (D.state conn.old) (D.state conn.new) }
+    ensures same { HasCleanDisk (D.state conn.new) →
+        OnOk result (IsUnchanged (D.state conn.old) (D.state conn.new)) }
+    ensures heads { IsReady (D.state conn.old) → HasCleanDisk (D.state conn.new) →
         IfOk result
-        (λ made. made.items ≡ field_heads_of (tables_of (state S.Store conn.old)) form) }
+        (λ made. made.items ≡ field_heads_of (tables_of (D.state conn.old)) form) }
 {
     let rows = field_rows(conn, form)?;
     fields_of_rows(alloc, &rows)
 }
 
 /// The field with the row, with its choices.
-fn field_whole<S: Alter>(
+fn field_whole<D: Readable>(
     alloc: Global,
-    conn: &mut Connection<S>,
+    conn: &mut D,
     head: FieldHead,
 ) -> Result<Field, ReadFault>
-    ensures passes { PassesBy (state S.Store conn.old) (state S.Store conn.new) }
-    ensures same { HasCleanDisk (state S.Store conn.new) → IsTrue (state S.Store conn.old).is_open →
-        OnOk result (IsUnchanged (state S.Store conn.old) (state S.Store conn.new)) }
-    ensures field { IsReady (state S.Store conn.old) → HasCleanDisk (state S.Store conn.new) →
-        IfOk result (λ field. field ≡ field_by (tables_of (state S.Store conn.old)) head) }
+    ensures passes { PassesBy (D.state conn.old) (D.state conn.new) }
+    ensures same { HasCleanDisk (D.state conn.new) → IsTrue (D.state conn.old).is_open →
+        OnOk result (IsUnchanged (D.state conn.old) (D.state conn.new)) }
+    ensures field { IsReady (D.state conn.old) → HasCleanDisk (D.state conn.new) →
+        IfOk result (λ field. field ≡ field_by (tables_of (D.state conn.old)) head) }
 {
     let names = names_if(alloc, conn, head.id, is_choice(&head.kind))?;
     Ok(Field {
@@ -102,18 +101,18 @@ fn field_whole<S: Alter>(
 }
 
 /// The field with the row, behind others.
-fn add_field<S: Alter>(
+fn add_field<D: Readable>(
     alloc: Global,
-    conn: &mut Connection<S>,
+    conn: &mut D,
     made: &mut Vec<Field>,
     head: FieldHead,
 ) -> Result<(), ReadFault>
-    ensures passes { PassesBy (state S.Store conn.old) (state S.Store conn.new) }
-    ensures same { HasCleanDisk (state S.Store conn.new) → IsTrue (state S.Store conn.old).is_open →
-        OnOk result (IsUnchanged (state S.Store conn.old) (state S.Store conn.new)) }
-    ensures field { IsReady (state S.Store conn.old) → HasCleanDisk (state S.Store conn.new) →
+    ensures passes { PassesBy (D.state conn.old) (D.state conn.new) }
+    ensures same { HasCleanDisk (D.state conn.new) → IsTrue (D.state conn.old).is_open →
+        OnOk result (IsUnchanged (D.state conn.old) (D.state conn.new)) }
+    ensures field { IsReady (D.state conn.old) → HasCleanDisk (D.state conn.new) →
         OnOk result (made.new.items
-        ≡ made.old.items ++ field_by (tables_of (state S.Store conn.old)) head ∷ []) }
+        ≡ made.old.items ++ field_by (tables_of (D.state conn.old)) head ∷ []) }
 {
     let field = field_whole(alloc, conn, head)?;
     made.push(field)?;
@@ -121,18 +120,18 @@ fn add_field<S: Alter>(
 }
 
 /// The fields with the rows, behind others.
-fn add_fields<S: Alter>(
+fn add_fields<D: Readable>(
     alloc: Global,
-    conn: &mut Connection<S>,
+    conn: &mut D,
     made: &mut Vec<Field>,
     heads: Vec<FieldHead>,
 ) -> Result<(), ReadFault>
-    ensures passes { PassesBy (state S.Store conn.old) (state S.Store conn.new) }
-    ensures same { HasCleanDisk (state S.Store conn.new) → IsTrue (state S.Store conn.old).is_open →
-        OnOk result (IsUnchanged (state S.Store conn.old) (state S.Store conn.new)) }
-    ensures fields { IsReady (state S.Store conn.old) → HasCleanDisk (state S.Store conn.new) →
-        IsTrue (state S.Store conn.old).is_open → OnOk result (made.new.items
-        ≡ made.old.items ++ map (field_by (tables_of (state S.Store conn.old))) heads.items) }
+    ensures passes { PassesBy (D.state conn.old) (D.state conn.new) }
+    ensures same { HasCleanDisk (D.state conn.new) → IsTrue (D.state conn.old).is_open →
+        OnOk result (IsUnchanged (D.state conn.old) (D.state conn.new)) }
+    ensures fields { IsReady (D.state conn.old) → HasCleanDisk (D.state conn.new) →
+        IsTrue (D.state conn.old).is_open → OnOk result (made.new.items
+        ≡ made.old.items ++ map (field_by (tables_of (D.state conn.old))) heads.items) }
 {
     for head in heads {
         add_field(alloc, conn, made, head)?;
@@ -141,16 +140,16 @@ fn add_fields<S: Alter>(
 }
 
 /// The fields of the version of a form with the id, in the order of their places, with their choices.
-pub fn fields_at<S: Alter>(
+pub fn fields_at<D: Readable>(
     alloc: Global,
-    conn: &mut Connection<S>,
+    conn: &mut D,
     form: i64,
 ) -> Result<Vec<Field>, ReadFault>
-    ensures passes { PassesBy (state S.Store conn.old) (state S.Store conn.new) }
-    ensures same { HasCleanDisk (state S.Store conn.new) →
-        OnOk result (IsUnchanged (state S.Store conn.old) (state S.Store conn.new)) }
-    ensures fields { IsReady (state S.Store conn.old) → HasCleanDisk (state S.Store conn.new) →
-        IfOk result (λ made. made.items ≡ fields_of (tables_of (state S.Store conn.old)) form) }
+    ensures passes { PassesBy (D.state conn.old) (D.state conn.new) }
+    ensures same { HasCleanDisk (D.state conn.new) →
+        OnOk result (IsUnchanged (D.state conn.old) (D.state conn.new)) }
+    ensures fields { IsReady (D.state conn.old) → HasCleanDisk (D.state conn.new) →
+        IfOk result (λ made. made.items ≡ fields_of (tables_of (D.state conn.old)) form) }
 {
     let heads = field_heads_at(alloc, conn, form)?;
     let mut made = Vec::new(alloc);

@@ -3,7 +3,6 @@
 ghost use Rattle.std.specs.Prelude.{◌≡◌, Some, option_map, slice_get, IfOk, OnOk};
 ghost use Rattle.sqlite_keyed.specs.Keyed.{get_by};
 ghost use Rattle.sqlite.specs.State.{HasCleanDisk, IsUnchanged};
-ghost use Rattle.sqlite.specs.Held.{state};
 ghost use Rattle.lab_tables.specs.Ready.{IsReady, PassesBy, tables_of};
 ghost use Rattle.lab_tables.specs.Rows.{form_id};
 ghost use Rattle.lab_tables.specs.Meaning.{form_at};
@@ -12,21 +11,21 @@ ghost use Rattle.lab_form_versions.specs.Shown.{forms_shown, form_read};
 
 use crate::fields::fields_at;
 use crate::heads::FormHead;
-use lab_columns::ReadFault;
 use lab_columns::asking::rows_by_one;
 use lab_columns::cells::{flag_of, id_of, ordinal_of, text_of};
+use lab_columns::{ReadFault, Readable};
 use lab_forms::{Field, Form};
 use lab_kept::FormVersion;
-use sqlite::{Alter, Connection, Error, Row};
+use sqlite::{Error, Row};
 use std::alloc::Global;
 
 /// The row of the version of a form with the id.
-fn form_rows<S: Alter>(conn: &mut Connection<S>, id: i64) -> Result<Vec<Row>, Error>
-    ensures passes { PassesBy (state S.Store conn.old) (state S.Store conn.new) }
-    ensures same { HasCleanDisk (state S.Store conn.new) →
-        OnOk result (IsUnchanged (state S.Store conn.old) (state S.Store conn.new)) }
-    ensures rows { IsReady (state S.Store conn.old) → HasCleanDisk (state S.Store conn.new) →
-        IfOk result (λ rows. rows.items ≡ forms_shown (tables_of (state S.Store conn.old)) id) }
+fn form_rows<D: Readable>(conn: &mut D, id: i64) -> Result<Vec<Row>, Error>
+    ensures passes { PassesBy (D.state conn.old) (D.state conn.new) }
+    ensures same { HasCleanDisk (D.state conn.new) →
+        OnOk result (IsUnchanged (D.state conn.old) (D.state conn.new)) }
+    ensures rows { IsReady (D.state conn.old) → HasCleanDisk (D.state conn.new) →
+        IfOk result (λ rows. rows.items ≡ forms_shown (tables_of (D.state conn.old)) id) }
 {
     rows_by_one(
         conn,
@@ -62,17 +61,17 @@ pub fn first_form(alloc: Global, rows: &[Row]) -> Result<Option<FormHead>, ReadF
 }
 
 /// The own row of the version of a form with the id.
-fn form_head_at<S: Alter>(
+fn form_head_at<D: Readable>(
     alloc: Global,
-    conn: &mut Connection<S>,
+    conn: &mut D,
     id: i64,
 ) -> Result<Option<FormHead>, ReadFault>
-    ensures passes { PassesBy (state S.Store conn.old) (state S.Store conn.new) }
-    ensures same { HasCleanDisk (state S.Store conn.new) →
-        OnOk result (IsUnchanged (state S.Store conn.old) (state S.Store conn.new)) }
-    ensures found { IsReady (state S.Store conn.old) → HasCleanDisk (state S.Store conn.new) →
+    ensures passes { PassesBy (D.state conn.old) (D.state conn.new) }
+    ensures same { HasCleanDisk (D.state conn.new) →
+        OnOk result (IsUnchanged (D.state conn.old) (D.state conn.new)) }
+    ensures found { IsReady (D.state conn.old) → HasCleanDisk (D.state conn.new) →
         IfOk result (λ form. form ≡ option_map form_head
-        (get_by form_id (tables_of (state S.Store conn.old)).forms id)) }
+        (get_by form_id (tables_of (D.state conn.old)).forms id)) }
 {
     let rows = form_rows(conn, id)?;
     first_form(alloc, &rows)
@@ -90,16 +89,16 @@ fn form_made(fields: Vec<Field>, approval: bool) -> Result<Form, ReadFault>
 }
 
 /// The version of a form that has the row, with its fields.
-pub fn form_whole<S: Alter>(
+pub fn form_whole<D: Readable>(
     alloc: Global,
-    conn: &mut Connection<S>,
+    conn: &mut D,
     head: FormHead,
 ) -> Result<FormVersion, ReadFault>
-    ensures passes { PassesBy (state S.Store conn.old) (state S.Store conn.new) }
-    ensures same { HasCleanDisk (state S.Store conn.new) →
-        OnOk result (IsUnchanged (state S.Store conn.old) (state S.Store conn.new)) }
-    ensures form { IsReady (state S.Store conn.old) → HasCleanDisk (state S.Store conn.new) →
-        IfOk result (λ form. form ≡ form_by (tables_of (state S.Store conn.old)) head) }
+    ensures passes { PassesBy (D.state conn.old) (D.state conn.new) }
+    ensures same { HasCleanDisk (D.state conn.new) →
+        OnOk result (IsUnchanged (D.state conn.old) (D.state conn.new)) }
+    ensures form { IsReady (D.state conn.old) → HasCleanDisk (D.state conn.new) →
+        IfOk result (λ form. form ≡ form_by (tables_of (D.state conn.old)) head) }
 {
     let fields = fields_at(alloc, conn, head.id)?;
     let form = form_made(fields, head.approval)?;
@@ -121,16 +120,12 @@ fn found_form(found: Option<FormHead>) -> Result<FormHead, ReadFault>
 }
 
 /// The version of a form with the id, with its fields. That there is none is a fault of the store.
-pub fn form_at<S: Alter>(
-    alloc: Global,
-    conn: &mut Connection<S>,
-    id: i64,
-) -> Result<FormVersion, ReadFault>
-    ensures passes { PassesBy (state S.Store conn.old) (state S.Store conn.new) }
-    ensures same { HasCleanDisk (state S.Store conn.new) →
-        OnOk result (IsUnchanged (state S.Store conn.old) (state S.Store conn.new)) }
-    ensures form { IsReady (state S.Store conn.old) → HasCleanDisk (state S.Store conn.new) →
-        IfOk result (λ form. form ≡ form_at (tables_of (state S.Store conn.old)) id) }
+pub fn form_at<D: Readable>(alloc: Global, conn: &mut D, id: i64) -> Result<FormVersion, ReadFault>
+    ensures passes { PassesBy (D.state conn.old) (D.state conn.new) }
+    ensures same { HasCleanDisk (D.state conn.new) →
+        OnOk result (IsUnchanged (D.state conn.old) (D.state conn.new)) }
+    ensures form { IsReady (D.state conn.old) → HasCleanDisk (D.state conn.new) →
+        IfOk result (λ form. form ≡ form_at (tables_of (D.state conn.old)) id) }
 {
     let found = form_head_at(alloc, conn, id)?;
     let head = found_form(found)?;

@@ -10,9 +10,10 @@ ghost use Rattle.lab_founding.specs.Commits.{Ends};
 ghost use Rattle.lab_founding.specs.Founding.{IsPlacedBy};
 
 use crate::places::{is_there, place};
+use lab_connections::Tables;
 use lab_kept::{Newborn, PlacingFault};
 use lab_newborns::{is_asked, laboratory};
-use sqlite::{Alter, Connection};
+use sqlite::Alter;
 use std::alloc::Global;
 
 /// Places the newborn laboratory by one commit: its row, its founders in the order of their codes, and the first row of its
@@ -23,29 +24,29 @@ use std::alloc::Global;
 /// founding, so this never comes.
 pub fn found<S: Alter>(
     alloc: Global,
-    conn: &mut Connection<S>,
+    tables: &mut Tables<S>,
     newborn: Newborn,
 ) -> Result<(), PlacingFault>
-    requires at_rest { IsAtRest (state S.Store conn.old) }
-    ensures at_rest { IsAtRest (state S.Store conn.new) }
-    ensures clean { HasCleanDisk (state S.Store conn.new) → HasCleanDisk (state S.Store conn.old) }
-    ensures live { HasCleanDisk (state S.Store conn.new) →
-        IsTrue (state S.Store conn.new).is_open → IsTrue (state S.Store conn.old).is_open }
-    ensures ends { IsReady (state S.Store conn.old) → Ends (IsPlacedBy newborn) result
-        (state S.Store conn.old) (state S.Store conn.new) }
-    ensures exists { result ≡ Err LabExists → IsReady (state S.Store conn.old) →
-        HasCleanDisk (state S.Store conn.new) →
-        IsSome (meaning (tables_of (state S.Store conn.old)) newborn.code)
-        × IsTrue (state S.Store conn.old).is_open × IsTrue (state S.Store conn.new).is_open }
-    ensures quiet { result ≡ Err LabExists → IsReady (state S.Store conn.old) →
-        LeavesNoMore (state S.Store conn.old) (state S.Store conn.new) }
+    requires at_rest { IsAtRest (state S.Store tables.old.conn) }
+    ensures at_rest { IsAtRest (state S.Store tables.new.conn) }
+    ensures clean { HasCleanDisk (state S.Store tables.new.conn) → HasCleanDisk (state S.Store tables.old.conn) }
+    ensures live { HasCleanDisk (state S.Store tables.new.conn) →
+        IsTrue (state S.Store tables.new.conn).is_open → IsTrue (state S.Store tables.old.conn).is_open }
+    ensures ends { IsReady (state S.Store tables.old.conn) → Ends (IsPlacedBy newborn) result
+        (state S.Store tables.old.conn) (state S.Store tables.new.conn) }
+    ensures exists { result ≡ Err LabExists → IsReady (state S.Store tables.old.conn) →
+        HasCleanDisk (state S.Store tables.new.conn) →
+        IsSome (meaning (tables_of (state S.Store tables.old.conn)) newborn.code)
+        × IsTrue (state S.Store tables.old.conn).is_open × IsTrue (state S.Store tables.new.conn).is_open }
+    ensures quiet { result ≡ Err LabExists → IsReady (state S.Store tables.old.conn) →
+        LeavesNoMore (state S.Store tables.old.conn) (state S.Store tables.new.conn) }
 {
-    if is_there(conn, &newborn.code)? {
+    if is_there(tables, &newborn.code)? {
         return Err(PlacingFault::LabExists);
     }
     if is_asked(&newborn) {
         return Err(PlacingFault::Storage);
     }
     let lab = laboratory(alloc, newborn)?;
-    place(conn, &lab)
+    place(&mut tables.conn, &lab)
 }

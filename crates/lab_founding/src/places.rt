@@ -11,8 +11,8 @@ ghost use Rattle.lab_founding.specs.Commits.{Ends};
 ghost use Rattle.lab_founding.specs.Newborns.{AddsRows};
 
 use crate::rows::add_rows;
-use lab_columns::ReadFault;
 use lab_columns::asking::rows_by_text;
+use lab_columns::{ReadFault, Readable};
 use lab_kept::{Lab, PlacingFault};
 use lab_names::LabCode;
 use sqlite::{Alter, Connection, Error, Row};
@@ -28,15 +28,15 @@ fn placing_fault(error: Error) -> PlacingFault
 }
 
 /// The row of the laboratory with the code.
-fn lab_rows<S: Alter>(conn: &mut Connection<S>, code: &str) -> Result<Vec<Row>, Error>
-    ensures passes { PassesBy (state S.Store conn.old) (state S.Store conn.new) }
-    ensures kept { HasCleanDisk (state S.Store conn.new) →
-        KeepsCommit (state S.Store conn.old) (state S.Store conn.new) }
-    ensures same { HasCleanDisk (state S.Store conn.new) →
-        OnOk result (IsUnchanged (state S.Store conn.old) (state S.Store conn.new)) }
-    ensures rows { IsReady (state S.Store conn.old) → HasCleanDisk (state S.Store conn.new) →
+fn lab_rows<D: Readable>(conn: &mut D, code: &str) -> Result<Vec<Row>, Error>
+    ensures passes { PassesBy (D.state conn.old) (D.state conn.new) }
+    ensures kept { HasCleanDisk (D.state conn.new) →
+        KeepsCommit (D.state conn.old) (D.state conn.new) }
+    ensures same { HasCleanDisk (D.state conn.new) →
+        OnOk result (IsUnchanged (D.state conn.old) (D.state conn.new)) }
+    ensures rows { IsReady (D.state conn.old) → HasCleanDisk (D.state conn.new) →
         IfOk result
-        (λ rows. rows.items ≡ labs_shown (tables_of (state S.Store conn.old)) code.now) }
+        (λ rows. rows.items ≡ labs_shown (tables_of (D.state conn.old)) code.now) }
 {
     rows_by_text(
         conn,
@@ -53,18 +53,15 @@ fn has_row(rows: &[Row]) -> bool
 }
 
 /// Whether a laboratory of the code is there.
-pub(crate) fn is_there<S: Alter>(
-    conn: &mut Connection<S>,
-    code: &LabCode,
-) -> Result<bool, PlacingFault>
-    ensures passes { PassesBy (state S.Store conn.old) (state S.Store conn.new) }
-    ensures kept { HasCleanDisk (state S.Store conn.new) →
-        KeepsCommit (state S.Store conn.old) (state S.Store conn.new) }
-    ensures same { HasCleanDisk (state S.Store conn.new) →
-        OnOk result (IsUnchanged (state S.Store conn.old) (state S.Store conn.new)) }
-    ensures found { IsReady (state S.Store conn.old) → HasCleanDisk (state S.Store conn.new) →
+pub(crate) fn is_there<D: Readable>(conn: &mut D, code: &LabCode) -> Result<bool, PlacingFault>
+    ensures passes { PassesBy (D.state conn.old) (D.state conn.new) }
+    ensures kept { HasCleanDisk (D.state conn.new) →
+        KeepsCommit (D.state conn.old) (D.state conn.new) }
+    ensures same { HasCleanDisk (D.state conn.new) →
+        OnOk result (IsUnchanged (D.state conn.old) (D.state conn.new)) }
+    ensures found { IsReady (D.state conn.old) → HasCleanDisk (D.state conn.new) →
         IfOk result
-        (λ there. there ≡ is_some (find (has_code code.now) (tables_of (state S.Store conn.old)).labs)) }
+        (λ there. there ≡ is_some (find (has_code code.now) (tables_of (D.state conn.old)).labs)) }
     ensures fault { IfErr result (λ fault. fault ≢ LabExists) }
 {
     match lab_rows(conn, code.as_str()) {

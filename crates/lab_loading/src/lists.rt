@@ -2,7 +2,6 @@
 
 ghost use Rattle.std.specs.Prelude.{◌≡◌, Some, IfOk, OnOk, IsTrue};
 ghost use Rattle.sqlite.specs.State.{HasCleanDisk, IsUnchanged};
-ghost use Rattle.sqlite.specs.Held.{state};
 ghost use Rattle.lab_tables.specs.Ready.{IsReady, PassesBy, tables_of};
 ghost use Rattle.lab_kept.specs.declared.needs.ListWanted.TheVariants.{Persons, Records, Trail};
 ghost use Rattle.lab_reading.specs.Laboratories.{lab_by};
@@ -10,13 +9,12 @@ ghost use Rattle.lab_loading.specs.Lists.{counts_by, listed_by};
 
 use lab_access::Person;
 use lab_accounts::{person_count, persons_at};
-use lab_columns::ReadFault;
+use lab_columns::{ReadFault, Readable};
 use lab_kept::{Counts, ListWanted, Record, TrailRow};
 use lab_lookups::filed_within;
 use lab_names::{Ordinal, Series};
 use lab_reading::LabHead;
 use lab_trails::trail_within;
-use sqlite::{Alter, Connection};
 use std::alloc::Global;
 
 /// The list that is meant; the others are empty.
@@ -31,13 +29,13 @@ pub struct Listed {
 }
 
 /// How many the laboratory has.
-pub fn counts_at<S: Alter>(conn: &mut Connection<S>, lab: &LabHead) -> Result<Counts, ReadFault>
-    ensures passes { PassesBy (state S.Store conn.old) (state S.Store conn.new) }
-    ensures same { HasCleanDisk (state S.Store conn.new) →
-        OnOk result (IsUnchanged (state S.Store conn.old) (state S.Store conn.new)) }
-    ensures counts { IsReady (state S.Store conn.old) → HasCleanDisk (state S.Store conn.new) →
+pub fn counts_at<D: Readable>(conn: &mut D, lab: &LabHead) -> Result<Counts, ReadFault>
+    ensures passes { PassesBy (D.state conn.old) (D.state conn.new) }
+    ensures same { HasCleanDisk (D.state conn.new) →
+        OnOk result (IsUnchanged (D.state conn.old) (D.state conn.new)) }
+    ensures counts { IsReady (D.state conn.old) → HasCleanDisk (D.state conn.new) →
         IfOk result
-        (λ counts. counts ≡ counts_by (tables_of (state S.Store conn.old)) lab.now) }
+        (λ counts. counts ≡ counts_by (tables_of (D.state conn.old)) lab.now) }
 {
     let persons = person_count(conn, lab.id)?;
     Ok(Counts {
@@ -49,17 +47,17 @@ pub fn counts_at<S: Alter>(conn: &mut Connection<S>, lab: &LabHead) -> Result<Co
 }
 
 /// All persons.
-fn persons_listed<S: Alter>(
+fn persons_listed<D: Readable>(
     alloc: Global,
-    conn: &mut Connection<S>,
+    conn: &mut D,
     lab: &LabHead,
 ) -> Result<Listed, ReadFault>
-    ensures passes { PassesBy (state S.Store conn.old) (state S.Store conn.new) }
-    ensures same { HasCleanDisk (state S.Store conn.new) →
-        OnOk result (IsUnchanged (state S.Store conn.old) (state S.Store conn.new)) }
-    ensures listed { IsReady (state S.Store conn.old) → HasCleanDisk (state S.Store conn.new) →
+    ensures passes { PassesBy (D.state conn.old) (D.state conn.new) }
+    ensures same { HasCleanDisk (D.state conn.new) →
+        OnOk result (IsUnchanged (D.state conn.old) (D.state conn.new)) }
+    ensures listed { IsReady (D.state conn.old) → HasCleanDisk (D.state conn.new) →
         IfOk result (λ listed. listed
-        ≡ listed_by (lab_by (tables_of (state S.Store conn.old)) lab.now) (Some Persons)) }
+        ≡ listed_by (lab_by (tables_of (D.state conn.old)) lab.now) (Some Persons)) }
 {
     let persons = persons_at(alloc, conn, lab.id)?;
     Ok(Listed {
@@ -70,19 +68,19 @@ fn persons_listed<S: Alter>(
 }
 
 /// The records from a number to a number.
-fn records_listed<S: Alter>(
+fn records_listed<D: Readable>(
     alloc: Global,
-    conn: &mut Connection<S>,
+    conn: &mut D,
     lab: &LabHead,
     from: Ordinal,
     to: Ordinal,
 ) -> Result<Listed, ReadFault>
-    ensures passes { PassesBy (state S.Store conn.old) (state S.Store conn.new) }
-    ensures same { HasCleanDisk (state S.Store conn.new) →
-        OnOk result (IsUnchanged (state S.Store conn.old) (state S.Store conn.new)) }
-    ensures listed { IsReady (state S.Store conn.old) → HasCleanDisk (state S.Store conn.new) →
+    ensures passes { PassesBy (D.state conn.old) (D.state conn.new) }
+    ensures same { HasCleanDisk (D.state conn.new) →
+        OnOk result (IsUnchanged (D.state conn.old) (D.state conn.new)) }
+    ensures listed { IsReady (D.state conn.old) → HasCleanDisk (D.state conn.new) →
         IfOk result (λ listed. listed ≡ listed_by
-        (lab_by (tables_of (state S.Store conn.old)) lab.now) (Some (Records from to))) }
+        (lab_by (tables_of (D.state conn.old)) lab.now) (Some (Records from to))) }
 {
     let records = filed_within(alloc, conn, &lab.code, lab.id, from, to)?;
     Ok(Listed {
@@ -93,19 +91,19 @@ fn records_listed<S: Alter>(
 }
 
 /// The rows of the trail from a number to a number.
-fn trail_listed<S: Alter>(
+fn trail_listed<D: Readable>(
     alloc: Global,
-    conn: &mut Connection<S>,
+    conn: &mut D,
     lab: &LabHead,
     from: Ordinal,
     to: Ordinal,
 ) -> Result<Listed, ReadFault>
-    ensures passes { PassesBy (state S.Store conn.old) (state S.Store conn.new) }
-    ensures same { HasCleanDisk (state S.Store conn.new) →
-        OnOk result (IsUnchanged (state S.Store conn.old) (state S.Store conn.new)) }
-    ensures listed { IsReady (state S.Store conn.old) → HasCleanDisk (state S.Store conn.new) →
+    ensures passes { PassesBy (D.state conn.old) (D.state conn.new) }
+    ensures same { HasCleanDisk (D.state conn.new) →
+        OnOk result (IsUnchanged (D.state conn.old) (D.state conn.new)) }
+    ensures listed { IsReady (D.state conn.old) → HasCleanDisk (D.state conn.new) →
         IfOk result (λ listed. listed ≡ listed_by
-        (lab_by (tables_of (state S.Store conn.old)) lab.now) (Some (Trail from to))) }
+        (lab_by (tables_of (D.state conn.old)) lab.now) (Some (Trail from to))) }
 {
     let trail = trail_within(alloc, conn, lab.id, from, to)?;
     Ok(Listed {
@@ -116,18 +114,18 @@ fn trail_listed<S: Alter>(
 }
 
 /// The list that is meant.
-pub fn listed_at<S: Alter>(
+pub fn listed_at<D: Readable>(
     alloc: Global,
-    conn: &mut Connection<S>,
+    conn: &mut D,
     lab: &LabHead,
     list: &Option<ListWanted>,
 ) -> Result<Listed, ReadFault>
-    ensures passes { PassesBy (state S.Store conn.old) (state S.Store conn.new) }
-    ensures same { HasCleanDisk (state S.Store conn.new) → IsTrue (state S.Store conn.old).is_open →
-        OnOk result (IsUnchanged (state S.Store conn.old) (state S.Store conn.new)) }
-    ensures listed { IsReady (state S.Store conn.old) → HasCleanDisk (state S.Store conn.new) →
+    ensures passes { PassesBy (D.state conn.old) (D.state conn.new) }
+    ensures same { HasCleanDisk (D.state conn.new) → IsTrue (D.state conn.old).is_open →
+        OnOk result (IsUnchanged (D.state conn.old) (D.state conn.new)) }
+    ensures listed { IsReady (D.state conn.old) → HasCleanDisk (D.state conn.new) →
         IfOk result (λ listed. listed
-        ≡ listed_by (lab_by (tables_of (state S.Store conn.old)) lab.now) list.now) }
+        ≡ listed_by (lab_by (tables_of (D.state conn.old)) lab.now) list.now) }
 {
     match list {
         Some(ListWanted::Persons) => persons_listed(alloc, conn, lab),

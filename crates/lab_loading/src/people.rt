@@ -2,7 +2,6 @@
 
 ghost use Rattle.std.specs.Prelude.{◌≡◌, option_and_then, IfOk, OnOk, IsTrue};
 ghost use Rattle.sqlite.specs.State.{HasCleanDisk, IsUnchanged};
-ghost use Rattle.sqlite.specs.Held.{state};
 ghost use Rattle.lab_tables.specs.Ready.{IsReady, PassesBy, tables_of};
 ghost use Rattle.lab_kept.specs.Lookups.{session_at, person_at, caller_of};
 ghost use Rattle.lab_reading.specs.Laboratories.{lab_by};
@@ -10,13 +9,12 @@ ghost use Rattle.lab_loading.specs.People.{callers_by, people_by};
 
 use lab_access::{Person, Session};
 use lab_accounts::person_at;
-use lab_columns::ReadFault;
+use lab_columns::{ReadFault, Readable};
 use lab_kept::Need;
 use lab_names::PersonCode;
 use lab_reading::LabHead;
 use lab_secrets::Digest;
 use lab_sessions::session_at;
-use sqlite::{Alter, Connection};
 use std::alloc::Global;
 
 /// The session that is meant, and its person.
@@ -40,18 +38,18 @@ pub struct People {
 }
 
 /// The session whose token has the digest, where one is given.
-fn session_if<S: Alter>(
+fn session_if<D: Readable>(
     alloc: Global,
-    conn: &mut Connection<S>,
+    conn: &mut D,
     lab: &LabHead,
     token: &Option<Digest>,
 ) -> Result<Option<Session>, ReadFault>
-    ensures passes { PassesBy (state S.Store conn.old) (state S.Store conn.new) }
-    ensures same { HasCleanDisk (state S.Store conn.new) → IsTrue (state S.Store conn.old).is_open →
-        OnOk result (IsUnchanged (state S.Store conn.old) (state S.Store conn.new)) }
-    ensures session { IsReady (state S.Store conn.old) → HasCleanDisk (state S.Store conn.new) →
+    ensures passes { PassesBy (D.state conn.old) (D.state conn.new) }
+    ensures same { HasCleanDisk (D.state conn.new) → IsTrue (D.state conn.old).is_open →
+        OnOk result (IsUnchanged (D.state conn.old) (D.state conn.new)) }
+    ensures session { IsReady (D.state conn.old) → HasCleanDisk (D.state conn.new) →
         IfOk result (λ session. session ≡ option_and_then
-        (session_at (lab_by (tables_of (state S.Store conn.old)) lab.now)) token.now) }
+        (session_at (lab_by (tables_of (D.state conn.old)) lab.now)) token.now) }
 {
     match token {
         Some(token) => session_at(alloc, conn, lab.id, token),
@@ -60,18 +58,18 @@ fn session_if<S: Alter>(
 }
 
 /// Whose session it is.
-fn caller_if<S: Alter>(
+fn caller_if<D: Readable>(
     alloc: Global,
-    conn: &mut Connection<S>,
+    conn: &mut D,
     lab: &LabHead,
     session: &Option<Session>,
 ) -> Result<Option<Person>, ReadFault>
-    ensures passes { PassesBy (state S.Store conn.old) (state S.Store conn.new) }
-    ensures same { HasCleanDisk (state S.Store conn.new) → IsTrue (state S.Store conn.old).is_open →
-        OnOk result (IsUnchanged (state S.Store conn.old) (state S.Store conn.new)) }
-    ensures caller { IsReady (state S.Store conn.old) → HasCleanDisk (state S.Store conn.new) →
+    ensures passes { PassesBy (D.state conn.old) (D.state conn.new) }
+    ensures same { HasCleanDisk (D.state conn.new) → IsTrue (D.state conn.old).is_open →
+        OnOk result (IsUnchanged (D.state conn.old) (D.state conn.new)) }
+    ensures caller { IsReady (D.state conn.old) → HasCleanDisk (D.state conn.new) →
         IfOk result (λ caller. caller
-        ≡ caller_of (lab_by (tables_of (state S.Store conn.old)) lab.now) session.now) }
+        ≡ caller_of (lab_by (tables_of (D.state conn.old)) lab.now) session.now) }
 {
     match session {
         Some(session) => person_at(alloc, conn, lab.id, &session.person),
@@ -80,18 +78,18 @@ fn caller_if<S: Alter>(
 }
 
 /// The session that is meant, and its person.
-fn callers_at<S: Alter>(
+fn callers_at<D: Readable>(
     alloc: Global,
-    conn: &mut Connection<S>,
+    conn: &mut D,
     lab: &LabHead,
     token: &Option<Digest>,
 ) -> Result<Callers, ReadFault>
-    ensures passes { PassesBy (state S.Store conn.old) (state S.Store conn.new) }
-    ensures same { HasCleanDisk (state S.Store conn.new) → IsTrue (state S.Store conn.old).is_open →
-        OnOk result (IsUnchanged (state S.Store conn.old) (state S.Store conn.new)) }
-    ensures callers { IsReady (state S.Store conn.old) → HasCleanDisk (state S.Store conn.new) →
-        IsTrue (state S.Store conn.old).is_open → IfOk result (λ callers. callers
-        ≡ callers_by (lab_by (tables_of (state S.Store conn.old)) lab.now) token.now) }
+    ensures passes { PassesBy (D.state conn.old) (D.state conn.new) }
+    ensures same { HasCleanDisk (D.state conn.new) → IsTrue (D.state conn.old).is_open →
+        OnOk result (IsUnchanged (D.state conn.old) (D.state conn.new)) }
+    ensures callers { IsReady (D.state conn.old) → HasCleanDisk (D.state conn.new) →
+        IsTrue (D.state conn.old).is_open → IfOk result (λ callers. callers
+        ≡ callers_by (lab_by (tables_of (D.state conn.old)) lab.now) token.now) }
 {
     let session = session_if(alloc, conn, lab, token)?;
     let caller = caller_if(alloc, conn, lab, &session)?;
@@ -99,18 +97,18 @@ fn callers_at<S: Alter>(
 }
 
 /// The person of the code, where one is given.
-fn person_if<S: Alter>(
+fn person_if<D: Readable>(
     alloc: Global,
-    conn: &mut Connection<S>,
+    conn: &mut D,
     lab: &LabHead,
     code: &Option<PersonCode>,
 ) -> Result<Option<Person>, ReadFault>
-    ensures passes { PassesBy (state S.Store conn.old) (state S.Store conn.new) }
-    ensures same { HasCleanDisk (state S.Store conn.new) → IsTrue (state S.Store conn.old).is_open →
-        OnOk result (IsUnchanged (state S.Store conn.old) (state S.Store conn.new)) }
-    ensures person { IsReady (state S.Store conn.old) → HasCleanDisk (state S.Store conn.new) →
+    ensures passes { PassesBy (D.state conn.old) (D.state conn.new) }
+    ensures same { HasCleanDisk (D.state conn.new) → IsTrue (D.state conn.old).is_open →
+        OnOk result (IsUnchanged (D.state conn.old) (D.state conn.new)) }
+    ensures person { IsReady (D.state conn.old) → HasCleanDisk (D.state conn.new) →
         IfOk result (λ person. person ≡ option_and_then
-        (person_at (lab_by (tables_of (state S.Store conn.old)) lab.now)) code.now) }
+        (person_at (lab_by (tables_of (D.state conn.old)) lab.now)) code.now) }
 {
     match code {
         Some(code) => person_at(alloc, conn, lab.id, code),
@@ -119,18 +117,18 @@ fn person_if<S: Alter>(
 }
 
 /// Who is meant.
-pub fn people_at<S: Alter>(
+pub fn people_at<D: Readable>(
     alloc: Global,
-    conn: &mut Connection<S>,
+    conn: &mut D,
     lab: &LabHead,
     need: &Need,
 ) -> Result<People, ReadFault>
-    ensures passes { PassesBy (state S.Store conn.old) (state S.Store conn.new) }
-    ensures same { HasCleanDisk (state S.Store conn.new) → IsTrue (state S.Store conn.old).is_open →
-        OnOk result (IsUnchanged (state S.Store conn.old) (state S.Store conn.new)) }
-    ensures people { IsReady (state S.Store conn.old) → HasCleanDisk (state S.Store conn.new) →
-        IsTrue (state S.Store conn.old).is_open → IfOk result (λ people. people
-        ≡ people_by (lab_by (tables_of (state S.Store conn.old)) lab.now) need.now) }
+    ensures passes { PassesBy (D.state conn.old) (D.state conn.new) }
+    ensures same { HasCleanDisk (D.state conn.new) → IsTrue (D.state conn.old).is_open →
+        OnOk result (IsUnchanged (D.state conn.old) (D.state conn.new)) }
+    ensures people { IsReady (D.state conn.old) → HasCleanDisk (D.state conn.new) →
+        IsTrue (D.state conn.old).is_open → IfOk result (λ people. people
+        ≡ people_by (lab_by (tables_of (D.state conn.old)) lab.now) need.now) }
 {
     let callers = callers_at(alloc, conn, lab, &need.token)?;
     let person = person_if(alloc, conn, lab, &need.person)?;

@@ -2,17 +2,15 @@
 
 ghost use Rattle.std.specs.Prelude.{◌≡◌, option_and_then, IfOk, OnOk, IsTrue};
 ghost use Rattle.sqlite.specs.State.{HasCleanDisk, IsUnchanged};
-ghost use Rattle.sqlite.specs.Held.{state};
 ghost use Rattle.lab_tables.specs.Ready.{IsReady, PassesBy, tables_of};
 ghost use Rattle.lab_kept.specs.Parts.{form_meant, record_meant};
 ghost use Rattle.lab_reading.specs.Laboratories.{lab_by};
 ghost use Rattle.lab_loading.specs.Things.{things_by};
 
-use lab_columns::ReadFault;
+use lab_columns::{ReadFault, Readable};
 use lab_kept::{FormVersion, FormWanted, Need, Record, RecordWanted};
 use lab_lookups::{about_at, exact_form_at, last_form_at, numbered_at};
 use lab_reading::LabHead;
-use sqlite::{Alter, Connection};
 use std::alloc::Global;
 
 /// What is meant.
@@ -25,18 +23,18 @@ pub struct Things {
 }
 
 /// The version of a form.
-fn form_wanted<S: Alter>(
+fn form_wanted<D: Readable>(
     alloc: Global,
-    conn: &mut Connection<S>,
+    conn: &mut D,
     lab: &LabHead,
     wanted: &FormWanted,
 ) -> Result<Option<FormVersion>, ReadFault>
-    ensures passes { PassesBy (state S.Store conn.old) (state S.Store conn.new) }
-    ensures same { HasCleanDisk (state S.Store conn.new) →
-        OnOk result (IsUnchanged (state S.Store conn.old) (state S.Store conn.new)) }
-    ensures form { IsReady (state S.Store conn.old) → HasCleanDisk (state S.Store conn.new) →
+    ensures passes { PassesBy (D.state conn.old) (D.state conn.new) }
+    ensures same { HasCleanDisk (D.state conn.new) →
+        OnOk result (IsUnchanged (D.state conn.old) (D.state conn.new)) }
+    ensures form { IsReady (D.state conn.old) → HasCleanDisk (D.state conn.new) →
         IfOk result (λ form. form
-        ≡ form_meant (lab_by (tables_of (state S.Store conn.old)) lab.now) wanted.now) }
+        ≡ form_meant (lab_by (tables_of (D.state conn.old)) lab.now) wanted.now) }
 {
     match wanted {
         FormWanted::Last { code } => last_form_at(alloc, conn, lab.id, code),
@@ -45,18 +43,18 @@ fn form_wanted<S: Alter>(
 }
 
 /// The version of a form, where one is meant.
-fn form_if<S: Alter>(
+fn form_if<D: Readable>(
     alloc: Global,
-    conn: &mut Connection<S>,
+    conn: &mut D,
     lab: &LabHead,
     wanted: &Option<FormWanted>,
 ) -> Result<Option<FormVersion>, ReadFault>
-    ensures passes { PassesBy (state S.Store conn.old) (state S.Store conn.new) }
-    ensures same { HasCleanDisk (state S.Store conn.new) → IsTrue (state S.Store conn.old).is_open →
-        OnOk result (IsUnchanged (state S.Store conn.old) (state S.Store conn.new)) }
-    ensures form { IsReady (state S.Store conn.old) → HasCleanDisk (state S.Store conn.new) →
+    ensures passes { PassesBy (D.state conn.old) (D.state conn.new) }
+    ensures same { HasCleanDisk (D.state conn.new) → IsTrue (D.state conn.old).is_open →
+        OnOk result (IsUnchanged (D.state conn.old) (D.state conn.new)) }
+    ensures form { IsReady (D.state conn.old) → HasCleanDisk (D.state conn.new) →
         IfOk result (λ form. form ≡ option_and_then
-        (form_meant (lab_by (tables_of (state S.Store conn.old)) lab.now)) wanted.now) }
+        (form_meant (lab_by (tables_of (D.state conn.old)) lab.now)) wanted.now) }
 {
     match wanted {
         Some(wanted) => form_wanted(alloc, conn, lab, wanted),
@@ -65,18 +63,18 @@ fn form_if<S: Alter>(
 }
 
 /// The record.
-fn filed_wanted<S: Alter>(
+fn filed_wanted<D: Readable>(
     alloc: Global,
-    conn: &mut Connection<S>,
+    conn: &mut D,
     lab: &LabHead,
     wanted: &RecordWanted,
 ) -> Result<Option<Record>, ReadFault>
-    ensures passes { PassesBy (state S.Store conn.old) (state S.Store conn.new) }
-    ensures same { HasCleanDisk (state S.Store conn.new) →
-        OnOk result (IsUnchanged (state S.Store conn.old) (state S.Store conn.new)) }
-    ensures filed { IsReady (state S.Store conn.old) → HasCleanDisk (state S.Store conn.new) →
+    ensures passes { PassesBy (D.state conn.old) (D.state conn.new) }
+    ensures same { HasCleanDisk (D.state conn.new) →
+        OnOk result (IsUnchanged (D.state conn.old) (D.state conn.new)) }
+    ensures filed { IsReady (D.state conn.old) → HasCleanDisk (D.state conn.new) →
         IfOk result (λ filed. filed
-        ≡ record_meant (lab_by (tables_of (state S.Store conn.old)) lab.now) wanted.now) }
+        ≡ record_meant (lab_by (tables_of (D.state conn.old)) lab.now) wanted.now) }
 {
     match wanted {
         RecordWanted::Numbered { number } => numbered_at(alloc, conn, &lab.code, lab.id, *number),
@@ -87,18 +85,18 @@ fn filed_wanted<S: Alter>(
 }
 
 /// The record, where one is meant.
-fn filed_if<S: Alter>(
+fn filed_if<D: Readable>(
     alloc: Global,
-    conn: &mut Connection<S>,
+    conn: &mut D,
     lab: &LabHead,
     wanted: &Option<RecordWanted>,
 ) -> Result<Option<Record>, ReadFault>
-    ensures passes { PassesBy (state S.Store conn.old) (state S.Store conn.new) }
-    ensures same { HasCleanDisk (state S.Store conn.new) → IsTrue (state S.Store conn.old).is_open →
-        OnOk result (IsUnchanged (state S.Store conn.old) (state S.Store conn.new)) }
-    ensures filed { IsReady (state S.Store conn.old) → HasCleanDisk (state S.Store conn.new) →
+    ensures passes { PassesBy (D.state conn.old) (D.state conn.new) }
+    ensures same { HasCleanDisk (D.state conn.new) → IsTrue (D.state conn.old).is_open →
+        OnOk result (IsUnchanged (D.state conn.old) (D.state conn.new)) }
+    ensures filed { IsReady (D.state conn.old) → HasCleanDisk (D.state conn.new) →
         IfOk result (λ filed. filed ≡ option_and_then
-        (record_meant (lab_by (tables_of (state S.Store conn.old)) lab.now)) wanted.now) }
+        (record_meant (lab_by (tables_of (D.state conn.old)) lab.now)) wanted.now) }
 {
     match wanted {
         Some(wanted) => filed_wanted(alloc, conn, lab, wanted),
@@ -107,18 +105,18 @@ fn filed_if<S: Alter>(
 }
 
 /// What is meant.
-pub fn things_at<S: Alter>(
+pub fn things_at<D: Readable>(
     alloc: Global,
-    conn: &mut Connection<S>,
+    conn: &mut D,
     lab: &LabHead,
     need: &Need,
 ) -> Result<Things, ReadFault>
-    ensures passes { PassesBy (state S.Store conn.old) (state S.Store conn.new) }
-    ensures same { HasCleanDisk (state S.Store conn.new) → IsTrue (state S.Store conn.old).is_open →
-        OnOk result (IsUnchanged (state S.Store conn.old) (state S.Store conn.new)) }
-    ensures things { IsReady (state S.Store conn.old) → HasCleanDisk (state S.Store conn.new) →
-        IsTrue (state S.Store conn.old).is_open → IfOk result (λ things. things
-        ≡ things_by (lab_by (tables_of (state S.Store conn.old)) lab.now) need.now) }
+    ensures passes { PassesBy (D.state conn.old) (D.state conn.new) }
+    ensures same { HasCleanDisk (D.state conn.new) → IsTrue (D.state conn.old).is_open →
+        OnOk result (IsUnchanged (D.state conn.old) (D.state conn.new)) }
+    ensures things { IsReady (D.state conn.old) → HasCleanDisk (D.state conn.new) →
+        IsTrue (D.state conn.old).is_open → IfOk result (λ things. things
+        ≡ things_by (lab_by (tables_of (D.state conn.old)) lab.now) need.now) }
 {
     let form = form_if(alloc, conn, lab, &need.form)?;
     let filed = filed_if(alloc, conn, lab, &need.filed)?;

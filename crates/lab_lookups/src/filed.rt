@@ -2,7 +2,6 @@
 
 ghost use Rattle.std.specs.Prelude.{◌≡◌, [], ◌∷◌, ◌++◌, map, option_map, IfOk, OnOk, IsTrue};
 ghost use Rattle.sqlite.specs.State.{HasCleanDisk, IsUnchanged};
-ghost use Rattle.sqlite.specs.Held.{state};
 ghost use Rattle.lab_tables.specs.Ready.{IsReady, PassesBy, tables_of};
 ghost use Rattle.lab_kept.specs.Lookups.{record_of, record_about};
 ghost use Rattle.lab_kept.specs.Lookups.{records_within};
@@ -10,27 +9,26 @@ ghost use Rattle.lab_tables.specs.Meaning.{records_of};
 ghost use Rattle.lab_lookups.specs.Wholes.{record_by};
 
 use crate::wholes::record_whole;
-use lab_columns::ReadFault;
+use lab_columns::{ReadFault, Readable};
 use lab_kept::Record;
 use lab_names::{Key, LabCode, Name, Ordinal};
 use lab_reading::{RecordHead, record_at};
 use lab_retrieval::{record_about, records_within};
-use sqlite::{Alter, Connection};
 use std::alloc::Global;
 
 /// The record of the row, where there is one.
-fn record_if<S: Alter>(
+fn record_if<D: Readable>(
     alloc: Global,
-    conn: &mut Connection<S>,
+    conn: &mut D,
     code: &LabCode,
     head: Option<RecordHead>,
 ) -> Result<Option<Record>, ReadFault>
-    ensures passes { PassesBy (state S.Store conn.old) (state S.Store conn.new) }
-    ensures same { HasCleanDisk (state S.Store conn.new) → IsTrue (state S.Store conn.old).is_open →
-        OnOk result (IsUnchanged (state S.Store conn.old) (state S.Store conn.new)) }
-    ensures kept { IsReady (state S.Store conn.old) → HasCleanDisk (state S.Store conn.new) →
+    ensures passes { PassesBy (D.state conn.old) (D.state conn.new) }
+    ensures same { HasCleanDisk (D.state conn.new) → IsTrue (D.state conn.old).is_open →
+        OnOk result (IsUnchanged (D.state conn.old) (D.state conn.new)) }
+    ensures kept { IsReady (D.state conn.old) → HasCleanDisk (D.state conn.new) →
         IfOk result (λ kept. kept
-        ≡ option_map (record_by (tables_of (state S.Store conn.old)) code.now) head) }
+        ≡ option_map (record_by (tables_of (D.state conn.old)) code.now) head) }
 {
     match head {
         Some(head) => {
@@ -42,39 +40,39 @@ fn record_if<S: Alter>(
 }
 
 /// The record of the number, whole, in the laboratory with the code, whose row has the id.
-pub fn numbered_at<S: Alter>(
+pub fn numbered_at<D: Readable>(
     alloc: Global,
-    conn: &mut Connection<S>,
+    conn: &mut D,
     code: &LabCode,
     lab: i64,
     number: Ordinal,
 ) -> Result<Option<Record>, ReadFault>
-    ensures passes { PassesBy (state S.Store conn.old) (state S.Store conn.new) }
-    ensures same { HasCleanDisk (state S.Store conn.new) →
-        OnOk result (IsUnchanged (state S.Store conn.old) (state S.Store conn.new)) }
-    ensures kept { IsReady (state S.Store conn.old) → HasCleanDisk (state S.Store conn.new) →
+    ensures passes { PassesBy (D.state conn.old) (D.state conn.new) }
+    ensures same { HasCleanDisk (D.state conn.new) →
+        OnOk result (IsUnchanged (D.state conn.old) (D.state conn.new)) }
+    ensures kept { IsReady (D.state conn.old) → HasCleanDisk (D.state conn.new) →
         IfOk result (λ kept. kept
-        ≡ record_of (records_of (tables_of (state S.Store conn.old)) code.now lab) number) }
+        ≡ record_of (records_of (tables_of (D.state conn.old)) code.now lab) number) }
 {
     let head = record_at(alloc, conn, lab, number)?;
     record_if(alloc, conn, code, head)
 }
 
 /// The record by the form about the sample, whole, in the laboratory with the code, whose row has the id.
-pub fn about_at<S: Alter>(
+pub fn about_at<D: Readable>(
     alloc: Global,
-    conn: &mut Connection<S>,
+    conn: &mut D,
     code: &LabCode,
     lab: i64,
     form: &Key,
     sample: &Name,
 ) -> Result<Option<Record>, ReadFault>
-    ensures passes { PassesBy (state S.Store conn.old) (state S.Store conn.new) }
-    ensures same { HasCleanDisk (state S.Store conn.new) →
-        OnOk result (IsUnchanged (state S.Store conn.old) (state S.Store conn.new)) }
-    ensures kept { IsReady (state S.Store conn.old) → HasCleanDisk (state S.Store conn.new) →
+    ensures passes { PassesBy (D.state conn.old) (D.state conn.new) }
+    ensures same { HasCleanDisk (D.state conn.new) →
+        OnOk result (IsUnchanged (D.state conn.old) (D.state conn.new)) }
+    ensures kept { IsReady (D.state conn.old) → HasCleanDisk (D.state conn.new) →
         IfOk result (λ kept. kept
-        ≡ record_about (records_of (tables_of (state S.Store conn.old)) code.now lab)
+        ≡ record_about (records_of (tables_of (D.state conn.old)) code.now lab)
         form.now sample.now) }
 {
     let head = record_about(alloc, conn, lab, form, sample)?;
@@ -82,19 +80,19 @@ pub fn about_at<S: Alter>(
 }
 
 /// The record of the row, behind others.
-fn add_record<S: Alter>(
+fn add_record<D: Readable>(
     alloc: Global,
-    conn: &mut Connection<S>,
+    conn: &mut D,
     code: &LabCode,
     made: &mut Vec<Record>,
     head: RecordHead,
 ) -> Result<(), ReadFault>
-    ensures passes { PassesBy (state S.Store conn.old) (state S.Store conn.new) }
-    ensures same { HasCleanDisk (state S.Store conn.new) →
-        OnOk result (IsUnchanged (state S.Store conn.old) (state S.Store conn.new)) }
-    ensures kept { IsReady (state S.Store conn.old) → HasCleanDisk (state S.Store conn.new) →
+    ensures passes { PassesBy (D.state conn.old) (D.state conn.new) }
+    ensures same { HasCleanDisk (D.state conn.new) →
+        OnOk result (IsUnchanged (D.state conn.old) (D.state conn.new)) }
+    ensures kept { IsReady (D.state conn.old) → HasCleanDisk (D.state conn.new) →
         OnOk result (made.new.items ≡ made.old.items
-        ++ record_by (tables_of (state S.Store conn.old)) code.now head ∷ []) }
+        ++ record_by (tables_of (D.state conn.old)) code.now head ∷ []) }
 {
     let kept = record_whole(alloc, conn, code, head)?;
     made.push(kept)?;
@@ -102,19 +100,19 @@ fn add_record<S: Alter>(
 }
 
 /// The records of the rows, behind others.
-fn add_records<S: Alter>(
+fn add_records<D: Readable>(
     alloc: Global,
-    conn: &mut Connection<S>,
+    conn: &mut D,
     code: &LabCode,
     made: &mut Vec<Record>,
     heads: Vec<RecordHead>,
 ) -> Result<(), ReadFault>
-    ensures passes { PassesBy (state S.Store conn.old) (state S.Store conn.new) }
-    ensures same { HasCleanDisk (state S.Store conn.new) → IsTrue (state S.Store conn.old).is_open →
-        OnOk result (IsUnchanged (state S.Store conn.old) (state S.Store conn.new)) }
-    ensures kept { IsReady (state S.Store conn.old) → HasCleanDisk (state S.Store conn.new) →
-        IsTrue (state S.Store conn.old).is_open → OnOk result (made.new.items
-        ≡ made.old.items ++ map (record_by (tables_of (state S.Store conn.old)) code.now) heads.items) }
+    ensures passes { PassesBy (D.state conn.old) (D.state conn.new) }
+    ensures same { HasCleanDisk (D.state conn.new) → IsTrue (D.state conn.old).is_open →
+        OnOk result (IsUnchanged (D.state conn.old) (D.state conn.new)) }
+    ensures kept { IsReady (D.state conn.old) → HasCleanDisk (D.state conn.new) →
+        IsTrue (D.state conn.old).is_open → OnOk result (made.new.items
+        ≡ made.old.items ++ map (record_by (tables_of (D.state conn.old)) code.now) heads.items) }
 {
     for head in heads {
         add_record(alloc, conn, code, made, head)?;
@@ -124,20 +122,20 @@ fn add_records<S: Alter>(
 
 /// The records from a number to a number, whole, in the laboratory with the code, whose row has the id, in the order of the
 /// numbers.
-pub fn filed_within<S: Alter>(
+pub fn filed_within<D: Readable>(
     alloc: Global,
-    conn: &mut Connection<S>,
+    conn: &mut D,
     code: &LabCode,
     lab: i64,
     from: Ordinal,
     to: Ordinal,
 ) -> Result<Vec<Record>, ReadFault>
-    ensures passes { PassesBy (state S.Store conn.old) (state S.Store conn.new) }
-    ensures same { HasCleanDisk (state S.Store conn.new) →
-        OnOk result (IsUnchanged (state S.Store conn.old) (state S.Store conn.new)) }
-    ensures kept { IsReady (state S.Store conn.old) → HasCleanDisk (state S.Store conn.new) →
+    ensures passes { PassesBy (D.state conn.old) (D.state conn.new) }
+    ensures same { HasCleanDisk (D.state conn.new) →
+        OnOk result (IsUnchanged (D.state conn.old) (D.state conn.new)) }
+    ensures kept { IsReady (D.state conn.old) → HasCleanDisk (D.state conn.new) →
         IfOk result (λ made. made.items ≡ records_within from to
-        (records_of (tables_of (state S.Store conn.old)) code.now lab)) }
+        (records_of (tables_of (D.state conn.old)) code.now lab)) }
 {
     let heads = records_within(alloc, conn, lab, from, to)?;
     let mut made = Vec::new(alloc);

@@ -2,7 +2,6 @@
 
 ghost use Rattle.std.specs.Prelude.{◌≡◌, option_map, slice_get, IfOk, OnOk, IsTrue};
 ghost use Rattle.sqlite.specs.State.{HasCleanDisk, IsUnchanged};
-ghost use Rattle.sqlite.specs.Held.{state};
 ghost use Rattle.lab_tables.specs.Ready.{IsReady, PassesBy, tables_of};
 ghost use Rattle.lab_kept.specs.Lookups.{last_of, last_form, exact_form};
 ghost use Rattle.lab_tables.specs.Meaning.{forms_of};
@@ -11,27 +10,27 @@ ghost use Rattle.lab_form_versions.specs.Shown.{form_read};
 ghost use Rattle.lab_lookups.specs.Forms.{exact_shown, form_versions_shown};
 
 use crate::asking::rows_by_version;
-use lab_columns::ReadFault;
 use lab_columns::asking::rows_by_code;
+use lab_columns::{ReadFault, Readable};
 use lab_form_versions::{FormHead, first_form, form_of_row, form_whole};
 use lab_kept::FormVersion;
 use lab_names::{Key, Ordinal};
-use sqlite::{Alter, Connection, Error, Row};
+use sqlite::{Error, Row};
 use std::alloc::Global;
 
 /// The row of the version of the form, in the laboratory with the id.
-fn exact_rows<S: Alter>(
-    conn: &mut Connection<S>,
+fn exact_rows<D: Readable>(
+    conn: &mut D,
     lab: i64,
     code: &str,
     version: u32,
 ) -> Result<Vec<Row>, Error>
-    ensures passes { PassesBy (state S.Store conn.old) (state S.Store conn.new) }
-    ensures same { HasCleanDisk (state S.Store conn.new) →
-        OnOk result (IsUnchanged (state S.Store conn.old) (state S.Store conn.new)) }
-    ensures rows { IsReady (state S.Store conn.old) → HasCleanDisk (state S.Store conn.new) →
+    ensures passes { PassesBy (D.state conn.old) (D.state conn.new) }
+    ensures same { HasCleanDisk (D.state conn.new) →
+        OnOk result (IsUnchanged (D.state conn.old) (D.state conn.new)) }
+    ensures rows { IsReady (D.state conn.old) → HasCleanDisk (D.state conn.new) →
         IfOk result (λ rows. rows.items
-        ≡ exact_shown (tables_of (state S.Store conn.old)) lab code.now version) }
+        ≡ exact_shown (tables_of (D.state conn.old)) lab code.now version) }
 {
     rows_by_version(
         conn,
@@ -43,17 +42,13 @@ fn exact_rows<S: Alter>(
 }
 
 /// The rows of the versions of the form, in the laboratory with the id, in the order of their numbers.
-fn form_version_rows<S: Alter>(
-    conn: &mut Connection<S>,
-    lab: i64,
-    code: &str,
-) -> Result<Vec<Row>, Error>
-    ensures passes { PassesBy (state S.Store conn.old) (state S.Store conn.new) }
-    ensures same { HasCleanDisk (state S.Store conn.new) →
-        OnOk result (IsUnchanged (state S.Store conn.old) (state S.Store conn.new)) }
-    ensures rows { IsReady (state S.Store conn.old) → HasCleanDisk (state S.Store conn.new) →
+fn form_version_rows<D: Readable>(conn: &mut D, lab: i64, code: &str) -> Result<Vec<Row>, Error>
+    ensures passes { PassesBy (D.state conn.old) (D.state conn.new) }
+    ensures same { HasCleanDisk (D.state conn.new) →
+        OnOk result (IsUnchanged (D.state conn.old) (D.state conn.new)) }
+    ensures rows { IsReady (D.state conn.old) → HasCleanDisk (D.state conn.new) →
         IfOk result (λ rows. rows.items
-        ≡ form_versions_shown (tables_of (state S.Store conn.old)) lab code.now) }
+        ≡ form_versions_shown (tables_of (D.state conn.old)) lab code.now) }
 {
     rows_by_code(
         conn,
@@ -74,17 +69,17 @@ fn last_form_of(alloc: Global, rows: &[Row]) -> Result<Option<FormHead>, ReadFau
 }
 
 /// The version of a form that has the row, where there is one.
-fn form_if<S: Alter>(
+fn form_if<D: Readable>(
     alloc: Global,
-    conn: &mut Connection<S>,
+    conn: &mut D,
     head: Option<FormHead>,
 ) -> Result<Option<FormVersion>, ReadFault>
-    ensures passes { PassesBy (state S.Store conn.old) (state S.Store conn.new) }
-    ensures same { HasCleanDisk (state S.Store conn.new) → IsTrue (state S.Store conn.old).is_open →
-        OnOk result (IsUnchanged (state S.Store conn.old) (state S.Store conn.new)) }
-    ensures form { IsReady (state S.Store conn.old) → HasCleanDisk (state S.Store conn.new) →
+    ensures passes { PassesBy (D.state conn.old) (D.state conn.new) }
+    ensures same { HasCleanDisk (D.state conn.new) → IsTrue (D.state conn.old).is_open →
+        OnOk result (IsUnchanged (D.state conn.old) (D.state conn.new)) }
+    ensures form { IsReady (D.state conn.old) → HasCleanDisk (D.state conn.new) →
         IfOk result
-        (λ form. form ≡ option_map (form_by (tables_of (state S.Store conn.old))) head) }
+        (λ form. form ≡ option_map (form_by (tables_of (D.state conn.old))) head) }
 {
     match head {
         Some(head) => {
@@ -96,19 +91,19 @@ fn form_if<S: Alter>(
 }
 
 /// The version of the form that has the number, in the laboratory with the id.
-pub fn exact_form_at<S: Alter>(
+pub fn exact_form_at<D: Readable>(
     alloc: Global,
-    conn: &mut Connection<S>,
+    conn: &mut D,
     lab: i64,
     code: &Key,
     version: Ordinal,
 ) -> Result<Option<FormVersion>, ReadFault>
-    ensures passes { PassesBy (state S.Store conn.old) (state S.Store conn.new) }
-    ensures same { HasCleanDisk (state S.Store conn.new) →
-        OnOk result (IsUnchanged (state S.Store conn.old) (state S.Store conn.new)) }
-    ensures form { IsReady (state S.Store conn.old) → HasCleanDisk (state S.Store conn.new) →
+    ensures passes { PassesBy (D.state conn.old) (D.state conn.new) }
+    ensures same { HasCleanDisk (D.state conn.new) →
+        OnOk result (IsUnchanged (D.state conn.old) (D.state conn.new)) }
+    ensures form { IsReady (D.state conn.old) → HasCleanDisk (D.state conn.new) →
         IfOk result (λ form. form
-        ≡ exact_form (forms_of (tables_of (state S.Store conn.old)) lab) code.now version) }
+        ≡ exact_form (forms_of (tables_of (D.state conn.old)) lab) code.now version) }
 {
     let rows = exact_rows(conn, lab, code.as_str(), version.get())?;
     let head = first_form(alloc, &rows)?;
@@ -116,18 +111,18 @@ pub fn exact_form_at<S: Alter>(
 }
 
 /// The last version of the form, in the laboratory with the id.
-pub fn last_form_at<S: Alter>(
+pub fn last_form_at<D: Readable>(
     alloc: Global,
-    conn: &mut Connection<S>,
+    conn: &mut D,
     lab: i64,
     code: &Key,
 ) -> Result<Option<FormVersion>, ReadFault>
-    ensures passes { PassesBy (state S.Store conn.old) (state S.Store conn.new) }
-    ensures same { HasCleanDisk (state S.Store conn.new) →
-        OnOk result (IsUnchanged (state S.Store conn.old) (state S.Store conn.new)) }
-    ensures form { IsReady (state S.Store conn.old) → HasCleanDisk (state S.Store conn.new) →
+    ensures passes { PassesBy (D.state conn.old) (D.state conn.new) }
+    ensures same { HasCleanDisk (D.state conn.new) →
+        OnOk result (IsUnchanged (D.state conn.old) (D.state conn.new)) }
+    ensures form { IsReady (D.state conn.old) → HasCleanDisk (D.state conn.new) →
         IfOk result (λ form. form
-        ≡ last_form (forms_of (tables_of (state S.Store conn.old)) lab) code.now) }
+        ≡ last_form (forms_of (tables_of (D.state conn.old)) lab) code.now) }
 {
     let rows = form_version_rows(conn, lab, code.as_str())?;
     let head = last_form_of(alloc, &rows)?;

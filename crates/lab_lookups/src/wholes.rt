@@ -2,18 +2,16 @@
 
 ghost use Rattle.std.specs.Prelude.{◌≡◌, map, IfOk, OnOk};
 ghost use Rattle.sqlite.specs.State.{HasCleanDisk, IsUnchanged};
-ghost use Rattle.sqlite.specs.Held.{state};
 ghost use Rattle.lab_tables.specs.Ready.{IsReady, PassesBy, tables_of};
 ghost use Rattle.lab_reading.specs.Leaves.{leaf_of};
 ghost use Rattle.lab_lookups.specs.Wholes.{record_with, record_by};
 
-use lab_columns::ReadFault;
+use lab_columns::{ReadFault, Readable};
 use lab_form_versions::form_at;
 use lab_kept::{FormVersion, Record};
 use lab_names::{LabCode, Series};
 use lab_reading::{RecordHead, VersionLeaf};
 use lab_retrieval::{chain, leaves_at};
-use sqlite::{Alter, Connection};
 use std::alloc::Global;
 
 /// The record of the row, the form and the versions.
@@ -38,17 +36,17 @@ fn record_with(
 }
 
 /// The record with the row, of the laboratory with the code, with its form and all its versions.
-pub fn record_whole<S: Alter>(
+pub fn record_whole<D: Readable>(
     alloc: Global,
-    conn: &mut Connection<S>,
+    conn: &mut D,
     lab: &LabCode,
     head: RecordHead,
 ) -> Result<Record, ReadFault>
-    ensures passes { PassesBy (state S.Store conn.old) (state S.Store conn.new) }
-    ensures same { HasCleanDisk (state S.Store conn.new) →
-        OnOk result (IsUnchanged (state S.Store conn.old) (state S.Store conn.new)) }
-    ensures kept { IsReady (state S.Store conn.old) → HasCleanDisk (state S.Store conn.new) →
-        IfOk result (λ kept. kept ≡ record_by (tables_of (state S.Store conn.old)) lab.now head) }
+    ensures passes { PassesBy (D.state conn.old) (D.state conn.new) }
+    ensures same { HasCleanDisk (D.state conn.new) →
+        OnOk result (IsUnchanged (D.state conn.old) (D.state conn.new)) }
+    ensures kept { IsReady (D.state conn.old) → HasCleanDisk (D.state conn.new) →
+        IfOk result (λ kept. kept ≡ record_by (tables_of (D.state conn.old)) lab.now head) }
 {
     let form = form_at(alloc, conn, head.form)?;
     let leaves = leaves_at(alloc, conn, head.id)?;

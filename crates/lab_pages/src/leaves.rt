@@ -2,7 +2,6 @@
 
 ghost use Rattle.std.specs.Prelude.{◌≡◌, IfErr, IfOk, OnOk};
 ghost use Rattle.sqlite.specs.State.{HasCleanDisk, IsUnchanged};
-ghost use Rattle.sqlite.specs.Held.{state};
 ghost use Rattle.lab_copy.specs.Outs.{Sends};
 ghost use Rattle.lab_kept.specs.Digests.{digest_of};
 ghost use Rattle.lab_pages.specs.Pages.{cover_rows, page_rows};
@@ -14,6 +13,7 @@ ghost use Rattle.lab_walks.specs.Faults.{CopyFaultFits};
 ghost use Rattle.lab_walks.specs.Walks.{counted_all};
 
 use crate::faults::told;
+use lab_columns::Readable;
 use lab_copies::{record_row, version_rows};
 use lab_copy::CopyOut;
 use lab_kept::{Record, Version};
@@ -22,7 +22,6 @@ use lab_reading::{VersionHead, VersionLeaf, leaf_at};
 use lab_retrieval::version_after;
 use lab_secrets::Digest;
 use lab_walks::{CopyOutFault, give_rows};
-use sqlite::{Alter, Connection};
 use std::alloc::Global;
 use std::io::Write;
 
@@ -121,9 +120,9 @@ fn give_leaf<W: Write>(
 /// # Errors
 /// The store's refusal, that memory ran out, and a write that failed or took no byte. The front of
 /// the rows' text went out, and the tables are as they were.
-pub fn give_page<S: Alter, W: Write>(
+pub fn give_page<D: Readable, W: Write>(
     alloc: Global,
-    conn: &mut Connection<S>,
+    conn: &mut D,
     lab: &LabCode,
     cover: &Record,
     before: Option<Digest>,
@@ -131,20 +130,20 @@ pub fn give_page<S: Alter, W: Write>(
     out: &mut CopyOut,
     writer: &mut W,
 ) -> Result<Digest, CopyOutFault>
-    ensures passes { PassesBy (state S.Store conn.old) (state S.Store conn.new) }
-    ensures same { HasCleanDisk (state S.Store conn.new) →
-        OnOk result (IsUnchanged (state S.Store conn.old) (state S.Store conn.new)) }
-    ensures text { IsReady (state S.Store conn.old) → HasCleanDisk (state S.Store conn.new) →
+    ensures passes { PassesBy (D.state conn.old) (D.state conn.new) }
+    ensures same { HasCleanDisk (D.state conn.new) →
+        OnOk result (IsUnchanged (D.state conn.old) (D.state conn.new)) }
+    ensures text { IsReady (D.state conn.old) → HasCleanDisk (D.state conn.new) →
         Sends (W.contents writer.old) (W.contents writer.new) (csv_text (page_rows lab.now cover.now
-        (version_after cover.now before (leaf_by (tables_of (state S.Store conn.old)) head)))) result }
-    ensures counts { IsReady (state S.Store conn.old) → HasCleanDisk (state S.Store conn.new) →
+        (version_after cover.now before (leaf_by (tables_of (D.state conn.old)) head)))) result }
+    ensures counts { IsReady (D.state conn.old) → HasCleanDisk (D.state conn.new) →
         OnOk result (out.new ≡ record out.old {
           counts = counted_all out.old.counts (page_rows lab.now cover.now
-              (version_after cover.now before (leaf_by (tables_of (state S.Store conn.old)) head)));
+              (version_after cover.now before (leaf_by (tables_of (D.state conn.old)) head)));
         }) }
-    ensures digest { IsReady (state S.Store conn.old) → HasCleanDisk (state S.Store conn.new) →
+    ensures digest { IsReady (D.state conn.old) → HasCleanDisk (D.state conn.new) →
         IfOk result (λ digest. digest ≡ digest_of lab.now cover.now
-        (version_after cover.now before (leaf_by (tables_of (state S.Store conn.old)) head))) }
+        (version_after cover.now before (leaf_by (tables_of (D.state conn.old)) head))) }
     ensures fault { IfErr result (CopyFaultFits ⊥ (Unit {0}) (Unit {0})) }
 {
     match leaf_at(alloc, conn, head) {

@@ -3,7 +3,6 @@
 
 ghost use Rattle.std.specs.Prelude.{◌≡◌, None, [], ◌∷◌, ◌++◌, map, IfErr, IsTrue, OnOk, option_to_list};
 ghost use Rattle.sqlite.specs.State.{HasCleanDisk, IsUnchanged};
-ghost use Rattle.sqlite.specs.Held.{state};
 ghost use Rattle.lab_copy.specs.Outs.{Sends};
 ghost use Rattle.lab_pages.specs.Pages.{cover_rows, pages_rows};
 ghost use Rattle.lab_reading.specs.Leaves.{leaf_by};
@@ -17,38 +16,38 @@ ghost use Rattle.lab_walks.specs.Walks.{counted_all, record_at, record_rows};
 use crate::covers::{cover_at, head_at};
 use crate::faults::told;
 use crate::leaves::{give_cover, give_page};
+use lab_columns::Readable;
 use lab_copy::CopyOut;
 use lab_kept::Record;
 use lab_names::{LabCode, Ordinal};
 use lab_reading::{RecordHead, VersionHead, versions_at};
 use lab_walks::CopyOutFault;
-use sqlite::{Alter, Connection};
 use std::alloc::Global;
 use std::io::Write;
 
 /// Writes the rows of the versions with the rows, each behind the digest of the one before it.
-fn give_pages<S: Alter, W: Write>(
+fn give_pages<D: Readable, W: Write>(
     alloc: Global,
-    conn: &mut Connection<S>,
+    conn: &mut D,
     lab: &LabCode,
     cover: &Record,
     heads: Vec<VersionHead>,
     out: &mut CopyOut,
     writer: &mut W,
 ) -> Result<(), CopyOutFault>
-    ensures passes { PassesBy (state S.Store conn.old) (state S.Store conn.new) }
-    ensures same { HasCleanDisk (state S.Store conn.new) → IsTrue (state S.Store conn.old).is_open →
-        OnOk result (IsUnchanged (state S.Store conn.old) (state S.Store conn.new)) }
-    ensures text { IsReady (state S.Store conn.old) → HasCleanDisk (state S.Store conn.new) →
-        IsTrue (state S.Store conn.old).is_open →
+    ensures passes { PassesBy (D.state conn.old) (D.state conn.new) }
+    ensures same { HasCleanDisk (D.state conn.new) → IsTrue (D.state conn.old).is_open →
+        OnOk result (IsUnchanged (D.state conn.old) (D.state conn.new)) }
+    ensures text { IsReady (D.state conn.old) → HasCleanDisk (D.state conn.new) →
+        IsTrue (D.state conn.old).is_open →
         Sends (W.contents writer.old) (W.contents writer.new) (csv_text (pages_rows lab.now
         cover.now (chained lab.now cover.now None
-        (map (leaf_by (tables_of (state S.Store conn.old))) heads.items)))) result }
-    ensures counts { IsReady (state S.Store conn.old) → HasCleanDisk (state S.Store conn.new) →
-        IsTrue (state S.Store conn.old).is_open → OnOk result (out.new ≡ record out.old {
+        (map (leaf_by (tables_of (D.state conn.old))) heads.items)))) result }
+    ensures counts { IsReady (D.state conn.old) → HasCleanDisk (D.state conn.new) →
+        IsTrue (D.state conn.old).is_open → OnOk result (out.new ≡ record out.old {
           counts = counted_all out.old.counts (pages_rows lab.now cover.now
               (chained lab.now cover.now None
-              (map (leaf_by (tables_of (state S.Store conn.old))) heads.items)));
+              (map (leaf_by (tables_of (D.state conn.old))) heads.items)));
         }) }
     ensures fault { IfErr result (CopyFaultFits ⊥ (Unit {0}) (Unit {0})) }
 {
@@ -61,27 +60,27 @@ fn give_pages<S: Alter, W: Write>(
 }
 
 /// Writes the rows of the versions of the record with the id.
-fn give_versions<S: Alter, W: Write>(
+fn give_versions<D: Readable, W: Write>(
     alloc: Global,
-    conn: &mut Connection<S>,
+    conn: &mut D,
     lab: &LabCode,
     cover: &Record,
     kept: i64,
     out: &mut CopyOut,
     writer: &mut W,
 ) -> Result<(), CopyOutFault>
-    ensures passes { PassesBy (state S.Store conn.old) (state S.Store conn.new) }
-    ensures same { HasCleanDisk (state S.Store conn.new) →
-        OnOk result (IsUnchanged (state S.Store conn.old) (state S.Store conn.new)) }
-    ensures text { IsReady (state S.Store conn.old) → HasCleanDisk (state S.Store conn.new) →
+    ensures passes { PassesBy (D.state conn.old) (D.state conn.new) }
+    ensures same { HasCleanDisk (D.state conn.new) →
+        OnOk result (IsUnchanged (D.state conn.old) (D.state conn.new)) }
+    ensures text { IsReady (D.state conn.old) → HasCleanDisk (D.state conn.new) →
         Sends (W.contents writer.old) (W.contents writer.new) (csv_text (pages_rows lab.now
         cover.now (chained lab.now cover.now None
-        (leaves_of (tables_of (state S.Store conn.old)) kept)))) result }
-    ensures counts { IsReady (state S.Store conn.old) → HasCleanDisk (state S.Store conn.new) →
+        (leaves_of (tables_of (D.state conn.old)) kept)))) result }
+    ensures counts { IsReady (D.state conn.old) → HasCleanDisk (D.state conn.new) →
         OnOk result (out.new ≡ record out.old {
           counts = counted_all out.old.counts (pages_rows lab.now cover.now
               (chained lab.now cover.now None
-              (leaves_of (tables_of (state S.Store conn.old)) kept)));
+              (leaves_of (tables_of (D.state conn.old)) kept)));
         }) }
     ensures fault { IfErr result (CopyFaultFits ⊥ (Unit {0}) (Unit {0})) }
 {
@@ -92,29 +91,29 @@ fn give_versions<S: Alter, W: Write>(
 }
 
 /// Writes the rows of the record with the id: its own, and those of its versions.
-fn give_covered<S: Alter, W: Write>(
+fn give_covered<D: Readable, W: Write>(
     alloc: Global,
-    conn: &mut Connection<S>,
+    conn: &mut D,
     lab: &LabCode,
     cover: &Record,
     kept: i64,
     out: &mut CopyOut,
     writer: &mut W,
 ) -> Result<(), CopyOutFault>
-    ensures passes { PassesBy (state S.Store conn.old) (state S.Store conn.new) }
-    ensures same { HasCleanDisk (state S.Store conn.new) →
-        OnOk result (IsUnchanged (state S.Store conn.old) (state S.Store conn.new)) }
-    ensures text { IsReady (state S.Store conn.old) → HasCleanDisk (state S.Store conn.new) →
+    ensures passes { PassesBy (D.state conn.old) (D.state conn.new) }
+    ensures same { HasCleanDisk (D.state conn.new) →
+        OnOk result (IsUnchanged (D.state conn.old) (D.state conn.new)) }
+    ensures text { IsReady (D.state conn.old) → HasCleanDisk (D.state conn.new) →
         Sends (W.contents writer.old) (W.contents writer.new)
         (csv_text (cover_rows lab.now cover.now ++ pages_rows lab.now cover.now
         (chained lab.now cover.now None
-        (leaves_of (tables_of (state S.Store conn.old)) kept)))) result }
-    ensures counts { IsReady (state S.Store conn.old) → HasCleanDisk (state S.Store conn.new) →
+        (leaves_of (tables_of (D.state conn.old)) kept)))) result }
+    ensures counts { IsReady (D.state conn.old) → HasCleanDisk (D.state conn.new) →
         OnOk result (out.new ≡ record out.old {
           counts = counted_all out.old.counts
               (cover_rows lab.now cover.now ++ pages_rows lab.now cover.now
               (chained lab.now cover.now None
-              (leaves_of (tables_of (state S.Store conn.old)) kept)));
+              (leaves_of (tables_of (D.state conn.old)) kept)));
         }) }
     ensures fault { IfErr result (CopyFaultFits ⊥ (Unit {0}) (Unit {0})) }
 {
@@ -123,24 +122,24 @@ fn give_covered<S: Alter, W: Write>(
 }
 
 /// Writes the rows of the record with the row.
-fn give_headed<S: Alter, W: Write>(
+fn give_headed<D: Readable, W: Write>(
     alloc: Global,
-    conn: &mut Connection<S>,
+    conn: &mut D,
     lab: &LabCode,
     head: RecordHead,
     out: &mut CopyOut,
     writer: &mut W,
 ) -> Result<(), CopyOutFault>
-    ensures passes { PassesBy (state S.Store conn.old) (state S.Store conn.new) }
-    ensures same { HasCleanDisk (state S.Store conn.new) →
-        OnOk result (IsUnchanged (state S.Store conn.old) (state S.Store conn.new)) }
-    ensures text { IsReady (state S.Store conn.old) → HasCleanDisk (state S.Store conn.new) →
+    ensures passes { PassesBy (D.state conn.old) (D.state conn.new) }
+    ensures same { HasCleanDisk (D.state conn.new) →
+        OnOk result (IsUnchanged (D.state conn.old) (D.state conn.new)) }
+    ensures text { IsReady (D.state conn.old) → HasCleanDisk (D.state conn.new) →
         Sends (W.contents writer.old) (W.contents writer.new) (csv_text (record_rows lab.now
-        (record_by (tables_of (state S.Store conn.old)) lab.now head ∷ []))) result }
-    ensures counts { IsReady (state S.Store conn.old) → HasCleanDisk (state S.Store conn.new) →
+        (record_by (tables_of (D.state conn.old)) lab.now head ∷ []))) result }
+    ensures counts { IsReady (D.state conn.old) → HasCleanDisk (D.state conn.new) →
         OnOk result (out.new ≡ record out.old {
           counts = counted_all out.old.counts (record_rows lab.now
-              (record_by (tables_of (state S.Store conn.old)) lab.now head ∷ []));
+              (record_by (tables_of (D.state conn.old)) lab.now head ∷ []));
         }) }
     ensures fault { IfErr result (CopyFaultFits ⊥ (Unit {0}) (Unit {0})) }
 {
@@ -157,25 +156,25 @@ fn give_headed<S: Alter, W: Write>(
 /// # Errors
 /// The store's refusal, that memory ran out, and a write that failed or took no byte. The front of
 /// the rows' text went out, and the tables are as they were.
-pub fn give_record_at<S: Alter, W: Write>(
+pub fn give_record_at<D: Readable, W: Write>(
     alloc: Global,
-    conn: &mut Connection<S>,
+    conn: &mut D,
     lab: &LabCode,
     number: Ordinal,
     out: &mut CopyOut,
     writer: &mut W,
 ) -> Result<(), CopyOutFault>
-    ensures passes { PassesBy (state S.Store conn.old) (state S.Store conn.new) }
-    ensures same { HasCleanDisk (state S.Store conn.new) →
-        OnOk result (IsUnchanged (state S.Store conn.old) (state S.Store conn.new)) }
-    ensures text { IsReady (state S.Store conn.old) → HasCleanDisk (state S.Store conn.new) →
+    ensures passes { PassesBy (D.state conn.old) (D.state conn.new) }
+    ensures same { HasCleanDisk (D.state conn.new) →
+        OnOk result (IsUnchanged (D.state conn.old) (D.state conn.new)) }
+    ensures text { IsReady (D.state conn.old) → HasCleanDisk (D.state conn.new) →
         Sends (W.contents writer.old) (W.contents writer.new) (csv_text (record_rows lab.now
-        (option_to_list (record_at number (meaning (tables_of (state S.Store conn.old)) lab.now)))))
+        (option_to_list (record_at number (meaning (tables_of (D.state conn.old)) lab.now)))))
         result }
-    ensures counts { IsReady (state S.Store conn.old) → HasCleanDisk (state S.Store conn.new) →
+    ensures counts { IsReady (D.state conn.old) → HasCleanDisk (D.state conn.new) →
         OnOk result (out.new ≡ record out.old {
           counts = counted_all out.old.counts (record_rows lab.now (option_to_list
-              (record_at number (meaning (tables_of (state S.Store conn.old)) lab.now))));
+              (record_at number (meaning (tables_of (D.state conn.old)) lab.now))));
         }) }
     ensures fault { IfErr result (CopyFaultFits ⊥ (Unit {0}) (Unit {0})) }
 {

@@ -2,26 +2,25 @@
 
 ghost use Rattle.std.specs.Prelude.{◌≡◌, map, IfOk, OnOk};
 ghost use Rattle.sqlite.specs.State.{HasCleanDisk, IsUnchanged};
-ghost use Rattle.sqlite.specs.Held.{state};
 ghost use Rattle.lab_tables.specs.Ready.{IsReady, PassesBy, tables_of};
 ghost use Rattle.lab_tables.specs.Meaning.{entries_of};
 ghost use Rattle.lab_reading.specs.Shown.{entries_shown, entry_read};
 
-use lab_columns::ReadFault;
 use lab_columns::asking::rows_by_one;
 use lab_columns::cells::{moment_of, text_if, text_of};
+use lab_columns::{ReadFault, Readable};
 use lab_versions::EntryRow;
-use sqlite::{Alter, Connection, Error, Row};
+use sqlite::{Error, Row};
 use std::alloc::Global;
 
 /// The entries of the version with the id, in the order of their places.
-fn entry_rows<S: Alter>(conn: &mut Connection<S>, version: i64) -> Result<Vec<Row>, Error>
-    ensures passes { PassesBy (state S.Store conn.old) (state S.Store conn.new) }
-    ensures same { HasCleanDisk (state S.Store conn.new) →
-        OnOk result (IsUnchanged (state S.Store conn.old) (state S.Store conn.new)) }
-    ensures rows { IsReady (state S.Store conn.old) → HasCleanDisk (state S.Store conn.new) →
+fn entry_rows<D: Readable>(conn: &mut D, version: i64) -> Result<Vec<Row>, Error>
+    ensures passes { PassesBy (D.state conn.old) (D.state conn.new) }
+    ensures same { HasCleanDisk (D.state conn.new) →
+        OnOk result (IsUnchanged (D.state conn.old) (D.state conn.new)) }
+    ensures rows { IsReady (D.state conn.old) → HasCleanDisk (D.state conn.new) →
         IfOk result
-        (λ rows. rows.items ≡ entries_shown (tables_of (state S.Store conn.old)) version) }
+        (λ rows. rows.items ≡ entries_shown (tables_of (D.state conn.old)) version) }
 {
     rows_by_one(
         conn,
@@ -62,17 +61,17 @@ fn entries_of_rows(alloc: Global, rows: &[Row]) -> Result<Vec<EntryRow>, ReadFau
 }
 
 /// The entries of the version with the id, in the order of their places.
-pub fn entries_at<S: Alter>(
+pub fn entries_at<D: Readable>(
     alloc: Global,
-    conn: &mut Connection<S>,
+    conn: &mut D,
     version: i64,
 ) -> Result<Vec<EntryRow>, ReadFault>
-    ensures passes { PassesBy (state S.Store conn.old) (state S.Store conn.new) }
-    ensures same { HasCleanDisk (state S.Store conn.new) →
-        OnOk result (IsUnchanged (state S.Store conn.old) (state S.Store conn.new)) }
-    ensures entries { IsReady (state S.Store conn.old) → HasCleanDisk (state S.Store conn.new) →
+    ensures passes { PassesBy (D.state conn.old) (D.state conn.new) }
+    ensures same { HasCleanDisk (D.state conn.new) →
+        OnOk result (IsUnchanged (D.state conn.old) (D.state conn.new)) }
+    ensures entries { IsReady (D.state conn.old) → HasCleanDisk (D.state conn.new) →
         IfOk result
-        (λ made. made.items ≡ entries_of (tables_of (state S.Store conn.old)) version) }
+        (λ made. made.items ≡ entries_of (tables_of (D.state conn.old)) version) }
 {
     let rows = entry_rows(conn, version)?;
     entries_of_rows(alloc, &rows)

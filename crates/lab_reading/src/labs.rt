@@ -2,7 +2,6 @@
 
 ghost use Rattle.std.specs.Prelude.{◌≡◌, map, filter, find, option_map, slice_get, IfOk, OnOk};
 ghost use Rattle.sqlite.specs.State.{HasCleanDisk, IsUnchanged};
-ghost use Rattle.sqlite.specs.Held.{state};
 ghost use Rattle.lab_tables.specs.Meaning.{has_code};
 ghost use Rattle.lab_tables.specs.Ready.{IsReady, PassesBy, tables_of};
 ghost use Rattle.lab_reading.specs.Heads.{lab_head};
@@ -10,21 +9,21 @@ ghost use Rattle.lab_reading.specs.Shown.{labs_shown, lab_read};
 
 use crate::cells::count_of;
 use crate::heads::LabHead;
-use lab_columns::ReadFault;
 use lab_columns::asking::rows_by_text;
 use lab_columns::cells::{id_of, moment_of, text_of};
+use lab_columns::{ReadFault, Readable};
 use lab_names::LabCode;
-use sqlite::{Alter, Connection, Error, Row};
+use sqlite::{Error, Row};
 use std::alloc::Global;
 
 /// The row of the laboratory with the code.
-fn lab_rows<S: Alter>(conn: &mut Connection<S>, code: &str) -> Result<Vec<Row>, Error>
-    ensures passes { PassesBy (state S.Store conn.old) (state S.Store conn.new) }
-    ensures same { HasCleanDisk (state S.Store conn.new) →
-        OnOk result (IsUnchanged (state S.Store conn.old) (state S.Store conn.new)) }
-    ensures rows { IsReady (state S.Store conn.old) → HasCleanDisk (state S.Store conn.new) →
+fn lab_rows<D: Readable>(conn: &mut D, code: &str) -> Result<Vec<Row>, Error>
+    ensures passes { PassesBy (D.state conn.old) (D.state conn.new) }
+    ensures same { HasCleanDisk (D.state conn.new) →
+        OnOk result (IsUnchanged (D.state conn.old) (D.state conn.new)) }
+    ensures rows { IsReady (D.state conn.old) → HasCleanDisk (D.state conn.new) →
         IfOk result
-        (λ rows. rows.items ≡ labs_shown (tables_of (state S.Store conn.old)) code.now) }
+        (λ rows. rows.items ≡ labs_shown (tables_of (D.state conn.old)) code.now) }
 {
     rows_by_text(
         conn,
@@ -68,17 +67,17 @@ fn first_lab(alloc: Global, rows: &[Row]) -> Result<Option<LabHead>, ReadFault>
 }
 
 /// The laboratory's own row, where there is one of the code.
-pub fn lab_at<S: Alter>(
+pub fn lab_at<D: Readable>(
     alloc: Global,
-    conn: &mut Connection<S>,
+    conn: &mut D,
     code: &LabCode,
 ) -> Result<Option<LabHead>, ReadFault>
-    ensures passes { PassesBy (state S.Store conn.old) (state S.Store conn.new) }
-    ensures same { HasCleanDisk (state S.Store conn.new) →
-        OnOk result (IsUnchanged (state S.Store conn.old) (state S.Store conn.new)) }
-    ensures found { IsReady (state S.Store conn.old) → HasCleanDisk (state S.Store conn.new) →
+    ensures passes { PassesBy (D.state conn.old) (D.state conn.new) }
+    ensures same { HasCleanDisk (D.state conn.new) →
+        OnOk result (IsUnchanged (D.state conn.old) (D.state conn.new)) }
+    ensures found { IsReady (D.state conn.old) → HasCleanDisk (D.state conn.new) →
         IfOk result (λ lab. lab
-        ≡ option_map lab_head (find (has_code code.now) (tables_of (state S.Store conn.old)).labs)) }
+        ≡ option_map lab_head (find (has_code code.now) (tables_of (D.state conn.old)).labs)) }
 {
     let rows = lab_rows(conn, code.as_str())?;
     first_lab(alloc, &rows)

@@ -2,18 +2,16 @@
 
 ghost use Rattle.std.specs.Prelude.{◌≡◌, IfOk, OnOk};
 ghost use Rattle.sqlite.specs.State.{HasCleanDisk, IsUnchanged};
-ghost use Rattle.sqlite.specs.Held.{state};
 ghost use Rattle.lab_tables.specs.Ready.{IsReady, PassesBy, tables_of};
 ghost use Rattle.lab_reading.specs.Leaves.{leaf_of, leaf_by};
 
 use crate::entries::entries_at;
 use crate::heads::VersionHead;
 use crate::signatures::signatures_at;
-use lab_columns::ReadFault;
+use lab_columns::{ReadFault, Readable};
 use lab_kept::Signature;
 use lab_names::{Moment, Note, Ordinal, PersonCode, Series};
 use lab_versions::EntryRows;
-use sqlite::{Alter, Connection};
 use std::alloc::Global;
 
 /// A version as its own rows tell it. What it amends they don't tell.
@@ -36,16 +34,16 @@ pub struct VersionLeaf {
 }
 
 /// The version with the row, with its entries and signatures.
-pub fn leaf_at<S: Alter>(
+pub fn leaf_at<D: Readable>(
     alloc: Global,
-    conn: &mut Connection<S>,
+    conn: &mut D,
     head: VersionHead,
 ) -> Result<VersionLeaf, ReadFault>
-    ensures passes { PassesBy (state S.Store conn.old) (state S.Store conn.new) }
-    ensures same { HasCleanDisk (state S.Store conn.new) →
-        OnOk result (IsUnchanged (state S.Store conn.old) (state S.Store conn.new)) }
-    ensures leaf { IsReady (state S.Store conn.old) → HasCleanDisk (state S.Store conn.new) →
-        IfOk result (λ leaf. leaf_of leaf ≡ leaf_by (tables_of (state S.Store conn.old)) head) }
+    ensures passes { PassesBy (D.state conn.old) (D.state conn.new) }
+    ensures same { HasCleanDisk (D.state conn.new) →
+        OnOk result (IsUnchanged (D.state conn.old) (D.state conn.new)) }
+    ensures leaf { IsReady (D.state conn.old) → HasCleanDisk (D.state conn.new) →
+        IfOk result (λ leaf. leaf_of leaf ≡ leaf_by (tables_of (D.state conn.old)) head) }
 {
     let rows = entries_at(alloc, conn, head.id)?;
     let signatures = signatures_at(alloc, conn, head.id)?;

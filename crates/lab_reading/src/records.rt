@@ -2,27 +2,26 @@
 
 ghost use Rattle.std.specs.Prelude.{◌≡◌, find, option_map, slice_get, IfOk, OnOk};
 ghost use Rattle.sqlite.specs.State.{HasCleanDisk, IsUnchanged};
-ghost use Rattle.sqlite.specs.Held.{state};
 ghost use Rattle.lab_tables.specs.Ready.{IsReady, PassesBy, tables_of};
 ghost use Rattle.lab_reading.specs.Heads.{is_record, record_head};
 ghost use Rattle.lab_reading.specs.Shown.{records_shown, record_read};
 
 use crate::asking::rows_by_two;
 use crate::heads::RecordHead;
-use lab_columns::ReadFault;
 use lab_columns::cells::{id_of, ordinal_of, small_of, text_of};
+use lab_columns::{ReadFault, Readable};
 use lab_names::Ordinal;
-use sqlite::{Alter, Connection, Error, Row};
+use sqlite::{Error, Row};
 use std::alloc::Global;
 
 /// The row of the record with the number, in the laboratory with the id.
-fn record_rows<S: Alter>(conn: &mut Connection<S>, lab: i64, number: u32) -> Result<Vec<Row>, Error>
-    ensures passes { PassesBy (state S.Store conn.old) (state S.Store conn.new) }
-    ensures same { HasCleanDisk (state S.Store conn.new) →
-        OnOk result (IsUnchanged (state S.Store conn.old) (state S.Store conn.new)) }
-    ensures rows { IsReady (state S.Store conn.old) → HasCleanDisk (state S.Store conn.new) →
+fn record_rows<D: Readable>(conn: &mut D, lab: i64, number: u32) -> Result<Vec<Row>, Error>
+    ensures passes { PassesBy (D.state conn.old) (D.state conn.new) }
+    ensures same { HasCleanDisk (D.state conn.new) →
+        OnOk result (IsUnchanged (D.state conn.old) (D.state conn.new)) }
+    ensures rows { IsReady (D.state conn.old) → HasCleanDisk (D.state conn.new) →
         IfOk result
-        (λ rows. rows.items ≡ records_shown (tables_of (state S.Store conn.old)) lab number) }
+        (λ rows. rows.items ≡ records_shown (tables_of (D.state conn.old)) lab number) }
 {
     rows_by_two(
         conn,
@@ -63,18 +62,18 @@ fn first_record(alloc: Global, rows: &[Row]) -> Result<Option<RecordHead>, ReadF
 }
 
 /// The record's own row, where there is one of the number in the laboratory with the id.
-pub fn record_at<S: Alter>(
+pub fn record_at<D: Readable>(
     alloc: Global,
-    conn: &mut Connection<S>,
+    conn: &mut D,
     lab: i64,
     number: Ordinal,
 ) -> Result<Option<RecordHead>, ReadFault>
-    ensures passes { PassesBy (state S.Store conn.old) (state S.Store conn.new) }
-    ensures same { HasCleanDisk (state S.Store conn.new) →
-        OnOk result (IsUnchanged (state S.Store conn.old) (state S.Store conn.new)) }
-    ensures found { IsReady (state S.Store conn.old) → HasCleanDisk (state S.Store conn.new) →
+    ensures passes { PassesBy (D.state conn.old) (D.state conn.new) }
+    ensures same { HasCleanDisk (D.state conn.new) →
+        OnOk result (IsUnchanged (D.state conn.old) (D.state conn.new)) }
+    ensures found { IsReady (D.state conn.old) → HasCleanDisk (D.state conn.new) →
         IfOk result (λ found. found ≡ option_map record_head
-        (find (is_record lab number) (tables_of (state S.Store conn.old)).records)) }
+        (find (is_record lab number) (tables_of (D.state conn.old)).records)) }
 {
     let rows = record_rows(conn, lab, number.get())?;
     first_record(alloc, &rows)

@@ -2,7 +2,6 @@
 
 ghost use Rattle.std.specs.Prelude.{◌≡◌, map, IfOk, OnOk};
 ghost use Rattle.sqlite.specs.State.{HasCleanDisk, IsUnchanged};
-ghost use Rattle.sqlite.specs.Held.{state};
 ghost use Rattle.lab_tables.specs.Ready.{IsReady, PassesBy, tables_of};
 ghost use Rattle.lab_tables.specs.Columns.{meaning_in};
 ghost use Rattle.lab_tables.specs.Meaning.{signatures_of};
@@ -10,23 +9,23 @@ ghost use Rattle.lab_reading.specs.Shown.{signatures_shown, signature_read};
 ghost use Rattle.sqlite_value.specs.Order.{column, bytes};
 ghost use Rattle.lab_tables.specs.Rows.{optional_in};
 
-use lab_columns::ReadFault;
 use lab_columns::asking::rows_by_one;
 use lab_columns::cells::{digest_of, moment_of, text_if, text_of};
+use lab_columns::{ReadFault, Readable};
 use lab_kept::Signature;
 use lab_names::{Keys, Note, Text};
 use lab_seal::{Meaning, Seal};
-use sqlite::{Alter, Connection, Error, Row};
+use sqlite::{Error, Row};
 use std::alloc::Global;
 
 /// The signatures of the version with the id, in the order of their places.
-fn signature_rows<S: Alter>(conn: &mut Connection<S>, version: i64) -> Result<Vec<Row>, Error>
-    ensures passes { PassesBy (state S.Store conn.old) (state S.Store conn.new) }
-    ensures same { HasCleanDisk (state S.Store conn.new) →
-        OnOk result (IsUnchanged (state S.Store conn.old) (state S.Store conn.new)) }
-    ensures rows { IsReady (state S.Store conn.old) → HasCleanDisk (state S.Store conn.new) →
+fn signature_rows<D: Readable>(conn: &mut D, version: i64) -> Result<Vec<Row>, Error>
+    ensures passes { PassesBy (D.state conn.old) (D.state conn.new) }
+    ensures same { HasCleanDisk (D.state conn.new) →
+        OnOk result (IsUnchanged (D.state conn.old) (D.state conn.new)) }
+    ensures rows { IsReady (D.state conn.old) → HasCleanDisk (D.state conn.new) →
         IfOk result
-        (λ rows. rows.items ≡ signatures_shown (tables_of (state S.Store conn.old)) version) }
+        (λ rows. rows.items ≡ signatures_shown (tables_of (D.state conn.old)) version) }
 {
     rows_by_one(
         conn,
@@ -93,17 +92,17 @@ fn signatures_of_rows(alloc: Global, rows: &[Row]) -> Result<Vec<Signature>, Rea
 }
 
 /// The signatures of the version with the id, in the order of their places.
-pub fn signatures_at<S: Alter>(
+pub fn signatures_at<D: Readable>(
     alloc: Global,
-    conn: &mut Connection<S>,
+    conn: &mut D,
     version: i64,
 ) -> Result<Vec<Signature>, ReadFault>
-    ensures passes { PassesBy (state S.Store conn.old) (state S.Store conn.new) }
-    ensures same { HasCleanDisk (state S.Store conn.new) →
-        OnOk result (IsUnchanged (state S.Store conn.old) (state S.Store conn.new)) }
-    ensures signatures { IsReady (state S.Store conn.old) → HasCleanDisk (state S.Store conn.new) →
+    ensures passes { PassesBy (D.state conn.old) (D.state conn.new) }
+    ensures same { HasCleanDisk (D.state conn.new) →
+        OnOk result (IsUnchanged (D.state conn.old) (D.state conn.new)) }
+    ensures signatures { IsReady (D.state conn.old) → HasCleanDisk (D.state conn.new) →
         IfOk result
-        (λ made. made.items ≡ signatures_of (tables_of (state S.Store conn.old)) version) }
+        (λ made. made.items ≡ signatures_of (tables_of (D.state conn.old)) version) }
 {
     let rows = signature_rows(conn, version)?;
     signatures_of_rows(alloc, &rows)

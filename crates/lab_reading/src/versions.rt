@@ -2,26 +2,25 @@
 
 ghost use Rattle.std.specs.Prelude.{◌≡◌, map, IfOk, OnOk};
 ghost use Rattle.sqlite.specs.State.{HasCleanDisk, IsUnchanged};
-ghost use Rattle.sqlite.specs.Held.{state};
 ghost use Rattle.lab_tables.specs.Ready.{IsReady, PassesBy, tables_of};
 ghost use Rattle.lab_reading.specs.Heads.{versions_of};
 ghost use Rattle.lab_reading.specs.Shown.{versions_shown, version_read};
 
 use crate::heads::VersionHead;
-use lab_columns::ReadFault;
 use lab_columns::asking::rows_by_one;
 use lab_columns::cells::{id_of, moment_of, ordinal_of, small_of, text_if, text_of};
-use sqlite::{Alter, Connection, Error, Row};
+use lab_columns::{ReadFault, Readable};
+use sqlite::{Error, Row};
 use std::alloc::Global;
 
 /// The versions of the record with the id, in the order of their numbers.
-fn version_rows<S: Alter>(conn: &mut Connection<S>, kept: i64) -> Result<Vec<Row>, Error>
-    ensures passes { PassesBy (state S.Store conn.old) (state S.Store conn.new) }
-    ensures same { HasCleanDisk (state S.Store conn.new) →
-        OnOk result (IsUnchanged (state S.Store conn.old) (state S.Store conn.new)) }
-    ensures rows { IsReady (state S.Store conn.old) → HasCleanDisk (state S.Store conn.new) →
+fn version_rows<D: Readable>(conn: &mut D, kept: i64) -> Result<Vec<Row>, Error>
+    ensures passes { PassesBy (D.state conn.old) (D.state conn.new) }
+    ensures same { HasCleanDisk (D.state conn.new) →
+        OnOk result (IsUnchanged (D.state conn.old) (D.state conn.new)) }
+    ensures rows { IsReady (D.state conn.old) → HasCleanDisk (D.state conn.new) →
         IfOk result
-        (λ rows. rows.items ≡ versions_shown (tables_of (state S.Store conn.old)) kept) }
+        (λ rows. rows.items ≡ versions_shown (tables_of (D.state conn.old)) kept) }
 {
     rows_by_one(
         conn,
@@ -62,17 +61,17 @@ fn versions_of_rows(alloc: Global, rows: &[Row]) -> Result<Vec<VersionHead>, Rea
 }
 
 /// The versions of the record with the id, in the order of their numbers.
-pub fn versions_at<S: Alter>(
+pub fn versions_at<D: Readable>(
     alloc: Global,
-    conn: &mut Connection<S>,
+    conn: &mut D,
     kept: i64,
 ) -> Result<Vec<VersionHead>, ReadFault>
-    ensures passes { PassesBy (state S.Store conn.old) (state S.Store conn.new) }
-    ensures same { HasCleanDisk (state S.Store conn.new) →
-        OnOk result (IsUnchanged (state S.Store conn.old) (state S.Store conn.new)) }
-    ensures versions { IsReady (state S.Store conn.old) → HasCleanDisk (state S.Store conn.new) →
+    ensures passes { PassesBy (D.state conn.old) (D.state conn.new) }
+    ensures same { HasCleanDisk (D.state conn.new) →
+        OnOk result (IsUnchanged (D.state conn.old) (D.state conn.new)) }
+    ensures versions { IsReady (D.state conn.old) → HasCleanDisk (D.state conn.new) →
         IfOk result
-        (λ made. made.items ≡ versions_of (tables_of (state S.Store conn.old)) kept) }
+        (λ made. made.items ≡ versions_of (tables_of (D.state conn.old)) kept) }
 {
     let rows = version_rows(conn, kept)?;
     versions_of_rows(alloc, &rows)

@@ -2,29 +2,27 @@
 
 ghost use Rattle.std.specs.Prelude.{◌≡◌, [], ◌∷◌, ◌++◌, map, IfOk, OnOk, IsTrue};
 ghost use Rattle.sqlite.specs.State.{HasCleanDisk, IsUnchanged};
-ghost use Rattle.sqlite.specs.Held.{state};
 ghost use Rattle.lab_tables.specs.Ready.{IsReady, PassesBy, tables_of};
 ghost use Rattle.lab_tables.specs.Meaning.{leaves_of};
 ghost use Rattle.lab_reading.specs.Leaves.{leaf_of, leaf_by};
 
-use lab_columns::ReadFault;
+use lab_columns::{ReadFault, Readable};
 use lab_reading::{VersionHead, VersionLeaf, leaf_at, versions_at};
-use sqlite::{Alter, Connection};
 use std::alloc::Global;
 
 /// The version with the row, behind others.
-fn add_leaf<S: Alter>(
+fn add_leaf<D: Readable>(
     alloc: Global,
-    conn: &mut Connection<S>,
+    conn: &mut D,
     made: &mut Vec<VersionLeaf>,
     head: VersionHead,
 ) -> Result<(), ReadFault>
-    ensures passes { PassesBy (state S.Store conn.old) (state S.Store conn.new) }
-    ensures same { HasCleanDisk (state S.Store conn.new) →
-        OnOk result (IsUnchanged (state S.Store conn.old) (state S.Store conn.new)) }
-    ensures leaf { IsReady (state S.Store conn.old) → HasCleanDisk (state S.Store conn.new) →
+    ensures passes { PassesBy (D.state conn.old) (D.state conn.new) }
+    ensures same { HasCleanDisk (D.state conn.new) →
+        OnOk result (IsUnchanged (D.state conn.old) (D.state conn.new)) }
+    ensures leaf { IsReady (D.state conn.old) → HasCleanDisk (D.state conn.new) →
         OnOk result (map leaf_of made.new.items
-        ≡ map leaf_of made.old.items ++ leaf_by (tables_of (state S.Store conn.old)) head ∷ []) }
+        ≡ map leaf_of made.old.items ++ leaf_by (tables_of (D.state conn.old)) head ∷ []) }
 {
     let leaf = leaf_at(alloc, conn, head)?;
     made.push(leaf)?;
@@ -32,19 +30,19 @@ fn add_leaf<S: Alter>(
 }
 
 /// The versions with the rows, behind others.
-fn add_leaves<S: Alter>(
+fn add_leaves<D: Readable>(
     alloc: Global,
-    conn: &mut Connection<S>,
+    conn: &mut D,
     made: &mut Vec<VersionLeaf>,
     heads: Vec<VersionHead>,
 ) -> Result<(), ReadFault>
-    ensures passes { PassesBy (state S.Store conn.old) (state S.Store conn.new) }
-    ensures same { HasCleanDisk (state S.Store conn.new) → IsTrue (state S.Store conn.old).is_open →
-        OnOk result (IsUnchanged (state S.Store conn.old) (state S.Store conn.new)) }
-    ensures leaves { IsReady (state S.Store conn.old) → HasCleanDisk (state S.Store conn.new) →
-        IsTrue (state S.Store conn.old).is_open → OnOk result (map leaf_of made.new.items
+    ensures passes { PassesBy (D.state conn.old) (D.state conn.new) }
+    ensures same { HasCleanDisk (D.state conn.new) → IsTrue (D.state conn.old).is_open →
+        OnOk result (IsUnchanged (D.state conn.old) (D.state conn.new)) }
+    ensures leaves { IsReady (D.state conn.old) → HasCleanDisk (D.state conn.new) →
+        IsTrue (D.state conn.old).is_open → OnOk result (map leaf_of made.new.items
         ≡ map leaf_of made.old.items
-        ++ map (leaf_by (tables_of (state S.Store conn.old))) heads.items) }
+        ++ map (leaf_by (tables_of (D.state conn.old))) heads.items) }
 {
     for head in heads {
         add_leaf(alloc, conn, made, head)?;
@@ -53,17 +51,17 @@ fn add_leaves<S: Alter>(
 }
 
 /// The whole versions of the record with the id, in the order of their numbers.
-pub fn leaves_at<S: Alter>(
+pub fn leaves_at<D: Readable>(
     alloc: Global,
-    conn: &mut Connection<S>,
+    conn: &mut D,
     kept: i64,
 ) -> Result<Vec<VersionLeaf>, ReadFault>
-    ensures passes { PassesBy (state S.Store conn.old) (state S.Store conn.new) }
-    ensures same { HasCleanDisk (state S.Store conn.new) →
-        OnOk result (IsUnchanged (state S.Store conn.old) (state S.Store conn.new)) }
-    ensures leaves { IsReady (state S.Store conn.old) → HasCleanDisk (state S.Store conn.new) →
+    ensures passes { PassesBy (D.state conn.old) (D.state conn.new) }
+    ensures same { HasCleanDisk (D.state conn.new) →
+        OnOk result (IsUnchanged (D.state conn.old) (D.state conn.new)) }
+    ensures leaves { IsReady (D.state conn.old) → HasCleanDisk (D.state conn.new) →
         IfOk result
-        (λ made. map leaf_of made.items ≡ leaves_of (tables_of (state S.Store conn.old)) kept) }
+        (λ made. map leaf_of made.items ≡ leaves_of (tables_of (D.state conn.old)) kept) }
 {
     let heads = versions_at(alloc, conn, kept)?;
     let mut made = Vec::new(alloc);

@@ -2,7 +2,6 @@
 
 ghost use Rattle.std.specs.Prelude.{◌≡◌, map, find, option_map, slice_get, IfOk, OnOk};
 ghost use Rattle.sqlite.specs.State.{HasCleanDisk, IsUnchanged};
-ghost use Rattle.sqlite.specs.Held.{state};
 ghost use Rattle.lab_tables.specs.Ready.{IsReady, PassesBy, tables_of};
 ghost use Rattle.lab_reading.specs.Heads.{record_head};
 ghost use Rattle.lab_reading.specs.Shown.{record_read};
@@ -10,12 +9,12 @@ ghost use Rattle.lab_retrieval.specs.Sought.{is_about, heads_within};
 ghost use Rattle.lab_retrieval.specs.Shown.{abouts_shown, within_shown};
 
 use crate::asking::rows_by_key;
-use lab_columns::ReadFault;
 use lab_columns::asking::rows_by_range;
 use lab_columns::cells::{id_of, ordinal_of, small_of, text_of};
+use lab_columns::{ReadFault, Readable};
 use lab_names::{Key, Name, Ordinal};
 use lab_reading::RecordHead;
-use sqlite::{Alter, Connection, Error, Row};
+use sqlite::{Error, Row};
 use std::alloc::Global;
 
 /// The record that a row shows.
@@ -49,18 +48,18 @@ fn first_record(alloc: Global, rows: &[Row]) -> Result<Option<RecordHead>, ReadF
 }
 
 /// The row of the record by the form about the sample, in the laboratory with the id.
-fn about_rows<S: Alter>(
-    conn: &mut Connection<S>,
+fn about_rows<D: Readable>(
+    conn: &mut D,
     lab: i64,
     form: &str,
     sample: &str,
 ) -> Result<Vec<Row>, Error>
-    ensures passes { PassesBy (state S.Store conn.old) (state S.Store conn.new) }
-    ensures same { HasCleanDisk (state S.Store conn.new) →
-        OnOk result (IsUnchanged (state S.Store conn.old) (state S.Store conn.new)) }
-    ensures rows { IsReady (state S.Store conn.old) → HasCleanDisk (state S.Store conn.new) →
+    ensures passes { PassesBy (D.state conn.old) (D.state conn.new) }
+    ensures same { HasCleanDisk (D.state conn.new) →
+        OnOk result (IsUnchanged (D.state conn.old) (D.state conn.new)) }
+    ensures rows { IsReady (D.state conn.old) → HasCleanDisk (D.state conn.new) →
         IfOk result (λ rows. rows.items
-        ≡ abouts_shown (tables_of (state S.Store conn.old)) lab form.now sample.now) }
+        ≡ abouts_shown (tables_of (D.state conn.old)) lab form.now sample.now) }
 {
     rows_by_key(
         conn,
@@ -72,37 +71,32 @@ fn about_rows<S: Alter>(
 }
 
 /// The record's own row, where there is one by a form of the code about the sample in the laboratory with the id.
-pub fn record_about<S: Alter>(
+pub fn record_about<D: Readable>(
     alloc: Global,
-    conn: &mut Connection<S>,
+    conn: &mut D,
     lab: i64,
     form: &Key,
     sample: &Name,
 ) -> Result<Option<RecordHead>, ReadFault>
-    ensures passes { PassesBy (state S.Store conn.old) (state S.Store conn.new) }
-    ensures same { HasCleanDisk (state S.Store conn.new) →
-        OnOk result (IsUnchanged (state S.Store conn.old) (state S.Store conn.new)) }
-    ensures found { IsReady (state S.Store conn.old) → HasCleanDisk (state S.Store conn.new) →
+    ensures passes { PassesBy (D.state conn.old) (D.state conn.new) }
+    ensures same { HasCleanDisk (D.state conn.new) →
+        OnOk result (IsUnchanged (D.state conn.old) (D.state conn.new)) }
+    ensures found { IsReady (D.state conn.old) → HasCleanDisk (D.state conn.new) →
         IfOk result (λ found. found ≡ option_map record_head
-        (find (is_about lab form.now sample.now) (tables_of (state S.Store conn.old)).records)) }
+        (find (is_about lab form.now sample.now) (tables_of (D.state conn.old)).records)) }
 {
     let rows = about_rows(conn, lab, form.as_str(), sample.as_str())?;
     first_record(alloc, &rows)
 }
 
 /// The rows of the records of a range of numbers, in the laboratory with the id.
-fn within_rows<S: Alter>(
-    conn: &mut Connection<S>,
-    lab: i64,
-    from: u32,
-    to: u32,
-) -> Result<Vec<Row>, Error>
-    ensures passes { PassesBy (state S.Store conn.old) (state S.Store conn.new) }
-    ensures same { HasCleanDisk (state S.Store conn.new) →
-        OnOk result (IsUnchanged (state S.Store conn.old) (state S.Store conn.new)) }
-    ensures rows { IsReady (state S.Store conn.old) → HasCleanDisk (state S.Store conn.new) →
+fn within_rows<D: Readable>(conn: &mut D, lab: i64, from: u32, to: u32) -> Result<Vec<Row>, Error>
+    ensures passes { PassesBy (D.state conn.old) (D.state conn.new) }
+    ensures same { HasCleanDisk (D.state conn.new) →
+        OnOk result (IsUnchanged (D.state conn.old) (D.state conn.new)) }
+    ensures rows { IsReady (D.state conn.old) → HasCleanDisk (D.state conn.new) →
         IfOk result (λ rows. rows.items
-        ≡ within_shown (tables_of (state S.Store conn.old)) lab from to) }
+        ≡ within_shown (tables_of (D.state conn.old)) lab from to) }
 {
     rows_by_range(
         conn,
@@ -125,19 +119,19 @@ fn records_of_rows(alloc: Global, rows: &[Row]) -> Result<Vec<RecordHead>, ReadF
 }
 
 /// The rows of the records from a number to a number in the laboratory with the id, in the order of the numbers.
-pub fn records_within<S: Alter>(
+pub fn records_within<D: Readable>(
     alloc: Global,
-    conn: &mut Connection<S>,
+    conn: &mut D,
     lab: i64,
     from: Ordinal,
     to: Ordinal,
 ) -> Result<Vec<RecordHead>, ReadFault>
-    ensures passes { PassesBy (state S.Store conn.old) (state S.Store conn.new) }
-    ensures same { HasCleanDisk (state S.Store conn.new) →
-        OnOk result (IsUnchanged (state S.Store conn.old) (state S.Store conn.new)) }
-    ensures found { IsReady (state S.Store conn.old) → HasCleanDisk (state S.Store conn.new) →
+    ensures passes { PassesBy (D.state conn.old) (D.state conn.new) }
+    ensures same { HasCleanDisk (D.state conn.new) →
+        OnOk result (IsUnchanged (D.state conn.old) (D.state conn.new)) }
+    ensures found { IsReady (D.state conn.old) → HasCleanDisk (D.state conn.new) →
         IfOk result (λ made. made.items
-        ≡ heads_within (tables_of (state S.Store conn.old)) lab from to) }
+        ≡ heads_within (tables_of (D.state conn.old)) lab from to) }
 {
     let rows = within_rows(conn, lab, from.get(), to.get())?;
     records_of_rows(alloc, &rows)

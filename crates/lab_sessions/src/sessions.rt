@@ -2,7 +2,6 @@
 
 ghost use Rattle.std.specs.Prelude.{◌≡◌, option_map, slice_get, IfOk, OnOk};
 ghost use Rattle.sqlite.specs.State.{HasCleanDisk, IsUnchanged};
-ghost use Rattle.sqlite.specs.Held.{state};
 ghost use Rattle.lab_tables.specs.Ready.{IsReady, PassesBy, tables_of};
 ghost use Rattle.lab_access.specs.Sessions.{session_of};
 ghost use Rattle.lab_tables.specs.Meaning.{sessions_of};
@@ -10,24 +9,20 @@ ghost use Rattle.lab_sessions.specs.Shown.{sessions_shown, session_read};
 
 use crate::asking::rows_by_token;
 use lab_access::Session;
-use lab_columns::ReadFault;
 use lab_columns::cells::{digest_of, flag_of, moment_of, ordinal_of, text_of};
+use lab_columns::{ReadFault, Readable};
 use lab_secrets::Digest;
-use sqlite::{Alter, Connection, Error, Row};
+use sqlite::{Error, Row};
 use std::alloc::Global;
 
 /// The row of the session whose token has the digest, in the laboratory with the id.
-fn session_rows<S: Alter>(
-    conn: &mut Connection<S>,
-    lab: i64,
-    token: &[u8],
-) -> Result<Vec<Row>, Error>
-    ensures passes { PassesBy (state S.Store conn.old) (state S.Store conn.new) }
-    ensures same { HasCleanDisk (state S.Store conn.new) →
-        OnOk result (IsUnchanged (state S.Store conn.old) (state S.Store conn.new)) }
-    ensures rows { IsReady (state S.Store conn.old) → HasCleanDisk (state S.Store conn.new) →
+fn session_rows<D: Readable>(conn: &mut D, lab: i64, token: &[u8]) -> Result<Vec<Row>, Error>
+    ensures passes { PassesBy (D.state conn.old) (D.state conn.new) }
+    ensures same { HasCleanDisk (D.state conn.new) →
+        OnOk result (IsUnchanged (D.state conn.old) (D.state conn.new)) }
+    ensures rows { IsReady (D.state conn.old) → HasCleanDisk (D.state conn.new) →
         IfOk result (λ rows. rows.items
-        ≡ sessions_shown (tables_of (state S.Store conn.old)) lab token.now) }
+        ≡ sessions_shown (tables_of (D.state conn.old)) lab token.now) }
 {
     rows_by_token(
         conn,
@@ -71,18 +66,18 @@ fn first_session(alloc: Global, rows: &[Row]) -> Result<Option<Session>, ReadFau
 }
 
 /// The session whose token has the digest, open or closed, in the laboratory with the id.
-pub fn session_at<S: Alter>(
+pub fn session_at<D: Readable>(
     alloc: Global,
-    conn: &mut Connection<S>,
+    conn: &mut D,
     lab: i64,
     token: &Digest,
 ) -> Result<Option<Session>, ReadFault>
-    ensures passes { PassesBy (state S.Store conn.old) (state S.Store conn.new) }
-    ensures same { HasCleanDisk (state S.Store conn.new) →
-        OnOk result (IsUnchanged (state S.Store conn.old) (state S.Store conn.new)) }
-    ensures session { IsReady (state S.Store conn.old) → HasCleanDisk (state S.Store conn.new) →
+    ensures passes { PassesBy (D.state conn.old) (D.state conn.new) }
+    ensures same { HasCleanDisk (D.state conn.new) →
+        OnOk result (IsUnchanged (D.state conn.old) (D.state conn.new)) }
+    ensures session { IsReady (D.state conn.old) → HasCleanDisk (D.state conn.new) →
         IfOk result (λ session. session
-        ≡ session_of (sessions_of (tables_of (state S.Store conn.old)) lab) token.now) }
+        ≡ session_of (sessions_of (tables_of (D.state conn.old)) lab) token.now) }
 {
     let bytes = token.bytes();
     let rows = session_rows(conn, lab, &bytes)?;

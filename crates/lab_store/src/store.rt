@@ -12,6 +12,7 @@ ghost use Rattle.lab_walks.specs.Resting.{IsRead};
 ghost use Rattle.lab_walks.specs.Walks.{counted_all, record_at, record_rows};
 
 use lab_applying::apply;
+use lab_connections::Tables;
 use lab_copy::CopyOut;
 use lab_founding::found;
 use lab_kept::{Change, Keeper, KeeperFault, Need, Newborn, PlacingFault, Series, Slice};
@@ -26,14 +27,17 @@ use std::marker::Model;
 
 /// The laboratories of a file, over a connection at rest that was created or opened by `lab_files`.
 pub struct Store<S: Alter> {
-    conn: Connection<S>,
+    tables: Tables<S>,
     alloc: Global,
 }
 
 // It is written out, so that a caller doesn't prove again how each part is dropped.
 impl<S: Alter + Drop> Drop for Store<S> {
     fn drop(self) {
-        let Store { conn: _, alloc: _ } = self;
+        let Store {
+            tables: _,
+            alloc: _,
+        } = self;
     }
 }
 
@@ -45,9 +49,9 @@ impl<S: Alter> Model for Store<S> {
 
     ghost coded = { held_code S.code };
 
-    ghost view = { λ store. store.conn };
+    ghost view = { λ store. store.tables.conn };
 
-    ghost invariant = { λ store. IsAtRest (state S.Store store.conn) };
+    ghost invariant = { λ store. IsAtRest (state S.Store store.tables.conn) };
 }
 
 impl<S: Alter> Store<S> {
@@ -56,7 +60,10 @@ impl<S: Alter> Store<S> {
         requires at_rest { IsAtRest (state S.Store conn) }
         ensures { result ≡ conn }
     {
-        Store { conn, alloc }
+        Store {
+            tables: Tables { conn },
+            alloc,
+        }
     }
 
     /// The connection, at rest.
@@ -64,7 +71,10 @@ impl<S: Alter> Store<S> {
         ensures same { result ≡ self }
         ensures at_rest { IsAtRest (state S.Store result) }
     {
-        let Store { conn, alloc: _ } = self;
+        let Store {
+            tables: Tables { conn },
+            alloc: _,
+        } = self;
         conn
     }
 
@@ -98,7 +108,7 @@ impl<S: Alter> Store<S> {
             (OnOk result (Lives (store_world S.Store self.old) (store_world S.Store self.new))) }
         ensures read { IsRead (store_world S.Store) (store_rests S.Store) self.old self.new }
     {
-        give_record_at(alloc, &mut self.conn, lab, number, out, writer)
+        give_record_at(alloc, &mut self.tables, lab, number, out, writer)
     }
 }
 
@@ -123,17 +133,17 @@ impl<S: Alter> Keeper for Store<S> {
         (tables_of (state S.Store old)) (tables_of (state S.Store new)) };
 
     fn load(&mut self, code: &LabCode, need: &Need) -> Result<Option<Slice>, KeeperFault> {
-        let found = load(self.alloc, &mut self.conn, code, need)?;
+        let found = load(self.alloc, &mut self.tables, code, need)?;
         Ok(found)
     }
 
     fn apply(&mut self, code: &LabCode, changes: Series<Change>) -> Result<(), KeeperFault> {
-        apply(self.alloc, &mut self.conn, code, changes.as_slice())?;
+        apply(self.alloc, &mut self.tables, code, changes.as_slice())?;
         Ok(())
     }
 
     fn found(&mut self, newborn: Newborn) -> Result<(), PlacingFault> {
-        found(self.alloc, &mut self.conn, newborn)
+        found(self.alloc, &mut self.tables, newborn)
     }
 
     ghost kept = { λ keeper code lab honest live reached.

@@ -2,7 +2,6 @@
 
 ghost use Rattle.std.specs.Prelude.{◌≡◌, [], ◌∷◌, ◌++◌, map, IfOk, OnOk, IsTrue};
 ghost use Rattle.sqlite.specs.State.{HasCleanDisk, IsUnchanged};
-ghost use Rattle.sqlite.specs.Held.{state};
 ghost use Rattle.lab_tables.specs.Ready.{IsReady, PassesBy, tables_of};
 ghost use Rattle.lab_kept.specs.Lookups.{rows_within};
 ghost use Rattle.lab_tables.specs.Meaning.{trail_of};
@@ -14,25 +13,20 @@ use crate::cells::subject_of;
 use crate::heads::ToldHead;
 use lab_columns::asking::rows_by_range;
 use lab_columns::cells::{id_if, moment_of, ordinal_of, text_of};
-use lab_columns::{ReadFault, code_if};
+use lab_columns::{ReadFault, Readable, code_if};
 use lab_kept::TrailRow;
 use lab_names::{Keys, Ordinal, Text};
-use sqlite::{Alter, Connection, Error, Row};
+use sqlite::{Error, Row};
 use std::alloc::Global;
 
 /// The rows of the trail of a range of numbers, in the laboratory with the id.
-fn told_rows<S: Alter>(
-    conn: &mut Connection<S>,
-    lab: i64,
-    from: u32,
-    to: u32,
-) -> Result<Vec<Row>, Error>
-    ensures passes { PassesBy (state S.Store conn.old) (state S.Store conn.new) }
-    ensures same { HasCleanDisk (state S.Store conn.new) →
-        OnOk result (IsUnchanged (state S.Store conn.old) (state S.Store conn.new)) }
-    ensures rows { IsReady (state S.Store conn.old) → HasCleanDisk (state S.Store conn.new) →
+fn told_rows<D: Readable>(conn: &mut D, lab: i64, from: u32, to: u32) -> Result<Vec<Row>, Error>
+    ensures passes { PassesBy (D.state conn.old) (D.state conn.new) }
+    ensures same { HasCleanDisk (D.state conn.new) →
+        OnOk result (IsUnchanged (D.state conn.old) (D.state conn.new)) }
+    ensures rows { IsReady (D.state conn.old) → HasCleanDisk (D.state conn.new) →
         IfOk result (λ rows. rows.items
-        ≡ told_shown_within (tables_of (state S.Store conn.old)) lab from to) }
+        ≡ told_shown_within (tables_of (D.state conn.old)) lab from to) }
 {
     rows_by_range(
         conn,
@@ -74,35 +68,35 @@ fn told_of_rows(alloc: Global, rows: &[Row]) -> Result<Vec<ToldHead>, ReadFault>
 }
 
 /// The own rows of the trail of a range of numbers, in the laboratory with the id.
-fn told_heads_at<S: Alter>(
+fn told_heads_at<D: Readable>(
     alloc: Global,
-    conn: &mut Connection<S>,
+    conn: &mut D,
     lab: i64,
     from: Ordinal,
     to: Ordinal,
 ) -> Result<Vec<ToldHead>, ReadFault>
-    ensures passes { PassesBy (state S.Store conn.old) (state S.Store conn.new) }
-    ensures same { HasCleanDisk (state S.Store conn.new) →
-        OnOk result (IsUnchanged (state S.Store conn.old) (state S.Store conn.new)) }
-    ensures heads { IsReady (state S.Store conn.old) → HasCleanDisk (state S.Store conn.new) →
+    ensures passes { PassesBy (D.state conn.old) (D.state conn.new) }
+    ensures same { HasCleanDisk (D.state conn.new) →
+        OnOk result (IsUnchanged (D.state conn.old) (D.state conn.new)) }
+    ensures heads { IsReady (D.state conn.old) → HasCleanDisk (D.state conn.new) →
         IfOk result (λ made. made.items
-        ≡ told_heads_within (tables_of (state S.Store conn.old)) lab from to) }
+        ≡ told_heads_within (tables_of (D.state conn.old)) lab from to) }
 {
     let rows = told_rows(conn, lab, from.get(), to.get())?;
     told_of_rows(alloc, &rows)
 }
 
 /// The row of the trail, with the person's code.
-fn told_whole<S: Alter>(
+fn told_whole<D: Readable>(
     alloc: Global,
-    conn: &mut Connection<S>,
+    conn: &mut D,
     head: ToldHead,
 ) -> Result<TrailRow, ReadFault>
-    ensures passes { PassesBy (state S.Store conn.old) (state S.Store conn.new) }
-    ensures same { HasCleanDisk (state S.Store conn.new) → IsTrue (state S.Store conn.old).is_open →
-        OnOk result (IsUnchanged (state S.Store conn.old) (state S.Store conn.new)) }
-    ensures told { IsReady (state S.Store conn.old) → HasCleanDisk (state S.Store conn.new) →
-        IfOk result (λ told. told ≡ told_by (tables_of (state S.Store conn.old)) head) }
+    ensures passes { PassesBy (D.state conn.old) (D.state conn.new) }
+    ensures same { HasCleanDisk (D.state conn.new) → IsTrue (D.state conn.old).is_open →
+        OnOk result (IsUnchanged (D.state conn.old) (D.state conn.new)) }
+    ensures told { IsReady (D.state conn.old) → HasCleanDisk (D.state conn.new) →
+        IfOk result (λ told. told ≡ told_by (tables_of (D.state conn.old)) head) }
 {
     let person = code_if(alloc, conn, head.person)?;
     Ok(TrailRow {
@@ -115,18 +109,18 @@ fn told_whole<S: Alter>(
 }
 
 /// The row of the trail, behind others.
-fn add_told<S: Alter>(
+fn add_told<D: Readable>(
     alloc: Global,
-    conn: &mut Connection<S>,
+    conn: &mut D,
     made: &mut Vec<TrailRow>,
     head: ToldHead,
 ) -> Result<(), ReadFault>
-    ensures passes { PassesBy (state S.Store conn.old) (state S.Store conn.new) }
-    ensures same { HasCleanDisk (state S.Store conn.new) → IsTrue (state S.Store conn.old).is_open →
-        OnOk result (IsUnchanged (state S.Store conn.old) (state S.Store conn.new)) }
-    ensures told { IsReady (state S.Store conn.old) → HasCleanDisk (state S.Store conn.new) →
+    ensures passes { PassesBy (D.state conn.old) (D.state conn.new) }
+    ensures same { HasCleanDisk (D.state conn.new) → IsTrue (D.state conn.old).is_open →
+        OnOk result (IsUnchanged (D.state conn.old) (D.state conn.new)) }
+    ensures told { IsReady (D.state conn.old) → HasCleanDisk (D.state conn.new) →
         OnOk result (made.new.items
-        ≡ made.old.items ++ told_by (tables_of (state S.Store conn.old)) head ∷ []) }
+        ≡ made.old.items ++ told_by (tables_of (D.state conn.old)) head ∷ []) }
 {
     let told = told_whole(alloc, conn, head)?;
     made.push(told)?;
@@ -134,18 +128,18 @@ fn add_told<S: Alter>(
 }
 
 /// The rows of the trail, behind others.
-fn add_all_told<S: Alter>(
+fn add_all_told<D: Readable>(
     alloc: Global,
-    conn: &mut Connection<S>,
+    conn: &mut D,
     made: &mut Vec<TrailRow>,
     heads: Vec<ToldHead>,
 ) -> Result<(), ReadFault>
-    ensures passes { PassesBy (state S.Store conn.old) (state S.Store conn.new) }
-    ensures same { HasCleanDisk (state S.Store conn.new) → IsTrue (state S.Store conn.old).is_open →
-        OnOk result (IsUnchanged (state S.Store conn.old) (state S.Store conn.new)) }
-    ensures told { IsReady (state S.Store conn.old) → HasCleanDisk (state S.Store conn.new) →
-        IsTrue (state S.Store conn.old).is_open → OnOk result (made.new.items
-        ≡ made.old.items ++ map (told_by (tables_of (state S.Store conn.old))) heads.items) }
+    ensures passes { PassesBy (D.state conn.old) (D.state conn.new) }
+    ensures same { HasCleanDisk (D.state conn.new) → IsTrue (D.state conn.old).is_open →
+        OnOk result (IsUnchanged (D.state conn.old) (D.state conn.new)) }
+    ensures told { IsReady (D.state conn.old) → HasCleanDisk (D.state conn.new) →
+        IsTrue (D.state conn.old).is_open → OnOk result (made.new.items
+        ≡ made.old.items ++ map (told_by (tables_of (D.state conn.old))) heads.items) }
 {
     for head in heads {
         add_told(alloc, conn, made, head)?;
@@ -154,19 +148,19 @@ fn add_all_told<S: Alter>(
 }
 
 /// The rows of the trail from a number to a number in the laboratory with the id, in the order of the numbers.
-pub fn trail_within<S: Alter>(
+pub fn trail_within<D: Readable>(
     alloc: Global,
-    conn: &mut Connection<S>,
+    conn: &mut D,
     lab: i64,
     from: Ordinal,
     to: Ordinal,
 ) -> Result<Vec<TrailRow>, ReadFault>
-    ensures passes { PassesBy (state S.Store conn.old) (state S.Store conn.new) }
-    ensures same { HasCleanDisk (state S.Store conn.new) →
-        OnOk result (IsUnchanged (state S.Store conn.old) (state S.Store conn.new)) }
-    ensures trail { IsReady (state S.Store conn.old) → HasCleanDisk (state S.Store conn.new) →
+    ensures passes { PassesBy (D.state conn.old) (D.state conn.new) }
+    ensures same { HasCleanDisk (D.state conn.new) →
+        OnOk result (IsUnchanged (D.state conn.old) (D.state conn.new)) }
+    ensures trail { IsReady (D.state conn.old) → HasCleanDisk (D.state conn.new) →
         IfOk result (λ made. made.items
-        ≡ rows_within from to (trail_of (tables_of (state S.Store conn.old)) lab)) }
+        ≡ rows_within from to (trail_of (tables_of (D.state conn.old)) lab)) }
 {
     let heads = told_heads_at(alloc, conn, lab, from, to)?;
     let mut made = Vec::new(alloc);

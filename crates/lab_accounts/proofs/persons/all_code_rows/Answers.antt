@@ -1,7 +1,6 @@
 use Rattle.std.proofs.Common.{w64, arith}
 use Rattle.std.proofs.lemmas.Int.{to_z-of_z}
 use Rattle.sqlite.specs.State.{HasCleanDisk}
-use Rattle.sqlite.specs.Held.{state}
 use Rattle.lab_columns.proofs.Queries.{passes, same, exactly}
 use Rattle.lab_accounts.proofs.Texts.{all_codes_text, all_codes_means}
 use Rattle.lab_accounts.proofs.Exact.{all_codes_read}
@@ -9,8 +8,8 @@ use Rattle.lab_accounts.proofs.persons.all_code_rows.Goals as goal
 
 pub returns : goal.returns
 returns g c =
-    let old = state g.S.Store c.args.conn.now in
-    let new = state g.S.Store c.rows_by_one.new.conn in
+    let old = g.D.Readable.state c.args.conn.now in
+    let new = g.D.Readable.state c.rows_by_one.new.conn in
     let it = rw (to_z-of_z w64 c.args.lab c.ranges.lab) at c.rows_by_one.ensures in
     let before : HasCleanDisk new → HasCleanDisk old = λ clean. omega (arith, it.survives.clean) in
     record {

@@ -1,7 +1,6 @@
 use Rattle.std.proofs.Common.{w64, ◌∙◌, ap, option_map, slice_get}
 use Rattle.std.proofs.lemmas.Int.{to_z-of_z}
 use Rattle.sqlite.specs.Effect.{Database}
-use Rattle.sqlite.specs.Held.{state}
 use Rattle.lab_access.specs.Persons.{person_of}
 use Rattle.lab_tables.specs.Rows.{tables_in}
 use Rattle.lab_tables.specs.Meaning.{persons_of}
@@ -14,7 +13,7 @@ use Rattle.lab_accounts.proofs.persons.person_at.Goals as goal
 
 pub returns-clause-person : goal.returns-clause-person
 returns-clause-person g c ready clean =
-    let t = tables_of (state g.S.Store c.args.conn.now) in
+    let t = tables_of (g.D.Readable.state c.args.conn.now) in
     let head = c.in_ok-head.head in
     let was = c.person_if.ensures.passes.clean clean in
     let same = c.in_ok-rows.ensures.same was in

@@ -7,8 +7,8 @@ use Rattle.lab_applying.proofs.applying.apply.Goals as goal
 
 pub returns-in_err-commit_all-clause-ends : goal.returns-in_err-commit_all-clause-ends
 returns-in_err-commit_all-clause-ends g c ready =
-    let old = state g.S.Store c.args.conn.now in
-    let middle = state g.S.Store c.lab_at.new.conn in
+    let old = state g.S.Store c.args.tables.now.conn in
+    let middle = state g.S.Store c.lab_at.new.conn.conn in
     let new = state g.S.Store c.commit_all.new.conn in
     let fits : SFits w64 c.in-Some.head.id = search rules in
     ends_told c.args.code.now c.args.changes.now old middle new ready c.in_ok-found.ensures.passes c.in_ok-found.ensures.same (to_z w64 (of_z w64 c.in-Some.head.id))
@@ -16,8 +16,8 @@ returns-in_err-commit_all-clause-ends g c ready =
 
 pub returns-clause-ends : goal.returns-clause-ends
 returns-clause-ends g c ready =
-    let old = state g.S.Store c.args.conn.now in
-    let middle = state g.S.Store c.lab_at.new.conn in
+    let old = state g.S.Store c.args.tables.now.conn in
+    let middle = state g.S.Store c.lab_at.new.conn.conn in
     let new = state g.S.Store c.commit_all.new.conn in
     let fits : SFits w64 c.in-Some.head.id = search rules in
     ends_ok c.args.code.now c.args.changes.now old middle new ready c.in_ok-found.ensures.passes c.in_ok-found.ensures.same (to_z w64 (of_z w64 c.in-Some.head.id))

@@ -1,7 +1,6 @@
 use Rattle.std.proofs.Common.{◌≡◌, ◌++◌, map, length, IsTrue}
 use Rattle.std.specs.Vec.Iter.{into_iter_items, into_iter_len}
 use Rattle.sqlite.specs.State.{HasCleanDisk, IsUnchanged}
-use Rattle.sqlite.specs.Held.{state}
 use Rattle.lab_tables.specs.Ready.{IsReady, PassesBy, tables_of}
 use Rattle.lab_form_versions.specs.Forms.{field_by}
 use Rattle.lab_form_versions.proofs.fields.add_fields.Given as goal
@@ -9,8 +8,8 @@ use Rattle.lab_form_versions.proofs.fields.add_fields.Given as goal
 -- the fields so far, and those to come, are all; nothing has changed
 abbrev pub invariant-loop-head : goal.invariant-loop-head
 invariant-loop-head g l =
-    let old = state g.S.Store l.fn.conn in
-    let now = state g.S.Store l.conn in
+    let old = g.D.Readable.state l.fn.conn in
+    let now = g.D.Readable.state l.conn in
     record {
       passes : PassesBy old now;
       same : HasCleanDisk now → IsTrue old.is_open → IsUnchanged old now;

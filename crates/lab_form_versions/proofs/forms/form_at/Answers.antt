@@ -1,7 +1,6 @@
 use Rattle.std.proofs.Common.{w64, ◌∙◌, ap, sym}
 use Rattle.std.proofs.lemmas.Int.{to_z-of_z}
 use Rattle.sqlite.specs.Effect.{Database}
-use Rattle.sqlite.specs.Held.{state}
 use Rattle.lab_tables.specs.Rows.{tables_in}
 use Rattle.lab_tables.specs.Ready.{tables_of}
 use Rattle.lab_columns.proofs.Queries.{if_then}
@@ -11,7 +10,7 @@ use Rattle.lab_form_versions.proofs.forms.form_at.Goals as goal
 
 pub returns-clause-form : goal.returns-clause-form
 returns-clause-form g c ready clean =
-    let t = tables_of (state g.S.Store c.args.conn.now) in
+    let t = tables_of (g.D.Readable.state c.args.conn.now) in
     let head = c.in_ok-head.head in
     let was = c.form_whole.ensures.passes.clean clean in
     let same = c.in_ok-found.ensures.same was in

@@ -13,8 +13,8 @@ use Rattle.lab_founding.proofs.founding.found.Goals as goal
 
 pub returns-clause-ends : goal.returns-clause-ends
 returns-clause-ends g c ready =
-    let old = state g.S.Store c.args.conn.now in
-    let mid = state g.S.Store c.is_there.new.conn in
+    let old = state g.S.Store c.args.tables.now.conn in
+    let mid = state g.S.Store c.is_there.new.conn.conn in
     let new = state g.S.Store c.place.new.conn in
     let newborn = c.args.newborn in
     let there = c.in_ok-is_there.ensures in

@@ -1,6 +1,5 @@
 use Rattle.std.proofs.Common.{◌∙◌, ap, option_map}
 use Rattle.sqlite.specs.Effect.{Database}
-use Rattle.sqlite.specs.Held.{state}
 use Rattle.lab_tables.specs.Rows.{tables_in}
 use Rattle.lab_tables.specs.Ready.{tables_of}
 use Rattle.lab_columns.proofs.Queries.{if_then}
@@ -10,7 +9,7 @@ use Rattle.lab_loading.proofs.loading.load.Goals as goal
 
 pub returns-clause-part : goal.returns-clause-part
 returns-clause-part g c ready clean =
-    let t = tables_of (state g.S.Store c.args.conn.now) in
+    let t = tables_of (g.D.Readable.state c.args.conn.now) in
     let need = c.args.need.now in
     let head = c.in_ok-head.head in
     let was = c.slice_if.ensures.passes.clean clean in

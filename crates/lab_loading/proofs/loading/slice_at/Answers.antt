@@ -1,6 +1,5 @@
 use Rattle.std.proofs.Common.{◌∙◌, ap}
 use Rattle.sqlite.specs.Effect.{Database}
-use Rattle.sqlite.specs.Held.{state}
 use Rattle.lab_tables.specs.Rows.{tables_in}
 use Rattle.lab_tables.specs.Ready.{tables_of}
 use Rattle.lab_columns.proofs.Queries.{if_then}
@@ -9,7 +8,7 @@ use Rattle.lab_loading.proofs.loading.slice_at.Goals as goal
 
 pub returns-clause-slice : goal.returns-clause-slice
 returns-clause-slice g c ready clean =
-    let t = tables_of (state g.S.Store c.args.conn.now) in
+    let t = tables_of (g.D.Readable.state c.args.conn.now) in
     let head = c.args.head in
     let need = c.args.need.now in
     let was = c.slice_counted.ensures.passes.clean clean in

@@ -1,6 +1,5 @@
 use Rattle.std.proofs.Common.{◌∙◌, ap}
 use Rattle.sqlite.specs.Effect.{Database}
-use Rattle.sqlite.specs.Held.{state}
 use Rattle.lab_kept.specs.Lookups.{caller_of}
 use Rattle.lab_tables.specs.Rows.{tables_in}
 use Rattle.lab_tables.specs.Ready.{tables_of}
@@ -10,7 +9,7 @@ use Rattle.lab_loading.proofs.people.callers_at.Goals as goal
 
 pub returns-clause-callers : goal.returns-clause-callers
 returns-clause-callers g c ready clean live =
-    let t = tables_of (state g.S.Store c.args.conn.now) in
+    let t = tables_of (g.D.Readable.state c.args.conn.now) in
     let lab = c.args.lab.now in
     let was = c.in_ok-caller.ensures.passes.clean clean in
     let same = c.in_ok-session.ensures.same was live in

@@ -1,6 +1,5 @@
 use Rattle.std.proofs.Common.{◌∙◌, ap, sym, option_and_then, w64, rules, SFits}
 use Rattle.std.proofs.lemmas.Int.{to_z-of_z}
-use Rattle.sqlite.specs.Held.{state}
 use Rattle.lab_tables.specs.Ready.{tables_of}
 use Rattle.lab_columns.proofs.Queries.{if_then}
 use Rattle.lab_reading.specs.Laboratories.{lab_by}
@@ -9,7 +8,7 @@ use Rattle.lab_loading.proofs.people.person_if.Goals as goal
 
 pub returns-in-Some-clause-person : goal.returns-in-Some-clause-person
 returns-in-Some-clause-person g c ready clean =
-    let t = tables_of (state g.S.Store c.args.conn.now) in
+    let t = tables_of (g.D.Readable.state c.args.conn.now) in
     let lab = c.args.lab.now in
     let fits : SFits w64 lab.id = search rules in
     let found = rw (to_z-of_z w64 lab.id fits) at (c.person_at.ensures.person ready clean) in

@@ -1,7 +1,6 @@
 use Rattle.std.proofs.Common.{w64, ◌∙◌, ap, option_map}
 use Rattle.std.proofs.lemmas.Int.{to_z-of_z}
 use Rattle.sqlite.specs.Effect.{Database}
-use Rattle.sqlite.specs.Held.{state}
 use Rattle.lab_tables.specs.Rows.{tables_in}
 use Rattle.lab_tables.specs.Ready.{tables_of}
 use Rattle.lab_lookups.specs.Wholes.{record_by}
@@ -11,7 +10,7 @@ use Rattle.lab_lookups.proofs.filed.about_at.Goals as goal
 
 pub returns-clause-kept : goal.returns-clause-kept
 returns-clause-kept g c ready clean =
-    let t = tables_of (state g.S.Store c.args.conn.now) in
+    let t = tables_of (g.D.Readable.state c.args.conn.now) in
     let code = c.args.code.now in
     let head = c.in_ok-head.head in
     let was = c.record_if.ensures.passes.clean clean in

@@ -2,7 +2,6 @@
 use Rattle.std.proofs.Common.{ℤ, List, ℕ, None, ap, w64}
 use Rattle.std.proofs.lemmas.Int.{to_z-of_z}
 use Rattle.std.proofs.lemmas.Result.{err_from_is_err_and}
-use Rattle.sqlite.specs.Held.{state}
 use Rattle.lab_tables.specs.Meaning.{chained, leaves_of}
 use Rattle.lab_tables.specs.Ready.{tables_of}
 use Rattle.lab_pages.specs.Pages.{cover_rows, pages_rows}
@@ -11,7 +10,7 @@ use Rattle.lab_pages.proofs.StateLemmas.{passes_none}
 use Rattle.lab_pages.proofs.pages.give_covered.Goals as goal
 
 pub returns-in_err-give_cover-clause-passes : goal.returns-in_err-give_cover-clause-passes
-returns-in_err-give_cover-clause-passes g c = passes_none (state g.S.Store c.args.conn.now)
+returns-in_err-give_cover-clause-passes g c = passes_none (g.D.Readable.state c.args.conn.now)
 
 pub returns-in_err-give_cover-clause-text : goal.returns-in_err-give_cover-clause-text
 returns-in_err-give_cover-clause-text g c ready clean =
@@ -19,7 +18,7 @@ returns-in_err-give_cover-clause-text g c ready clean =
     let lab = c.args.lab.now in
     let cover = c.args.cover.now in
     let pages : ℤ → List (List (List ℕ)) = λ id. pages_rows lab cover (chained lab cover None
-    (leaves_of (tables_of (state g.S.Store c.args.conn.now)) id)) in
+    (leaves_of (tables_of (g.D.Readable.state c.args.conn.now)) id)) in
     rw failed.1 (cut_in_first (g.W.Write.contents c.args.writer.now)
     (g.W.Write.contents c.give_cover.new.writer) (cover_rows lab cover)
     (pages c.args.kept) c.in_err-give_cover.ensures.text)
@@ -29,7 +28,7 @@ returns-clause-text g c ready clean =
     let lab = c.args.lab.now in
     let cover = c.args.cover.now in
     let pages : ℤ → List (List (List ℕ)) = λ id. pages_rows lab cover (chained lab cover None
-    (leaves_of (tables_of (state g.S.Store c.args.conn.now)) id)) in
+    (leaves_of (tables_of (g.D.Readable.state c.args.conn.now)) id)) in
     sends_behind (g.W.Write.contents c.args.writer.now) (g.W.Write.contents c.give_cover.new.writer)
     (g.W.Write.contents c.give_versions.new.writer) (cover_rows lab cover)
     (pages c.args.kept) c.give_versions.result c.in_ok-give_cover.ensures.text
@@ -42,7 +41,7 @@ returns-clause-counts g c ready clean =
     let lab = c.args.lab.now in
     let cover = c.args.cover.now in
     let pages : ℤ → List (List (List ℕ)) = λ id. pages_rows lab cover (chained lab cover None
-    (leaves_of (tables_of (state g.S.Store c.args.conn.now)) id)) in
+    (leaves_of (tables_of (g.D.Readable.state c.args.conn.now)) id)) in
     given_behind c.args.out.now c.give_cover.new.out c.give_versions.new.out (cover_rows lab cover)
     (pages c.args.kept) c.give_versions.result c.in_ok-give_cover.ensures.counts
     (given_as c.give_cover.new.out c.give_versions.new.out _ (pages c.args.kept)

@@ -2,7 +2,6 @@
 use Rattle.std.proofs.Common.{ℤ, List, ℕ, ◌++◌, None, ◌∙◌, w64, ap, rules, SFits}
 use Rattle.std.proofs.lemmas.Int.{to_z-of_z}
 use Rattle.sqlite.specs.Effect.{Database}
-use Rattle.sqlite.specs.Held.{state}
 use Rattle.lab_copy.proofs.SendLemmas.{none_went}
 use Rattle.lab_tables.specs.Rows.{tables_in}
 use Rattle.lab_tables.specs.Ready.{tables_of}
@@ -20,15 +19,15 @@ returns-in-Ok-clause-text g c ready clean =
     let cover = c.in-Ok.cover in
     let rows : ℤ → List (List (List ℕ)) = λ id. cover_rows lab cover
     ++ pages_rows lab cover (chained lab cover None
-    (leaves_of (tables_of (state g.S.Store c.cover_at.new.conn)) id)) in
+    (leaves_of (tables_of (g.D.Readable.state c.cover_at.new.conn)) id)) in
     let was = c.give_covered.ensures.passes.clean clean in
     let same = c.in-Ok.ensures.same was in
     let went = c.give_covered.ensures.text (c.cover_at.ensures.passes.ready ready) clean in
     sends_as (g.W.Write.contents c.args.writer.now) (g.W.Write.contents c.give_covered.new.writer)
     _ _ c.give_covered.result
     (ap rows (to_z-of_z w64 head.id fits)
-    ∙ headed_as (tables_of (state g.S.Store c.args.conn.now))
-    (tables_of (state g.S.Store c.cover_at.new.conn))
+    ∙ headed_as (tables_of (g.D.Readable.state c.args.conn.now))
+    (tables_of (g.D.Readable.state c.cover_at.new.conn))
     (ap (λ (db : Database). tables_in db.trees) same.0.now_is) c.args.lab.now head c.in-Ok.cover
     (c.in-Ok.ensures.cover ready was)) went
 
@@ -40,14 +39,14 @@ returns-in-Ok-clause-counts g c ready clean =
     let cover = c.in-Ok.cover in
     let rows : ℤ → List (List (List ℕ)) = λ id. cover_rows lab cover
     ++ pages_rows lab cover (chained lab cover None
-    (leaves_of (tables_of (state g.S.Store c.cover_at.new.conn)) id)) in
+    (leaves_of (tables_of (g.D.Readable.state c.cover_at.new.conn)) id)) in
     let was = c.give_covered.ensures.passes.clean clean in
     let same = c.in-Ok.ensures.same was in
     let gave = c.give_covered.ensures.counts (c.cover_at.ensures.passes.ready ready) clean in
     given_as c.args.out.now c.give_covered.new.out _ _ c.give_covered.result
     (ap rows (to_z-of_z w64 head.id fits)
-    ∙ headed_as (tables_of (state g.S.Store c.args.conn.now))
-    (tables_of (state g.S.Store c.cover_at.new.conn))
+    ∙ headed_as (tables_of (g.D.Readable.state c.args.conn.now))
+    (tables_of (g.D.Readable.state c.cover_at.new.conn))
     (ap (λ (db : Database). tables_in db.trees) same.0.now_is) c.args.lab.now head c.in-Ok.cover
     (c.in-Ok.ensures.cover ready was)) gave
 

@@ -2,7 +2,6 @@
 use Rattle.std.proofs.Common.{◌≡◌, List, ℕ, [], refl, sym, ap, ◌∙◌, subst}
 use Rattle.std.proofs.KnownBytes.{Appends-nil}
 use Rattle.sqlite.specs.Effect.{Database}
-use Rattle.sqlite.specs.Held.{state}
 use Rattle.lab_copy.proofs.SendLemmas.{none_went}
 use Rattle.lab_tables.specs.Rows.{tables_in}
 use Rattle.lab_tables.specs.Ready.{tables_of}
@@ -18,8 +17,8 @@ returns-in-Ok-Some-clause-text g c ready clean =
     let rows = ready.kept (c.head_at.ensures.passes.clean was) same.0.was_open in
     sends_as (g.W.Write.contents c.args.writer.now) (g.W.Write.contents c.give_headed.new.writer)
     _ _ c.give_headed.result
-    (sought_as (tables_of (state g.S.Store c.args.conn.now))
-    (tables_of (state g.S.Store c.head_at.new.conn))
+    (sought_as (tables_of (g.D.Readable.state c.args.conn.now))
+    (tables_of (g.D.Readable.state c.head_at.new.conn))
     (ap (λ (db : Database). tables_in db.trees) same.0.now_is) c.args.lab.now rows.rows
     c.args.number c.in-Ok-Some.head
     (sym c.in-Ok-Some.field-0-is ∙ c.in-Ok-Some.ensures.found ready was))
@@ -31,8 +30,8 @@ returns-in-Ok-Some-clause-counts g c ready clean =
     let same = c.in-Ok-Some.ensures.same was in
     let rows = ready.kept (c.head_at.ensures.passes.clean was) same.0.was_open in
     given_as c.args.out.now c.give_headed.new.out _ _ c.give_headed.result
-    (sought_as (tables_of (state g.S.Store c.args.conn.now))
-    (tables_of (state g.S.Store c.head_at.new.conn))
+    (sought_as (tables_of (g.D.Readable.state c.args.conn.now))
+    (tables_of (g.D.Readable.state c.head_at.new.conn))
     (ap (λ (db : Database). tables_in db.trees) same.0.now_is) c.args.lab.now rows.rows
     c.args.number c.in-Ok-Some.head
     (sym c.in-Ok-Some.field-0-is ∙ c.in-Ok-Some.ensures.found ready was))
@@ -43,7 +42,7 @@ returns-in-Ok-None-clause-text g c ready clean =
     let same = c.in-Ok-None.ensures.same clean in
     let rows = ready.kept (c.head_at.ensures.passes.clean clean) same.0.was_open in
     whole_as (g.W.Write.contents c.args.writer.now) (g.W.Write.contents c.args.writer.now) [] _
-    (none_sought (tables_of (state g.S.Store c.args.conn.now)) rows.rows c.args.lab.now
+    (none_sought (tables_of (g.D.Readable.state c.args.conn.now)) rows.rows c.args.lab.now
     c.args.number (sym c.in-Ok-None.field-0-is ∙ c.in-Ok-None.ensures.found ready clean))
     (Appends-nil (g.W.Write.contents c.args.writer.now))
 
@@ -52,7 +51,7 @@ returns-in-Ok-None-clause-counts g c ready clean =
     let same = c.in-Ok-None.ensures.same clean in
     let rows = ready.kept (c.head_at.ensures.passes.clean clean) same.0.was_open in
     subst (λ (it : List (List (List ℕ))). c.args.out.now ≡ given_rows c.args.out.now it)
-    (none_sought (tables_of (state g.S.Store c.args.conn.now)) rows.rows c.args.lab.now
+    (none_sought (tables_of (g.D.Readable.state c.args.conn.now)) rows.rows c.args.lab.now
     c.args.number (sym c.in-Ok-None.field-0-is ∙ c.in-Ok-None.ensures.found ready clean)) refl
 
 pub returns-in-Err-clause-text : goal.returns-in-Err-clause-text

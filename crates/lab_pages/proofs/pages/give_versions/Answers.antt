@@ -2,7 +2,6 @@
 use Rattle.std.proofs.Common.{w64, ap}
 use Rattle.std.proofs.lemmas.Int.{to_z-of_z}
 use Rattle.sqlite.specs.Effect.{Database}
-use Rattle.sqlite.specs.Held.{state}
 use Rattle.lab_copy.proofs.SendLemmas.{none_went}
 use Rattle.lab_tables.specs.Rows.{tables_in}
 use Rattle.lab_tables.specs.Ready.{tables_of}
@@ -18,8 +17,8 @@ returns-in-Ok-clause-text g c ready clean =
     (c.in-Ok.ensures.versions ready was) in
     sends_as (g.W.Write.contents c.args.writer.now) (g.W.Write.contents c.give_pages.new.writer) _ _
     c.give_pages.result
-    (leaves_as (tables_of (state g.S.Store c.args.conn.now))
-    (tables_of (state g.S.Store c.versions_at.new.conn))
+    (leaves_as (tables_of (g.D.Readable.state c.args.conn.now))
+    (tables_of (g.D.Readable.state c.versions_at.new.conn))
     (ap (λ (db : Database). tables_in db.trees) same.0.now_is) c.args.lab.now c.args.cover.now
     c.args.kept c.in-Ok.heads.items given)
     (c.give_pages.ensures.text (c.versions_at.ensures.passes.ready ready) clean same.0.is_open)
@@ -31,8 +30,8 @@ returns-in-Ok-clause-counts g c ready clean =
     let given = rw (to_z-of_z w64 c.args.kept c.ranges.kept) at
     (c.in-Ok.ensures.versions ready was) in
     given_as c.args.out.now c.give_pages.new.out _ _ c.give_pages.result
-    (leaves_as (tables_of (state g.S.Store c.args.conn.now))
-    (tables_of (state g.S.Store c.versions_at.new.conn))
+    (leaves_as (tables_of (g.D.Readable.state c.args.conn.now))
+    (tables_of (g.D.Readable.state c.versions_at.new.conn))
     (ap (λ (db : Database). tables_in db.trees) same.0.now_is) c.args.lab.now c.args.cover.now
     c.args.kept c.in-Ok.heads.items given)
     (c.give_pages.ensures.counts (c.versions_at.ensures.passes.ready ready) clean same.0.is_open)

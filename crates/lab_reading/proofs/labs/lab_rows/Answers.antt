@@ -1,6 +1,5 @@
 use Rattle.std.proofs.Common.{arith}
 use Rattle.sqlite.specs.State.{HasCleanDisk}
-use Rattle.sqlite.specs.Held.{state}
 use Rattle.lab_reading.proofs.Texts.{lab_text, lab_means}
 use Rattle.lab_reading.proofs.Exact.{labs_read}
 use Rattle.lab_columns.proofs.Queries.{passes, same, exactly}
@@ -8,8 +7,8 @@ use Rattle.lab_reading.proofs.labs.lab_rows.Goals as goal
 
 pub returns : goal.returns
 returns g c =
-    let old = state g.S.Store c.args.conn.now in
-    let new = state g.S.Store c.rows_by_text.new.conn in
+    let old = g.D.Readable.state c.args.conn.now in
+    let new = g.D.Readable.state c.rows_by_text.new.conn in
     let it = c.rows_by_text.ensures in
     let before : HasCleanDisk new → HasCleanDisk old = λ clean. omega (arith, it.survives.clean) in
     record {

@@ -1,7 +1,6 @@
 use Rattle.std.proofs.Common.{◌≡◌, ◌∙◌, ap, w64, rules, SFits}
 use Rattle.std.proofs.lemmas.Int.{to_z-of_z}
 use Rattle.sqlite.specs.Effect.{Database}
-use Rattle.sqlite.specs.Held.{state}
 use Rattle.lab_tables.specs.Rows.{tables_in}
 use Rattle.lab_tables.specs.Meaning.{signatures_of}
 use Rattle.lab_tables.specs.Ready.{tables_of}
@@ -10,7 +9,7 @@ use Rattle.lab_reading.proofs.leaves.leaf_at.Goals as goal
 
 pub returns-clause-leaf : goal.returns-clause-leaf
 returns-clause-leaf g c ready clean =
-    let old = state g.S.Store c.args.conn.now in
+    let old = g.D.Readable.state c.args.conn.now in
     let id = c.args.head.id in
     let fits : SFits w64 id = search rules in
     let was = c.in_ok-signatures.ensures.passes.clean clean in

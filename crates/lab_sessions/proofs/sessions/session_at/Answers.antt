@@ -1,6 +1,5 @@
 use Rattle.std.proofs.Common.{w64, ◌∙◌, ap, option_map, slice_get}
 use Rattle.std.proofs.lemmas.Int.{to_z-of_z}
-use Rattle.sqlite.specs.Held.{state}
 use Rattle.lab_access.specs.Sessions.{session_of}
 use Rattle.lab_tables.specs.Meaning.{sessions_of}
 use Rattle.lab_tables.specs.Ready.{tables_of}
@@ -11,7 +10,7 @@ use Rattle.lab_sessions.proofs.sessions.session_at.Goals as goal
 
 pub returns-clause-session : goal.returns-clause-session
 returns-clause-session g c ready clean =
-    let t = tables_of (state g.S.Store c.args.conn.now) in
+    let t = tables_of (g.D.Readable.state c.args.conn.now) in
     let same = c.in_ok-rows.ensures.same clean in
     let kept = ready.kept (c.in_ok-rows.ensures.passes.clean clean) same.0.was_open in
     let rows = rw (to_z-of_z w64 c.args.lab c.ranges.lab) at (c.in_ok-rows.ensures.rows ready clean) in

@@ -13,8 +13,8 @@ returns-in_err-apply-clause-crash g c fit clean ready =
     let old = state g.S.Store c.args.self.now in
     let code = c.args.code.now in
     let changes = c.args.changes in
-    let ends = ends_given g.S.Store code c.as_slice.result.now changes c.self.inside.conn c.args.self.now (state g.S.Store c.apply.new.conn) _ c.as_slice.ensures c.self.view_is c.in_err-apply.ensures.ends ready in
-    crashes (AreMadeIfAny code changes) (Changes code changes) old (state g.S.Store c.apply.new.conn) ready (changes_law code changes (tables_of old) fit) (Err c.in_err-apply.field-0.0)
+    let ends = ends_given g.S.Store code c.as_slice.result.now changes c.self.inside.tables.conn c.args.self.now (state g.S.Store c.apply.new.tables.conn) _ c.as_slice.ensures c.self.view_is c.in_err-apply.ensures.ends ready in
+    crashes (AreMadeIfAny code changes) (Changes code changes) old (state g.S.Store c.apply.new.tables.conn) ready (changes_law code changes (tables_of old) fit) (Err c.in_err-apply.field-0.0)
     ends (changes_as code changes) clean
 
 pub returns-in_err-apply-clause-safe : goal.returns-in_err-apply-clause-safe
@@ -22,8 +22,8 @@ returns-in_err-apply-clause-safe g c fit clean ready =
     let old = state g.S.Store c.args.self.now in
     let code = c.args.code.now in
     let changes = c.args.changes in
-    let ends = ends_given g.S.Store code c.as_slice.result.now changes c.self.inside.conn c.args.self.now (state g.S.Store c.apply.new.conn) _ c.as_slice.ensures c.self.view_is c.in_err-apply.ensures.ends ready in
-    stays_safe (AreMadeIfAny code changes) (Changes code changes) old (state g.S.Store c.apply.new.conn) ready (changes_law code changes (tables_of old) fit) (Err c.in_err-apply.field-0.0)
+    let ends = ends_given g.S.Store code c.as_slice.result.now changes c.self.inside.tables.conn c.args.self.now (state g.S.Store c.apply.new.tables.conn) _ c.as_slice.ensures c.self.view_is c.in_err-apply.ensures.ends ready in
+    stays_safe (AreMadeIfAny code changes) (Changes code changes) old (state g.S.Store c.apply.new.tables.conn) ready (changes_law code changes (tables_of old) fit) (Err c.in_err-apply.field-0.0)
     ends clean
 
 pub returns-clause-changed : goal.returns-clause-changed
@@ -31,8 +31,8 @@ returns-clause-changed g c fit clean ready =
     let old = state g.S.Store c.args.self.now in
     let code = c.args.code.now in
     let changes = c.args.changes in
-    let ends = ends_given g.S.Store code c.as_slice.result.now changes c.self.inside.conn c.args.self.now (state g.S.Store c.apply.new.conn) _ c.as_slice.ensures c.self.view_is c.in_ok-apply.ensures.ends ready in
-    made_means (AreMadeIfAny code changes) (Changes code changes) old (state g.S.Store c.apply.new.conn) ready (changes_law code changes (tables_of old) fit) (Ok c.in_ok-apply.field-0)
+    let ends = ends_given g.S.Store code c.as_slice.result.now changes c.self.inside.tables.conn c.args.self.now (state g.S.Store c.apply.new.tables.conn) _ c.as_slice.ensures c.self.view_is c.in_ok-apply.ensures.ends ready in
+    made_means (AreMadeIfAny code changes) (Changes code changes) old (state g.S.Store c.apply.new.tables.conn) ready (changes_law code changes (tables_of old) fit) (Ok c.in_ok-apply.field-0)
     ends clean
 
 pub returns-clause-crash : goal.returns-clause-crash
@@ -40,8 +40,8 @@ returns-clause-crash g c fit clean ready =
     let old = state g.S.Store c.args.self.now in
     let code = c.args.code.now in
     let changes = c.args.changes in
-    let ends = ends_given g.S.Store code c.as_slice.result.now changes c.self.inside.conn c.args.self.now (state g.S.Store c.apply.new.conn) _ c.as_slice.ensures c.self.view_is c.in_ok-apply.ensures.ends ready in
-    crashes (AreMadeIfAny code changes) (Changes code changes) old (state g.S.Store c.apply.new.conn) ready (changes_law code changes (tables_of old) fit) (Ok c.in_ok-apply.field-0)
+    let ends = ends_given g.S.Store code c.as_slice.result.now changes c.self.inside.tables.conn c.args.self.now (state g.S.Store c.apply.new.tables.conn) _ c.as_slice.ensures c.self.view_is c.in_ok-apply.ensures.ends ready in
+    crashes (AreMadeIfAny code changes) (Changes code changes) old (state g.S.Store c.apply.new.tables.conn) ready (changes_law code changes (tables_of old) fit) (Ok c.in_ok-apply.field-0)
     ends (changes_as code changes) clean
 
 pub returns-clause-safe : goal.returns-clause-safe
@@ -49,18 +49,18 @@ returns-clause-safe g c fit clean ready =
     let old = state g.S.Store c.args.self.now in
     let code = c.args.code.now in
     let changes = c.args.changes in
-    let ends = ends_given g.S.Store code c.as_slice.result.now changes c.self.inside.conn c.args.self.now (state g.S.Store c.apply.new.conn) _ c.as_slice.ensures c.self.view_is c.in_ok-apply.ensures.ends ready in
-    stays_safe (AreMadeIfAny code changes) (Changes code changes) old (state g.S.Store c.apply.new.conn) ready (changes_law code changes (tables_of old) fit) (Ok c.in_ok-apply.field-0)
+    let ends = ends_given g.S.Store code c.as_slice.result.now changes c.self.inside.tables.conn c.args.self.now (state g.S.Store c.apply.new.tables.conn) _ c.as_slice.ensures c.self.view_is c.in_ok-apply.ensures.ends ready in
+    stays_safe (AreMadeIfAny code changes) (Changes code changes) old (state g.S.Store c.apply.new.tables.conn) ready (changes_law code changes (tables_of old) fit) (Ok c.in_ok-apply.field-0)
     ends clean
 
 pub returns-clause-durable : goal.returns-clause-durable
 returns-clause-durable g c fit some clean ready =
     let old = state g.S.Store c.args.self.now in
-    let new = state g.S.Store c.apply.new.conn in
+    let new = state g.S.Store c.apply.new.tables.conn in
     let code = c.args.code.now in
     let changes = c.args.changes in
-    let ends = ends_given g.S.Store code c.as_slice.result.now changes c.self.inside.conn c.args.self.now (state g.S.Store c.apply.new.conn) _ c.as_slice.ensures c.self.view_is c.in_ok-apply.ensures.ends ready in
-    durable_now g.S.Store g.met.S.Store.stays g.met.S.Store.settled c.apply.new.conn
+    let ends = ends_given g.S.Store code c.as_slice.result.now changes c.self.inside.tables.conn c.args.self.now (state g.S.Store c.apply.new.tables.conn) _ c.as_slice.ensures c.self.view_is c.in_ok-apply.ensures.ends ready in
+    durable_now g.S.Store g.met.S.Store.stays g.met.S.Store.settled c.apply.new.tables.conn
     (reached (AreMadeIfAny code changes) (Changes code changes) old new ready (changes_law code changes (tables_of old) fit) (Ok c.in_ok-apply.field-0) ends) clean (ends.made clean).1
 
 pub returns-clause-reached : goal.returns-clause-reached
@@ -68,6 +68,6 @@ returns-clause-reached g c fit clean ready =
     let old = state g.S.Store c.args.self.now in
     let code = c.args.code.now in
     let changes = c.args.changes in
-    let ends = ends_given g.S.Store code c.as_slice.result.now changes c.self.inside.conn c.args.self.now (state g.S.Store c.apply.new.conn) _ c.as_slice.ensures c.self.view_is c.in_ok-apply.ensures.ends ready in
-    reached (AreMadeIfAny code changes) (Changes code changes) old (state g.S.Store c.apply.new.conn) ready (changes_law code changes (tables_of old) fit) (Ok c.in_ok-apply.field-0)
+    let ends = ends_given g.S.Store code c.as_slice.result.now changes c.self.inside.tables.conn c.args.self.now (state g.S.Store c.apply.new.tables.conn) _ c.as_slice.ensures c.self.view_is c.in_ok-apply.ensures.ends ready in
+    reached (AreMadeIfAny code changes) (Changes code changes) old (state g.S.Store c.apply.new.tables.conn) ready (changes_law code changes (tables_of old) fit) (Ok c.in_ok-apply.field-0)
     ends

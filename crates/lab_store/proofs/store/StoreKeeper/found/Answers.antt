@@ -13,37 +13,37 @@ pub returns-clause-founded : goal.returns-clause-founded
 returns-clause-founded g c clean ready =
     let old = state g.S.Store c.args.self.now in
     let newborn = c.args.newborn in
-    let ends = founding_given g.S.Store newborn c.self.inside.conn c.args.self.now (state g.S.Store c.found.new.conn) c.found.result c.self.view_is c.found.ensures.ends ready in
-    made_means (IsPlacedBy newborn) (Places (newborn_lab newborn)) old (state g.S.Store c.found.new.conn) ready (founding_law newborn (tables_of old)) c.found.result ends clean
+    let ends = founding_given g.S.Store newborn c.self.inside.tables.conn c.args.self.now (state g.S.Store c.found.new.tables.conn) c.found.result c.self.view_is c.found.ensures.ends ready in
+    made_means (IsPlacedBy newborn) (Places (newborn_lab newborn)) old (state g.S.Store c.found.new.tables.conn) ready (founding_law newborn (tables_of old)) c.found.result ends clean
 
 pub returns-clause-crash : goal.returns-clause-crash
 returns-clause-crash g c clean ready =
     let old = state g.S.Store c.args.self.now in
     let newborn = c.args.newborn in
-    let ends = founding_given g.S.Store newborn c.self.inside.conn c.args.self.now (state g.S.Store c.found.new.conn) c.found.result c.self.view_is c.found.ensures.ends ready in
-    crashes (IsPlacedBy newborn) (Places (newborn_lab newborn)) old (state g.S.Store c.found.new.conn) ready (founding_law newborn (tables_of old)) c.found.result ends
+    let ends = founding_given g.S.Store newborn c.self.inside.tables.conn c.args.self.now (state g.S.Store c.found.new.tables.conn) c.found.result c.self.view_is c.found.ensures.ends ready in
+    crashes (IsPlacedBy newborn) (Places (newborn_lab newborn)) old (state g.S.Store c.found.new.tables.conn) ready (founding_law newborn (tables_of old)) c.found.result ends
     (places_as (newborn_lab newborn)) clean
 
 pub returns-clause-safe : goal.returns-clause-safe
 returns-clause-safe g c clean ready =
     let old = state g.S.Store c.args.self.now in
     let newborn = c.args.newborn in
-    let ends = founding_given g.S.Store newborn c.self.inside.conn c.args.self.now (state g.S.Store c.found.new.conn) c.found.result c.self.view_is c.found.ensures.ends ready in
-    stays_safe (IsPlacedBy newborn) (Places (newborn_lab newborn)) old (state g.S.Store c.found.new.conn) ready (founding_law newborn (tables_of old)) c.found.result ends clean
+    let ends = founding_given g.S.Store newborn c.self.inside.tables.conn c.args.self.now (state g.S.Store c.found.new.tables.conn) c.found.result c.self.view_is c.found.ensures.ends ready in
+    stays_safe (IsPlacedBy newborn) (Places (newborn_lab newborn)) old (state g.S.Store c.found.new.tables.conn) ready (founding_law newborn (tables_of old)) c.found.result ends clean
 
 pub returns-clause-durable : goal.returns-clause-durable
 returns-clause-durable g c clean ready =
     let old = state g.S.Store c.args.self.now in
-    let new = state g.S.Store c.found.new.conn in
+    let new = state g.S.Store c.found.new.tables.conn in
     let newborn = c.args.newborn in
-    let ends = founding_given g.S.Store newborn c.self.inside.conn c.args.self.now (state g.S.Store c.found.new.conn) c.found.result c.self.view_is c.found.ensures.ends ready in
+    let ends = founding_given g.S.Store newborn c.self.inside.tables.conn c.args.self.now (state g.S.Store c.found.new.tables.conn) c.found.result c.self.view_is c.found.ensures.ends ready in
     on_lives (IsPlacedBy newborn) old new c.found.result ends clean
-    (λ opened. durable_now g.S.Store g.met.S.Store.stays g.met.S.Store.settled c.found.new.conn
+    (λ opened. durable_now g.S.Store g.met.S.Store.stays g.met.S.Store.settled c.found.new.tables.conn
     (reached (IsPlacedBy newborn) (Places (newborn_lab newborn)) old new ready (founding_law newborn (tables_of old)) c.found.result ends) clean opened)
 
 pub returns-clause-reached : goal.returns-clause-reached
 returns-clause-reached g c clean ready =
     let old = state g.S.Store c.args.self.now in
     let newborn = c.args.newborn in
-    let ends = founding_given g.S.Store newborn c.self.inside.conn c.args.self.now (state g.S.Store c.found.new.conn) c.found.result c.self.view_is c.found.ensures.ends ready in
-    reached (IsPlacedBy newborn) (Places (newborn_lab newborn)) old (state g.S.Store c.found.new.conn) ready (founding_law newborn (tables_of old)) c.found.result ends
+    let ends = founding_given g.S.Store newborn c.self.inside.tables.conn c.args.self.now (state g.S.Store c.found.new.tables.conn) c.found.result c.self.view_is c.found.ensures.ends ready in
+    reached (IsPlacedBy newborn) (Places (newborn_lab newborn)) old (state g.S.Store c.found.new.tables.conn) ready (founding_law newborn (tables_of old)) c.found.result ends

@@ -1,0 +1,30 @@
+//! What rows are read from: the tables of a file, or those that a transaction sees.
+
+ghost use Rattle.std.specs.Prelude.{◌≡◌, IfOk, IfErr, false};
+ghost use Rattle.sqlite.specs.State.{State, HasCleanDisk, Survives, Shown, CommitsShowing, FailsToQuery};
+ghost use Rattle.sqlite.specs.Values.{bound};
+
+use sqlite::types::ValueRef;
+use sqlite::{Error, Row};
+
+/// What answers queries, with its state, of which each reader tells what it reads and what stays as it was.
+///
+/// Readers name no connection: what is proved of them holds over whatever answers so, and a crate of readers loads nothing of
+/// what stands behind it.
+pub trait Readable {
+    /// What is shown, and what a statement does to it.
+    ghost state: { Self → State };
+
+    /// All rows of the answer.
+    ///
+    /// # Errors
+    /// The statement is refused, the disk fails, or memory runs out.
+    fn query_all(&mut self, sql: &str, params: &[ValueRef<'_>]) -> Result<Vec<Row>, Error>
+        ensures ok { HasCleanDisk (state self.new) → IfOk result
+            (λ rows. Shown sql.now (bound params.now) (state self.old) (state self.new) rows.items) }
+        ensures err { HasCleanDisk (state self.new) → IfErr result
+            (FailsToQuery sql.now (bound params.now) (state self.old) (state self.new)) }
+        ensures mode { (state self.old).in_transaction ≡ false → (state self.new).in_transaction ≡ false }
+        ensures survives { Survives (state self.old) (state self.new)
+            (CommitsShowing sql.now (bound params.now) (state self.old)) };
+}
