@@ -1,22 +1,48 @@
 //! All changes of a request, by one commit.
 
-ghost use Rattle.std.specs.Prelude.{◌≡◌, [], IsTrue};
+ghost use Rattle.std.specs.Prelude.{◌≡◌, [], IsTrue, OnOk};
 ghost use Rattle.sqlite.specs.Held.{state};
-ghost use Rattle.sqlite.specs.State.{HasCleanDisk};
+ghost use Rattle.sqlite.specs.Effect.{IsDatabase};
+ghost use Rattle.sqlite.specs.State.{HasCleanDisk, KeepsCommit, Survives};
 ghost use Rattle.lab_tables.specs.Changes.{InTurn};
 ghost use Rattle.lab_tables.specs.Ready.{IsAtRest, IsReady, LeavesNoMore};
 ghost use Rattle.lab_tables_changes.specs.Steps.{StepsBy, AreMadeIfAny};
+ghost use Rattle.lab_writing.specs.Calls.{IsInside, Steps};
 ghost use Rattle.lab_applying.specs.Commits.{Ends};
 
 use crate::changes::all_inside;
 use lab_columns::ReadFault;
-use lab_connections::Tables;
+use lab_connections::{Inside, Tables};
 use lab_kept::Change;
 use lab_names::LabCode;
 use lab_reading::lab_at;
 use lab_writing::RowId;
-use sqlite::{Alter, Connection, Error};
+use sqlite::{Alter, Connection, Error, Transaction};
 use std::alloc::Global;
+
+/// Makes the changes, one after the other, inside the transaction.
+fn make_inside<S: Alter>(
+    tx: &mut Transaction<'_, S>,
+    lab: RowId,
+    changes: &[Change],
+) -> Result<(), Error>
+    requires inside { IsInside (state S.Store tx.old.conn.now) }
+    ensures same_reference { tx.new.conn.ghost_name ≡ tx.old.conn.ghost_name }
+    ensures inside { HasCleanDisk (state S.Store tx.new.conn.now) →
+        OnOk result (IsTrue (state S.Store tx.new.conn.now).in_transaction) }
+    // In a database that keeps its own rules:
+    ensures made { HasCleanDisk (state S.Store tx.new.conn.now) →
+        OnOk result (IsDatabase (state S.Store tx.old.conn.now).now →
+        Steps (InTurn (StepsBy lab.id) changes.now)
+        (state S.Store tx.old.conn.now) (state S.Store tx.new.conn.now)) }
+    ensures kept { HasCleanDisk (state S.Store tx.new.conn.now) → KeepsCommit
+        (state S.Store tx.old.conn.now) (state S.Store tx.new.conn.now) }
+    ensures survives { Survives
+        (state S.Store tx.old.conn.now) (state S.Store tx.new.conn.now) (λ _. ⊥) }
+{
+    let mut inside = Inside { tx };
+    all_inside(&mut inside, lab, changes)
+}
 
 /// Makes the changes of the laboratory whose row has the id, in one transaction.
 fn commit_all<S: Alter>(
@@ -30,7 +56,7 @@ fn commit_all<S: Alter>(
 {
     let _rules = conn.schema();
     let mut tx = conn.transaction();
-    all_inside(&mut tx, lab, changes)?;
+    make_inside(&mut tx, lab, changes)?;
     tx.commit()
 }
 

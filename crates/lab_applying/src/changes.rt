@@ -2,7 +2,6 @@
 
 ghost use Rattle.std.specs.Prelude.{◌≡◌, OnOk, IsTrue};
 ghost use Rattle.sqlite.specs.Effect.{IsDatabase};
-ghost use Rattle.sqlite.specs.Held.{state};
 ghost use Rattle.sqlite.specs.State.{HasCleanDisk, KeepsCommit, Survives};
 ghost use Rattle.lab_kept.specs.declared.changes.Change.TheVariants.{Last, Strays, SessionsClosed};
 ghost use Rattle.lab_tables.specs.Changes.{AppliesIn, InTurn};
@@ -14,78 +13,70 @@ use lab_filing_forms::add_form;
 use lab_filing_records::{add_record, open_version};
 use lab_kept::{Change, Closing};
 use lab_names::{Moment, PersonCode};
-use lab_writing::{RowId, add_told, set_last, set_strays};
+use lab_writing::{RowId, Writable, add_told, set_last, set_strays};
 use lab_writing_persons::{add_person, set_person};
 use lab_writing_sessions::{add_session, close_sessions, set_session};
-use sqlite::{Alter, Error, Transaction};
+use sqlite::Error;
 
 /// Sets the last moment.
-fn change_last<S: Alter>(
-    tx: &mut Transaction<'_, S>,
-    lab: RowId,
-    moment: Moment,
-) -> Result<(), Error>
-    requires inside { IsInside (state S.Store tx.old.conn.now) }
-    ensures same_reference { tx.new.conn.ghost_name ≡ tx.old.conn.ghost_name }
+fn change_last<W: Writable>(tx: &mut W, lab: RowId, moment: Moment) -> Result<(), Error>
+    requires inside { IsInside (W.state tx.old) }
+    ensures same_lender { W.lender tx.new ≡ W.lender tx.old }
     ensures made { Makes result (AppliesIn lab.id (Last moment))
-        (state S.Store tx.old.conn.now) (state S.Store tx.new.conn.now) }
-    ensures kept { HasCleanDisk (state S.Store tx.new.conn.now) → KeepsCommit
-        (state S.Store tx.old.conn.now) (state S.Store tx.new.conn.now) }
+        (W.state tx.old) (W.state tx.new) }
+    ensures kept { HasCleanDisk (W.state tx.new) → KeepsCommit
+        (W.state tx.old) (W.state tx.new) }
     ensures survives { Survives
-        (state S.Store tx.old.conn.now) (state S.Store tx.new.conn.now) (λ _. ⊥) }
+        (W.state tx.old) (W.state tx.new) (λ _. ⊥) }
 {
     set_last(tx, lab, moment)?;
     Ok(())
 }
 
 /// Sets how many passwords were given for nobody's account.
-fn change_strays<S: Alter>(tx: &mut Transaction<'_, S>, lab: RowId, count: u64) -> Result<(), Error>
-    requires inside { IsInside (state S.Store tx.old.conn.now) }
-    ensures same_reference { tx.new.conn.ghost_name ≡ tx.old.conn.ghost_name }
+fn change_strays<W: Writable>(tx: &mut W, lab: RowId, count: u64) -> Result<(), Error>
+    requires inside { IsInside (W.state tx.old) }
+    ensures same_lender { W.lender tx.new ≡ W.lender tx.old }
     ensures made { Makes result (AppliesIn lab.id (Strays count))
-        (state S.Store tx.old.conn.now) (state S.Store tx.new.conn.now) }
-    ensures kept { HasCleanDisk (state S.Store tx.new.conn.now) → KeepsCommit
-        (state S.Store tx.old.conn.now) (state S.Store tx.new.conn.now) }
+        (W.state tx.old) (W.state tx.new) }
+    ensures kept { HasCleanDisk (W.state tx.new) → KeepsCommit
+        (W.state tx.old) (W.state tx.new) }
     ensures survives { Survives
-        (state S.Store tx.old.conn.now) (state S.Store tx.new.conn.now) (λ _. ⊥) }
+        (W.state tx.old) (W.state tx.new) (λ _. ⊥) }
 {
     set_strays(tx, lab, count)?;
     Ok(())
 }
 
 /// Closes the sessions of the person that are meant.
-fn change_sessions<S: Alter>(
-    tx: &mut Transaction<'_, S>,
+fn change_sessions<W: Writable>(
+    tx: &mut W,
     lab: RowId,
     person: &PersonCode,
     closing: Closing,
 ) -> Result<(), Error>
-    requires inside { IsInside (state S.Store tx.old.conn.now) }
-    ensures same_reference { tx.new.conn.ghost_name ≡ tx.old.conn.ghost_name }
+    requires inside { IsInside (W.state tx.old) }
+    ensures same_lender { W.lender tx.new ≡ W.lender tx.old }
     ensures made { Makes result (AppliesWhereKept lab.id (SessionsClosed person.now closing))
-        (state S.Store tx.old.conn.now) (state S.Store tx.new.conn.now) }
-    ensures kept { HasCleanDisk (state S.Store tx.new.conn.now) → KeepsCommit
-        (state S.Store tx.old.conn.now) (state S.Store tx.new.conn.now) }
+        (W.state tx.old) (W.state tx.new) }
+    ensures kept { HasCleanDisk (W.state tx.new) → KeepsCommit
+        (W.state tx.old) (W.state tx.new) }
     ensures survives { Survives
-        (state S.Store tx.old.conn.now) (state S.Store tx.new.conn.now) (λ _. ⊥) }
+        (W.state tx.old) (W.state tx.new) (λ _. ⊥) }
 {
     close_sessions(tx, lab, person, closing)
 }
 
 /// Makes the change of the laboratory whose row has the id.
-fn change_rows<S: Alter>(
-    tx: &mut Transaction<'_, S>,
-    lab: RowId,
-    change: &Change,
-) -> Result<(), Error>
-    requires inside { IsInside (state S.Store tx.old.conn.now) }
-    ensures same_reference { tx.new.conn.ghost_name ≡ tx.old.conn.ghost_name }
+fn change_rows<W: Writable>(tx: &mut W, lab: RowId, change: &Change) -> Result<(), Error>
+    requires inside { IsInside (W.state tx.old) }
+    ensures same_lender { W.lender tx.new ≡ W.lender tx.old }
     ensures made { Makes result (AppliesWhereKept lab.id change.now)
-        (state S.Store tx.old.conn.now) (state S.Store tx.new.conn.now) }
-    ensures kept { HasCleanDisk (state S.Store tx.new.conn.now) → KeepsCommit
-        (state S.Store tx.old.conn.now) (state S.Store tx.new.conn.now) }
+        (W.state tx.old) (W.state tx.new) }
+    ensures kept { HasCleanDisk (W.state tx.new) → KeepsCommit
+        (W.state tx.old) (W.state tx.new) }
     ensures survives { Survives
-        (state S.Store tx.old.conn.now) (state S.Store tx.new.conn.now) (λ _. ⊥) }
+        (W.state tx.old) (W.state tx.new) (λ _. ⊥) }
 {
     match change {
         Change::Last(moment) => change_last(tx, lab, *moment),
@@ -109,24 +100,24 @@ fn change_rows<S: Alter>(
 }
 
 /// Makes the changes, one after the other.
-pub(crate) fn all_inside<S: Alter>(
-    tx: &mut Transaction<'_, S>,
+pub(crate) fn all_inside<W: Writable>(
+    tx: &mut W,
     lab: RowId,
     changes: &[Change],
 ) -> Result<(), Error>
-    requires inside { IsInside (state S.Store tx.old.conn.now) }
-    ensures same_reference { tx.new.conn.ghost_name ≡ tx.old.conn.ghost_name }
-    ensures inside { HasCleanDisk (state S.Store tx.new.conn.now) →
-        OnOk result (IsTrue (state S.Store tx.new.conn.now).in_transaction) }
+    requires inside { IsInside (W.state tx.old) }
+    ensures same_lender { W.lender tx.new ≡ W.lender tx.old }
+    ensures inside { HasCleanDisk (W.state tx.new) →
+        OnOk result (IsTrue (W.state tx.new).in_transaction) }
     // In a database that keeps its own rules:
-    ensures made { HasCleanDisk (state S.Store tx.new.conn.now) →
-        OnOk result (IsDatabase (state S.Store tx.old.conn.now).now →
+    ensures made { HasCleanDisk (W.state tx.new) →
+        OnOk result (IsDatabase (W.state tx.old).now →
         Steps (InTurn (StepsBy lab.id) changes.now)
-        (state S.Store tx.old.conn.now) (state S.Store tx.new.conn.now)) }
-    ensures kept { HasCleanDisk (state S.Store tx.new.conn.now) → KeepsCommit
-        (state S.Store tx.old.conn.now) (state S.Store tx.new.conn.now) }
+        (W.state tx.old) (W.state tx.new)) }
+    ensures kept { HasCleanDisk (W.state tx.new) → KeepsCommit
+        (W.state tx.old) (W.state tx.new) }
     ensures survives { Survives
-        (state S.Store tx.old.conn.now) (state S.Store tx.new.conn.now) (λ _. ⊥) }
+        (W.state tx.old) (W.state tx.new) (λ _. ⊥) }
 {
     for change in changes {
         change_rows(tx, lab, change)?;

@@ -1,7 +1,6 @@
 //! Rows of a version, each behind those that it has.
 
 ghost use Rattle.std.specs.Prelude.{◌≡◌};
-ghost use Rattle.sqlite.specs.Held.{state};
 ghost use Rattle.sqlite.specs.State.{HasCleanDisk, KeepsCommit, Survives};
 ghost use Rattle.lab_kept.specs.declared.changes.Change.TheVariants.{RowAdded};
 ghost use Rattle.lab_tables.specs.Changes.{AppliesIn, AddsEntry};
@@ -15,26 +14,26 @@ use lab_names::Ordinal;
 use lab_seal::EntryRow;
 use lab_writing::statements::run;
 use lab_writing::values::{count_value, id_value, moment_value, text_value};
-use lab_writing::{RowId, person_id_at};
-use sqlite::{Alter, Error, Transaction};
+use lab_writing::{RowId, Writable, person_id_at};
+use sqlite::Error;
 
 /// Adds the row.
-fn insert_entry<S: Alter>(
-    tx: &mut Transaction<'_, S>,
+fn insert_entry<W: Writable>(
+    tx: &mut W,
     version: RowId,
     place: u64,
     person: RowId,
     entry: &EntryRow,
 ) -> Result<usize, Error>
-    requires inside { IsInside (state S.Store tx.old.conn.now) }
-    ensures same_reference { tx.new.conn.ghost_name ≡ tx.old.conn.ghost_name }
+    requires inside { IsInside (W.state tx.old) }
+    ensures same_lender { W.lender tx.new ≡ W.lender tx.old }
     ensures made { Makes result (λ before after. after
         ≡ with_entry version.id place person.id entry.now before)
-        (state S.Store tx.old.conn.now) (state S.Store tx.new.conn.now) }
-    ensures kept { HasCleanDisk (state S.Store tx.new.conn.now) → KeepsCommit
-        (state S.Store tx.old.conn.now) (state S.Store tx.new.conn.now) }
+        (W.state tx.old) (W.state tx.new) }
+    ensures kept { HasCleanDisk (W.state tx.new) → KeepsCommit
+        (W.state tx.old) (W.state tx.new) }
     ensures survives { Survives
-        (state S.Store tx.old.conn.now) (state S.Store tx.new.conn.now) (λ _. ⊥) }
+        (W.state tx.old) (W.state tx.new) (λ _. ⊥) }
 {
     let at = count_value(place)?;
     let key = entry.key.as_str();
@@ -59,20 +58,20 @@ fn insert_entry<S: Alter>(
 /// Adds an entry behind those that the version has.
 ///
 /// Errors: also that nobody has the code of who entered it.
-pub fn add_entry<S: Alter>(
-    tx: &mut Transaction<'_, S>,
+pub fn add_entry<W: Writable>(
+    tx: &mut W,
     lab: RowId,
     version: RowId,
     entry: &EntryRow,
 ) -> Result<(), Error>
-    requires inside { IsInside (state S.Store tx.old.conn.now) }
-    ensures same_reference { tx.new.conn.ghost_name ≡ tx.old.conn.ghost_name }
+    requires inside { IsInside (W.state tx.old) }
+    ensures same_lender { W.lender tx.new ≡ W.lender tx.old }
     ensures made { Makes result (AddsEntry lab.id version.id entry.now)
-        (state S.Store tx.old.conn.now) (state S.Store tx.new.conn.now) }
-    ensures kept { HasCleanDisk (state S.Store tx.new.conn.now) → KeepsCommit
-        (state S.Store tx.old.conn.now) (state S.Store tx.new.conn.now) }
+        (W.state tx.old) (W.state tx.new) }
+    ensures kept { HasCleanDisk (W.state tx.new) → KeepsCommit
+        (W.state tx.old) (W.state tx.new) }
     ensures survives { Survives
-        (state S.Store tx.old.conn.now) (state S.Store tx.new.conn.now) (λ _. ⊥) }
+        (W.state tx.old) (W.state tx.new) (λ _. ⊥) }
 {
     let person = person_id_at(tx, lab, &entry.person)?;
     let place = entry_place(tx, version)?;
@@ -83,20 +82,20 @@ pub fn add_entry<S: Alter>(
 /// Adds an entry in the current version of a record.
 ///
 /// Errors: also that there is no record of the number, or nobody of the code.
-pub fn enter_row<S: Alter>(
-    tx: &mut Transaction<'_, S>,
+pub fn enter_row<W: Writable>(
+    tx: &mut W,
     lab: RowId,
     wanted: Ordinal,
     entry: &EntryRow,
 ) -> Result<(), Error>
-    requires inside { IsInside (state S.Store tx.old.conn.now) }
-    ensures same_reference { tx.new.conn.ghost_name ≡ tx.old.conn.ghost_name }
+    requires inside { IsInside (W.state tx.old) }
+    ensures same_lender { W.lender tx.new ≡ W.lender tx.old }
     ensures made { Makes result (AppliesIn lab.id (RowAdded wanted entry.now))
-        (state S.Store tx.old.conn.now) (state S.Store tx.new.conn.now) }
-    ensures kept { HasCleanDisk (state S.Store tx.new.conn.now) → KeepsCommit
-        (state S.Store tx.old.conn.now) (state S.Store tx.new.conn.now) }
+        (W.state tx.old) (W.state tx.new) }
+    ensures kept { HasCleanDisk (W.state tx.new) → KeepsCommit
+        (W.state tx.old) (W.state tx.new) }
     ensures survives { Survives
-        (state S.Store tx.old.conn.now) (state S.Store tx.new.conn.now) (λ _. ⊥) }
+        (W.state tx.old) (W.state tx.new) (λ _. ⊥) }
 {
     let kept = record_at(tx, lab, wanted)?;
     let version = version_id_at(tx, kept.id, kept.current)?;

@@ -1,7 +1,6 @@
 //! Records and versions that are named by keys of the tables.
 
 ghost use Rattle.std.specs.Prelude.{◌≡◌, Some, option_map, slice_get, IfOk};
-ghost use Rattle.sqlite.specs.Held.{state};
 ghost use Rattle.sqlite.specs.State.{HasCleanDisk, KeepsCommit, Survives};
 ghost use Rattle.lab_tables.specs.Changes.{record_named, version_named};
 ghost use Rattle.lab_writing.specs.Calls.{IsInside, Answers, Finds};
@@ -9,8 +8,8 @@ ghost use Rattle.lab_filing_entries.specs.Shown.{records_shown, versions_shown, 
 
 use lab_names::Ordinal;
 use lab_writing::values::{id_value, ordinal_value, small_value};
-use lab_writing::{RowId, first_id};
-use sqlite::{Alter, Error, Row, Transaction};
+use lab_writing::{RowId, Writable, first_id};
+use sqlite::{Error, Row};
 
 /// A record, with the number of its current version.
 #[derive(Clone, Copy, Debug, PartialEq, Eq)]
@@ -45,20 +44,16 @@ fn first_record(rows: &[Row]) -> Result<RecordAt, Error>
 }
 
 /// The rows of the record of the number, in the laboratory.
-fn record_rows<S: Alter>(
-    tx: &mut Transaction<'_, S>,
-    lab: RowId,
-    wanted: Ordinal,
-) -> Result<Vec<Row>, Error>
-    requires inside { IsInside (state S.Store tx.old.conn.now) }
-    ensures same_reference { tx.new.conn.ghost_name ≡ tx.old.conn.ghost_name }
+fn record_rows<W: Writable>(tx: &mut W, lab: RowId, wanted: Ordinal) -> Result<Vec<Row>, Error>
+    requires inside { IsInside (W.state tx.old) }
+    ensures same_lender { W.lender tx.new ≡ W.lender tx.old }
     ensures rows { Answers result (λ rows. Finds (λ t.
         rows.items ≡ records_shown lab.id wanted t))
-        (state S.Store tx.old.conn.now) (state S.Store tx.new.conn.now) }
-    ensures kept { HasCleanDisk (state S.Store tx.new.conn.now) → KeepsCommit
-        (state S.Store tx.old.conn.now) (state S.Store tx.new.conn.now) }
+        (W.state tx.old) (W.state tx.new) }
+    ensures kept { HasCleanDisk (W.state tx.new) → KeepsCommit
+        (W.state tx.old) (W.state tx.new) }
     ensures survives { Survives
-        (state S.Store tx.old.conn.now) (state S.Store tx.new.conn.now) (λ _. ⊥) }
+        (W.state tx.old) (W.state tx.new) (λ _. ⊥) }
 {
     tx.query_all(
         "SELECT id, current FROM records WHERE lab = ?1 AND number = ?2 ORDER BY id",
@@ -69,40 +64,32 @@ fn record_rows<S: Alter>(
 /// The record of the number, in the laboratory.
 ///
 /// Errors: also that there is none.
-pub fn record_at<S: Alter>(
-    tx: &mut Transaction<'_, S>,
-    lab: RowId,
-    wanted: Ordinal,
-) -> Result<RecordAt, Error>
-    requires inside { IsInside (state S.Store tx.old.conn.now) }
-    ensures same_reference { tx.new.conn.ghost_name ≡ tx.old.conn.ghost_name }
+pub fn record_at<W: Writable>(tx: &mut W, lab: RowId, wanted: Ordinal) -> Result<RecordAt, Error>
+    requires inside { IsInside (W.state tx.old) }
+    ensures same_lender { W.lender tx.new ≡ W.lender tx.old }
     ensures found { Answers result (λ one. Finds (λ t.
         option_map record_pair (record_named t lab.id wanted) ≡ Some (one.id.id, one.current)))
-        (state S.Store tx.old.conn.now) (state S.Store tx.new.conn.now) }
-    ensures kept { HasCleanDisk (state S.Store tx.new.conn.now) → KeepsCommit
-        (state S.Store tx.old.conn.now) (state S.Store tx.new.conn.now) }
+        (W.state tx.old) (W.state tx.new) }
+    ensures kept { HasCleanDisk (W.state tx.new) → KeepsCommit
+        (W.state tx.old) (W.state tx.new) }
     ensures survives { Survives
-        (state S.Store tx.old.conn.now) (state S.Store tx.new.conn.now) (λ _. ⊥) }
+        (W.state tx.old) (W.state tx.new) (λ _. ⊥) }
 {
     let rows = record_rows(tx, lab, wanted)?;
     first_record(&rows)
 }
 
 /// The rows of the version of the record.
-fn version_rows<S: Alter>(
-    tx: &mut Transaction<'_, S>,
-    kept: RowId,
-    wanted: u32,
-) -> Result<Vec<Row>, Error>
-    requires inside { IsInside (state S.Store tx.old.conn.now) }
-    ensures same_reference { tx.new.conn.ghost_name ≡ tx.old.conn.ghost_name }
+fn version_rows<W: Writable>(tx: &mut W, kept: RowId, wanted: u32) -> Result<Vec<Row>, Error>
+    requires inside { IsInside (W.state tx.old) }
+    ensures same_lender { W.lender tx.new ≡ W.lender tx.old }
     ensures rows { Answers result (λ rows. Finds (λ t.
         rows.items ≡ versions_shown kept.id wanted t))
-        (state S.Store tx.old.conn.now) (state S.Store tx.new.conn.now) }
-    ensures kept { HasCleanDisk (state S.Store tx.new.conn.now) → KeepsCommit
-        (state S.Store tx.old.conn.now) (state S.Store tx.new.conn.now) }
+        (W.state tx.old) (W.state tx.new) }
+    ensures kept { HasCleanDisk (W.state tx.new) → KeepsCommit
+        (W.state tx.old) (W.state tx.new) }
     ensures survives { Survives
-        (state S.Store tx.old.conn.now) (state S.Store tx.new.conn.now) (λ _. ⊥) }
+        (W.state tx.old) (W.state tx.new) (λ _. ⊥) }
 {
     tx.query_all(
         "SELECT id FROM versions WHERE record = ?1 AND number = ?2 ORDER BY id",
@@ -113,20 +100,20 @@ fn version_rows<S: Alter>(
 /// The version of the record.
 ///
 /// Errors: also that there is none.
-pub(crate) fn version_id_at<S: Alter>(
-    tx: &mut Transaction<'_, S>,
+pub(crate) fn version_id_at<W: Writable>(
+    tx: &mut W,
     kept: RowId,
     wanted: u32,
 ) -> Result<RowId, Error>
-    requires inside { IsInside (state S.Store tx.old.conn.now) }
-    ensures same_reference { tx.new.conn.ghost_name ≡ tx.old.conn.ghost_name }
+    requires inside { IsInside (W.state tx.old) }
+    ensures same_lender { W.lender tx.new ≡ W.lender tx.old }
     ensures found { Answers result (λ one. Finds (λ t.
         version_named t kept.id wanted ≡ Some one.id))
-        (state S.Store tx.old.conn.now) (state S.Store tx.new.conn.now) }
-    ensures kept { HasCleanDisk (state S.Store tx.new.conn.now) → KeepsCommit
-        (state S.Store tx.old.conn.now) (state S.Store tx.new.conn.now) }
+        (W.state tx.old) (W.state tx.new) }
+    ensures kept { HasCleanDisk (W.state tx.new) → KeepsCommit
+        (W.state tx.old) (W.state tx.new) }
     ensures survives { Survives
-        (state S.Store tx.old.conn.now) (state S.Store tx.new.conn.now) (λ _. ⊥) }
+        (W.state tx.old) (W.state tx.new) (λ _. ⊥) }
 {
     let rows = version_rows(tx, kept, wanted)?;
     first_id(&rows)

@@ -1,7 +1,6 @@
 //! Signatures of a version, each behind those that it has.
 
 ghost use Rattle.std.specs.Prelude.{◌≡◌};
-ghost use Rattle.sqlite.specs.Held.{state};
 ghost use Rattle.sqlite.specs.State.{HasCleanDisk, KeepsCommit, Survives};
 ghost use Rattle.lab_kept.specs.declared.changes.Change.TheVariants.{SignatureAdded};
 ghost use Rattle.lab_tables.specs.Changes.{AppliesIn, AddsSignature};
@@ -15,26 +14,26 @@ use lab_kept::Signature;
 use lab_names::Ordinal;
 use lab_writing::statements::run;
 use lab_writing::values::{blob_value, count_value, id_value, moment_value, text_value};
-use lab_writing::{RowId, person_id_at};
-use sqlite::{Alter, Error, Transaction};
+use lab_writing::{RowId, Writable, person_id_at};
+use sqlite::Error;
 
 /// Adds the row.
-fn insert_signature<S: Alter>(
-    tx: &mut Transaction<'_, S>,
+fn insert_signature<W: Writable>(
+    tx: &mut W,
     version: RowId,
     place: u64,
     person: RowId,
     signature: &Signature,
 ) -> Result<usize, Error>
-    requires inside { IsInside (state S.Store tx.old.conn.now) }
-    ensures same_reference { tx.new.conn.ghost_name ≡ tx.old.conn.ghost_name }
+    requires inside { IsInside (W.state tx.old) }
+    ensures same_lender { W.lender tx.new ≡ W.lender tx.old }
     ensures made { Makes result (λ before after. after
         ≡ with_signature version.id place person.id signature.now before)
-        (state S.Store tx.old.conn.now) (state S.Store tx.new.conn.now) }
-    ensures kept { HasCleanDisk (state S.Store tx.new.conn.now) → KeepsCommit
-        (state S.Store tx.old.conn.now) (state S.Store tx.new.conn.now) }
+        (W.state tx.old) (W.state tx.new) }
+    ensures kept { HasCleanDisk (W.state tx.new) → KeepsCommit
+        (W.state tx.old) (W.state tx.new) }
     ensures survives { Survives
-        (state S.Store tx.old.conn.now) (state S.Store tx.new.conn.now) (λ _. ⊥) }
+        (W.state tx.old) (W.state tx.new) (λ _. ⊥) }
 {
     let at = count_value(place)?;
     let name = signature.name.as_str();
@@ -61,20 +60,20 @@ fn insert_signature<S: Alter>(
 /// Adds a signature behind those that the version has.
 ///
 /// Errors: also that nobody has the code of who signed.
-pub fn add_signature<S: Alter>(
-    tx: &mut Transaction<'_, S>,
+pub fn add_signature<W: Writable>(
+    tx: &mut W,
     lab: RowId,
     version: RowId,
     signature: &Signature,
 ) -> Result<(), Error>
-    requires inside { IsInside (state S.Store tx.old.conn.now) }
-    ensures same_reference { tx.new.conn.ghost_name ≡ tx.old.conn.ghost_name }
+    requires inside { IsInside (W.state tx.old) }
+    ensures same_lender { W.lender tx.new ≡ W.lender tx.old }
     ensures made { Makes result (AddsSignature lab.id version.id signature.now)
-        (state S.Store tx.old.conn.now) (state S.Store tx.new.conn.now) }
-    ensures kept { HasCleanDisk (state S.Store tx.new.conn.now) → KeepsCommit
-        (state S.Store tx.old.conn.now) (state S.Store tx.new.conn.now) }
+        (W.state tx.old) (W.state tx.new) }
+    ensures kept { HasCleanDisk (W.state tx.new) → KeepsCommit
+        (W.state tx.old) (W.state tx.new) }
     ensures survives { Survives
-        (state S.Store tx.old.conn.now) (state S.Store tx.new.conn.now) (λ _. ⊥) }
+        (W.state tx.old) (W.state tx.new) (λ _. ⊥) }
 {
     let person = person_id_at(tx, lab, &signature.person)?;
     let place = signature_place(tx, version)?;
@@ -85,21 +84,21 @@ pub fn add_signature<S: Alter>(
 /// Adds a signature of a version of a record.
 ///
 /// Errors: also that there is no such version, or nobody of the code.
-pub fn sign_version<S: Alter>(
-    tx: &mut Transaction<'_, S>,
+pub fn sign_version<W: Writable>(
+    tx: &mut W,
     lab: RowId,
     wanted: Ordinal,
     version: Ordinal,
     signature: &Signature,
 ) -> Result<(), Error>
-    requires inside { IsInside (state S.Store tx.old.conn.now) }
-    ensures same_reference { tx.new.conn.ghost_name ≡ tx.old.conn.ghost_name }
+    requires inside { IsInside (W.state tx.old) }
+    ensures same_lender { W.lender tx.new ≡ W.lender tx.old }
     ensures made { Makes result (AppliesIn lab.id (SignatureAdded wanted version signature.now))
-        (state S.Store tx.old.conn.now) (state S.Store tx.new.conn.now) }
-    ensures kept { HasCleanDisk (state S.Store tx.new.conn.now) → KeepsCommit
-        (state S.Store tx.old.conn.now) (state S.Store tx.new.conn.now) }
+        (W.state tx.old) (W.state tx.new) }
+    ensures kept { HasCleanDisk (W.state tx.new) → KeepsCommit
+        (W.state tx.old) (W.state tx.new) }
     ensures survives { Survives
-        (state S.Store tx.old.conn.now) (state S.Store tx.new.conn.now) (λ _. ⊥) }
+        (W.state tx.old) (W.state tx.new) (λ _. ⊥) }
 {
     let kept = record_at(tx, lab, wanted)?;
     let signed = version_id_at(tx, kept.id, version.get())?;

@@ -1,7 +1,6 @@
 //! Versions of forms, each with its fields and their choices.
 
 ghost use Rattle.std.specs.Prelude.{◌≡◌};
-ghost use Rattle.sqlite.specs.Held.{state};
 ghost use Rattle.sqlite.specs.State.{HasCleanDisk, KeepsCommit, Survives};
 ghost use Rattle.sqlite_keyed.specs.Keyed.{next_key};
 ghost use Rattle.lab_kept.specs.declared.changes.Change.TheVariants.{FormAdded};
@@ -18,27 +17,27 @@ use crate::places::{choice_place, field_place};
 use lab_forms::{Field, Kind};
 use lab_kept::FormVersion;
 use lab_names::Name;
-use lab_writing::RowId;
 use lab_writing::ids::insert;
 use lab_writing::statements::run;
 use lab_writing::values::{count_value, flag_value, id_value, ordinal_value, text_value};
-use sqlite::{Alter, Error, Transaction};
+use lab_writing::{RowId, Writable};
+use sqlite::Error;
 
 /// Adds the row.
-fn insert_choice<S: Alter>(
-    tx: &mut Transaction<'_, S>,
+fn insert_choice<W: Writable>(
+    tx: &mut W,
     field: RowId,
     place: u64,
     name: &Name,
 ) -> Result<usize, Error>
-    requires inside { IsInside (state S.Store tx.old.conn.now) }
-    ensures same_reference { tx.new.conn.ghost_name ≡ tx.old.conn.ghost_name }
+    requires inside { IsInside (W.state tx.old) }
+    ensures same_lender { W.lender tx.new ≡ W.lender tx.old }
     ensures made { Makes result (λ before after. after ≡ with_choice field.id place name.now before)
-        (state S.Store tx.old.conn.now) (state S.Store tx.new.conn.now) }
-    ensures kept { HasCleanDisk (state S.Store tx.new.conn.now) → KeepsCommit
-        (state S.Store tx.old.conn.now) (state S.Store tx.new.conn.now) }
+        (W.state tx.old) (W.state tx.new) }
+    ensures kept { HasCleanDisk (W.state tx.new) → KeepsCommit
+        (W.state tx.old) (W.state tx.new) }
     ensures survives { Survives
-        (state S.Store tx.old.conn.now) (state S.Store tx.new.conn.now) (λ _. ⊥) }
+        (W.state tx.old) (W.state tx.new) (λ _. ⊥) }
 {
     let at = count_value(place)?;
     run(
@@ -49,15 +48,15 @@ fn insert_choice<S: Alter>(
 }
 
 /// Adds a choice behind those that the field has.
-fn add_choice<S: Alter>(tx: &mut Transaction<'_, S>, field: RowId, name: &Name) -> Result<(), Error>
-    requires inside { IsInside (state S.Store tx.old.conn.now) }
-    ensures same_reference { tx.new.conn.ghost_name ≡ tx.old.conn.ghost_name }
+fn add_choice<W: Writable>(tx: &mut W, field: RowId, name: &Name) -> Result<(), Error>
+    requires inside { IsInside (W.state tx.old) }
+    ensures same_lender { W.lender tx.new ≡ W.lender tx.old }
     ensures made { Makes result (AddsChoice field.id name.now)
-        (state S.Store tx.old.conn.now) (state S.Store tx.new.conn.now) }
-    ensures kept { HasCleanDisk (state S.Store tx.new.conn.now) → KeepsCommit
-        (state S.Store tx.old.conn.now) (state S.Store tx.new.conn.now) }
+        (W.state tx.old) (W.state tx.new) }
+    ensures kept { HasCleanDisk (W.state tx.new) → KeepsCommit
+        (W.state tx.old) (W.state tx.new) }
     ensures survives { Survives
-        (state S.Store tx.old.conn.now) (state S.Store tx.new.conn.now) (λ _. ⊥) }
+        (W.state tx.old) (W.state tx.new) (λ _. ⊥) }
 {
     let place = choice_place(tx, field)?;
     insert_choice(tx, field, place, name)?;
@@ -65,19 +64,15 @@ fn add_choice<S: Alter>(tx: &mut Transaction<'_, S>, field: RowId, name: &Name) 
 }
 
 /// Adds choices, one behind the other.
-fn add_choices<S: Alter>(
-    tx: &mut Transaction<'_, S>,
-    field: RowId,
-    names: &[Name],
-) -> Result<(), Error>
-    requires inside { IsInside (state S.Store tx.old.conn.now) }
-    ensures same_reference { tx.new.conn.ghost_name ≡ tx.old.conn.ghost_name }
+fn add_choices<W: Writable>(tx: &mut W, field: RowId, names: &[Name]) -> Result<(), Error>
+    requires inside { IsInside (W.state tx.old) }
+    ensures same_lender { W.lender tx.new ≡ W.lender tx.old }
     ensures made { Makes result (InTurn (AddsChoice field.id) names.now)
-        (state S.Store tx.old.conn.now) (state S.Store tx.new.conn.now) }
-    ensures kept { HasCleanDisk (state S.Store tx.new.conn.now) → KeepsCommit
-        (state S.Store tx.old.conn.now) (state S.Store tx.new.conn.now) }
+        (W.state tx.old) (W.state tx.new) }
+    ensures kept { HasCleanDisk (W.state tx.new) → KeepsCommit
+        (W.state tx.old) (W.state tx.new) }
     ensures survives { Survives
-        (state S.Store tx.old.conn.now) (state S.Store tx.new.conn.now) (λ _. ⊥) }
+        (W.state tx.old) (W.state tx.new) (λ _. ⊥) }
 {
     for one in names {
         add_choice(tx, field, one)?;
@@ -86,15 +81,15 @@ fn add_choices<S: Alter>(
 }
 
 /// Adds the choices of a kind, where it has some.
-fn add_kind<S: Alter>(tx: &mut Transaction<'_, S>, field: RowId, kind: &Kind) -> Result<(), Error>
-    requires inside { IsInside (state S.Store tx.old.conn.now) }
-    ensures same_reference { tx.new.conn.ghost_name ≡ tx.old.conn.ghost_name }
+fn add_kind<W: Writable>(tx: &mut W, field: RowId, kind: &Kind) -> Result<(), Error>
+    requires inside { IsInside (W.state tx.old) }
+    ensures same_lender { W.lender tx.new ≡ W.lender tx.old }
     ensures made { Makes result (InTurn (AddsChoice field.id) (kind_names kind.now))
-        (state S.Store tx.old.conn.now) (state S.Store tx.new.conn.now) }
-    ensures kept { HasCleanDisk (state S.Store tx.new.conn.now) → KeepsCommit
-        (state S.Store tx.old.conn.now) (state S.Store tx.new.conn.now) }
+        (W.state tx.old) (W.state tx.new) }
+    ensures kept { HasCleanDisk (W.state tx.new) → KeepsCommit
+        (W.state tx.old) (W.state tx.new) }
     ensures survives { Survives
-        (state S.Store tx.old.conn.now) (state S.Store tx.new.conn.now) (λ _. ⊥) }
+        (W.state tx.old) (W.state tx.new) (λ _. ⊥) }
 {
     match kind {
         Kind::Choice { choices } => add_choices(tx, field, choices.names()),
@@ -103,21 +98,17 @@ fn add_kind<S: Alter>(tx: &mut Transaction<'_, S>, field: RowId, kind: &Kind) ->
 }
 
 /// Adds the row.
-fn insert_form<S: Alter>(
-    tx: &mut Transaction<'_, S>,
-    lab: RowId,
-    form: &FormVersion,
-) -> Result<RowId, Error>
-    requires inside { IsInside (state S.Store tx.old.conn.now) }
-    ensures same_reference { tx.new.conn.ghost_name ≡ tx.old.conn.ghost_name }
+fn insert_form<W: Writable>(tx: &mut W, lab: RowId, form: &FormVersion) -> Result<RowId, Error>
+    requires inside { IsInside (W.state tx.old) }
+    ensures same_lender { W.lender tx.new ≡ W.lender tx.old }
     ensures placed { Answers result (λ one before after.
         (one.id ≡ next_key form_id before.forms)
         × (after ≡ with_form lab.id form.now before))
-        (state S.Store tx.old.conn.now) (state S.Store tx.new.conn.now) }
-    ensures kept { HasCleanDisk (state S.Store tx.new.conn.now) → KeepsCommit
-        (state S.Store tx.old.conn.now) (state S.Store tx.new.conn.now) }
+        (W.state tx.old) (W.state tx.new) }
+    ensures kept { HasCleanDisk (W.state tx.new) → KeepsCommit
+        (W.state tx.old) (W.state tx.new) }
     ensures survives { Survives
-        (state S.Store tx.old.conn.now) (state S.Store tx.new.conn.now) (λ _. ⊥) }
+        (W.state tx.old) (W.state tx.new) (λ _. ⊥) }
 {
     let code = form.code.as_str();
     let approval = form.form.approval();
@@ -134,22 +125,22 @@ fn insert_form<S: Alter>(
 }
 
 /// Adds the row.
-fn insert_field<S: Alter>(
-    tx: &mut Transaction<'_, S>,
+fn insert_field<W: Writable>(
+    tx: &mut W,
     form: RowId,
     place: u64,
     field: &Field,
 ) -> Result<RowId, Error>
-    requires inside { IsInside (state S.Store tx.old.conn.now) }
-    ensures same_reference { tx.new.conn.ghost_name ≡ tx.old.conn.ghost_name }
+    requires inside { IsInside (W.state tx.old) }
+    ensures same_lender { W.lender tx.new ≡ W.lender tx.old }
     ensures placed { Answers result (λ one before after.
         (one.id ≡ next_key field_id before.fields)
         × (after ≡ with_field form.id place field.now before))
-        (state S.Store tx.old.conn.now) (state S.Store tx.new.conn.now) }
-    ensures kept { HasCleanDisk (state S.Store tx.new.conn.now) → KeepsCommit
-        (state S.Store tx.old.conn.now) (state S.Store tx.new.conn.now) }
+        (W.state tx.old) (W.state tx.new) }
+    ensures kept { HasCleanDisk (W.state tx.new) → KeepsCommit
+        (W.state tx.old) (W.state tx.new) }
     ensures survives { Survives
-        (state S.Store tx.old.conn.now) (state S.Store tx.new.conn.now) (λ _. ⊥) }
+        (W.state tx.old) (W.state tx.new) (λ _. ⊥) }
 {
     let at = count_value(place)?;
     let key = field.key.as_str();
@@ -175,15 +166,15 @@ fn insert_field<S: Alter>(
 }
 
 /// Adds a field, with its choices, behind those that the form has.
-fn add_field<S: Alter>(tx: &mut Transaction<'_, S>, form: RowId, field: &Field) -> Result<(), Error>
-    requires inside { IsInside (state S.Store tx.old.conn.now) }
-    ensures same_reference { tx.new.conn.ghost_name ≡ tx.old.conn.ghost_name }
+fn add_field<W: Writable>(tx: &mut W, form: RowId, field: &Field) -> Result<(), Error>
+    requires inside { IsInside (W.state tx.old) }
+    ensures same_lender { W.lender tx.new ≡ W.lender tx.old }
     ensures made { Makes result (AddsField form.id field.now)
-        (state S.Store tx.old.conn.now) (state S.Store tx.new.conn.now) }
-    ensures kept { HasCleanDisk (state S.Store tx.new.conn.now) → KeepsCommit
-        (state S.Store tx.old.conn.now) (state S.Store tx.new.conn.now) }
+        (W.state tx.old) (W.state tx.new) }
+    ensures kept { HasCleanDisk (W.state tx.new) → KeepsCommit
+        (W.state tx.old) (W.state tx.new) }
     ensures survives { Survives
-        (state S.Store tx.old.conn.now) (state S.Store tx.new.conn.now) (λ _. ⊥) }
+        (W.state tx.old) (W.state tx.new) (λ _. ⊥) }
 {
     let place = field_place(tx, form)?;
     let id = insert_field(tx, form, place, field)?;
@@ -192,19 +183,15 @@ fn add_field<S: Alter>(tx: &mut Transaction<'_, S>, form: RowId, field: &Field) 
 }
 
 /// Adds fields, one behind the other.
-fn add_fields<S: Alter>(
-    tx: &mut Transaction<'_, S>,
-    form: RowId,
-    fields: &[Field],
-) -> Result<(), Error>
-    requires inside { IsInside (state S.Store tx.old.conn.now) }
-    ensures same_reference { tx.new.conn.ghost_name ≡ tx.old.conn.ghost_name }
+fn add_fields<W: Writable>(tx: &mut W, form: RowId, fields: &[Field]) -> Result<(), Error>
+    requires inside { IsInside (W.state tx.old) }
+    ensures same_lender { W.lender tx.new ≡ W.lender tx.old }
     ensures made { Makes result (InTurn (AddsField form.id) fields.now)
-        (state S.Store tx.old.conn.now) (state S.Store tx.new.conn.now) }
-    ensures kept { HasCleanDisk (state S.Store tx.new.conn.now) → KeepsCommit
-        (state S.Store tx.old.conn.now) (state S.Store tx.new.conn.now) }
+        (W.state tx.old) (W.state tx.new) }
+    ensures kept { HasCleanDisk (W.state tx.new) → KeepsCommit
+        (W.state tx.old) (W.state tx.new) }
     ensures survives { Survives
-        (state S.Store tx.old.conn.now) (state S.Store tx.new.conn.now) (λ _. ⊥) }
+        (W.state tx.old) (W.state tx.new) (λ _. ⊥) }
 {
     for one in fields {
         add_field(tx, form, one)?;
@@ -213,19 +200,15 @@ fn add_fields<S: Alter>(
 }
 
 /// Adds a version of a form with its fields.
-pub fn add_form<S: Alter>(
-    tx: &mut Transaction<'_, S>,
-    lab: RowId,
-    form: &FormVersion,
-) -> Result<(), Error>
-    requires inside { IsInside (state S.Store tx.old.conn.now) }
-    ensures same_reference { tx.new.conn.ghost_name ≡ tx.old.conn.ghost_name }
+pub fn add_form<W: Writable>(tx: &mut W, lab: RowId, form: &FormVersion) -> Result<(), Error>
+    requires inside { IsInside (W.state tx.old) }
+    ensures same_lender { W.lender tx.new ≡ W.lender tx.old }
     ensures made { Makes result (AppliesIn lab.id (FormAdded form.now))
-        (state S.Store tx.old.conn.now) (state S.Store tx.new.conn.now) }
-    ensures kept { HasCleanDisk (state S.Store tx.new.conn.now) → KeepsCommit
-        (state S.Store tx.old.conn.now) (state S.Store tx.new.conn.now) }
+        (W.state tx.old) (W.state tx.new) }
+    ensures kept { HasCleanDisk (W.state tx.new) → KeepsCommit
+        (W.state tx.old) (W.state tx.new) }
     ensures survives { Survives
-        (state S.Store tx.old.conn.now) (state S.Store tx.new.conn.now) (λ _. ⊥) }
+        (W.state tx.old) (W.state tx.new) (λ _. ⊥) }
 {
     let id = insert_form(tx, lab, form)?;
     add_fields(tx, id, form.form.fields())?;

@@ -1,7 +1,6 @@
 //! A version of a form that is named by the key of its table.
 
 ghost use Rattle.std.specs.Prelude.{◌≡◌, Some};
-ghost use Rattle.sqlite.specs.Held.{state};
 ghost use Rattle.sqlite.specs.State.{HasCleanDisk, KeepsCommit, Survives};
 ghost use Rattle.lab_tables.specs.Changes.{form_named};
 ghost use Rattle.lab_writing.specs.Calls.{IsInside, Answers, Finds};
@@ -9,25 +8,25 @@ ghost use Rattle.lab_filing_records.specs.Shown.{forms_shown};
 
 use lab_names::{Key, Ordinal};
 use lab_writing::values::{id_value, ordinal_value, text_value};
-use lab_writing::{RowId, first_id};
-use sqlite::{Alter, Error, Row, Transaction};
+use lab_writing::{RowId, Writable, first_id};
+use sqlite::{Error, Row};
 
 /// The rows of the version of the form, in the laboratory.
-fn form_rows<S: Alter>(
-    tx: &mut Transaction<'_, S>,
+fn form_rows<W: Writable>(
+    tx: &mut W,
     lab: RowId,
     code: &str,
     version: Ordinal,
 ) -> Result<Vec<Row>, Error>
-    requires inside { IsInside (state S.Store tx.old.conn.now) }
-    ensures same_reference { tx.new.conn.ghost_name ≡ tx.old.conn.ghost_name }
+    requires inside { IsInside (W.state tx.old) }
+    ensures same_lender { W.lender tx.new ≡ W.lender tx.old }
     ensures rows { Answers result (λ rows. Finds (λ t.
         rows.items ≡ forms_shown lab.id code.now version t))
-        (state S.Store tx.old.conn.now) (state S.Store tx.new.conn.now) }
-    ensures kept { HasCleanDisk (state S.Store tx.new.conn.now) → KeepsCommit
-        (state S.Store tx.old.conn.now) (state S.Store tx.new.conn.now) }
+        (W.state tx.old) (W.state tx.new) }
+    ensures kept { HasCleanDisk (W.state tx.new) → KeepsCommit
+        (W.state tx.old) (W.state tx.new) }
     ensures survives { Survives
-        (state S.Store tx.old.conn.now) (state S.Store tx.new.conn.now) (λ _. ⊥) }
+        (W.state tx.old) (W.state tx.new) (λ _. ⊥) }
 {
     tx.query_all(
         "SELECT id FROM forms WHERE lab = ?1 AND code = ?2 AND version = ?3 ORDER BY id",
@@ -38,21 +37,21 @@ fn form_rows<S: Alter>(
 /// The version of the form, in the laboratory.
 ///
 /// Errors: also that there is none.
-pub(crate) fn form_id_at<S: Alter>(
-    tx: &mut Transaction<'_, S>,
+pub(crate) fn form_id_at<W: Writable>(
+    tx: &mut W,
     lab: RowId,
     code: &Key,
     version: Ordinal,
 ) -> Result<RowId, Error>
-    requires inside { IsInside (state S.Store tx.old.conn.now) }
-    ensures same_reference { tx.new.conn.ghost_name ≡ tx.old.conn.ghost_name }
+    requires inside { IsInside (W.state tx.old) }
+    ensures same_lender { W.lender tx.new ≡ W.lender tx.old }
     ensures found { Answers result (λ one. Finds (λ t.
         form_named t lab.id code.now version ≡ Some one.id))
-        (state S.Store tx.old.conn.now) (state S.Store tx.new.conn.now) }
-    ensures kept { HasCleanDisk (state S.Store tx.new.conn.now) → KeepsCommit
-        (state S.Store tx.old.conn.now) (state S.Store tx.new.conn.now) }
+        (W.state tx.old) (W.state tx.new) }
+    ensures kept { HasCleanDisk (W.state tx.new) → KeepsCommit
+        (W.state tx.old) (W.state tx.new) }
     ensures survives { Survives
-        (state S.Store tx.old.conn.now) (state S.Store tx.new.conn.now) (λ _. ⊥) }
+        (W.state tx.old) (W.state tx.new) (λ _. ⊥) }
 {
     let rows = form_rows(tx, lab, code.as_str(), version)?;
     first_id(&rows)

@@ -1,7 +1,6 @@
 //! Records, each with its versions.
 
 ghost use Rattle.std.specs.Prelude.{◌≡◌};
-ghost use Rattle.sqlite.specs.Held.{state};
 ghost use Rattle.sqlite.specs.State.{HasCleanDisk, KeepsCommit, Survives};
 ghost use Rattle.sqlite_keyed.specs.Keyed.{next_key};
 ghost use Rattle.lab_kept.specs.declared.changes.Change.TheVariants.{RecordAdded};
@@ -14,29 +13,29 @@ use crate::named::form_id_at;
 use crate::versions::add_version;
 use lab_kept::{Record, Version};
 use lab_names::Ordinal;
-use lab_writing::RowId;
 use lab_writing::ids::insert;
 use lab_writing::statements::run;
 use lab_writing::values::{count_value, id_value, ordinal_value, text_value};
-use sqlite::{Alter, Error, Transaction};
+use lab_writing::{RowId, Writable};
+use sqlite::Error;
 
 /// Adds the row.
-fn insert_record<S: Alter>(
-    tx: &mut Transaction<'_, S>,
+fn insert_record<W: Writable>(
+    tx: &mut W,
     lab: RowId,
     form: RowId,
     kept: &Record,
 ) -> Result<RowId, Error>
-    requires inside { IsInside (state S.Store tx.old.conn.now) }
-    ensures same_reference { tx.new.conn.ghost_name ≡ tx.old.conn.ghost_name }
+    requires inside { IsInside (W.state tx.old) }
+    ensures same_lender { W.lender tx.new ≡ W.lender tx.old }
     ensures placed { Answers result (λ one before after.
         (one.id ≡ next_key record_id before.records)
         × (after ≡ with_record lab.id form.id kept.now before))
-        (state S.Store tx.old.conn.now) (state S.Store tx.new.conn.now) }
-    ensures kept { HasCleanDisk (state S.Store tx.new.conn.now) → KeepsCommit
-        (state S.Store tx.old.conn.now) (state S.Store tx.new.conn.now) }
+        (W.state tx.old) (W.state tx.new) }
+    ensures kept { HasCleanDisk (W.state tx.new) → KeepsCommit
+        (W.state tx.old) (W.state tx.new) }
     ensures survives { Survives
-        (state S.Store tx.old.conn.now) (state S.Store tx.new.conn.now) (λ _. ⊥) }
+        (W.state tx.old) (W.state tx.new) (λ _. ⊥) }
 {
     let code = kept.form.code.as_str();
     let sample = kept.sample.as_str();
@@ -57,20 +56,16 @@ fn insert_record<S: Alter>(
 }
 
 /// Sets how many records the laboratory has.
-fn set_records<S: Alter>(
-    tx: &mut Transaction<'_, S>,
-    lab: RowId,
-    count: Ordinal,
-) -> Result<usize, Error>
-    requires inside { IsInside (state S.Store tx.old.conn.now) }
-    ensures same_reference { tx.new.conn.ghost_name ≡ tx.old.conn.ghost_name }
+fn set_records<W: Writable>(tx: &mut W, lab: RowId, count: Ordinal) -> Result<usize, Error>
+    requires inside { IsInside (W.state tx.old) }
+    ensures same_lender { W.lender tx.new ≡ W.lender tx.old }
     ensures made { Makes result (λ before after. after
         ≡ in_lab lab.id (λ (one : LabRow). record one { records = count }) before)
-        (state S.Store tx.old.conn.now) (state S.Store tx.new.conn.now) }
-    ensures kept { HasCleanDisk (state S.Store tx.new.conn.now) → KeepsCommit
-        (state S.Store tx.old.conn.now) (state S.Store tx.new.conn.now) }
+        (W.state tx.old) (W.state tx.new) }
+    ensures kept { HasCleanDisk (W.state tx.new) → KeepsCommit
+        (W.state tx.old) (W.state tx.new) }
     ensures survives { Survives
-        (state S.Store tx.old.conn.now) (state S.Store tx.new.conn.now) (λ _. ⊥) }
+        (W.state tx.old) (W.state tx.new) (λ _. ⊥) }
 {
     run(
         tx,
@@ -80,20 +75,20 @@ fn set_records<S: Alter>(
 }
 
 /// Adds versions, one after the other.
-fn add_versions<S: Alter>(
-    tx: &mut Transaction<'_, S>,
+fn add_versions<W: Writable>(
+    tx: &mut W,
     lab: RowId,
     kept: RowId,
     versions: &[Version],
 ) -> Result<(), Error>
-    requires inside { IsInside (state S.Store tx.old.conn.now) }
-    ensures same_reference { tx.new.conn.ghost_name ≡ tx.old.conn.ghost_name }
+    requires inside { IsInside (W.state tx.old) }
+    ensures same_lender { W.lender tx.new ≡ W.lender tx.old }
     ensures made { Makes result (InTurn (AddsVersion lab.id kept.id) versions.now)
-        (state S.Store tx.old.conn.now) (state S.Store tx.new.conn.now) }
-    ensures kept { HasCleanDisk (state S.Store tx.new.conn.now) → KeepsCommit
-        (state S.Store tx.old.conn.now) (state S.Store tx.new.conn.now) }
+        (W.state tx.old) (W.state tx.new) }
+    ensures kept { HasCleanDisk (W.state tx.new) → KeepsCommit
+        (W.state tx.old) (W.state tx.new) }
     ensures survives { Survives
-        (state S.Store tx.old.conn.now) (state S.Store tx.new.conn.now) (λ _. ⊥) }
+        (W.state tx.old) (W.state tx.new) (λ _. ⊥) }
 {
     for one in versions {
         add_version(tx, lab, kept, one)?;
@@ -104,19 +99,15 @@ fn add_versions<S: Alter>(
 /// Adds a record with its versions.
 ///
 /// Errors: also that there is no such version of a form, or nobody of a code.
-pub fn add_record<S: Alter>(
-    tx: &mut Transaction<'_, S>,
-    lab: RowId,
-    kept: &Record,
-) -> Result<(), Error>
-    requires inside { IsInside (state S.Store tx.old.conn.now) }
-    ensures same_reference { tx.new.conn.ghost_name ≡ tx.old.conn.ghost_name }
+pub fn add_record<W: Writable>(tx: &mut W, lab: RowId, kept: &Record) -> Result<(), Error>
+    requires inside { IsInside (W.state tx.old) }
+    ensures same_lender { W.lender tx.new ≡ W.lender tx.old }
     ensures made { Makes result (AppliesIn lab.id (RecordAdded kept.now))
-        (state S.Store tx.old.conn.now) (state S.Store tx.new.conn.now) }
-    ensures kept { HasCleanDisk (state S.Store tx.new.conn.now) → KeepsCommit
-        (state S.Store tx.old.conn.now) (state S.Store tx.new.conn.now) }
+        (W.state tx.old) (W.state tx.new) }
+    ensures kept { HasCleanDisk (W.state tx.new) → KeepsCommit
+        (W.state tx.old) (W.state tx.new) }
     ensures survives { Survives
-        (state S.Store tx.old.conn.now) (state S.Store tx.new.conn.now) (λ _. ⊥) }
+        (W.state tx.old) (W.state tx.new) (λ _. ⊥) }
 {
     let form = form_id_at(tx, lab, &kept.form.code, kept.form.version)?;
     let id = insert_record(tx, lab, form, kept)?;

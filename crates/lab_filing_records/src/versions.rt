@@ -1,7 +1,6 @@
 //! Versions of records, each with its rows and its signatures.
 
 ghost use Rattle.std.specs.Prelude.{◌≡◌};
-ghost use Rattle.sqlite.specs.Held.{state};
 ghost use Rattle.sqlite.specs.State.{HasCleanDisk, KeepsCommit, Survives};
 ghost use Rattle.sqlite_keyed.specs.Keyed.{next_key};
 ghost use Rattle.lab_kept.specs.declared.changes.Change.TheVariants.{VersionOpened};
@@ -19,8 +18,8 @@ use lab_seal::{EntryRow, Format};
 use lab_writing::ids::insert;
 use lab_writing::statements::run;
 use lab_writing::values::{id_value, moment_value, ordinal_value, small_value};
-use lab_writing::{RowId, person_id_at};
-use sqlite::{Alter, Error, Transaction};
+use lab_writing::{RowId, Writable, person_id_at};
+use sqlite::Error;
 
 /// The number of a format.
 fn format_number(format: Format) -> u32
@@ -33,22 +32,22 @@ fn format_number(format: Format) -> u32
 }
 
 /// Adds the row.
-fn insert_version<S: Alter>(
-    tx: &mut Transaction<'_, S>,
+fn insert_version<W: Writable>(
+    tx: &mut W,
     kept: RowId,
     opener: RowId,
     version: &Version,
 ) -> Result<RowId, Error>
-    requires inside { IsInside (state S.Store tx.old.conn.now) }
-    ensures same_reference { tx.new.conn.ghost_name ≡ tx.old.conn.ghost_name }
+    requires inside { IsInside (W.state tx.old) }
+    ensures same_lender { W.lender tx.new ≡ W.lender tx.old }
     ensures placed { Answers result (λ one before after.
         (one.id ≡ next_key version_id before.versions)
         × (after ≡ with_version kept.id opener.id version.now before))
-        (state S.Store tx.old.conn.now) (state S.Store tx.new.conn.now) }
-    ensures kept { HasCleanDisk (state S.Store tx.new.conn.now) → KeepsCommit
-        (state S.Store tx.old.conn.now) (state S.Store tx.new.conn.now) }
+        (W.state tx.old) (W.state tx.new) }
+    ensures kept { HasCleanDisk (W.state tx.new) → KeepsCommit
+        (W.state tx.old) (W.state tx.new) }
     ensures survives { Survives
-        (state S.Store tx.old.conn.now) (state S.Store tx.new.conn.now) (λ _. ⊥) }
+        (W.state tx.old) (W.state tx.new) (λ _. ⊥) }
 {
     let number = version.origin.number();
     let format = format_number(version.format);
@@ -67,20 +66,20 @@ fn insert_version<S: Alter>(
 }
 
 /// Adds entries, one behind the other.
-fn add_entries<S: Alter>(
-    tx: &mut Transaction<'_, S>,
+fn add_entries<W: Writable>(
+    tx: &mut W,
     lab: RowId,
     version: RowId,
     rows: &[EntryRow],
 ) -> Result<(), Error>
-    requires inside { IsInside (state S.Store tx.old.conn.now) }
-    ensures same_reference { tx.new.conn.ghost_name ≡ tx.old.conn.ghost_name }
+    requires inside { IsInside (W.state tx.old) }
+    ensures same_lender { W.lender tx.new ≡ W.lender tx.old }
     ensures made { Makes result (InTurn (AddsEntry lab.id version.id) rows.now)
-        (state S.Store tx.old.conn.now) (state S.Store tx.new.conn.now) }
-    ensures kept { HasCleanDisk (state S.Store tx.new.conn.now) → KeepsCommit
-        (state S.Store tx.old.conn.now) (state S.Store tx.new.conn.now) }
+        (W.state tx.old) (W.state tx.new) }
+    ensures kept { HasCleanDisk (W.state tx.new) → KeepsCommit
+        (W.state tx.old) (W.state tx.new) }
     ensures survives { Survives
-        (state S.Store tx.old.conn.now) (state S.Store tx.new.conn.now) (λ _. ⊥) }
+        (W.state tx.old) (W.state tx.new) (λ _. ⊥) }
 {
     for one in rows {
         add_entry(tx, lab, version, one)?;
@@ -89,20 +88,20 @@ fn add_entries<S: Alter>(
 }
 
 /// Adds signatures, one behind the other.
-fn add_signatures<S: Alter>(
-    tx: &mut Transaction<'_, S>,
+fn add_signatures<W: Writable>(
+    tx: &mut W,
     lab: RowId,
     version: RowId,
     signatures: &[Signature],
 ) -> Result<(), Error>
-    requires inside { IsInside (state S.Store tx.old.conn.now) }
-    ensures same_reference { tx.new.conn.ghost_name ≡ tx.old.conn.ghost_name }
+    requires inside { IsInside (W.state tx.old) }
+    ensures same_lender { W.lender tx.new ≡ W.lender tx.old }
     ensures made { Makes result (InTurn (AddsSignature lab.id version.id) signatures.now)
-        (state S.Store tx.old.conn.now) (state S.Store tx.new.conn.now) }
-    ensures kept { HasCleanDisk (state S.Store tx.new.conn.now) → KeepsCommit
-        (state S.Store tx.old.conn.now) (state S.Store tx.new.conn.now) }
+        (W.state tx.old) (W.state tx.new) }
+    ensures kept { HasCleanDisk (W.state tx.new) → KeepsCommit
+        (W.state tx.old) (W.state tx.new) }
     ensures survives { Survives
-        (state S.Store tx.old.conn.now) (state S.Store tx.new.conn.now) (λ _. ⊥) }
+        (W.state tx.old) (W.state tx.new) (λ _. ⊥) }
 {
     for one in signatures {
         add_signature(tx, lab, version, one)?;
@@ -113,20 +112,20 @@ fn add_signatures<S: Alter>(
 /// Adds a version with its rows and its signatures.
 ///
 /// Errors: also that nobody has the code of who opened, entered or signed.
-pub(crate) fn add_version<S: Alter>(
-    tx: &mut Transaction<'_, S>,
+pub(crate) fn add_version<W: Writable>(
+    tx: &mut W,
     lab: RowId,
     kept: RowId,
     version: &Version,
 ) -> Result<(), Error>
-    requires inside { IsInside (state S.Store tx.old.conn.now) }
-    ensures same_reference { tx.new.conn.ghost_name ≡ tx.old.conn.ghost_name }
+    requires inside { IsInside (W.state tx.old) }
+    ensures same_lender { W.lender tx.new ≡ W.lender tx.old }
     ensures made { Makes result (AddsVersion lab.id kept.id version.now)
-        (state S.Store tx.old.conn.now) (state S.Store tx.new.conn.now) }
-    ensures kept { HasCleanDisk (state S.Store tx.new.conn.now) → KeepsCommit
-        (state S.Store tx.old.conn.now) (state S.Store tx.new.conn.now) }
+        (W.state tx.old) (W.state tx.new) }
+    ensures kept { HasCleanDisk (W.state tx.new) → KeepsCommit
+        (W.state tx.old) (W.state tx.new) }
     ensures survives { Survives
-        (state S.Store tx.old.conn.now) (state S.Store tx.new.conn.now) (λ _. ⊥) }
+        (W.state tx.old) (W.state tx.new) (λ _. ⊥) }
 {
     let opener = person_id_at(tx, lab, &version.opener)?;
     let id = insert_version(tx, kept, opener, version)?;
@@ -136,19 +135,15 @@ pub(crate) fn add_version<S: Alter>(
 }
 
 /// Sets which version of the record is the current one.
-fn set_current<S: Alter>(
-    tx: &mut Transaction<'_, S>,
-    kept: RowId,
-    version: Ordinal,
-) -> Result<usize, Error>
-    requires inside { IsInside (state S.Store tx.old.conn.now) }
-    ensures same_reference { tx.new.conn.ghost_name ≡ tx.old.conn.ghost_name }
+fn set_current<W: Writable>(tx: &mut W, kept: RowId, version: Ordinal) -> Result<usize, Error>
+    requires inside { IsInside (W.state tx.old) }
+    ensures same_lender { W.lender tx.new ≡ W.lender tx.old }
     ensures made { Makes result (λ before after. after ≡ with_current kept.id version before)
-        (state S.Store tx.old.conn.now) (state S.Store tx.new.conn.now) }
-    ensures kept { HasCleanDisk (state S.Store tx.new.conn.now) → KeepsCommit
-        (state S.Store tx.old.conn.now) (state S.Store tx.new.conn.now) }
+        (W.state tx.old) (W.state tx.new) }
+    ensures kept { HasCleanDisk (W.state tx.new) → KeepsCommit
+        (W.state tx.old) (W.state tx.new) }
     ensures survives { Survives
-        (state S.Store tx.old.conn.now) (state S.Store tx.new.conn.now) (λ _. ⊥) }
+        (W.state tx.old) (W.state tx.new) (λ _. ⊥) }
 {
     run(
         tx,
@@ -160,20 +155,20 @@ fn set_current<S: Alter>(
 /// Adds a version of a record, which is then the current one.
 ///
 /// Errors: also that there is no record of the number, or nobody of a code.
-pub fn open_version<S: Alter>(
-    tx: &mut Transaction<'_, S>,
+pub fn open_version<W: Writable>(
+    tx: &mut W,
     lab: RowId,
     wanted: Ordinal,
     version: &Version,
 ) -> Result<(), Error>
-    requires inside { IsInside (state S.Store tx.old.conn.now) }
-    ensures same_reference { tx.new.conn.ghost_name ≡ tx.old.conn.ghost_name }
+    requires inside { IsInside (W.state tx.old) }
+    ensures same_lender { W.lender tx.new ≡ W.lender tx.old }
     ensures made { Makes result (AppliesIn lab.id (VersionOpened wanted version.now))
-        (state S.Store tx.old.conn.now) (state S.Store tx.new.conn.now) }
-    ensures kept { HasCleanDisk (state S.Store tx.new.conn.now) → KeepsCommit
-        (state S.Store tx.old.conn.now) (state S.Store tx.new.conn.now) }
+        (W.state tx.old) (W.state tx.new) }
+    ensures kept { HasCleanDisk (W.state tx.new) → KeepsCommit
+        (W.state tx.old) (W.state tx.new) }
     ensures survives { Survives
-        (state S.Store tx.old.conn.now) (state S.Store tx.new.conn.now) (λ _. ⊥) }
+        (W.state tx.old) (W.state tx.new) (λ _. ⊥) }
 {
     let kept = record_at(tx, lab, wanted)?;
     add_version(tx, lab, kept.id, version)?;

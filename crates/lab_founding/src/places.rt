@@ -2,20 +2,22 @@
 
 ghost use Rattle.std.specs.Prelude.{◌≡◌, ◌≢◌, IfOk, IfErr, OnOk, find, is_some, slice_get};
 ghost use Rattle.sqlite.specs.Held.{state};
-ghost use Rattle.sqlite.specs.State.{HasCleanDisk, IsUnchanged, KeepsCommit};
+ghost use Rattle.sqlite.specs.State.{HasCleanDisk, IsUnchanged, KeepsCommit, Survives};
 ghost use Rattle.lab_kept.specs.declared.faults.PlacingFault.TheVariants.{LabExists};
 ghost use Rattle.lab_tables.specs.Meaning.{has_code};
 ghost use Rattle.lab_tables.specs.Ready.{IsAtRest, IsReady, PassesBy, tables_of};
 ghost use Rattle.lab_reading.specs.Shown.{labs_shown};
+ghost use Rattle.lab_writing.specs.Calls.{IsInside, Makes};
 ghost use Rattle.lab_founding.specs.Commits.{Ends};
 ghost use Rattle.lab_founding.specs.Newborns.{AddsRows};
 
 use crate::rows::add_rows;
 use lab_columns::asking::rows_by_text;
 use lab_columns::{ReadFault, Readable};
+use lab_connections::Inside;
 use lab_kept::{Lab, PlacingFault};
 use lab_names::LabCode;
-use sqlite::{Alter, Connection, Error, Row};
+use sqlite::{Alter, Connection, Error, Row, Transaction};
 
 /// What an error of the store is told as.
 fn placing_fault(error: Error) -> PlacingFault
@@ -70,6 +72,21 @@ pub(crate) fn is_there<D: Readable>(conn: &mut D, code: &LabCode) -> Result<bool
     }
 }
 
+/// Adds the rows of the laboratory inside the transaction.
+fn add_inside<S: Alter>(tx: &mut Transaction<'_, S>, lab: &Lab) -> Result<(), Error>
+    requires inside { IsInside (state S.Store tx.old.conn.now) }
+    ensures same_reference { tx.new.conn.ghost_name ≡ tx.old.conn.ghost_name }
+    ensures made { Makes result (AddsRows lab.now)
+        (state S.Store tx.old.conn.now) (state S.Store tx.new.conn.now) }
+    ensures kept { HasCleanDisk (state S.Store tx.new.conn.now) → KeepsCommit
+        (state S.Store tx.old.conn.now) (state S.Store tx.new.conn.now) }
+    ensures survives { Survives
+        (state S.Store tx.old.conn.now) (state S.Store tx.new.conn.now) (λ _. ⊥) }
+{
+    let mut inside = Inside { tx };
+    add_rows(&mut inside, lab)
+}
+
 /// Adds the rows of the laboratory in one transaction.
 fn commit_rows<S: Alter>(conn: &mut Connection<S>, lab: &Lab) -> Result<(), Error>
     requires at_rest { IsAtRest (state S.Store conn.old) }
@@ -77,7 +94,7 @@ fn commit_rows<S: Alter>(conn: &mut Connection<S>, lab: &Lab) -> Result<(), Erro
         (state S.Store conn.old) (state S.Store conn.new) }
 {
     let mut tx = conn.transaction();
-    add_rows(&mut tx, lab)?;
+    add_inside(&mut tx, lab)?;
     tx.commit()
 }
 

@@ -2,7 +2,6 @@
 
 ghost use Rattle.std.specs.Prelude.{◌≡◌, OnOk};
 ghost use Rattle.sqlite.specs.Effect.{IsDatabase};
-ghost use Rattle.sqlite.specs.Held.{state};
 ghost use Rattle.sqlite.specs.State.{HasCleanDisk, KeepsCommit, Survives};
 ghost use Rattle.lab_tables.specs.Changes.{InTurn, AddsPerson, AddsTold};
 ghost use Rattle.lab_tables.specs.Held.{IsTyped};
@@ -13,25 +12,25 @@ use lab_access::Person;
 use lab_kept::{Lab, TrailRow};
 use lab_writing::statements::run;
 use lab_writing::values::{count_value, moment_value, text_value};
-use lab_writing::{RowId, add_told};
+use lab_writing::{RowId, Writable, add_told};
 use lab_writing_persons::add_person;
-use sqlite::{Alter, Error, Transaction};
+use sqlite::Error;
 
 /// Adds the laboratory's row, and tells its id.
 ///
 /// Errors: also a number that is too great for the store.
-fn add_lab<S: Alter>(tx: &mut Transaction<'_, S>, lab: &Lab) -> Result<RowId, Error>
-    requires inside { IsInside (state S.Store tx.old.conn.now) }
-    ensures same_reference { tx.new.conn.ghost_name ≡ tx.old.conn.ghost_name }
+fn add_lab<W: Writable>(tx: &mut W, lab: &Lab) -> Result<RowId, Error>
+    requires inside { IsInside (W.state tx.old) }
+    ensures same_lender { W.lender tx.new ≡ W.lender tx.old }
     ensures made { Answers result (λ one. AddsLab one.id lab.now)
-        (state S.Store tx.old.conn.now) (state S.Store tx.new.conn.now) }
+        (W.state tx.old) (W.state tx.new) }
     // The database keeps its own rules then, whatever it did before:
-    ensures rules { HasCleanDisk (state S.Store tx.new.conn.now) → OnOk result
-        (IsTyped (state S.Store tx.old.conn.now).now → IsDatabase (state S.Store tx.new.conn.now).now) }
-    ensures kept { HasCleanDisk (state S.Store tx.new.conn.now) → KeepsCommit
-        (state S.Store tx.old.conn.now) (state S.Store tx.new.conn.now) }
+    ensures rules { HasCleanDisk (W.state tx.new) → OnOk result
+        (IsTyped (W.state tx.old).now → IsDatabase (W.state tx.new).now) }
+    ensures kept { HasCleanDisk (W.state tx.new) → KeepsCommit
+        (W.state tx.old) (W.state tx.new) }
     ensures survives { Survives
-        (state S.Store tx.old.conn.now) (state S.Store tx.new.conn.now) (λ _. ⊥) }
+        (W.state tx.old) (W.state tx.new) (λ _. ⊥) }
 {
     let code = lab.code.as_str();
     let name = lab.name.as_str();
@@ -51,19 +50,15 @@ fn add_lab<S: Alter>(tx: &mut Transaction<'_, S>, lab: &Lab) -> Result<RowId, Er
 }
 
 /// Adds the persons, one after the other.
-fn add_persons<S: Alter>(
-    tx: &mut Transaction<'_, S>,
-    lab: RowId,
-    persons: &[Person],
-) -> Result<(), Error>
-    requires inside { IsInside (state S.Store tx.old.conn.now) }
-    ensures same_reference { tx.new.conn.ghost_name ≡ tx.old.conn.ghost_name }
+fn add_persons<W: Writable>(tx: &mut W, lab: RowId, persons: &[Person]) -> Result<(), Error>
+    requires inside { IsInside (W.state tx.old) }
+    ensures same_lender { W.lender tx.new ≡ W.lender tx.old }
     ensures made { Makes result (InTurn (AddsPerson lab.id) persons.now)
-        (state S.Store tx.old.conn.now) (state S.Store tx.new.conn.now) }
-    ensures kept { HasCleanDisk (state S.Store tx.new.conn.now) → KeepsCommit
-        (state S.Store tx.old.conn.now) (state S.Store tx.new.conn.now) }
+        (W.state tx.old) (W.state tx.new) }
+    ensures kept { HasCleanDisk (W.state tx.new) → KeepsCommit
+        (W.state tx.old) (W.state tx.new) }
     ensures survives { Survives
-        (state S.Store tx.old.conn.now) (state S.Store tx.new.conn.now) (λ _. ⊥) }
+        (W.state tx.old) (W.state tx.new) (λ _. ⊥) }
 {
     for person in persons {
         add_person(tx, lab, person)?;
@@ -72,19 +67,15 @@ fn add_persons<S: Alter>(
 }
 
 /// Adds the rows of the trail, one after the other.
-fn add_trail<S: Alter>(
-    tx: &mut Transaction<'_, S>,
-    lab: RowId,
-    trail: &[TrailRow],
-) -> Result<(), Error>
-    requires inside { IsInside (state S.Store tx.old.conn.now) }
-    ensures same_reference { tx.new.conn.ghost_name ≡ tx.old.conn.ghost_name }
+fn add_trail<W: Writable>(tx: &mut W, lab: RowId, trail: &[TrailRow]) -> Result<(), Error>
+    requires inside { IsInside (W.state tx.old) }
+    ensures same_lender { W.lender tx.new ≡ W.lender tx.old }
     ensures made { Makes result (InTurn (AddsTold lab.id) trail.now)
-        (state S.Store tx.old.conn.now) (state S.Store tx.new.conn.now) }
-    ensures kept { HasCleanDisk (state S.Store tx.new.conn.now) → KeepsCommit
-        (state S.Store tx.old.conn.now) (state S.Store tx.new.conn.now) }
+        (W.state tx.old) (W.state tx.new) }
+    ensures kept { HasCleanDisk (W.state tx.new) → KeepsCommit
+        (W.state tx.old) (W.state tx.new) }
     ensures survives { Survives
-        (state S.Store tx.old.conn.now) (state S.Store tx.new.conn.now) (λ _. ⊥) }
+        (W.state tx.old) (W.state tx.new) (λ _. ⊥) }
 {
     for told in trail {
         add_told(tx, lab, told)?;
@@ -93,15 +84,15 @@ fn add_trail<S: Alter>(
 }
 
 /// Adds all of it.
-pub fn add_rows<S: Alter>(tx: &mut Transaction<'_, S>, lab: &Lab) -> Result<(), Error>
-    requires inside { IsInside (state S.Store tx.old.conn.now) }
-    ensures same_reference { tx.new.conn.ghost_name ≡ tx.old.conn.ghost_name }
+pub fn add_rows<W: Writable>(tx: &mut W, lab: &Lab) -> Result<(), Error>
+    requires inside { IsInside (W.state tx.old) }
+    ensures same_lender { W.lender tx.new ≡ W.lender tx.old }
     ensures made { Makes result (AddsRows lab.now)
-        (state S.Store tx.old.conn.now) (state S.Store tx.new.conn.now) }
-    ensures kept { HasCleanDisk (state S.Store tx.new.conn.now) → KeepsCommit
-        (state S.Store tx.old.conn.now) (state S.Store tx.new.conn.now) }
+        (W.state tx.old) (W.state tx.new) }
+    ensures kept { HasCleanDisk (W.state tx.new) → KeepsCommit
+        (W.state tx.old) (W.state tx.new) }
     ensures survives { Survives
-        (state S.Store tx.old.conn.now) (state S.Store tx.new.conn.now) (λ _. ⊥) }
+        (W.state tx.old) (W.state tx.new) (λ _. ⊥) }
 {
     let row = add_lab(tx, lab)?;
     add_persons(tx, row, lab.persons.as_slice())?;

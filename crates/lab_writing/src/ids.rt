@@ -1,31 +1,27 @@
 //! A row more whose id is wanted.
 
 ghost use Rattle.std.specs.Prelude.{◌≡◌, ℕ, Ok, IfOk};
-ghost use Rattle.sqlite.specs.Held.{state};
 ghost use Rattle.sqlite.specs.State.{HasCleanDisk, KeepsCommit, Survives, ExecutesInside};
 ghost use Rattle.sqlite.specs.Values.{bound};
 ghost use Rattle.lab_writing.specs.Calls.{IsInside};
 
 use crate::statements::{RowId, run};
+use crate::writable::Writable;
+use sqlite::Error;
 use sqlite::types::ValueRef;
-use sqlite::{Alter, Error, Transaction};
 
 /// Runs a statement that adds a row, and answers the row's id.
-pub fn insert<S: Alter>(
-    tx: &mut Transaction<'_, S>,
-    text: &str,
-    params: &[ValueRef<'_>],
-) -> Result<RowId, Error>
-    requires inside { IsInside (state S.Store tx.old.conn.now) }
-    ensures same_reference { tx.new.conn.ghost_name ≡ tx.old.conn.ghost_name }
-    ensures ran { HasCleanDisk (state S.Store tx.new.conn.now) →
+pub fn insert<W: Writable>(tx: &mut W, text: &str, params: &[ValueRef<'_>]) -> Result<RowId, Error>
+    requires inside { IsInside (W.state tx.old) }
+    ensures same_lender { W.lender tx.new ≡ W.lender tx.old }
+    ensures ran { HasCleanDisk (W.state tx.new) →
         IfOk result (λ one. (count : ℕ) × ExecutesInside 0 text.now (bound params.now)
-        (state S.Store tx.old.conn.now) (state S.Store tx.new.conn.now) (Ok count)
-        × (one.id ≡ (state S.Store tx.new.conn.now).last_rowid)) }
-    ensures kept { HasCleanDisk (state S.Store tx.new.conn.now) → KeepsCommit
-        (state S.Store tx.old.conn.now) (state S.Store tx.new.conn.now) }
+        (W.state tx.old) (W.state tx.new) (Ok count)
+        × (one.id ≡ (W.state tx.new).last_rowid)) }
+    ensures kept { HasCleanDisk (W.state tx.new) → KeepsCommit
+        (W.state tx.old) (W.state tx.new) }
     ensures survives { Survives
-        (state S.Store tx.old.conn.now) (state S.Store tx.new.conn.now) (λ _. ⊥) }
+        (W.state tx.old) (W.state tx.new) (λ _. ⊥) }
 {
     run(tx, text, params)?;
     Ok(RowId {

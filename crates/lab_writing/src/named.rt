@@ -1,7 +1,6 @@
 //! Who and which session is named, by keys of the tables.
 
 ghost use Rattle.std.specs.Prelude.{◌≡◌, Some, option_map, slice_get, find, IfOk};
-ghost use Rattle.sqlite.specs.Held.{state};
 ghost use Rattle.sqlite.specs.State.{HasCleanDisk, KeepsCommit, Survives};
 ghost use Rattle.lab_tables.specs.Rows.{lab_id, session_id};
 ghost use Rattle.lab_tables.specs.Meaning.{has_code};
@@ -12,9 +11,10 @@ ghost use Rattle.lab_writing.specs.Shown.{labs_shown, persons_shown, sessions_sh
 
 use crate::statements::RowId;
 use crate::values::{blob_value, id_value, text_value};
+use crate::writable::Writable;
 use lab_names::{LabCode, PersonCode};
 use lab_secrets::Digest;
-use sqlite::{Alter, Error, Row, Transaction};
+use sqlite::{Error, Row};
 
 /// The id that a row shows first.
 pub fn id_of(row: &Row) -> Result<RowId, Error>
@@ -35,15 +35,15 @@ pub fn first_id(rows: &[Row]) -> Result<RowId, Error>
 }
 
 /// The rows of the laboratory of the code.
-fn lab_rows<S: Alter>(tx: &mut Transaction<'_, S>, code: &str) -> Result<Vec<Row>, Error>
-    requires inside { IsInside (state S.Store tx.old.conn.now) }
-    ensures same_reference { tx.new.conn.ghost_name ≡ tx.old.conn.ghost_name }
+fn lab_rows<W: Writable>(tx: &mut W, code: &str) -> Result<Vec<Row>, Error>
+    requires inside { IsInside (W.state tx.old) }
+    ensures same_lender { W.lender tx.new ≡ W.lender tx.old }
     ensures rows { Answers result (λ rows. Finds (λ t. rows.items ≡ labs_shown code.now t))
-        (state S.Store tx.old.conn.now) (state S.Store tx.new.conn.now) }
-    ensures kept { HasCleanDisk (state S.Store tx.new.conn.now) → KeepsCommit
-        (state S.Store tx.old.conn.now) (state S.Store tx.new.conn.now) }
+        (W.state tx.old) (W.state tx.new) }
+    ensures kept { HasCleanDisk (W.state tx.new) → KeepsCommit
+        (W.state tx.old) (W.state tx.new) }
     ensures survives { Survives
-        (state S.Store tx.old.conn.now) (state S.Store tx.new.conn.now) (λ _. ⊥) }
+        (W.state tx.old) (W.state tx.new) (λ _. ⊥) }
 {
     tx.query_all(
         "SELECT id FROM labs WHERE code = ?1 ORDER BY id",
@@ -54,35 +54,31 @@ fn lab_rows<S: Alter>(tx: &mut Transaction<'_, S>, code: &str) -> Result<Vec<Row
 /// The laboratory of the code.
 ///
 /// Errors: also that there is none.
-pub fn lab_id_at<S: Alter>(tx: &mut Transaction<'_, S>, code: &LabCode) -> Result<RowId, Error>
-    requires inside { IsInside (state S.Store tx.old.conn.now) }
-    ensures same_reference { tx.new.conn.ghost_name ≡ tx.old.conn.ghost_name }
+pub fn lab_id_at<W: Writable>(tx: &mut W, code: &LabCode) -> Result<RowId, Error>
+    requires inside { IsInside (W.state tx.old) }
+    ensures same_lender { W.lender tx.new ≡ W.lender tx.old }
     ensures found { Answers result (λ one. Finds (λ t.
         option_map lab_id (find (has_code code.now) t.labs) ≡ Some one.id))
-        (state S.Store tx.old.conn.now) (state S.Store tx.new.conn.now) }
-    ensures kept { HasCleanDisk (state S.Store tx.new.conn.now) → KeepsCommit
-        (state S.Store tx.old.conn.now) (state S.Store tx.new.conn.now) }
+        (W.state tx.old) (W.state tx.new) }
+    ensures kept { HasCleanDisk (W.state tx.new) → KeepsCommit
+        (W.state tx.old) (W.state tx.new) }
     ensures survives { Survives
-        (state S.Store tx.old.conn.now) (state S.Store tx.new.conn.now) (λ _. ⊥) }
+        (W.state tx.old) (W.state tx.new) (λ _. ⊥) }
 {
     let rows = lab_rows(tx, code.as_str())?;
     first_id(&rows)
 }
 
 /// The rows of the person of the code, in the laboratory.
-fn person_rows<S: Alter>(
-    tx: &mut Transaction<'_, S>,
-    lab: RowId,
-    code: &str,
-) -> Result<Vec<Row>, Error>
-    requires inside { IsInside (state S.Store tx.old.conn.now) }
-    ensures same_reference { tx.new.conn.ghost_name ≡ tx.old.conn.ghost_name }
+fn person_rows<W: Writable>(tx: &mut W, lab: RowId, code: &str) -> Result<Vec<Row>, Error>
+    requires inside { IsInside (W.state tx.old) }
+    ensures same_lender { W.lender tx.new ≡ W.lender tx.old }
     ensures rows { Answers result (λ rows. Finds (λ t. rows.items ≡ persons_shown lab.id code.now t))
-        (state S.Store tx.old.conn.now) (state S.Store tx.new.conn.now) }
-    ensures kept { HasCleanDisk (state S.Store tx.new.conn.now) → KeepsCommit
-        (state S.Store tx.old.conn.now) (state S.Store tx.new.conn.now) }
+        (W.state tx.old) (W.state tx.new) }
+    ensures kept { HasCleanDisk (W.state tx.new) → KeepsCommit
+        (W.state tx.old) (W.state tx.new) }
     ensures survives { Survives
-        (state S.Store tx.old.conn.now) (state S.Store tx.new.conn.now) (λ _. ⊥) }
+        (W.state tx.old) (W.state tx.new) (λ _. ⊥) }
 {
     tx.query_all(
         "SELECT id FROM persons WHERE lab = ?1 AND code = ?2 ORDER BY id",
@@ -93,38 +89,34 @@ fn person_rows<S: Alter>(
 /// The person of the code, in the laboratory.
 ///
 /// Errors: also that there is none.
-pub fn person_id_at<S: Alter>(
-    tx: &mut Transaction<'_, S>,
-    lab: RowId,
-    code: &PersonCode,
-) -> Result<RowId, Error>
-    requires inside { IsInside (state S.Store tx.old.conn.now) }
-    ensures same_reference { tx.new.conn.ghost_name ≡ tx.old.conn.ghost_name }
+pub fn person_id_at<W: Writable>(tx: &mut W, lab: RowId, code: &PersonCode) -> Result<RowId, Error>
+    requires inside { IsInside (W.state tx.old) }
+    ensures same_lender { W.lender tx.new ≡ W.lender tx.old }
     ensures found { Answers result (λ one. Finds (λ t. person_named t lab.id code.now ≡ Some one.id))
-        (state S.Store tx.old.conn.now) (state S.Store tx.new.conn.now) }
-    ensures kept { HasCleanDisk (state S.Store tx.new.conn.now) → KeepsCommit
-        (state S.Store tx.old.conn.now) (state S.Store tx.new.conn.now) }
+        (W.state tx.old) (W.state tx.new) }
+    ensures kept { HasCleanDisk (W.state tx.new) → KeepsCommit
+        (W.state tx.old) (W.state tx.new) }
     ensures survives { Survives
-        (state S.Store tx.old.conn.now) (state S.Store tx.new.conn.now) (λ _. ⊥) }
+        (W.state tx.old) (W.state tx.new) (λ _. ⊥) }
 {
     let rows = person_rows(tx, lab, code.as_str())?;
     first_id(&rows)
 }
 
 /// The person of the code, where one is named, in the laboratory.
-pub fn person_if_any<S: Alter>(
-    tx: &mut Transaction<'_, S>,
+pub fn person_if_any<W: Writable>(
+    tx: &mut W,
     lab: RowId,
     code: &Option<PersonCode>,
 ) -> Result<Option<RowId>, Error>
-    requires inside { IsInside (state S.Store tx.old.conn.now) }
-    ensures same_reference { tx.new.conn.ghost_name ≡ tx.old.conn.ghost_name }
+    requires inside { IsInside (W.state tx.old) }
+    ensures same_lender { W.lender tx.new ≡ W.lender tx.old }
     ensures found { Answers result (λ one. Finds (λ t. IsNamedIfAny t lab.id code.now (option_map row_id one)))
-        (state S.Store tx.old.conn.now) (state S.Store tx.new.conn.now) }
-    ensures kept { HasCleanDisk (state S.Store tx.new.conn.now) → KeepsCommit
-        (state S.Store tx.old.conn.now) (state S.Store tx.new.conn.now) }
+        (W.state tx.old) (W.state tx.new) }
+    ensures kept { HasCleanDisk (W.state tx.new) → KeepsCommit
+        (W.state tx.old) (W.state tx.new) }
     ensures survives { Survives
-        (state S.Store tx.old.conn.now) (state S.Store tx.new.conn.now) (λ _. ⊥) }
+        (W.state tx.old) (W.state tx.new) (λ _. ⊥) }
 {
     match code {
         Some(code) => {
@@ -136,19 +128,15 @@ pub fn person_if_any<S: Alter>(
 }
 
 /// The rows of the session whose token has the digest, in the laboratory.
-fn session_rows<S: Alter>(
-    tx: &mut Transaction<'_, S>,
-    lab: RowId,
-    token: &[u8],
-) -> Result<Vec<Row>, Error>
-    requires inside { IsInside (state S.Store tx.old.conn.now) }
-    ensures same_reference { tx.new.conn.ghost_name ≡ tx.old.conn.ghost_name }
+fn session_rows<W: Writable>(tx: &mut W, lab: RowId, token: &[u8]) -> Result<Vec<Row>, Error>
+    requires inside { IsInside (W.state tx.old) }
+    ensures same_lender { W.lender tx.new ≡ W.lender tx.old }
     ensures rows { Answers result (λ rows. Finds (λ t. rows.items ≡ sessions_shown lab.id token.now t))
-        (state S.Store tx.old.conn.now) (state S.Store tx.new.conn.now) }
-    ensures kept { HasCleanDisk (state S.Store tx.new.conn.now) → KeepsCommit
-        (state S.Store tx.old.conn.now) (state S.Store tx.new.conn.now) }
+        (W.state tx.old) (W.state tx.new) }
+    ensures kept { HasCleanDisk (W.state tx.new) → KeepsCommit
+        (W.state tx.old) (W.state tx.new) }
     ensures survives { Survives
-        (state S.Store tx.old.conn.now) (state S.Store tx.new.conn.now) (λ _. ⊥) }
+        (W.state tx.old) (W.state tx.new) (λ _. ⊥) }
 {
     tx.query_all(
         "SELECT id FROM sessions WHERE lab = ?1 AND token = ?2 ORDER BY id",
@@ -159,20 +147,16 @@ fn session_rows<S: Alter>(
 /// The session whose token has the digest, in the laboratory.
 ///
 /// Errors: also that there is none.
-pub fn session_id_at<S: Alter>(
-    tx: &mut Transaction<'_, S>,
-    lab: RowId,
-    token: &Digest,
-) -> Result<RowId, Error>
-    requires inside { IsInside (state S.Store tx.old.conn.now) }
-    ensures same_reference { tx.new.conn.ghost_name ≡ tx.old.conn.ghost_name }
+pub fn session_id_at<W: Writable>(tx: &mut W, lab: RowId, token: &Digest) -> Result<RowId, Error>
+    requires inside { IsInside (W.state tx.old) }
+    ensures same_lender { W.lender tx.new ≡ W.lender tx.old }
     ensures found { Answers result (λ one. Finds (λ t.
         option_map session_id (find (is_session lab.id token.now) t.sessions) ≡ Some one.id))
-        (state S.Store tx.old.conn.now) (state S.Store tx.new.conn.now) }
-    ensures kept { HasCleanDisk (state S.Store tx.new.conn.now) → KeepsCommit
-        (state S.Store tx.old.conn.now) (state S.Store tx.new.conn.now) }
+        (W.state tx.old) (W.state tx.new) }
+    ensures kept { HasCleanDisk (W.state tx.new) → KeepsCommit
+        (W.state tx.old) (W.state tx.new) }
     ensures survives { Survives
-        (state S.Store tx.old.conn.now) (state S.Store tx.new.conn.now) (λ _. ⊥) }
+        (W.state tx.old) (W.state tx.new) (λ _. ⊥) }
 {
     let bytes = token.bytes();
     let rows = session_rows(tx, lab, &bytes)?;

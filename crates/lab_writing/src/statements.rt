@@ -1,13 +1,13 @@
 //! A statement inside a transaction.
 
 ghost use Rattle.std.specs.Prelude.{◌≡◌};
-ghost use Rattle.sqlite.specs.Held.{state};
 ghost use Rattle.sqlite.specs.State.{HasCleanDisk, KeepsCommit, ExecutesInside, Survives};
 ghost use Rattle.sqlite.specs.Values.{bound};
 ghost use Rattle.lab_writing.specs.Calls.{IsInside};
 
+use crate::writable::Writable;
+use sqlite::Error;
 use sqlite::types::ValueRef;
-use sqlite::{Alter, Error, Transaction};
 
 /// The id of a row in its table.
 #[derive(Clone, Copy, Debug, PartialEq, Eq)]
@@ -17,20 +17,16 @@ pub struct RowId {
 }
 
 /// Runs a statement that writes, and answers how many rows it wrote.
-pub fn run<S: Alter>(
-    tx: &mut Transaction<'_, S>,
-    text: &str,
-    params: &[ValueRef<'_>],
-) -> Result<usize, Error>
-    requires inside { IsInside (state S.Store tx.old.conn.now) }
-    ensures same_reference { tx.new.conn.ghost_name ≡ tx.old.conn.ghost_name }
-    ensures runs { HasCleanDisk (state S.Store tx.new.conn.now) →
+pub fn run<W: Writable>(tx: &mut W, text: &str, params: &[ValueRef<'_>]) -> Result<usize, Error>
+    requires inside { IsInside (W.state tx.old) }
+    ensures same_lender { W.lender tx.new ≡ W.lender tx.old }
+    ensures runs { HasCleanDisk (W.state tx.new) →
         ExecutesInside 0 text.now (bound params.now)
-        (state S.Store tx.old.conn.now) (state S.Store tx.new.conn.now) result }
-    ensures kept { HasCleanDisk (state S.Store tx.new.conn.now) → KeepsCommit
-        (state S.Store tx.old.conn.now) (state S.Store tx.new.conn.now) }
+        (W.state tx.old) (W.state tx.new) result }
+    ensures kept { HasCleanDisk (W.state tx.new) → KeepsCommit
+        (W.state tx.old) (W.state tx.new) }
     ensures survives { Survives
-        (state S.Store tx.old.conn.now) (state S.Store tx.new.conn.now) (λ _. ⊥) }
+        (W.state tx.old) (W.state tx.new) (λ _. ⊥) }
 {
     tx.execute(text, params)
 }

@@ -1,7 +1,6 @@
 //! Rows of the trail.
 
 ghost use Rattle.std.specs.Prelude.{◌≡◌, option_map};
-ghost use Rattle.sqlite.specs.Held.{state};
 ghost use Rattle.sqlite.specs.State.{HasCleanDisk, KeepsCommit, Survives};
 ghost use Rattle.lab_tables.specs.Rows.{LabRow};
 ghost use Rattle.lab_tables.specs.Changes.{in_lab, AddsTold};
@@ -12,26 +11,27 @@ ghost use Rattle.lab_writing.specs.TrailAdded.{with_told};
 use crate::named::person_if_any;
 use crate::statements::{RowId, run};
 use crate::values::{id_or_null, id_value, moment_value, ordinal_value, text_value};
+use crate::writable::Writable;
 use lab_kept::TrailRow;
 use lab_names::Ordinal;
-use sqlite::{Alter, Error, Transaction};
+use sqlite::Error;
 
 /// Adds the row.
-fn insert_told<S: Alter>(
-    tx: &mut Transaction<'_, S>,
+fn insert_told<W: Writable>(
+    tx: &mut W,
     lab: RowId,
     person: Option<RowId>,
     told: &TrailRow,
 ) -> Result<usize, Error>
-    requires inside { IsInside (state S.Store tx.old.conn.now) }
-    ensures same_reference { tx.new.conn.ghost_name ≡ tx.old.conn.ghost_name }
+    requires inside { IsInside (W.state tx.old) }
+    ensures same_lender { W.lender tx.new ≡ W.lender tx.old }
     ensures made { Makes result (λ before after. after
         ≡ with_told lab.id (option_map row_id person) told.now before)
-        (state S.Store tx.old.conn.now) (state S.Store tx.new.conn.now) }
-    ensures kept { HasCleanDisk (state S.Store tx.new.conn.now) → KeepsCommit
-        (state S.Store tx.old.conn.now) (state S.Store tx.new.conn.now) }
+        (W.state tx.old) (W.state tx.new) }
+    ensures kept { HasCleanDisk (W.state tx.new) → KeepsCommit
+        (W.state tx.old) (W.state tx.new) }
     ensures survives { Survives
-        (state S.Store tx.old.conn.now) (state S.Store tx.new.conn.now) (λ _. ⊥) }
+        (W.state tx.old) (W.state tx.new) (λ _. ⊥) }
 {
     let action = told.action.word();
     let subject = told.subject.as_str();
@@ -50,20 +50,16 @@ fn insert_told<S: Alter>(
 }
 
 /// Sets how many rows of the trail the laboratory has.
-fn set_trail<S: Alter>(
-    tx: &mut Transaction<'_, S>,
-    lab: RowId,
-    count: Ordinal,
-) -> Result<usize, Error>
-    requires inside { IsInside (state S.Store tx.old.conn.now) }
-    ensures same_reference { tx.new.conn.ghost_name ≡ tx.old.conn.ghost_name }
+fn set_trail<W: Writable>(tx: &mut W, lab: RowId, count: Ordinal) -> Result<usize, Error>
+    requires inside { IsInside (W.state tx.old) }
+    ensures same_lender { W.lender tx.new ≡ W.lender tx.old }
     ensures made { Makes result (λ before after. after
         ≡ in_lab lab.id (λ (one : LabRow). record one { trail = count }) before)
-        (state S.Store tx.old.conn.now) (state S.Store tx.new.conn.now) }
-    ensures kept { HasCleanDisk (state S.Store tx.new.conn.now) → KeepsCommit
-        (state S.Store tx.old.conn.now) (state S.Store tx.new.conn.now) }
+        (W.state tx.old) (W.state tx.new) }
+    ensures kept { HasCleanDisk (W.state tx.new) → KeepsCommit
+        (W.state tx.old) (W.state tx.new) }
     ensures survives { Survives
-        (state S.Store tx.old.conn.now) (state S.Store tx.new.conn.now) (λ _. ⊥) }
+        (W.state tx.old) (W.state tx.new) (λ _. ⊥) }
 {
     run(
         tx,
@@ -75,19 +71,15 @@ fn set_trail<S: Alter>(
 /// Adds a row of the trail.
 ///
 /// Errors: also that nobody has the code of who is named.
-pub fn add_told<S: Alter>(
-    tx: &mut Transaction<'_, S>,
-    lab: RowId,
-    told: &TrailRow,
-) -> Result<(), Error>
-    requires inside { IsInside (state S.Store tx.old.conn.now) }
-    ensures same_reference { tx.new.conn.ghost_name ≡ tx.old.conn.ghost_name }
+pub fn add_told<W: Writable>(tx: &mut W, lab: RowId, told: &TrailRow) -> Result<(), Error>
+    requires inside { IsInside (W.state tx.old) }
+    ensures same_lender { W.lender tx.new ≡ W.lender tx.old }
     ensures made { Makes result (AddsTold lab.id told.now)
-        (state S.Store tx.old.conn.now) (state S.Store tx.new.conn.now) }
-    ensures kept { HasCleanDisk (state S.Store tx.new.conn.now) → KeepsCommit
-        (state S.Store tx.old.conn.now) (state S.Store tx.new.conn.now) }
+        (W.state tx.old) (W.state tx.new) }
+    ensures kept { HasCleanDisk (W.state tx.new) → KeepsCommit
+        (W.state tx.old) (W.state tx.new) }
     ensures survives { Survives
-        (state S.Store tx.old.conn.now) (state S.Store tx.new.conn.now) (λ _. ⊥) }
+        (W.state tx.old) (W.state tx.new) (λ _. ⊥) }
 {
     let person = person_if_any(tx, lab, &told.person)?;
     insert_told(tx, lab, person, told)?;

@@ -1,7 +1,6 @@
 //! Persons, with their accounts.
 
 ghost use Rattle.std.specs.Prelude.{◌≡◌, option_map};
-ghost use Rattle.sqlite.specs.Held.{state};
 ghost use Rattle.sqlite.specs.State.{HasCleanDisk, KeepsCommit, Survives};
 ghost use Rattle.lab_tables.specs.Changes.{IsNamedIfAny, AddsPerson, SetsPerson, person_row_of, set_person as with_row};
 ghost use Rattle.lab_writing.specs.Calls.{IsInside, Makes, Answers, Finds};
@@ -16,24 +15,24 @@ use lab_writing::statements::run;
 use lab_writing::values::{
     flag_value, id_or_null, id_value, moment_or_null, small_value, text_value,
 };
-use lab_writing::{RowId, person_id_at};
-use sqlite::{Alter, Error, Transaction};
+use lab_writing::{RowId, Writable, person_id_at};
+use sqlite::Error;
 
 /// Who asked for a one-time word, where somebody did.
-fn asker_if_any<S: Alter>(
-    tx: &mut Transaction<'_, S>,
+fn asker_if_any<W: Writable>(
+    tx: &mut W,
     lab: RowId,
     ask: &Option<Ask>,
 ) -> Result<Option<RowId>, Error>
-    requires inside { IsInside (state S.Store tx.old.conn.now) }
-    ensures same_reference { tx.new.conn.ghost_name ≡ tx.old.conn.ghost_name }
+    requires inside { IsInside (W.state tx.old) }
+    ensures same_lender { W.lender tx.new ≡ W.lender tx.old }
     ensures found { Answers result (λ one. Finds (λ t.
         IsNamedIfAny t lab.id (option_map asker_in ask.now) (option_map row_id one)))
-        (state S.Store tx.old.conn.now) (state S.Store tx.new.conn.now) }
-    ensures kept { HasCleanDisk (state S.Store tx.new.conn.now) → KeepsCommit
-        (state S.Store tx.old.conn.now) (state S.Store tx.new.conn.now) }
+        (W.state tx.old) (W.state tx.new) }
+    ensures kept { HasCleanDisk (W.state tx.new) → KeepsCommit
+        (W.state tx.old) (W.state tx.new) }
     ensures survives { Survives
-        (state S.Store tx.old.conn.now) (state S.Store tx.new.conn.now) (λ _. ⊥) }
+        (W.state tx.old) (W.state tx.new) (λ _. ⊥) }
 {
     match ask {
         Some(ask) => {
@@ -45,21 +44,21 @@ fn asker_if_any<S: Alter>(
 }
 
 /// Adds the row.
-fn insert_person<S: Alter>(
-    tx: &mut Transaction<'_, S>,
+fn insert_person<W: Writable>(
+    tx: &mut W,
     lab: RowId,
     asker: Option<RowId>,
     person: &Person,
 ) -> Result<usize, Error>
-    requires inside { IsInside (state S.Store tx.old.conn.now) }
-    ensures same_reference { tx.new.conn.ghost_name ≡ tx.old.conn.ghost_name }
+    requires inside { IsInside (W.state tx.old) }
+    ensures same_lender { W.lender tx.new ≡ W.lender tx.old }
     ensures made { Makes result (λ before after. after
         ≡ with_person lab.id (option_map row_id asker) person.now before)
-        (state S.Store tx.old.conn.now) (state S.Store tx.new.conn.now) }
-    ensures kept { HasCleanDisk (state S.Store tx.new.conn.now) → KeepsCommit
-        (state S.Store tx.old.conn.now) (state S.Store tx.new.conn.now) }
+        (W.state tx.old) (W.state tx.new) }
+    ensures kept { HasCleanDisk (W.state tx.new) → KeepsCommit
+        (W.state tx.old) (W.state tx.new) }
     ensures survives { Survives
-        (state S.Store tx.old.conn.now) (state S.Store tx.new.conn.now) (λ _. ⊥) }
+        (W.state tx.old) (W.state tx.new) (λ _. ⊥) }
 {
     let code = person.code.as_str();
     let name = person.name.as_str();
@@ -99,19 +98,15 @@ fn insert_person<S: Alter>(
 /// Adds a person.
 ///
 /// Errors: also that nobody has the code of who asked for a one-time word.
-pub fn add_person<S: Alter>(
-    tx: &mut Transaction<'_, S>,
-    lab: RowId,
-    person: &Person,
-) -> Result<(), Error>
-    requires inside { IsInside (state S.Store tx.old.conn.now) }
-    ensures same_reference { tx.new.conn.ghost_name ≡ tx.old.conn.ghost_name }
+pub fn add_person<W: Writable>(tx: &mut W, lab: RowId, person: &Person) -> Result<(), Error>
+    requires inside { IsInside (W.state tx.old) }
+    ensures same_lender { W.lender tx.new ≡ W.lender tx.old }
     ensures made { Makes result (AddsPerson lab.id person.now)
-        (state S.Store tx.old.conn.now) (state S.Store tx.new.conn.now) }
-    ensures kept { HasCleanDisk (state S.Store tx.new.conn.now) → KeepsCommit
-        (state S.Store tx.old.conn.now) (state S.Store tx.new.conn.now) }
+        (W.state tx.old) (W.state tx.new) }
+    ensures kept { HasCleanDisk (W.state tx.new) → KeepsCommit
+        (W.state tx.old) (W.state tx.new) }
     ensures survives { Survives
-        (state S.Store tx.old.conn.now) (state S.Store tx.new.conn.now) (λ _. ⊥) }
+        (W.state tx.old) (W.state tx.new) (λ _. ⊥) }
 {
     let asker = asker_if_any(tx, lab, &person.ask)?;
     insert_person(tx, lab, asker, person)?;
@@ -119,22 +114,22 @@ pub fn add_person<S: Alter>(
 }
 
 /// Sets the row.
-fn update_person<S: Alter>(
-    tx: &mut Transaction<'_, S>,
+fn update_person<W: Writable>(
+    tx: &mut W,
     id: RowId,
     lab: RowId,
     asker: Option<RowId>,
     person: &Person,
 ) -> Result<usize, Error>
-    requires inside { IsInside (state S.Store tx.old.conn.now) }
-    ensures same_reference { tx.new.conn.ghost_name ≡ tx.old.conn.ghost_name }
+    requires inside { IsInside (W.state tx.old) }
+    ensures same_lender { W.lender tx.new ≡ W.lender tx.old }
     ensures made { Makes result (λ before after. after
         ≡ with_row (person_row_of lab.id id.id (option_map row_id asker) person.now) before)
-        (state S.Store tx.old.conn.now) (state S.Store tx.new.conn.now) }
-    ensures kept { HasCleanDisk (state S.Store tx.new.conn.now) → KeepsCommit
-        (state S.Store tx.old.conn.now) (state S.Store tx.new.conn.now) }
+        (W.state tx.old) (W.state tx.new) }
+    ensures kept { HasCleanDisk (W.state tx.new) → KeepsCommit
+        (W.state tx.old) (W.state tx.new) }
     ensures survives { Survives
-        (state S.Store tx.old.conn.now) (state S.Store tx.new.conn.now) (λ _. ⊥) }
+        (W.state tx.old) (W.state tx.new) (λ _. ⊥) }
 {
     let code = person.code.as_str();
     let name = person.name.as_str();
@@ -175,19 +170,15 @@ fn update_person<S: Alter>(
 /// Sets a person, whom the code names.
 ///
 /// Errors: also that nobody has that code, or that of who asked for a one-time word.
-pub fn set_person<S: Alter>(
-    tx: &mut Transaction<'_, S>,
-    lab: RowId,
-    person: &Person,
-) -> Result<(), Error>
-    requires inside { IsInside (state S.Store tx.old.conn.now) }
-    ensures same_reference { tx.new.conn.ghost_name ≡ tx.old.conn.ghost_name }
+pub fn set_person<W: Writable>(tx: &mut W, lab: RowId, person: &Person) -> Result<(), Error>
+    requires inside { IsInside (W.state tx.old) }
+    ensures same_lender { W.lender tx.new ≡ W.lender tx.old }
     ensures made { Makes result (SetsPerson lab.id person.now)
-        (state S.Store tx.old.conn.now) (state S.Store tx.new.conn.now) }
-    ensures kept { HasCleanDisk (state S.Store tx.new.conn.now) → KeepsCommit
-        (state S.Store tx.old.conn.now) (state S.Store tx.new.conn.now) }
+        (W.state tx.old) (W.state tx.new) }
+    ensures kept { HasCleanDisk (W.state tx.new) → KeepsCommit
+        (W.state tx.old) (W.state tx.new) }
     ensures survives { Survives
-        (state S.Store tx.old.conn.now) (state S.Store tx.new.conn.now) (λ _. ⊥) }
+        (W.state tx.old) (W.state tx.new) (λ _. ⊥) }
 {
     let id = person_id_at(tx, lab, &person.code)?;
     let asker = asker_if_any(tx, lab, &person.ask)?;

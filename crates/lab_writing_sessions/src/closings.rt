@@ -1,7 +1,6 @@
 //! Sessions that a change of their person's account closes, at a lock and at a retirement (21 CFR 11.300(b) and (d)).
 
 ghost use Rattle.std.specs.Prelude.{◌≡◌};
-ghost use Rattle.sqlite.specs.Held.{state};
 ghost use Rattle.sqlite.specs.State.{HasCleanDisk, KeepsCommit, Survives};
 ghost use Rattle.lab_access.specs.declared.sessions.Closing.TheVariants.{All, Others};
 ghost use Rattle.lab_tables.specs.Changes.{InTurn};
@@ -12,19 +11,19 @@ use lab_access::Closing;
 use lab_names::{Ordinal, PersonCode};
 use lab_writing::statements::run;
 use lab_writing::values::{id_value, ordinal_value};
-use lab_writing::{RowId, id_of, person_id_at};
-use sqlite::{Alter, Error, Row, Transaction};
+use lab_writing::{RowId, Writable, id_of, person_id_at};
+use sqlite::{Error, Row};
 
 /// Closes the session.
-fn close_session<S: Alter>(tx: &mut Transaction<'_, S>, session: RowId) -> Result<usize, Error>
-    requires inside { IsInside (state S.Store tx.old.conn.now) }
-    ensures same_reference { tx.new.conn.ghost_name ≡ tx.old.conn.ghost_name }
+fn close_session<W: Writable>(tx: &mut W, session: RowId) -> Result<usize, Error>
+    requires inside { IsInside (W.state tx.old) }
+    ensures same_lender { W.lender tx.new ≡ W.lender tx.old }
     ensures made { Makes result (λ before after. after ≡ close_one session.id before)
-        (state S.Store tx.old.conn.now) (state S.Store tx.new.conn.now) }
-    ensures kept { HasCleanDisk (state S.Store tx.new.conn.now) → KeepsCommit
-        (state S.Store tx.old.conn.now) (state S.Store tx.new.conn.now) }
+        (W.state tx.old) (W.state tx.new) }
+    ensures kept { HasCleanDisk (W.state tx.new) → KeepsCommit
+        (W.state tx.old) (W.state tx.new) }
     ensures survives { Survives
-        (state S.Store tx.old.conn.now) (state S.Store tx.new.conn.now) (λ _. ⊥) }
+        (W.state tx.old) (W.state tx.new) (λ _. ⊥) }
 {
     run(
         tx,
@@ -34,15 +33,15 @@ fn close_session<S: Alter>(tx: &mut Transaction<'_, S>, session: RowId) -> Resul
 }
 
 /// Closes the sessions whose ids the rows show, one after the other.
-fn close_rows<S: Alter>(tx: &mut Transaction<'_, S>, rows: &[Row]) -> Result<(), Error>
-    requires inside { IsInside (state S.Store tx.old.conn.now) }
-    ensures same_reference { tx.new.conn.ghost_name ≡ tx.old.conn.ghost_name }
+fn close_rows<W: Writable>(tx: &mut W, rows: &[Row]) -> Result<(), Error>
+    requires inside { IsInside (W.state tx.old) }
+    ensures same_lender { W.lender tx.new ≡ W.lender tx.old }
     ensures made { Makes result (InTurn ClosesRow rows.now)
-        (state S.Store tx.old.conn.now) (state S.Store tx.new.conn.now) }
-    ensures kept { HasCleanDisk (state S.Store tx.new.conn.now) → KeepsCommit
-        (state S.Store tx.old.conn.now) (state S.Store tx.new.conn.now) }
+        (W.state tx.old) (W.state tx.new) }
+    ensures kept { HasCleanDisk (W.state tx.new) → KeepsCommit
+        (W.state tx.old) (W.state tx.new) }
     ensures survives { Survives
-        (state S.Store tx.old.conn.now) (state S.Store tx.new.conn.now) (λ _. ⊥) }
+        (W.state tx.old) (W.state tx.new) (λ _. ⊥) }
 {
     for row in rows {
         let session = id_of(row)?;
@@ -52,15 +51,15 @@ fn close_rows<S: Alter>(tx: &mut Transaction<'_, S>, rows: &[Row]) -> Result<(),
 }
 
 /// The open sessions of the person.
-fn all_rows<S: Alter>(tx: &mut Transaction<'_, S>, person: RowId) -> Result<Vec<Row>, Error>
-    requires inside { IsInside (state S.Store tx.old.conn.now) }
-    ensures same_reference { tx.new.conn.ghost_name ≡ tx.old.conn.ghost_name }
+fn all_rows<W: Writable>(tx: &mut W, person: RowId) -> Result<Vec<Row>, Error>
+    requires inside { IsInside (W.state tx.old) }
+    ensures same_lender { W.lender tx.new ≡ W.lender tx.old }
     ensures rows { Answers result (λ rows. Finds (λ t. rows.items ≡ opened_shown person.id All t))
-        (state S.Store tx.old.conn.now) (state S.Store tx.new.conn.now) }
-    ensures kept { HasCleanDisk (state S.Store tx.new.conn.now) → KeepsCommit
-        (state S.Store tx.old.conn.now) (state S.Store tx.new.conn.now) }
+        (W.state tx.old) (W.state tx.new) }
+    ensures kept { HasCleanDisk (W.state tx.new) → KeepsCommit
+        (W.state tx.old) (W.state tx.new) }
     ensures survives { Survives
-        (state S.Store tx.old.conn.now) (state S.Store tx.new.conn.now) (λ _. ⊥) }
+        (W.state tx.old) (W.state tx.new) (λ _. ⊥) }
 {
     tx.query_all(
         "SELECT id FROM sessions WHERE person = ?1 AND closed = 0 ORDER BY id",
@@ -69,19 +68,15 @@ fn all_rows<S: Alter>(tx: &mut Transaction<'_, S>, person: RowId) -> Result<Vec<
 }
 
 /// The open sessions of the person but the one of the number.
-fn other_rows<S: Alter>(
-    tx: &mut Transaction<'_, S>,
-    person: RowId,
-    kept: Ordinal,
-) -> Result<Vec<Row>, Error>
-    requires inside { IsInside (state S.Store tx.old.conn.now) }
-    ensures same_reference { tx.new.conn.ghost_name ≡ tx.old.conn.ghost_name }
+fn other_rows<W: Writable>(tx: &mut W, person: RowId, kept: Ordinal) -> Result<Vec<Row>, Error>
+    requires inside { IsInside (W.state tx.old) }
+    ensures same_lender { W.lender tx.new ≡ W.lender tx.old }
     ensures rows { Answers result (λ rows. Finds (λ t. rows.items ≡ opened_shown person.id (Others kept) t))
-        (state S.Store tx.old.conn.now) (state S.Store tx.new.conn.now) }
-    ensures kept { HasCleanDisk (state S.Store tx.new.conn.now) → KeepsCommit
-        (state S.Store tx.old.conn.now) (state S.Store tx.new.conn.now) }
+        (W.state tx.old) (W.state tx.new) }
+    ensures kept { HasCleanDisk (W.state tx.new) → KeepsCommit
+        (W.state tx.old) (W.state tx.new) }
     ensures survives { Survives
-        (state S.Store tx.old.conn.now) (state S.Store tx.new.conn.now) (λ _. ⊥) }
+        (W.state tx.old) (W.state tx.new) (λ _. ⊥) }
 {
     tx.query_all(
         "SELECT id FROM sessions WHERE person = ?1 AND closed = 0 AND number <> ?2 ORDER BY id",
@@ -90,15 +85,15 @@ fn other_rows<S: Alter>(
 }
 
 /// Closes all sessions of the person.
-fn close_all<S: Alter>(tx: &mut Transaction<'_, S>, person: RowId) -> Result<(), Error>
-    requires inside { IsInside (state S.Store tx.old.conn.now) }
-    ensures same_reference { tx.new.conn.ghost_name ≡ tx.old.conn.ghost_name }
+fn close_all<W: Writable>(tx: &mut W, person: RowId) -> Result<(), Error>
+    requires inside { IsInside (W.state tx.old) }
+    ensures same_lender { W.lender tx.new ≡ W.lender tx.old }
     ensures made { Makes result (λ before after. after ≡ close_of person.id All before)
-        (state S.Store tx.old.conn.now) (state S.Store tx.new.conn.now) }
-    ensures kept { HasCleanDisk (state S.Store tx.new.conn.now) → KeepsCommit
-        (state S.Store tx.old.conn.now) (state S.Store tx.new.conn.now) }
+        (W.state tx.old) (W.state tx.new) }
+    ensures kept { HasCleanDisk (W.state tx.new) → KeepsCommit
+        (W.state tx.old) (W.state tx.new) }
     ensures survives { Survives
-        (state S.Store tx.old.conn.now) (state S.Store tx.new.conn.now) (λ _. ⊥) }
+        (W.state tx.old) (W.state tx.new) (λ _. ⊥) }
 {
     let rows = all_rows(tx, person)?;
     close_rows(tx, &rows)?;
@@ -106,20 +101,16 @@ fn close_all<S: Alter>(tx: &mut Transaction<'_, S>, person: RowId) -> Result<(),
 }
 
 /// Closes all sessions of the person but the one of the number.
-fn close_others<S: Alter>(
-    tx: &mut Transaction<'_, S>,
-    person: RowId,
-    kept: Ordinal,
-) -> Result<(), Error>
-    requires inside { IsInside (state S.Store tx.old.conn.now) }
-    ensures same_reference { tx.new.conn.ghost_name ≡ tx.old.conn.ghost_name }
+fn close_others<W: Writable>(tx: &mut W, person: RowId, kept: Ordinal) -> Result<(), Error>
+    requires inside { IsInside (W.state tx.old) }
+    ensures same_lender { W.lender tx.new ≡ W.lender tx.old }
     ensures made { Makes result (λ before after. after
         ≡ close_of person.id (Others kept) before)
-        (state S.Store tx.old.conn.now) (state S.Store tx.new.conn.now) }
-    ensures kept { HasCleanDisk (state S.Store tx.new.conn.now) → KeepsCommit
-        (state S.Store tx.old.conn.now) (state S.Store tx.new.conn.now) }
+        (W.state tx.old) (W.state tx.new) }
+    ensures kept { HasCleanDisk (W.state tx.new) → KeepsCommit
+        (W.state tx.old) (W.state tx.new) }
     ensures survives { Survives
-        (state S.Store tx.old.conn.now) (state S.Store tx.new.conn.now) (λ _. ⊥) }
+        (W.state tx.old) (W.state tx.new) (λ _. ⊥) }
 {
     let rows = other_rows(tx, person, kept)?;
     close_rows(tx, &rows)?;
@@ -127,19 +118,15 @@ fn close_others<S: Alter>(
 }
 
 /// Closes the sessions of the person that are meant.
-fn close_meant<S: Alter>(
-    tx: &mut Transaction<'_, S>,
-    person: RowId,
-    closing: Closing,
-) -> Result<(), Error>
-    requires inside { IsInside (state S.Store tx.old.conn.now) }
-    ensures same_reference { tx.new.conn.ghost_name ≡ tx.old.conn.ghost_name }
+fn close_meant<W: Writable>(tx: &mut W, person: RowId, closing: Closing) -> Result<(), Error>
+    requires inside { IsInside (W.state tx.old) }
+    ensures same_lender { W.lender tx.new ≡ W.lender tx.old }
     ensures made { Makes result (λ before after. after ≡ close_of person.id closing before)
-        (state S.Store tx.old.conn.now) (state S.Store tx.new.conn.now) }
-    ensures kept { HasCleanDisk (state S.Store tx.new.conn.now) → KeepsCommit
-        (state S.Store tx.old.conn.now) (state S.Store tx.new.conn.now) }
+        (W.state tx.old) (W.state tx.new) }
+    ensures kept { HasCleanDisk (W.state tx.new) → KeepsCommit
+        (W.state tx.old) (W.state tx.new) }
     ensures survives { Survives
-        (state S.Store tx.old.conn.now) (state S.Store tx.new.conn.now) (λ _. ⊥) }
+        (W.state tx.old) (W.state tx.new) (λ _. ⊥) }
 {
     match closing {
         Closing::Nothing => Ok(()),
@@ -151,20 +138,20 @@ fn close_meant<S: Alter>(
 /// Closes the sessions of the person of the code that are meant.
 ///
 /// Errors: also that nobody has the code.
-pub fn close_sessions<S: Alter>(
-    tx: &mut Transaction<'_, S>,
+pub fn close_sessions<W: Writable>(
+    tx: &mut W,
     lab: RowId,
     code: &PersonCode,
     closing: Closing,
 ) -> Result<(), Error>
-    requires inside { IsInside (state S.Store tx.old.conn.now) }
-    ensures same_reference { tx.new.conn.ghost_name ≡ tx.old.conn.ghost_name }
+    requires inside { IsInside (W.state tx.old) }
+    ensures same_lender { W.lender tx.new ≡ W.lender tx.old }
     ensures made { Makes result (ClosesOf lab.id code.now closing)
-        (state S.Store tx.old.conn.now) (state S.Store tx.new.conn.now) }
-    ensures kept { HasCleanDisk (state S.Store tx.new.conn.now) → KeepsCommit
-        (state S.Store tx.old.conn.now) (state S.Store tx.new.conn.now) }
+        (W.state tx.old) (W.state tx.new) }
+    ensures kept { HasCleanDisk (W.state tx.new) → KeepsCommit
+        (W.state tx.old) (W.state tx.new) }
     ensures survives { Survives
-        (state S.Store tx.old.conn.now) (state S.Store tx.new.conn.now) (λ _. ⊥) }
+        (W.state tx.old) (W.state tx.new) (λ _. ⊥) }
 {
     let person = person_id_at(tx, lab, code)?;
     close_meant(tx, person, closing)?;

@@ -1,7 +1,6 @@
 //! Sessions.
 
 ghost use Rattle.std.specs.Prelude.{◌≡◌};
-ghost use Rattle.sqlite.specs.Held.{state};
 ghost use Rattle.sqlite.specs.State.{HasCleanDisk, KeepsCommit, Survives};
 ghost use Rattle.lab_tables.specs.Rows.{LabRow};
 ghost use Rattle.lab_tables.specs.Changes.{in_lab, AddsSession, SetsSession, set_session as with_row, session_row_of};
@@ -12,25 +11,25 @@ use lab_access::Session;
 use lab_names::Ordinal;
 use lab_writing::statements::run;
 use lab_writing::values::{blob_value, flag_value, id_value, moment_value, ordinal_value};
-use lab_writing::{RowId, person_id_at, session_id_at};
-use sqlite::{Alter, Error, Transaction};
+use lab_writing::{RowId, Writable, person_id_at, session_id_at};
+use sqlite::Error;
 
 /// Adds the row.
-fn insert_session<S: Alter>(
-    tx: &mut Transaction<'_, S>,
+fn insert_session<W: Writable>(
+    tx: &mut W,
     lab: RowId,
     person: RowId,
     session: &Session,
 ) -> Result<usize, Error>
-    requires inside { IsInside (state S.Store tx.old.conn.now) }
-    ensures same_reference { tx.new.conn.ghost_name ≡ tx.old.conn.ghost_name }
+    requires inside { IsInside (W.state tx.old) }
+    ensures same_lender { W.lender tx.new ≡ W.lender tx.old }
     ensures made { Makes result (λ before after. after
         ≡ with_session lab.id person.id session.now before)
-        (state S.Store tx.old.conn.now) (state S.Store tx.new.conn.now) }
-    ensures kept { HasCleanDisk (state S.Store tx.new.conn.now) → KeepsCommit
-        (state S.Store tx.old.conn.now) (state S.Store tx.new.conn.now) }
+        (W.state tx.old) (W.state tx.new) }
+    ensures kept { HasCleanDisk (W.state tx.new) → KeepsCommit
+        (W.state tx.old) (W.state tx.new) }
     ensures survives { Survives
-        (state S.Store tx.old.conn.now) (state S.Store tx.new.conn.now) (λ _. ⊥) }
+        (W.state tx.old) (W.state tx.new) (λ _. ⊥) }
 {
     let token = session.token.bytes();
     run(
@@ -50,20 +49,16 @@ fn insert_session<S: Alter>(
 }
 
 /// Sets how many sessions the laboratory has.
-fn set_sessions<S: Alter>(
-    tx: &mut Transaction<'_, S>,
-    lab: RowId,
-    count: Ordinal,
-) -> Result<usize, Error>
-    requires inside { IsInside (state S.Store tx.old.conn.now) }
-    ensures same_reference { tx.new.conn.ghost_name ≡ tx.old.conn.ghost_name }
+fn set_sessions<W: Writable>(tx: &mut W, lab: RowId, count: Ordinal) -> Result<usize, Error>
+    requires inside { IsInside (W.state tx.old) }
+    ensures same_lender { W.lender tx.new ≡ W.lender tx.old }
     ensures made { Makes result (λ before after. after
         ≡ in_lab lab.id (λ (one : LabRow). record one { sessions = count }) before)
-        (state S.Store tx.old.conn.now) (state S.Store tx.new.conn.now) }
-    ensures kept { HasCleanDisk (state S.Store tx.new.conn.now) → KeepsCommit
-        (state S.Store tx.old.conn.now) (state S.Store tx.new.conn.now) }
+        (W.state tx.old) (W.state tx.new) }
+    ensures kept { HasCleanDisk (W.state tx.new) → KeepsCommit
+        (W.state tx.old) (W.state tx.new) }
     ensures survives { Survives
-        (state S.Store tx.old.conn.now) (state S.Store tx.new.conn.now) (λ _. ⊥) }
+        (W.state tx.old) (W.state tx.new) (λ _. ⊥) }
 {
     run(
         tx,
@@ -75,19 +70,15 @@ fn set_sessions<S: Alter>(
 /// Adds a session.
 ///
 /// Errors: also that nobody has the code of its person.
-pub fn add_session<S: Alter>(
-    tx: &mut Transaction<'_, S>,
-    lab: RowId,
-    session: &Session,
-) -> Result<(), Error>
-    requires inside { IsInside (state S.Store tx.old.conn.now) }
-    ensures same_reference { tx.new.conn.ghost_name ≡ tx.old.conn.ghost_name }
+pub fn add_session<W: Writable>(tx: &mut W, lab: RowId, session: &Session) -> Result<(), Error>
+    requires inside { IsInside (W.state tx.old) }
+    ensures same_lender { W.lender tx.new ≡ W.lender tx.old }
     ensures made { Makes result (AddsSession lab.id session.now)
-        (state S.Store tx.old.conn.now) (state S.Store tx.new.conn.now) }
-    ensures kept { HasCleanDisk (state S.Store tx.new.conn.now) → KeepsCommit
-        (state S.Store tx.old.conn.now) (state S.Store tx.new.conn.now) }
+        (W.state tx.old) (W.state tx.new) }
+    ensures kept { HasCleanDisk (W.state tx.new) → KeepsCommit
+        (W.state tx.old) (W.state tx.new) }
     ensures survives { Survives
-        (state S.Store tx.old.conn.now) (state S.Store tx.new.conn.now) (λ _. ⊥) }
+        (W.state tx.old) (W.state tx.new) (λ _. ⊥) }
 {
     let person = person_id_at(tx, lab, &session.person)?;
     insert_session(tx, lab, person, session)?;
@@ -96,22 +87,22 @@ pub fn add_session<S: Alter>(
 }
 
 /// Sets the row.
-fn update_session<S: Alter>(
-    tx: &mut Transaction<'_, S>,
+fn update_session<W: Writable>(
+    tx: &mut W,
     id: RowId,
     lab: RowId,
     person: RowId,
     session: &Session,
 ) -> Result<usize, Error>
-    requires inside { IsInside (state S.Store tx.old.conn.now) }
-    ensures same_reference { tx.new.conn.ghost_name ≡ tx.old.conn.ghost_name }
+    requires inside { IsInside (W.state tx.old) }
+    ensures same_lender { W.lender tx.new ≡ W.lender tx.old }
     ensures made { Makes result (λ before after. after
         ≡ with_row (session_row_of lab.id id.id person.id session.now) before)
-        (state S.Store tx.old.conn.now) (state S.Store tx.new.conn.now) }
-    ensures kept { HasCleanDisk (state S.Store tx.new.conn.now) → KeepsCommit
-        (state S.Store tx.old.conn.now) (state S.Store tx.new.conn.now) }
+        (W.state tx.old) (W.state tx.new) }
+    ensures kept { HasCleanDisk (W.state tx.new) → KeepsCommit
+        (W.state tx.old) (W.state tx.new) }
     ensures survives { Survives
-        (state S.Store tx.old.conn.now) (state S.Store tx.new.conn.now) (λ _. ⊥) }
+        (W.state tx.old) (W.state tx.new) (λ _. ⊥) }
 {
     let token = session.token.bytes();
     run(
@@ -134,19 +125,15 @@ fn update_session<S: Alter>(
 /// Sets a session, which its token names.
 ///
 /// Errors: also that no session has the token, or nobody the code of its person.
-pub fn set_session<S: Alter>(
-    tx: &mut Transaction<'_, S>,
-    lab: RowId,
-    session: &Session,
-) -> Result<(), Error>
-    requires inside { IsInside (state S.Store tx.old.conn.now) }
-    ensures same_reference { tx.new.conn.ghost_name ≡ tx.old.conn.ghost_name }
+pub fn set_session<W: Writable>(tx: &mut W, lab: RowId, session: &Session) -> Result<(), Error>
+    requires inside { IsInside (W.state tx.old) }
+    ensures same_lender { W.lender tx.new ≡ W.lender tx.old }
     ensures made { Makes result (SetsSession lab.id session.now)
-        (state S.Store tx.old.conn.now) (state S.Store tx.new.conn.now) }
-    ensures kept { HasCleanDisk (state S.Store tx.new.conn.now) → KeepsCommit
-        (state S.Store tx.old.conn.now) (state S.Store tx.new.conn.now) }
+        (W.state tx.old) (W.state tx.new) }
+    ensures kept { HasCleanDisk (W.state tx.new) → KeepsCommit
+        (W.state tx.old) (W.state tx.new) }
     ensures survives { Survives
-        (state S.Store tx.old.conn.now) (state S.Store tx.new.conn.now) (λ _. ⊥) }
+        (W.state tx.old) (W.state tx.new) (λ _. ⊥) }
 {
     let id = session_id_at(tx, lab, &session.token)?;
     let person = person_id_at(tx, lab, &session.person)?;

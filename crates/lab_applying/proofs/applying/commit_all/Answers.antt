@@ -19,8 +19,8 @@ returns g c =
     let begun = c.transaction-tx.result.conn.now in
     let ends : Ends step c.commit.result (state g.S.Store c.args.conn.now) (state g.S.Store c.conn-2-1.given.0) =
     subst (λ h. Ends step c.commit.result (state g.S.Store c.args.conn.now) (state g.S.Store h)) same
-    (ends_by g.S.Store c.args.conn.now begun c.all_inside.new.tx.conn.now (state g.S.Store end) step c.requires.at_rest c.transaction-tx.ensures.begun c.commit.ensures.ended
-    c.all_inside.ensures.survives c.all_inside.ensures.kept (λ clean. c.in_ok-all_inside.ensures.inside clean)
-    (λ clean opened. c.in_ok-all_inside.ensures.made clean (subst (λ h. IsDatabase (state g.S.Store h).now) (sym c.transaction-tx.ensures.begun) (c.schema-rules.ensures.live opened).0))
+    (ends_by g.S.Store c.args.conn.now begun c.make_inside.new.tx.conn.now (state g.S.Store end) step c.requires.at_rest c.transaction-tx.ensures.begun c.commit.ensures.ended
+    c.make_inside.ensures.survives c.make_inside.ensures.kept (λ clean. c.in_ok-make_inside.ensures.inside clean)
+    (λ clean opened. c.in_ok-make_inside.ensures.made clean (subst (λ h. IsDatabase (state g.S.Store h).now) (sym c.transaction-tx.ensures.begun) (c.schema-rules.ensures.live opened).0))
     c.commit.ensures.survives c.commit.result (λ clean. second _ _ _ _ c.commit.result (c.commit.ensures.ok clean)) c.commit.ensures.err) in
     record { ends = ends }

@@ -1,6 +1,5 @@
 use Rattle.std.proofs.Common.{◌≡◌, ◌<◌, length, take, get_or, subst, arith, rules}
 use Rattle.sqlite.specs.State.{HasCleanDisk}
-use Rattle.sqlite.specs.Held.{state}
 use Rattle.lab_kept.specs.declared.changes.Change.{Change}
 use Rattle.lab_tables_changes.specs.Steps.{AppliesWhereKept}
 use Rattle.lab_writing.specs.Calls.{Steps}
@@ -10,9 +9,9 @@ use Rattle.lab_applying.proofs.changes.all_inside.Goals as goal
 
 pub loop-change-preserved : goal.loop-change-preserved
 loop-change-preserved g c =
-    let old = state g.S.Store c.args.tx.now.conn.now in
-    let mid = state g.S.Store c.loop-change.tx.conn.now in
-    let new = state g.S.Store c.change_rows.new.tx.conn.now in
+    let old = g.W.Writable.state c.args.tx.now in
+    let mid = g.W.Writable.state c.loop-change.tx in
+    let new = g.W.Writable.state c.change_rows.new.tx in
     let inv = c.loop-change.invariant in
     let i = c.loop-change.change-index in
     let early : HasCleanDisk new → HasCleanDisk mid = λ clean. omega (arith, c.change_rows.ensures.survives.clean) in

@@ -1,15 +1,14 @@
 use Rattle.std.proofs.Common.{arith}
 use Rattle.sqlite.specs.State.{HasCleanDisk}
-use Rattle.sqlite.specs.Held.{state}
 use Rattle.lab_filing_entries.proofs.Added.{entry_added}
 use Rattle.lab_filing_entries.proofs.entries.add_entry.Goals as goal
 
 pub returns-clause-made : goal.returns-clause-made
 returns-clause-made g c clean =
-    let one = state g.S.Store c.args.tx.now.conn.now in
-    let two = state g.S.Store c.person_id_at.new.tx.conn.now in
-    let three = state g.S.Store c.entry_place.new.tx.conn.now in
-    let four = state g.S.Store c.insert_entry.new.tx.conn.now in
+    let one = g.W.Writable.state c.args.tx.now in
+    let two = g.W.Writable.state c.person_id_at.new.tx in
+    let three = g.W.Writable.state c.entry_place.new.tx in
+    let four = g.W.Writable.state c.insert_entry.new.tx in
     let late : HasCleanDisk three = omega (arith, c.insert_entry.ensures.survives.clean) in
     let early : HasCleanDisk two = omega (arith, c.entry_place.ensures.survives.clean) in
     entry_added c.args.lab.id c.args.version.id c.args.entry.now c.in_ok-person.person.id c.in_ok-place.place one two three four

@@ -3,7 +3,6 @@ use Rattle.sqlite_value.specs.declared.value.Value.TheVariants.{Text, Blob}
 use Rattle.sqlite_value.specs.Order.{Row}
 use Rattle.sqlite.specs.Values.{bound}
 use Rattle.sqlite.specs.State.{ExecutesInside}
-use Rattle.sqlite.specs.Held.{state}
 use Rattle.sqlite_keyed.specs.Keyed.{next_key}
 use Rattle.lab_tables.specs.Rows.{signature_id}
 use Rattle.lab_tables.specs.Ready.{tables_of}
@@ -14,8 +13,8 @@ use Rattle.lab_filing_entries.proofs.signatures.insert_signature.Goals as goal
 
 pub returns-clause-made : goal.returns-clause-made
 returns-clause-made g c clean =
-    let old = state g.S.Store c.args.tx.now.conn.now in
-    let new = state g.S.Store c.run.new.tx.conn.now in
+    let old = g.W.Writable.state c.args.tx.now in
+    let new = g.W.Writable.state c.run.new.tx in
     let row = signature_at c.args.version.id (next_key signature_id (tables_of old).signatures) c.args.place c.args.person.id c.args.signature.now in
     let given : bound (c.id_value.result ∷ c.in_ok-at.at ∷ c.id_value-2.result ∷ c.text_value.result ∷ c.text_value-2.result ∷ c.moment_value.result
     ∷ c.reason_or_null.result ∷ c.blob_value.result ∷ c.blob_value-2.result ∷ []) ≡ signature_values row = λ i. c.id_value.ensures i

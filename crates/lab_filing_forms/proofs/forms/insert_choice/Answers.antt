@@ -3,7 +3,6 @@ use Rattle.sqlite_value.specs.declared.value.Value.TheVariants.{Text}
 use Rattle.sqlite_value.specs.Order.{Row}
 use Rattle.sqlite.specs.Values.{bound}
 use Rattle.sqlite.specs.State.{ExecutesInside}
-use Rattle.sqlite.specs.Held.{state}
 use Rattle.sqlite_keyed.specs.Keyed.{next_key}
 use Rattle.lab_tables.specs.Rows.{choice_id}
 use Rattle.lab_tables.specs.Ready.{tables_of}
@@ -14,8 +13,8 @@ use Rattle.lab_filing_forms.proofs.forms.insert_choice.Goals as goal
 
 pub returns-clause-made : goal.returns-clause-made
 returns-clause-made g c clean =
-    let old = state g.S.Store c.args.tx.now.conn.now in
-    let new = state g.S.Store c.run.new.tx.conn.now in
+    let old = g.W.Writable.state c.args.tx.now in
+    let new = g.W.Writable.state c.run.new.tx in
     let row = choice_at c.args.field.id (next_key choice_id (tables_of old).choices) c.args.place c.args.name.now in
     let given : bound (c.id_value.result ∷ c.in_ok-at.at ∷ c.text_value.result ∷ []) ≡ choice_values row = λ i. c.id_value.ensures i ∷ c.in_ok-at.ensures i
     ∷ (c.text_value.ensures ∙ ap Text c.as_str.ensures.value) i ∷ [] in

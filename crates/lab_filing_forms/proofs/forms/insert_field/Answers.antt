@@ -3,7 +3,6 @@ use Rattle.sqlite_value.specs.declared.value.Value.TheVariants.{Text}
 use Rattle.sqlite_value.specs.Order.{Row}
 use Rattle.sqlite.specs.Values.{bound}
 use Rattle.sqlite.specs.State.{ExecutesInside}
-use Rattle.sqlite.specs.Held.{state}
 use Rattle.sqlite_keyed.specs.Keyed.{next_key}
 use Rattle.lab_columns.proofs.Queries.{if_then}
 use Rattle.lab_tables.specs.Ready.{tables_of}
@@ -15,8 +14,8 @@ use Rattle.lab_filing_forms.proofs.forms.insert_field.Goals as goal
 
 pub returns-clause-placed : goal.returns-clause-placed
 returns-clause-placed g c clean =
-    let old = state g.S.Store c.args.tx.now.conn.now in
-    let new = state g.S.Store c.insert.new.tx.conn.now in
+    let old = g.W.Writable.state c.args.tx.now in
+    let new = g.W.Writable.state c.insert.new.tx in
     let field = c.args.field.now in
     let row = field_at c.args.form.id (next_key field_id (tables_of old).fields) c.args.place field in
     let given : bound (c.id_value.result ∷ c.in_ok-at.at ∷ c.text_value.result ∷ c.text_value-2.result ∷ c.flag_value.result ∷ c.text_value-3.result

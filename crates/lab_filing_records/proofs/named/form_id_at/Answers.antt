@@ -1,13 +1,12 @@
 use Rattle.std.proofs.Common.{refl}
-use Rattle.sqlite.specs.Held.{state}
 use Rattle.lab_columns.proofs.Queries.{if_then}
 use Rattle.lab_filing_records.proofs.KeyLemmas.{form_found}
 use Rattle.lab_filing_records.proofs.named.form_id_at.Goals as goal
 
 pub returns-clause-found : goal.returns-clause-found
 returns-clause-found g c clean =
-    let old = state g.S.Store c.args.tx.now.conn.now in
-    let new = state g.S.Store c.form_rows.new.tx.conn.now in
+    let old = g.W.Writable.state c.args.tx.now in
+    let new = g.W.Writable.state c.form_rows.new.tx in
     if_then c.first_id.result
     (λ one is. form_found c.args.lab.id c.args.code.now c.as_str.result.now c.args.version c.args.version c.deref.result.now c.in_ok-rows.rows.items
     one.id old new

@@ -1,6 +1,5 @@
 use Rattle.std.proofs.Common.{arith, subst}
 use Rattle.sqlite.specs.State.{HasCleanDisk}
-use Rattle.sqlite.specs.Held.{state}
 use Rattle.lab_tables.specs.Changes.{InTurn, AddsVersion}
 use Rattle.lab_writing.specs.Calls.{Steps}
 use Rattle.lab_filing_records.proofs.InTurn.{record_added}
@@ -8,11 +7,11 @@ use Rattle.lab_filing_records.proofs.records.add_record.Goals as goal
 
 pub returns-clause-made : goal.returns-clause-made
 returns-clause-made g c clean =
-    let one = state g.S.Store c.args.tx.now.conn.now in
-    let two = state g.S.Store c.form_id_at.new.tx.conn.now in
-    let three = state g.S.Store c.insert_record.new.tx.conn.now in
-    let four = state g.S.Store c.set_records.new.tx.conn.now in
-    let five = state g.S.Store c.add_versions.new.tx.conn.now in
+    let one = g.W.Writable.state c.args.tx.now in
+    let two = g.W.Writable.state c.form_id_at.new.tx in
+    let three = g.W.Writable.state c.insert_record.new.tx in
+    let four = g.W.Writable.state c.set_records.new.tx in
+    let five = g.W.Writable.state c.add_versions.new.tx in
     let third : HasCleanDisk four = omega (arith, c.add_versions.ensures.survives.clean) in
     let second : HasCleanDisk three = omega (arith, c.set_records.ensures.survives.clean) in
     let first : HasCleanDisk two = omega (arith, c.insert_record.ensures.survives.clean) in

@@ -1,6 +1,5 @@
 use Rattle.std.proofs.Common.{◌<◌, length, arith, rules, subst}
 use Rattle.sqlite.specs.State.{HasCleanDisk}
-use Rattle.sqlite.specs.Held.{state}
 use Rattle.lab_tables.specs.Changes.{AddsSignature}
 use Rattle.lab_writing.specs.Calls.{Steps}
 use Rattle.lab_writing.proofs.Inside.{none_then, keeps_then, turns_more}
@@ -8,9 +7,9 @@ use Rattle.lab_filing_records.proofs.versions.add_signatures.Goals as goal
 
 pub loop-one-preserved : goal.loop-one-preserved
 loop-one-preserved g c =
-    let old = state g.S.Store c.args.tx.now.conn.now in
-    let mid = state g.S.Store c.loop-one.tx.conn.now in
-    let new = state g.S.Store c.add_signature.new.tx.conn.now in
+    let old = g.W.Writable.state c.args.tx.now in
+    let mid = g.W.Writable.state c.loop-one.tx in
+    let new = g.W.Writable.state c.add_signature.new.tx in
     let inv = c.loop-one.invariant in
     let early : HasCleanDisk new → HasCleanDisk mid = λ clean. omega (arith, c.add_signature.ensures.survives.clean) in
     let xs = c.args.signatures.now in

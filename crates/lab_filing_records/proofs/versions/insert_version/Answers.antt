@@ -3,7 +3,6 @@ use Rattle.sqlite_value.specs.declared.value.Value.TheVariants.{Text}
 use Rattle.sqlite_value.specs.Order.{Row}
 use Rattle.sqlite.specs.Values.{bound}
 use Rattle.sqlite.specs.State.{ExecutesInside}
-use Rattle.sqlite.specs.Held.{state}
 use Rattle.sqlite_keyed.specs.Keyed.{next_key}
 use Rattle.lab_tables.specs.Ready.{tables_of}
 use Rattle.lab_writing.proofs.Placed.{placed_exactly}
@@ -18,8 +17,8 @@ use Rattle.lab_filing_records.proofs.versions.insert_version.Goals as goal
 
 pub returns-clause-placed : goal.returns-clause-placed
 returns-clause-placed g c clean =
-    let old = state g.S.Store c.args.tx.now.conn.now in
-    let new = state g.S.Store c.insert.new.tx.conn.now in
+    let old = g.W.Writable.state c.args.tx.now in
+    let new = g.W.Writable.state c.insert.new.tx in
     let version = c.args.version.now in
     let cause = λ (amendment : Option Amendment). optional Text (option_map amendment_reason amendment) in
     let row = version_row_of c.args.kept.id (next_key version_id (tables_of old).versions) c.args.opener.id version in

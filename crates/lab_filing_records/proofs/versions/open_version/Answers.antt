@@ -1,6 +1,5 @@
 use Rattle.std.proofs.Common.{◌≡◌, arith, subst}
 use Rattle.sqlite.specs.State.{HasCleanDisk}
-use Rattle.sqlite.specs.Held.{state}
 use Rattle.lab_tables.specs.Changes.{set_current}
 use Rattle.lab_writing.specs.Calls.{Steps}
 use Rattle.lab_filing_records.proofs.InTurn.{version_opened}
@@ -8,10 +7,10 @@ use Rattle.lab_filing_records.proofs.versions.open_version.Goals as goal
 
 pub returns-clause-made : goal.returns-clause-made
 returns-clause-made g c clean =
-    let one = state g.S.Store c.args.tx.now.conn.now in
-    let two = state g.S.Store c.record_at.new.tx.conn.now in
-    let three = state g.S.Store c.add_version.new.tx.conn.now in
-    let four = state g.S.Store c.set_current.new.tx.conn.now in
+    let one = g.W.Writable.state c.args.tx.now in
+    let two = g.W.Writable.state c.record_at.new.tx in
+    let three = g.W.Writable.state c.add_version.new.tx in
+    let four = g.W.Writable.state c.set_current.new.tx in
     let late : HasCleanDisk three = omega (arith, c.set_current.ensures.survives.clean) in
     let early : HasCleanDisk two = omega (arith, c.add_version.ensures.survives.clean) in
     version_opened c.args.lab.id c.args.wanted c.args.version.now c.in_ok-kept.kept.id.id c.in_ok-kept.kept.current one two three four

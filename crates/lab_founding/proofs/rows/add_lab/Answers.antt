@@ -3,14 +3,13 @@ use Rattle.sqlite_value.specs.declared.value.Value.TheVariants.{Text}
 use Rattle.sqlite_value.specs.Order.{Row}
 use Rattle.sqlite.specs.Values.{bound}
 use Rattle.sqlite.specs.State.{ExecutesInside}
-use Rattle.sqlite.specs.Held.{state}
 use Rattle.lab_founding.proofs.LabMore.{add_lab_text, lab_given, lab_added, lab_sound}
 use Rattle.lab_founding.proofs.rows.add_lab.Goals as goal
 
 pub returns-clause-made : goal.returns-clause-made
 returns-clause-made g c clean =
-    let old = state g.S.Store c.args.tx.now.conn.now in
-    let new = state g.S.Store c.run.new.tx.conn.now in
+    let old = g.W.Writable.state c.args.tx.now in
+    let new = g.W.Writable.state c.run.new.tx in
     let lab = c.args.lab.now in
     let given : bound (c.text_value.result ∷ c.text_value-2.result ∷ c.moment_value.result ∷ c.in_ok-strays.strays ∷ []) ≡ lab_given lab =
     λ i. (c.text_value.ensures ∙ ap Text c.as_str-code.ensures.value) i ∷ (c.text_value-2.ensures ∙ ap Text c.as_str-name.ensures.value) i
@@ -21,8 +20,8 @@ returns-clause-made g c clean =
 
 pub returns-clause-rules : goal.returns-clause-rules
 returns-clause-rules g c clean =
-    let old = state g.S.Store c.args.tx.now.conn.now in
-    let new = state g.S.Store c.run.new.tx.conn.now in
+    let old = g.W.Writable.state c.args.tx.now in
+    let new = g.W.Writable.state c.run.new.tx in
     let lab = c.args.lab.now in
     let given : bound (c.text_value.result ∷ c.text_value-2.result ∷ c.moment_value.result ∷ c.in_ok-strays.strays ∷ []) ≡ lab_given lab =
     λ i. (c.text_value.ensures ∙ ap Text c.as_str-code.ensures.value) i ∷ (c.text_value-2.ensures ∙ ap Text c.as_str-name.ensures.value) i

@@ -1,6 +1,5 @@
 use Rattle.std.proofs.Common.{◌<◌, length, subst, arith, rules}
 use Rattle.sqlite.specs.State.{HasCleanDisk}
-use Rattle.sqlite.specs.Held.{state}
 use Rattle.lab_access.specs.declared.persons.Person.{Person}
 use Rattle.lab_tables.specs.Changes.{AddsPerson}
 use Rattle.lab_writing.specs.Calls.{Steps}
@@ -9,9 +8,9 @@ use Rattle.lab_founding.proofs.rows.add_persons.Goals as goal
 
 pub loop-person-preserved : goal.loop-person-preserved
 loop-person-preserved g c =
-    let old = state g.S.Store c.args.tx.now.conn.now in
-    let mid = state g.S.Store c.loop-person.tx.conn.now in
-    let new = state g.S.Store c.add_person.new.tx.conn.now in
+    let old = g.W.Writable.state c.args.tx.now in
+    let mid = g.W.Writable.state c.loop-person.tx in
+    let new = g.W.Writable.state c.add_person.new.tx in
     let inv = c.loop-person.invariant in
     let i = c.loop-person.person-index in
     let early : HasCleanDisk new → HasCleanDisk mid = λ clean. omega (arith, c.add_person.ensures.survives.clean) in

@@ -1,16 +1,15 @@
 use Rattle.std.proofs.Common.{arith}
 use Rattle.std.proofs.lemmas.Result.{on_ok_weaker}
 use Rattle.sqlite.specs.State.{HasCleanDisk}
-use Rattle.sqlite.specs.Held.{state}
 use Rattle.lab_founding.proofs.AllRows.{rows_added}
 use Rattle.lab_founding.proofs.rows.add_rows.Goals as goal
 
 pub returns-clause-made : goal.returns-clause-made
 returns-clause-made g c clean =
-    let one = state g.S.Store c.args.tx.now.conn.now in
-    let two = state g.S.Store c.add_lab.new.tx.conn.now in
-    let three = state g.S.Store c.add_persons.new.tx.conn.now in
-    let four = state g.S.Store c.add_trail.new.tx.conn.now in
+    let one = g.W.Writable.state c.args.tx.now in
+    let two = g.W.Writable.state c.add_lab.new.tx in
+    let three = g.W.Writable.state c.add_persons.new.tx in
+    let four = g.W.Writable.state c.add_trail.new.tx in
     let late : HasCleanDisk three = omega (arith, c.add_trail.ensures.survives.clean) in
     let early : HasCleanDisk two = omega (arith, c.add_persons.ensures.survives.clean) in
     on_ok_weaker c.add_trail.result

@@ -1,6 +1,5 @@
 use Rattle.std.proofs.Common.{◌<◌, length, subst, arith, rules}
 use Rattle.sqlite.specs.State.{HasCleanDisk}
-use Rattle.sqlite.specs.Held.{state}
 use Rattle.lab_kept.specs.declared.trails.TrailRow.{TrailRow}
 use Rattle.lab_tables.specs.Changes.{AddsTold}
 use Rattle.lab_writing.specs.Calls.{Steps}
@@ -9,9 +8,9 @@ use Rattle.lab_founding.proofs.rows.add_trail.Goals as goal
 
 pub loop-told-preserved : goal.loop-told-preserved
 loop-told-preserved g c =
-    let old = state g.S.Store c.args.tx.now.conn.now in
-    let mid = state g.S.Store c.loop-told.tx.conn.now in
-    let new = state g.S.Store c.add_told.new.tx.conn.now in
+    let old = g.W.Writable.state c.args.tx.now in
+    let mid = g.W.Writable.state c.loop-told.tx in
+    let new = g.W.Writable.state c.add_told.new.tx in
     let inv = c.loop-told.invariant in
     let i = c.loop-told.told-index in
     let early : HasCleanDisk new → HasCleanDisk mid = λ clean. omega (arith, c.add_told.ensures.survives.clean) in

@@ -3,7 +3,6 @@ use Rattle.sqlite_value.specs.declared.value.Value.TheVariants.{Text}
 use Rattle.sqlite_value.specs.Order.{Row}
 use Rattle.sqlite.specs.Values.{bound}
 use Rattle.sqlite.specs.State.{HasCleanDisk, Shown}
-use Rattle.sqlite.specs.Held.{state}
 use Rattle.lab_writing.specs.Shown.{labs_shown}
 use Rattle.lab_writing.proofs.Lookups.{looked, looked_keeps}
 use Rattle.lab_writing.proofs.KeyLemmas.{lab_text, lab_means, labs_read}
@@ -11,8 +10,8 @@ use Rattle.lab_writing.proofs.named.lab_rows.Goals as goal
 
 pub returns-clause-rows : goal.returns-clause-rows
 returns-clause-rows g c clean =
-    let old = state g.S.Store c.args.tx.now.conn.now in
-    let new = state g.S.Store c.query_all.new.self.conn.now in
+    let old = g.W.Writable.state c.args.tx.now in
+    let new = g.W.Writable.state c.query_all.new.self in
     let before : HasCleanDisk new → HasCleanDisk old = λ clean. omega (arith, c.query_all.ensures.survives.clean) in
     let given : bound (c.text_value.result ∷ []) ≡ Text c.args.code.now ∷ [] = λ i. c.text_value.ensures i ∷ [] in
     looked lab_text lab_means.read (Text c.args.code.now ∷ []) old new before c.query_all.result (labs_shown c.args.code.now) (c.requires.inside (before clean)) (λ rows. labs_read old new c.args.code.now rows)
@@ -20,7 +19,7 @@ returns-clause-rows g c clean =
 
 pub returns-clause-kept : goal.returns-clause-kept
 returns-clause-kept g c clean =
-    let old = state g.S.Store c.args.tx.now.conn.now in
-    let new = state g.S.Store c.query_all.new.self.conn.now in
+    let old = g.W.Writable.state c.args.tx.now in
+    let new = g.W.Writable.state c.query_all.new.self in
     let before : HasCleanDisk new → HasCleanDisk old = λ clean. omega (arith, c.query_all.ensures.survives.clean) in
     looked_keeps lab_text lab_means.read (bound (c.text_value.result ∷ [])) old new before c.query_all.result (c.query_all.ensures.ok clean) (c.query_all.ensures.err clean)

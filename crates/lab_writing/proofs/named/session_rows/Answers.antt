@@ -3,7 +3,6 @@ use Rattle.sqlite_value.specs.declared.value.Value.TheVariants.{Int, Blob}
 use Rattle.sqlite_value.specs.Order.{Row}
 use Rattle.sqlite.specs.Values.{bound}
 use Rattle.sqlite.specs.State.{HasCleanDisk, Shown}
-use Rattle.sqlite.specs.Held.{state}
 use Rattle.lab_writing.specs.Shown.{sessions_shown}
 use Rattle.lab_writing.proofs.Lookups.{looked, looked_keeps}
 use Rattle.lab_writing.proofs.KeyLemmas.{session_text, session_means, sessions_read}
@@ -11,8 +10,8 @@ use Rattle.lab_writing.proofs.named.session_rows.Goals as goal
 
 pub returns-clause-rows : goal.returns-clause-rows
 returns-clause-rows g c clean =
-    let old = state g.S.Store c.args.tx.now.conn.now in
-    let new = state g.S.Store c.query_all.new.self.conn.now in
+    let old = g.W.Writable.state c.args.tx.now in
+    let new = g.W.Writable.state c.query_all.new.self in
     let before : HasCleanDisk new → HasCleanDisk old = λ clean. omega (arith, c.query_all.ensures.survives.clean) in
     let lab = c.args.lab.id in
     let key = c.args.token.now in
@@ -22,7 +21,7 @@ returns-clause-rows g c clean =
 
 pub returns-clause-kept : goal.returns-clause-kept
 returns-clause-kept g c clean =
-    let old = state g.S.Store c.args.tx.now.conn.now in
-    let new = state g.S.Store c.query_all.new.self.conn.now in
+    let old = g.W.Writable.state c.args.tx.now in
+    let new = g.W.Writable.state c.query_all.new.self in
     let before : HasCleanDisk new → HasCleanDisk old = λ clean. omega (arith, c.query_all.ensures.survives.clean) in
     looked_keeps session_text session_means.read (bound (c.id_value.result ∷ c.blob_value.result ∷ [])) old new before c.query_all.result (c.query_all.ensures.ok clean) (c.query_all.ensures.err clean)

@@ -1,15 +1,14 @@
 use Rattle.std.proofs.Common.{arith}
 use Rattle.sqlite.specs.State.{HasCleanDisk}
-use Rattle.sqlite.specs.Held.{state}
 use Rattle.lab_writing.proofs.Inside.{inside_keeps}
 use Rattle.lab_writing.proofs.statements.run.Goals as goal
 
 pub returns-clause-runs : goal.returns-clause-runs
 returns-clause-runs g c clean =
-    let early : HasCleanDisk (state g.S.Store c.args.tx.now.conn.now) = omega (arith, c.execute.ensures.survives.clean) in
+    let early : HasCleanDisk (g.W.Writable.state c.args.tx.now) = omega (arith, c.execute.ensures.survives.clean) in
     c.execute.ensures.runs clean (c.requires.inside early)
 
 pub returns-clause-kept : goal.returns-clause-kept
 returns-clause-kept g c clean =
-    let early : HasCleanDisk (state g.S.Store c.args.tx.now.conn.now) = omega (arith, c.execute.ensures.survives.clean) in
-    inside_keeps _ _ (state g.S.Store c.args.tx.now.conn.now) (state g.S.Store c.execute.new.self.conn.now) c.execute.result (c.execute.ensures.runs clean (c.requires.inside early))
+    let early : HasCleanDisk (g.W.Writable.state c.args.tx.now) = omega (arith, c.execute.ensures.survives.clean) in
+    inside_keeps _ _ (g.W.Writable.state c.args.tx.now) (g.W.Writable.state c.execute.new.self) c.execute.result (c.execute.ensures.runs clean (c.requires.inside early))

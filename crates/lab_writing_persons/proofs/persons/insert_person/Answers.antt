@@ -3,7 +3,6 @@ use Rattle.sqlite_value.specs.declared.value.Value.TheVariants.{Text}
 use Rattle.sqlite_value.specs.Order.{Row}
 use Rattle.sqlite.specs.Values.{bound}
 use Rattle.sqlite.specs.State.{ExecutesInside}
-use Rattle.sqlite.specs.Held.{state}
 use Rattle.sqlite_keyed.specs.Keyed.{next_key}
 use Rattle.lab_tables.specs.Rows.{person_id}
 use Rattle.lab_tables.specs.Changes.{person_row_of}
@@ -17,8 +16,8 @@ use Rattle.lab_writing_persons.proofs.persons.insert_person.Goals as goal
 
 pub returns-clause-made : goal.returns-clause-made
 returns-clause-made g c clean =
-    let old = state g.S.Store c.args.tx.now.conn.now in
-    let new = state g.S.Store c.run.new.tx.conn.now in
+    let old = g.W.Writable.state c.args.tx.now in
+    let new = g.W.Writable.state c.run.new.tx in
     let lab = c.args.lab.id in
     let asker = option_map row_id c.args.asker in
     let person = c.args.person.now in

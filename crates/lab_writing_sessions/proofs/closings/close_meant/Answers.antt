@@ -1,5 +1,4 @@
 use Rattle.std.proofs.Common.{◌≡◌, sym, subst}
-use Rattle.sqlite.specs.Held.{state}
 use Rattle.lab_access.specs.declared.sessions.Closing.{Closing}
 use Rattle.lab_writing.specs.Calls.{Steps}
 use Rattle.lab_writing_sessions.specs.Closings.{close_of}
@@ -9,5 +8,5 @@ use Rattle.lab_writing_sessions.proofs.closings.close_meant.Goals as goal
 pub returns-in-Nothing-clause-made : goal.returns-in-Nothing-clause-made
 returns-in-Nothing-clause-made g c clean =
     let person = c.args.person.id in
-    let one = state g.S.Store c.args.tx.now.conn.now in
+    let one = g.W.Writable.state c.args.tx.now in
     subst (λ (k : Closing). Steps (λ before after. after ≡ close_of person k before) one one) (sym c.in-Nothing.is) (nothing_closed person one (c.requires.inside clean))

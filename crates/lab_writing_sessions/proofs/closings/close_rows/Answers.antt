@@ -1,7 +1,6 @@
 use Rattle.std.proofs.Common.{◌≡◌, ◌<◌, length, arith, rules, subst}
 use Rattle.sqlite_value.specs.Order.{Row}
 use Rattle.sqlite.specs.State.{HasCleanDisk}
-use Rattle.sqlite.specs.Held.{state}
 use Rattle.lab_writing.specs.Calls.{Steps}
 use Rattle.lab_writing_sessions.specs.Closings.{close_one, ClosesRow}
 use Rattle.lab_writing.proofs.Inside.{none_then, keeps_then, turns_more}
@@ -9,9 +8,9 @@ use Rattle.lab_writing_sessions.proofs.closings.close_rows.Goals as goal
 
 pub loop-row-preserved : goal.loop-row-preserved
 loop-row-preserved g c =
-    let old = state g.S.Store c.args.tx.now.conn.now in
-    let mid = state g.S.Store c.loop-row.tx.conn.now in
-    let new = state g.S.Store c.close_session.new.tx.conn.now in
+    let old = g.W.Writable.state c.args.tx.now in
+    let mid = g.W.Writable.state c.loop-row.tx in
+    let new = g.W.Writable.state c.close_session.new.tx in
     let inv = c.loop-row.invariant in
     let early : HasCleanDisk new → HasCleanDisk mid = λ clean. omega (arith, c.close_session.ensures.survives.clean) in
     let xs = c.args.rows.now in

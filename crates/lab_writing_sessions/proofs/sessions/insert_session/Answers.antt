@@ -3,7 +3,6 @@ use Rattle.sqlite_value.specs.declared.value.Value.TheVariants.{Blob}
 use Rattle.sqlite_value.specs.Order.{Row}
 use Rattle.sqlite.specs.Values.{bound}
 use Rattle.sqlite.specs.State.{ExecutesInside}
-use Rattle.sqlite.specs.Held.{state}
 use Rattle.sqlite_keyed.specs.Keyed.{next_key}
 use Rattle.lab_tables.specs.Rows.{session_id}
 use Rattle.lab_tables.specs.Changes.{session_row_of}
@@ -15,8 +14,8 @@ use Rattle.lab_writing_sessions.proofs.sessions.insert_session.Goals as goal
 
 pub returns-clause-made : goal.returns-clause-made
 returns-clause-made g c clean =
-    let old = state g.S.Store c.args.tx.now.conn.now in
-    let new = state g.S.Store c.run.new.tx.conn.now in
+    let old = g.W.Writable.state c.args.tx.now in
+    let new = g.W.Writable.state c.run.new.tx in
     let lab = c.args.lab.id in
     let session = c.args.session.now in
     let row = session_row_of lab (next_key session_id (tables_of old).sessions) c.args.person.id session in

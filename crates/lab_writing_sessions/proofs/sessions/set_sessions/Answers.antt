@@ -3,7 +3,6 @@ use Rattle.sqlite_value.specs.declared.value.Value.TheVariants.{Int}
 use Rattle.sqlite_value.specs.Order.{Row}
 use Rattle.sqlite.specs.Values.{bound}
 use Rattle.sqlite.specs.State.{ExecutesInside}
-use Rattle.sqlite.specs.Held.{state}
 use Rattle.lab_tables.specs.Rows.{LabRow, number}
 use Rattle.lab_tables.specs.Changes.{in_lab}
 use Rattle.lab_writing.proofs.Inside.{made_exactly}
@@ -12,8 +11,8 @@ use Rattle.lab_writing_sessions.proofs.sessions.set_sessions.Goals as goal
 
 pub returns-clause-made : goal.returns-clause-made
 returns-clause-made g c clean =
-    let old = state g.S.Store c.args.tx.now.conn.now in
-    let new = state g.S.Store c.run.new.tx.conn.now in
+    let old = g.W.Writable.state c.args.tx.now in
+    let new = g.W.Writable.state c.run.new.tx in
     let lab = c.args.lab.id in
     let given : bound (c.id_value.result ∷ c.ordinal_value.result ∷ []) ≡ Int lab ∷ number c.args.count ∷ [] = λ i. c.id_value.ensures i ∷ c.ordinal_value.ensures i ∷ [] in
     made_exactly sessions_text (Int lab ∷ number c.args.count ∷ []) old new (in_lab lab (λ (one : LabRow). record one { sessions = c.args.count })) c.run.result
