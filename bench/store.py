@@ -53,7 +53,7 @@ SOURCES = {
     "the record": "lab_reading/records record_rows",
     "its form": "lab_form_versions/forms form_rows",
     "the form's fields": "lab_form_versions/fields field_rows",
-    "the choices of a field": "lab_field_kinds/choices name_rows",
+    "the choices of a field": "lab_form_versions/choices name_rows",
     "the record's versions, with their openers' codes": "lab_reading/versions version_rows",
     "the entries of a version, with their persons' codes": "lab_reading/entries entry_rows",
     "the signatures of a version, with their persons' codes": "lab_reading/signatures signature_rows",
@@ -70,8 +70,8 @@ SOURCES = {
     "add an entry": "lab_filing_entries/entries insert_entry",
     "the ids of the version's signatures, to count them": "lab_filing_entries/places signature_rows",
     "add a signature": "lab_filing_entries/signatures insert_signature",
-    "add a row of the trail": "lab_writing_trail/trails insert_told",
-    "set the count of the trail": "lab_writing_trail/trails set_trail",
+    "add a row of the trail": "lab_writing/trails insert_told",
+    "set the count of the trail": "lab_writing/trails set_trail",
 }
 
 
@@ -124,7 +124,7 @@ class Library:
         rows = self.all(what, *params)
         return rows[0] if rows else None
 
-    # What is read before anything is decided: crates/lab_loading, and the crates lab_loading_.. below it.
+    # What is read before anything is decided: crates/lab_loading, and the crates of readers below it.
 
     def load(self, lab, token=None, person=None, record=None):
         at = self.one("the laboratory", lab)[0]
