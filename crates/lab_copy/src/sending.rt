@@ -1,11 +1,12 @@
 //! Sending rows: each is made into bytes in memory, and every byte goes out.
 ghost use Rattle.std.specs.Prelude.{◌≡◌, ◌≤◌, IfOk, length, take};
 ghost use Rattle.std.specs.Io.KnownBytes.{Appends};
+ghost use Rattle.csv.specs.Records.{fields_of};
 ghost use Rattle.lab_rows.specs.Csv.{csv_row};
 ghost use Rattle.lab_copy.specs.Outs.{Sends};
 
 use crate::CopyOutFault;
-use csv::{Error, WriterBuilder};
+use csv::{Error, StringRecord, WriterBuilder};
 use lab_rows::{CopyRow, OutOfMemory};
 use std::alloc::Global;
 use std::io::Write;
@@ -19,7 +20,8 @@ pub(crate) fn send_row<W: Write>(
 ) -> Result<(), CopyOutFault>
     ensures { Sends (W.contents writer.old) (W.contents writer.new) (csv_row row.now) result }
 {
-    let Ok(bytes) = row_bytes(alloc, row) else {
+    let fields = record_of(alloc, row)?;
+    let Ok(bytes) = row_bytes(alloc, &fields) else {
         return Err(CopyOutFault::Memory(OutOfMemory));
     };
     if send(writer, &bytes) < bytes.len() {
@@ -28,12 +30,23 @@ pub(crate) fn send_row<W: Write>(
     Ok(())
 }
 
+// The fields of a row, as the writer takes them.
+fn record_of(alloc: Global, row: &CopyRow) -> Result<StringRecord, OutOfMemory>
+    ensures { IfOk result (λ made. fields_of made ≡ row.now) }
+{
+    let mut made = StringRecord::new(alloc);
+    for field in row.fields() {
+        made.push_field(field)?;
+    }
+    Ok(made)
+}
+
 // The text of a row. The writer writes to memory, so its only error is out of memory.
-fn row_bytes(alloc: Global, row: &CopyRow) -> Result<Vec<u8>, Error>
-    ensures { IfOk result (λ bytes. bytes.items ≡ csv_row row.now) }
+fn row_bytes(alloc: Global, fields: &StringRecord) -> Result<Vec<u8>, Error>
+    ensures { IfOk result (λ bytes. bytes.items ≡ csv_row (fields_of fields.now)) }
 {
     let mut writer = WriterBuilder::new().from_writer(Vec::new(alloc));
-    writer.write_byte_record(row.fields().as_byte_record())?;
+    writer.write_byte_record(fields.as_byte_record())?;
     match writer.into_inner() {
         Ok(bytes) => Ok(bytes),
         Err(error) => Err(error.into_error()),

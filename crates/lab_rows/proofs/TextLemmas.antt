@@ -1,5 +1,5 @@
 -- Digits and moments are texts, and the first field of a row is its kind.
-use Rattle.std.proofs.Common.{◌≡◌, ℕ, ◌<◌, List, [], ◌∷◌, IsTrue, true, Some, None, refl, arith}
+use Rattle.std.proofs.Common.{◌≡◌, ℕ, ◌<◌, List, [], ◌∷◌, IsTrue, true, String, Global, Some, None, map, refl, arith, slice_get, string_bytes}
 use Rattle.std.specs.Prelude.{nat_le}
 use Rattle.std.specs.List.{list_all}
 use Rattle.std.specs.Str.{IsUtf8, IsAscii}
@@ -7,7 +7,6 @@ use Rattle.std.proofs.lemmas.Bool.{and_parts}
 use Rattle.std.proofs.lemmas.Bool.Decides.{nat_tests}
 use Rattle.std.proofs.lemmas.Str.{IsUtf8-from_ascii}
 use Rattle.std.proofs.lemmas.Str.Ascii.{IsAscii-nil, IsAscii-cons}
-use Rattle.csv.specs.Records.{field_at}
 use Rattle.hex.specs.Hex.{encode_lower, lower_digits}
 use Rattle.hex.proofs.HexLemmas.{IsAscii-encode_with}
 use Rattle.lab_names.specs.Moment.{is_moment, moment_text}
@@ -32,12 +31,10 @@ digits_ascii = low_bytes lower_digits refl
 pub digits_are_text : (bytes : List ℕ) → IsUtf8 (encode_lower bytes)
 digits_are_text bytes = IsUtf8-from_ascii _ (IsAscii-encode_with lower_digits bytes digits_ascii)
 
-pub kind_told : (fields : List (List ℕ)) (kind : List ℕ) → Some kind ≡ field_at fields 0 → kind ≡ kind_in fields
-unfolding field_at
-kind_told [] kind is = let never : Some kind ≡ None = is in absurd (cc)
-kind_told (one ∷ fields) kind is = let same : Some kind ≡ Some one = is in cc
+pub kind_told : (texts : List (String Global)) (one : String Global) → Some one ≡ slice_get texts 0 → string_bytes one ≡ kind_in (map string_bytes texts)
+kind_told [] one is = let never : Some one ≡ None = is in absurd (cc)
+kind_told (first ∷ texts) one is = let same : Some one ≡ Some first = is in cc
 
-pub kind_missing : (fields : List (List ℕ)) → None ≡ field_at fields 0 → [] ≡ kind_in fields
-unfolding field_at
+pub kind_missing : (texts : List (String Global)) → None ≡ slice_get texts 0 → [] ≡ kind_in (map string_bytes texts)
 kind_missing [] is = refl
-kind_missing (one ∷ fields) is = let never : None ≡ Some one = is in absurd (cc)
+kind_missing (first ∷ texts) is = let never : None ≡ Some first = is in absurd (cc)

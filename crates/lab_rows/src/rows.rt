@@ -1,6 +1,5 @@
 //! Rows of a copy, one maker for each kind.
-ghost use Rattle.std.specs.Prelude.{◌≡◌, IfOk, map};
-ghost use Rattle.csv.specs.Records.{fields_of};
+ghost use Rattle.std.specs.Prelude.{◌≡◌, IfOk, map, string_bytes};
 ghost use Rattle.lab_rows.specs.Rows.{fields_in, kind_in, header_row, copy_row, record_row, version_row, entry_row, signature_row, end_row};
 
 use crate::texts::{
@@ -8,7 +7,6 @@ use crate::texts::{
     state_text,
 };
 use crate::{CopyLine, EndLine, EntryLine, RecordLine, SignatureLine, VersionLine};
-use csv::StringRecord;
 use itoa::Buffer;
 use lab_seal::OutOfMemory;
 use std::alloc::Global;
@@ -19,7 +17,7 @@ use std::marker::Model;
 /// A contract sees it as the list of its fields.
 #[derive(Debug)]
 pub struct CopyRow {
-    fields: StringRecord,
+    fields: Vec<String>,
 }
 
 // It is written out, so that a caller doesn't prove again how each part is dropped.
@@ -30,12 +28,11 @@ impl Drop for CopyRow {
 }
 
 impl Model for CopyRow {
-    ghost use Rattle.std.specs.Prelude.{List, ℕ};
-    ghost use Rattle.csv.specs.Records.{fields_of};
+    ghost use Rattle.std.specs.Prelude.{List, ℕ, map, string_bytes};
 
     ghost Value = { List (List ℕ) };
 
-    ghost view = { λ row. fields_of row.fields };
+    ghost view = { λ row. map string_bytes row.fields.items };
 }
 
 impl CopyRow {
@@ -210,26 +207,29 @@ impl CopyRow {
         )
     }
 
-    fn of_fields(alloc: Global, fields: &[&str]) -> Result<CopyRow, OutOfMemory>
-        ensures { IfOk result (λ row. row ≡ map (λ field. field.now) fields.now) }
+    fn of_fields(alloc: Global, texts: &[&str]) -> Result<CopyRow, OutOfMemory>
+        ensures { IfOk result (λ row. row ≡ map (λ text. text.now) texts.now) }
     {
-        let fields = StringRecord::from_fields(alloc, fields)?;
+        let mut fields = Vec::new(alloc);
+        for text in texts {
+            fields.push(String::from_str(alloc, text)?)?;
+        }
         Ok(CopyRow { fields })
     }
 
     /// The fields in order.
-    pub fn fields(&self) -> &StringRecord
-        ensures { fields_of result.now ≡ self.now }
+    pub fn fields(&self) -> &[String]
+        ensures { map string_bytes result.now ≡ self.now }
     {
-        &self.fields
+        self.fields.as_slice()
     }
 
     /// The kind of the row: `kind` of the header, `copy`, `record`, `version`, `entry`, `signature` or `end`.
     pub fn kind(&self) -> &str
         ensures { result.now ≡ kind_in self.now }
     {
-        match self.fields.get(0) {
-            Some(kind) => kind,
+        match self.fields.first() {
+            Some(kind) => kind.as_str(),
             None => "",
         }
     }

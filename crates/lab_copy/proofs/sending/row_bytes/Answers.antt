@@ -8,5 +8,5 @@ returns-in-Ok c =
     let from = c.from_writer-writer.ensures in
     let plain : c.from_writer-writer.result.cfg.style ≢ style.NonNumeric = rw (from.cfg, c.new.ensures) (λ e. cc e) in
     let h = c.in_ok-write_byte_record.ensures.bytes from.fields from.wrote plain in
-    let text = rw (from.cfg, c.new.ensures, from.wtr, c.new-2.ensures.items, from.empty, c.as_byte_record.ensures, c.fields.ensures) at h in
+    let text = rw (from.cfg, c.new.ensures, from.wtr, c.new-2.ensures.items, from.empty, c.as_byte_record.ensures) at h in
     c.in-Ok.ensures.ok ∙ text
