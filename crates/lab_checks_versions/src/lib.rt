@@ -1,5 +1,5 @@
-//! Checking a version of an inspection copy: its digest, its signatures and their persons; and the
-//! faults of a check.
+//! Checking a version of an inspection copy: its digest, its signatures and their persons; what a line tells of its place by
+//! itself; and the faults of a check.
 #![tactic(auto)]
 
 mod faults;

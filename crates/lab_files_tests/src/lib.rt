@@ -1,5 +1,5 @@
-//! Tests of `lab_files` over databases in memory, of what no command comes to: they stand apart, so that the crate isn't proved once
-//! more with them.
+//! Tests of `lab_files` and `lab_founding` over databases in memory, of what no command comes to: they stand apart, so that the
+//! crates aren't proved once more with them.
 #![tactic(auto)]
 
 #[cfg(test)]

@@ -1,5 +1,6 @@
-//! What the tasks over a file of laboratories share: what its tables mean as a keeper's, and how it
-//! is closed; and, by one name, the files, clock and chance that are handed to them.
+//! The tasks over a file of laboratories: to found one in it, to serve them, to copy the records of one. And what the tasks
+//! share: what the file's tables mean as a keeper's, and how it is closed; and, by one name, the files, clock and chance that
+//! are handed to them.
 #![tactic(auto)]
 
 mod copying;

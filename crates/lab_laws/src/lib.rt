@@ -1,6 +1,6 @@
 //! The laws of the small machine, over its definitions alone: every birth leaves a laboratory, and every step one that was
-//! so before, within its limits, with signatures that are bound and under dual control; and a step keeps what was (21 CFR
-//! 11.10(e), 11.70; ISO/IEC 17025:2017, 7.5). Each function does nothing: its contract says the law, for all laboratories.
+//! so before, within its limits, with signatures that are bound and under dual control; a step keeps what was; and a copy that
+//! is handed out is sound (21 CFR 11.10(b) and (e), 11.70; ISO/IEC 17025:2017, 7.5 and 8.4). Each function does nothing: its contract says the law, for all laboratories.
 #![tactic(auto)]
 
 mod births;

@@ -1,5 +1,5 @@
 //! What the replies of a laboratory are made of, as JSON (RFC 8259): the members of an object, lists, moments, digits, and
-//! a refusal. It knows no reply.
+//! a refusal; and what is replied of persons, of forms and of the trail (21 CFR 11.10(e)).
 #![tactic(auto)]
 
 mod forms;

@@ -1,4 +1,5 @@
-//! The calls that add and set sessions in the tables of a file, each inside a transaction (21 CFR 11.10(e)).
+//! The calls that add, set and close sessions in the tables of a file, each inside a transaction (21 CFR 11.10(e), 11.300(b)
+//! and (d)).
 #![tactic(auto)]
 
 mod closings;
