@@ -41,7 +41,9 @@ fn make_inside<S: Alter>(
         (state S.Store tx.old.conn.now) (state S.Store tx.new.conn.now) (λ _. ⊥) }
 {
     let mut inside = Inside { tx };
-    all_inside(&mut inside, lab, changes)
+    let made = all_inside(&mut inside, lab, changes);
+    let Inside { tx: _ } = inside;
+    made
 }
 
 /// Makes the changes of the laboratory whose row has the id, in one transaction.

@@ -84,7 +84,9 @@ fn add_inside<S: Alter>(tx: &mut Transaction<'_, S>, lab: &Lab) -> Result<(), Er
         (state S.Store tx.old.conn.now) (state S.Store tx.new.conn.now) (λ _. ⊥) }
 {
     let mut inside = Inside { tx };
-    add_rows(&mut inside, lab)
+    let made = add_rows(&mut inside, lab);
+    let Inside { tx: _ } = inside;
+    made
 }
 
 /// Adds the rows of the laboratory in one transaction.
