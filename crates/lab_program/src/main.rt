@@ -1,7 +1,14 @@
-//! `labdesk`: signed laboratory records.
+//! `labdesk`: signed laboratory records. What its words ask for is done over the files, the clock, chance, the network and
+//! the streams of this machine.
 #![tactic(auto)]
 
-use lab_tasks::{Host, HostShelf, SystemChance, SystemClock, TerminalProgress, labdesk};
+mod command_line;
+mod hosts;
+mod laboratories;
+
+use command_line::labdesk;
+use hosts::Host;
+use lab_installations::{HostShelf, SystemChance, SystemClock, TerminalProgress};
 use std::io;
 use std::process::ExitCode;
 

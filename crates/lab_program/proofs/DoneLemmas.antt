@@ -24,10 +24,10 @@ use Rattle.lab_shelves.specs.Files.{IsOpened, IsOurs}
 use Rattle.lab_installations.specs.Foundings.{Drawing}
 use Rattle.lab_replays.specs.Replays.{IsReplay, ReplaysFromNothing}
 use Rattle.lab_installations.specs.Serving.{ServesFile}
-use Rattle.lab_tasks.specs.CommandLine.{IsDone}
+use Rattle.lab_program.specs.CommandLine.{IsDone}
 use Rattle.lab_words_explained.specs.Explaining.{Stopped}
-use Rattle.lab_tasks.specs.Laboratories.{IsCopiedIf, body_in}
-use Rattle.lab_tasks.proofs.UnbegunLemmas.{IsUnbegun, declines_task, never_begun, no_copying, no_founding, no_rehearsal, printed_none}
+use Rattle.lab_program.specs.Laboratories.{IsCopiedIf, body_in}
+use Rattle.lab_program.proofs.UnbegunLemmas.{IsUnbegun, declines_task, never_begun, no_copying, no_founding, no_rehearsal, printed_none}
 use Rattle.lab_words.specs.Tasks.{Asked, founds, serves, copies, checks, replays, rehearses}
 
 -- ---- each task, not begun

@@ -4,7 +4,7 @@ ghost use Rattle.std.specs.Prelude.{map};
 ghost use Rattle.clap.specs.Words.{fault_of};
 ghost use Rattle.lab_installations.specs.Foundings.{drawing_of};
 ghost use Rattle.lab_words_commands.specs.Apps.{labdesk_app};
-ghost use Rattle.lab_tasks.specs.CommandLine.{IsDone};
+ghost use Rattle.lab_program.specs.CommandLine.{IsDone};
 ghost use Rattle.lab_words_explained.specs.Explaining.{IsExplained};
 ghost use Rattle.lab_words.specs.Tasks.{Asked, Asks, IsTask};
 

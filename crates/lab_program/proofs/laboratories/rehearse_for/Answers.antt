@@ -1,8 +1,8 @@
 -- A text that is no code is told as such, and a code is rehearsed.
 use Rattle.std.proofs.Common.{ap₂, option_map, take}
 use Rattle.std.proofs.KnownBytes.{Keeps-refl}
-use Rattle.lab_tasks.proofs.UnbegunLemmas.{declined, done_of_code, no_rehearsal}
-use Rattle.lab_tasks.proofs.laboratories.rehearse_for.Goals as goal
+use Rattle.lab_program.proofs.UnbegunLemmas.{declined, done_of_code, no_rehearsal}
+use Rattle.lab_program.proofs.laboratories.rehearse_for.Goals as goal
 
 pub returns-in-Err-parse : goal.returns-in-Err-parse
 returns-in-Err-parse g c = λ moment within is.

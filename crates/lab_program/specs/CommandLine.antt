@@ -10,7 +10,7 @@ use Rattle.lab_shelves.specs.Files.{IsOurs}
 use Rattle.lab_installations.specs.Foundings.{Drawing}
 use Rattle.lab_replays.specs.Replays.{IsReplay}
 use Rattle.lab_installations.specs.Serving.{ServesFile}
-use Rattle.lab_tasks.specs.Laboratories.{IsCopiedIf, IsFounded, IsRehearsed, body_in}
+use Rattle.lab_program.specs.Laboratories.{IsCopiedIf, IsFounded, IsRehearsed, body_in}
 use Rattle.lab_words.specs.Tasks.{Asked, founds, serves, copies, checks, replays, rehearses}
 
 module _ {S : Type 0} (disk : Ghosts S)

@@ -1,7 +1,7 @@
 -- A text that is no code is told as such, and a code's records are copied.
 use Rattle.std.proofs.KnownBytes.{Keeps-refl}
-use Rattle.lab_tasks.proofs.UnbegunLemmas.{declined, done_of_code, no_copying}
-use Rattle.lab_tasks.proofs.laboratories.copy_range.Goals as goal
+use Rattle.lab_program.proofs.UnbegunLemmas.{declined, done_of_code, no_copying}
+use Rattle.lab_program.proofs.laboratories.copy_range.Goals as goal
 
 pub returns-in-Err : goal.returns-in-Err
 returns-in-Err g c =

@@ -18,7 +18,7 @@ use Rattle.lab_shelves.specs.Faults.{Declines as DeclinesTask, unopened_fault}
 use Rattle.lab_installations.specs.Copying.{IsCopying}
 use Rattle.lab_installations.specs.Foundings.{Drawing, IsFounding}
 use Rattle.lab_words_explained.specs.Explaining.{Stopped}
-use Rattle.lab_tasks.specs.Laboratories.{Declines, OfCode, OfCodeIf}
+use Rattle.lab_program.specs.Laboratories.{Declines, OfCode, OfCodeIf}
 
 -- ---- of a code
 

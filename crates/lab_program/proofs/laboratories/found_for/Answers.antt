@@ -1,8 +1,8 @@
 -- A text that is no code is told as such, and in a code's name the first bytes of the input are founded.
 use Rattle.std.proofs.Common.{ap₂, option_map, take}
 use Rattle.std.proofs.KnownBytes.{Keeps-refl}
-use Rattle.lab_tasks.proofs.UnbegunLemmas.{declined, done_of_code, no_founding}
-use Rattle.lab_tasks.proofs.laboratories.found_for.Goals as goal
+use Rattle.lab_program.proofs.UnbegunLemmas.{declined, done_of_code, no_founding}
+use Rattle.lab_program.proofs.laboratories.found_for.Goals as goal
 
 pub returns-in-Err : goal.returns-in-Err
 returns-in-Err g c =

@@ -5,7 +5,7 @@ ghost use Rattle.lab_names.specs.Moment.{is_moment};
 ghost use Rattle.lab_names.specs.Ordinals.{is_ordinal};
 ghost use Rattle.lab_outside.specs.Faults.{Tells};
 ghost use Rattle.lab_installations.specs.Foundings.{drawing_of};
-ghost use Rattle.lab_tasks.specs.Laboratories.{IsCopied, IsCopiedIf, IsFounded, IsRehearsed, body_in};
+ghost use Rattle.lab_program.specs.Laboratories.{IsCopied, IsCopiedIf, IsFounded, IsRehearsed, body_in};
 
 use crate::hosts::Host;
 use lab_installations::{Closing, Progress, Shelf, copy, found};
