@@ -1,9 +1,10 @@
+use crate::growths::print_growths;
 use crate::moments::{parse_moments, print_moments};
 use crate::openings::{open_sessions, stretch_passwords};
+use crate::sample_versions::version_text;
 use crate::values::read_values;
 use crate::versions::{digest_versions, read_versions, stretch, write_versions};
 use anyhow::Result;
-use lab_samples::version_text;
 use std::alloc::Global;
 use std::io::Print;
 
@@ -30,6 +31,8 @@ pub enum Workload {
     Rounds,
     /// The text of a version, whatever the number.
     VersionText,
+    /// Each call that takes memory.
+    Growths,
 }
 
 impl Workload {
@@ -46,11 +49,12 @@ impl Workload {
             "stretch-passwords" => Some(Workload::StretchPasswords),
             "rounds" => Some(Workload::Rounds),
             "version-text" => Some(Workload::VersionText),
+            "growths" => Some(Workload::Growths),
             _ => None,
         }
     }
 
-    /// Makes so many calls, and prints a sum of what they computed.
+    /// Makes so many calls, and prints what they computed, or its sum.
     pub(crate) fn run(self, rt: &impl Print, alloc: Global, calls: u32, rows: u32) -> Result<()> {
         match self {
             Workload::ParseMoments => print_sum(rt, Ok(parse_moments(calls))),
@@ -63,6 +67,7 @@ impl Workload {
             Workload::StretchPasswords => print_sum(rt, Ok(stretch_passwords(calls))),
             Workload::Rounds => print_stretched(rt, alloc, calls),
             Workload::VersionText => print_version(rt, alloc, rows),
+            Workload::Growths => print_all(rt, alloc, calls),
         }
     }
 }
@@ -76,6 +81,11 @@ fn print_sum(rt: &impl Print, sum: Result<u64>) -> Result<()> {
 fn print_stretched(rt: &impl Print, alloc: Global, rounds: u32) -> Result<()> {
     let digits = hex::encode(alloc, stretch(rounds)?)?;
     println!(rt; "{digits}")?;
+    Ok(())
+}
+
+fn print_all(rt: &impl Print, alloc: Global, calls: u32) -> Result<()> {
+    print_growths(rt, alloc, calls)?;
     Ok(())
 }
 
