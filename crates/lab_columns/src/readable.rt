@@ -1,4 +1,4 @@
-//! What rows are read from: the tables of a file, or those that a transaction sees.
+//! What rows are read from: the tables of a file.
 
 ghost use Rattle.std.specs.Prelude.{◌≡◌, IfOk, IfErr, false};
 ghost use Rattle.sqlite.specs.State.{State, HasCleanDisk, Survives, Shown, CommitsShowing, FailsToQuery};
