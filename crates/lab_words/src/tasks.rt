@@ -6,7 +6,7 @@ ghost use Rattle.lab_words_commands.specs.Apps.{labdesk_app, last_port, most_con
 ghost use Rattle.lab_words.specs.Tasks.{IsGiven, IsGivenIn, ReadsMoment, ReadsNumber, ReadsText, copying, errand_called, errand_named, errand_of, founding, rehearsing, serving};
 
 use clap::{ArgMatches, Error};
-use lab_words_program::labdesk_command;
+use lab_words_commands::labdesk_command;
 use std::alloc::Global;
 use std::convert::AsStr;
 

@@ -1,8 +1,8 @@
-//! Each command of `labdesk` with its arguments, as `clap` is told of it.
+//! `labdesk` with its commands and their arguments, as `clap` is told of it; its version, and what help says of it.
 #![tactic(auto)]
 
+mod apps;
 mod commands;
 
-pub use commands::{
-    check_command, copy_command, found_command, rehearse_command, replay_command, serve_command,
-};
+pub use apps::labdesk_command;
+pub use commands::copy_command;

@@ -4,10 +4,10 @@ ghost use Rattle.std.specs.Prelude.{◌≡◌, IfOk};
 ghost use Rattle.clap.specs.Words.{app_of};
 ghost use Rattle.lab_words_commands.specs.Apps.{labdesk_app, with_files};
 
-use clap::Command;
-use lab_words_commands::{
+use crate::commands::{
     check_command, copy_command, found_command, rehearse_command, replay_command, serve_command,
 };
+use clap::Command;
 use std::alloc::{AllocError, Global};
 
 /// The version of the program, and the kit that proved it as `rt version` names it.

@@ -3,7 +3,7 @@ use Rattle.std.proofs.Common.{◌≡◌, ◌∙◌, ap, refl, rules}
 use Rattle.clap.specs.Words.{app_of}
 use Rattle.lab_words_commands.specs.Apps.{bare_app, with_files}
 use Rattle.lab_words_commands.proofs.AppLemmas.{commanded}
-use Rattle.lab_words_program.proofs.apps.labdesk_command.Goals as goal
+use Rattle.lab_words_commands.proofs.apps.labdesk_command.Goals as goal
 
 pub returns : goal.returns
 returns c =

@@ -1,7 +1,7 @@
 -- The command has the three subcommands behind its own.
 use Rattle.std.proofs.Common.{refl}
 use Rattle.lab_words_commands.proofs.AppLemmas.{commanded}
-use Rattle.lab_words_program.proofs.apps.with_files.Goals as goal
+use Rattle.lab_words_commands.proofs.apps.with_files.Goals as goal
 
 pub returns : goal.returns
 returns c =
