@@ -7,7 +7,7 @@ library, through Python's sqlite3, for the same statements on its own copy of th
     bench/store.py --statements           lists what each request asks of the tables, and looks for texts that walk a table
 
 A file is founded and begun by `labdesk`, and then filled by bench/files.py. Of it there are two copies: over one `labdesk serve`
-answers, over the other the C library runs the statements that crates/lab_loading and crates/lab_applying run for the same requests,
+answers, over the other the C library runs the statements that crates/lab_loading and crates/lab_commits run for the same requests,
 with the texts of their sources, at the moments and with the values that the replies tell. In the end both have the same rows.
 
 A figure is the least of some rounds, by the request: on the wall, from one reply to the next, and the processor's time of the process
@@ -146,7 +146,7 @@ class Library:
             self.all("the entries of a version, with their persons' codes", version[0])
             self.all("the signatures of a version, with their persons' codes", version[0])
 
-    # What is changed, by one commit: crates/lab_applying.
+    # What is changed, by one commit: crates/lab_commits.
 
     @contextlib.contextmanager
     def commit(self, lab):

@@ -1,9 +1,8 @@
 //! A founding that is refused. Calls stand in functions without clauses, so that the proof of the test doesn't carry what a
 //! connection holds after each.
 use lab_access::{Password, Person, Roles};
-use lab_connections::Tables;
+use lab_commits::{Tables, found};
 use lab_files::{FileFault, create};
-use lab_founding::found;
 use lab_kept::{Newborn, PlacingFault};
 use lab_names::{Moment, Rule, Text};
 use sqlite::{Connection, MemStore};

@@ -1,4 +1,4 @@
-//! Tests of `lab_files` and `lab_founding` over databases in memory, of what no command comes to: they stand apart, so that the
+//! Tests of `lab_files` and `lab_commits` over databases in memory, of what no command comes to: they stand apart, so that the
 //! crates aren't proved once more with them.
 #![tactic(auto)]
 

@@ -18,9 +18,9 @@ use Rattle.lab_tables_keeping.proofs.DeskStays.{desk_stays_at_placing}
 use Rattle.lab_tables_placing.proofs.Founded.{founded_is_placed}
 use Rattle.lab_tables_changes.specs.Steps.{AreMadeIfAny}
 use Rattle.lab_tables_changes.proofs.AllChanges.{rows_changed}
-use Rattle.lab_applying.specs.Commits.{Ends}
-use Rattle.lab_founding.specs.Commits as founding
-use Rattle.lab_founding.specs.Founding.{IsPlacedBy}
+use Rattle.lab_commits.specs.Commits.{Ends}
+use Rattle.lab_commits.specs.Commits as founding
+use Rattle.lab_commits.specs.Founding.{IsPlacedBy}
 
 pub changes_as : (code : List ℕ) (changes : List Change) (old made held : Meaning) → Changes code changes old made → SameMeaning made held → Changes code changes old held
 changes_as code changes old made held it same = record {

@@ -9,7 +9,7 @@ use Rattle.lab_tables.specs.Meaning.{meaning}
 use Rattle.lab_tables.specs.WellKept.{IsWellKept}
 use Rattle.lab_tables.specs.Held.{AreRising}
 use Rattle.lab_tables.specs.Ready.{IsKept, IsReady, IsMadeBy, tables_of}
-use Rattle.lab_applying.specs.Commits.{Ends}
+use Rattle.lab_commits.specs.Commits.{Ends}
 use Rattle.lab_store.specs.StoreWorlds.{world_of, SameRows}
 
 -- by a step of well-kept tables that means this of the laboratories and leaves them well kept

@@ -11,10 +11,8 @@ ghost use Rattle.lab_walks.specs.Faults.{CopyFaultFits};
 ghost use Rattle.lab_walks.specs.Resting.{IsRead};
 ghost use Rattle.lab_walks.specs.Walks.{counted_all, record_at, record_rows};
 
-use lab_applying::apply;
-use lab_connections::Tables;
+use lab_commits::{Tables, apply, found};
 use lab_copy::CopyOut;
-use lab_founding::found;
 use lab_kept::{Change, Keeper, KeeperFault, Need, Newborn, PlacingFault, Series, Slice};
 use lab_loading::load;
 use lab_names::{LabCode, Ordinal};

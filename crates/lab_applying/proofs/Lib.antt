@@ -1,5 +1,0 @@
-mod Turns
-mod Steps
-mod Commits
-mod After
-pub mod KnownValues
