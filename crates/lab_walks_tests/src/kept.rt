@@ -4,6 +4,7 @@ use lab_decisions_tests::{Stage, play};
 use lab_kept::{Change, Keeper, Lab, LabCode, Newborn, Password, Person, Roles, Series};
 use lab_lists::Lists;
 use lab_names::{Moment, Rule, Text};
+use std::mem;
 use std::process::Abort;
 
 pub(crate) fn text<R: Rule>(rt: &(impl Abort + AllocGlobal), text: &str) -> Text<R> {
@@ -49,7 +50,9 @@ fn newborn(rt: &(impl Abort + AllocGlobal)) -> Newborn {
 
 fn records_added(rt: &(impl Abort + AllocGlobal)) -> Series<Change> {
     let mut changes = Series::new(rt.alloc());
-    for kept in day(rt).records.into_vec() {
+    let mut lab = day(rt);
+    let records = mem::replace(&mut lab.records, Series::new(rt.alloc()));
+    for kept in records.into_vec() {
         changes.push(Change::RecordAdded(kept)).expect(rt, "memory");
     }
     changes
