@@ -5,3 +5,4 @@
 mod commands;
 
 pub use commands::done_of;
+pub use lab_account_commands::opening_done;

@@ -6,8 +6,7 @@ ghost use Rattle.lab_outcomes.specs.Deciding.{outcome, ended_done, touching, dec
 ghost use Rattle.lab_decisions.specs.Makings.{is_made_without, is_made_by, is_made};
 
 use lab_access::{PeopleRefusal, Person, Session};
-use lab_account_commands::opening_done;
-use lab_commands::done_of;
+use lab_commands::{done_of, opening_done};
 use lab_kept::{Change, Slice};
 use lab_machine::{Command, Done, Passage, Reply, pass};
 use lab_names::{Moment, OutOfMemory, PersonCode, Series, Tick};

@@ -10,5 +10,5 @@ pub use crate::event::next_event;
 pub use crate::fault::ReplayFault;
 pub use crate::limited::LimitedReader;
 pub use crate::replays::{run_events, tell};
-pub use lab_desk::Event;
+pub use lab_desk::{Desk, Event};
 pub use lab_messages::WriteFault;

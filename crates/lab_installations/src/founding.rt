@@ -10,10 +10,10 @@ ghost use Rattle.lab_outside.specs.declared.faults.ServerFault.TheVariants.{Writ
 ghost use Rattle.lab_shelves.specs.declared.faults.TaskFault.TheVariants.{Server as OfServer};
 
 use crate::leaving::leave;
-use lab_desk::{Desk, Keeper};
 use lab_messages::{WriteFault, write_reply};
 use lab_names::{LabCode, OutOfMemory};
 use lab_outside::{Chance, Clock, ServerFault, draw, read_all};
+use lab_serving::{Desk, Keeper};
 use lab_shelves::{Closing, Shelf, TaskFault, decline, make_file};
 use lab_store::Store;
 use sqlite::Connection;

@@ -6,10 +6,9 @@ ghost use Rattle.lab_installations.specs.Serving.{IsUnprepared, ServesFile};
 ghost use Rattle.std.specs.Prelude.{IfErr, IfOk};
 
 use crate::leaving::leave;
-use lab_desk::Desk;
 use lab_messages::WriteFault;
 use lab_outside::{Chance, Clock};
-use lab_serving::listen;
+use lab_serving::{Desk, listen};
 use lab_shelves::{Closing, Shelf, TaskFault, decline, open_file};
 use lab_store::Store;
 use sqlite::Connection;

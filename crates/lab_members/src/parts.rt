@@ -7,7 +7,7 @@ ghost use Rattle.lab_members.specs.Parts.{each_read};
 
 use crate::readings::text_at;
 use crate::refusals::BodyFault;
-use lab_rules::Typed;
+use lab_names::Typed;
 use serde_json::Value;
 use std::alloc::Global;
 

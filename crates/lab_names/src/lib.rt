@@ -8,6 +8,7 @@ mod ordinals;
 mod series;
 mod text;
 mod tick;
+mod typed;
 
 pub use faults::{MomentFault, NameFault, OutOfMemory};
 pub use moment::Moment;
@@ -18,3 +19,4 @@ pub use ordinals::Ordinal;
 pub use series::Series;
 pub use text::{Rule, Text};
 pub use tick::Tick;
+pub use typed::Typed;

@@ -6,8 +6,7 @@ ghost use Rattle.lab_store.specs.StoreWorlds.{store_world};
 ghost use Rattle.lab_replays.specs.Replays.{IsBeginFault, IsReplay, ReplaysFromNothing};
 
 use crate::memory::store_in_memory;
-use lab_desk::Desk;
-use lab_events::{LimitedReader, ReplayFault, run_events, tell};
+use lab_events::{Desk, LimitedReader, ReplayFault, run_events, tell};
 use lab_files::FileFault;
 use lab_messages::WriteFault;
 use lab_store::Store;

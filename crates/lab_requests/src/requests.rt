@@ -8,12 +8,12 @@ ghost use Rattle.lab_wire.specs.Replies.{reply_text};
 ghost use Rattle.lab_runs.specs.Keeping.{AreWithin};
 ghost use Rattle.lab_runs.specs.Requests.{answer_to, is_idle, MovesBy, Steps};
 
-use lab_answers::{answer_on, no_such_lab};
+use crate::answers::{answer_on, no_such_lab};
 use lab_decisions::formed;
 use lab_kept::{Keeper, KeeperFault};
 use lab_machine::needs;
 use lab_names::Tick;
-use lab_routes::Asked;
+use lab_wire::Asked;
 use std::alloc::Global;
 
 /// Answers what a laboratory was asked. After an error every laboratory means what it meant.

@@ -1,65 +1,6 @@
-//! Values as somebody typed them, which no form has read yet.
-ghost use Rattle.std.specs.Prelude.{◌≡◌, IfOk, string_bytes};
-
-use lab_names::{Key, OutOfMemory, Series, Unit};
+//! The values of an amendment, as somebody typed them, which no form has read yet.
+use lab_names::{Key, Series, Typed, Unit};
 use std::alloc::AllocError;
-use std::marker::Model;
-
-/// A text as somebody typed it: a password, or a value that no form has read yet.
-///
-/// A contract sees it as the list of its bytes.
-pub struct Typed {
-    text: String,
-}
-
-// It is written out, so that a caller doesn't prove again how each part is dropped.
-impl Drop for Typed {
-    fn drop(self) {
-        let Typed { text: _ } = self;
-    }
-}
-
-impl Model for Typed {
-    ghost use Rattle.std.specs.Prelude.{List, ℕ, string_bytes};
-
-    ghost Value = { List ℕ };
-
-    ghost view = { λ typed. string_bytes typed.text };
-}
-
-impl Typed {
-    /// The text, typed.
-    pub fn new(text: String) -> Typed
-        ensures { result ≡ string_bytes text }
-    {
-        Typed { text }
-    }
-
-    /// The text.
-    pub fn as_str(&self) -> &str
-        ensures { result.now ≡ self.now }
-    {
-        self.text.as_str()
-    }
-
-    /// A copy. The only error is out of memory.
-    pub fn copy(&self) -> Result<Typed, OutOfMemory>
-        ensures { IfOk result (λ copy. copy ≡ self.now) }
-    {
-        Ok(self.clone()?)
-    }
-}
-
-impl Clone for Typed {
-    ghost use Rattle.std.specs.Prelude.{◌≡◌};
-
-    ghost is_clone = { λ typed copy. copy ≡ typed };
-
-    fn clone(&self) -> Result<Typed, AllocError> {
-        let text = self.text.clone()?;
-        Ok(Typed { text })
-    }
-}
 
 /// A value of an amendment, as it was typed.
 #[derive(Drop)]

@@ -11,7 +11,8 @@ mod readings;
 mod refusals;
 
 pub use faults::{CommandFault, fail};
-pub use items::{Altered, Item, Typed};
+pub use items::{Altered, Item};
+pub use lab_names::Typed;
 pub use making::{make_form, open_record};
 pub use outcomes::{AmendmentMade, EntryMade, SignatureMade, Signing};
 pub use reading::{person_line, read_form, read_record, read_version, record_line};

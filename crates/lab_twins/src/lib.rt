@@ -7,3 +7,4 @@ mod runs;
 
 pub use crate::desks::{Twins, twin};
 pub use crate::runs::equal_events_get_equal_answers;
+pub use lab_desk::Desk;

@@ -1,9 +1,8 @@
 //! The same request, of a desk that holds one laboratory and of a desk that holds another too.
 use crate::texts::{BODY, NO_SUCH_LAB_REPLY, OPEN, OPEN_REPLY, ZINC_CARD, ZINC_CARD_REPLY};
-use lab_desk::{Desk, LabCode, Tick};
 use lab_lists::Lists;
-use lab_names::Moment;
-use lab_twins::{Twins, twin};
+use lab_names::{LabCode, Moment, Tick};
+use lab_twins::{Desk, Twins, twin};
 use std::process::Abort;
 
 fn tick(rt: &impl Abort, seconds: i64) -> Tick {

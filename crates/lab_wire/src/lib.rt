@@ -8,7 +8,6 @@ mod replies;
 mod statuses;
 
 pub use asked::ask;
-pub use lab_bodies::founding_of;
 pub use lab_heads::{HeadRefusal, RequestParts, grammar_of_heads, request_parts};
 pub use lab_machine::{Command, Founder, Founding, Instruction, Reply};
 pub use lab_members::{BodyFault, BodyRefusal};

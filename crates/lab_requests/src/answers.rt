@@ -14,9 +14,8 @@ use lab_kept::{Change, Keeper, KeeperFault, Slice};
 use lab_machine::{Instruction, Reply};
 use lab_names::{OutOfMemory, Series, Tick};
 use lab_outcomes::Outcome;
-use lab_routes::Asked;
 use lab_rules::Refusal;
-use lab_wire::{Answer, reply_bytes};
+use lab_wire::{Answer, Asked, reply_bytes};
 use std::alloc::Global;
 
 /// The reply where there is no laboratory of the code.
