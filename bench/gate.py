@@ -39,6 +39,15 @@ def sample(spent, seen):
         seen[number, begun] = seconds
 
 
+def huge_pages():
+    """To which programs the kernel gives huge pages: always, madvise, which is to those that ask, or never."""
+    try:
+        with open("/sys/kernel/mm/transparent_hugepage/enabled") as file:
+            return file.read().split("[")[1].split("]")[0]
+    except (OSError, IndexError):
+        return "never"
+
+
 def watch(spent, done):
     seen = {}
     while not done.wait(0.5):
@@ -59,7 +68,7 @@ def main():
         last = said.read().splitlines()[-1]
     used = resource.getrusage(resource.RUSAGE_CHILDREN).ru_utime
     wall = time.time() - began
-    print(f"{last}: {wall / 60:.1f} min on the wall, {used / 60:.0f} min of processor time, {os.cpu_count()} cores")
+    print(f"{last}: {wall / 60:.1f} min on the wall, {used / 60:.0f} min of processor time, {os.cpu_count()} cores, huge pages {huge_pages()}")
     print(f"{'crate':<14} {'check':>6} {'tests':>6} {'edits':>6}")
     for folder in sorted(glob.glob("crates/*")):
         crate = os.path.basename(folder)
