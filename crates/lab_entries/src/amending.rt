@@ -1,6 +1,6 @@
 //! Records that are amended.
 ghost use Rattle.std.specs.Prelude.{◌≡◌, ◌+◌, ◌<◌, ◌==◌, ℕ, List, length, not, true, Some, Ok, map, is_none, IfOk, IfSome, IsSome, option_copied};
-ghost use Rattle.lab_kept.specs.Latest.{noted};
+ghost use Rattle.lab_rules.specs.Latest.{noted};
 ghost use Rattle.lab_kept.specs.Limits.{version_limit};
 ghost use Rattle.lab_kept.specs.Values.{all_rows, value_of};
 ghost use Rattle.lab_rules.specs.Following.{Follows, FollowsWhere, IsReadWhere};
@@ -8,9 +8,9 @@ ghost use Rattle.lab_entries.specs.Entering.{has_settled, is_same_value, item_re
 
 use crate::entering::read_item;
 use lab_access::PeopleRefusal;
-use lab_kept::{ROWS_LIMIT, Record, VERSIONS_LIMIT, Version, latest, noted};
+use lab_kept::{ROWS_LIMIT, Record, VERSIONS_LIMIT, Version};
 use lab_names::{LabCode, Moment, Note, Ordinal, OutOfMemory, PersonCode, Series};
-use lab_rules::{Altered, AmendmentMade, CommandFault, Item, Refusal};
+use lab_rules::{Altered, AmendmentMade, CommandFault, Item, Refusal, latest, noted};
 use lab_seal::{Amendment, EntryRow, EntryRows, Format, Origin, State};
 use std::alloc::Global;
 use std::collections::BTreeMap;

@@ -1,4 +1,3 @@
 pub mod ReleaseLemmas
-pub mod LastRows
 pub mod KnownValues
 pub mod KnownLaboratories

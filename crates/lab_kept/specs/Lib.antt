@@ -8,7 +8,6 @@ pub mod Changes
 pub mod Bound
 pub mod Dual
 pub mod Keeping
-pub mod Latest
 pub mod Births
 pub mod Faults
 pub mod Worlds

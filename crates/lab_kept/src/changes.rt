@@ -48,7 +48,6 @@ pub enum Change {
     TrailAdded(TrailRow),
 }
 
-// It is written out, so that a caller doesn't prove again how each part is dropped.
 impl Drop for Change {
     fn drop(self) {
         match self {

@@ -26,7 +26,6 @@ pub struct Lab {
     pub trail: Series<TrailRow>,
 }
 
-// It is written out, so that a caller doesn't prove again how each part is dropped.
 impl Drop for Lab {
     fn drop(self) {
         let Lab {

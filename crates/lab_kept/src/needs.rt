@@ -8,6 +8,7 @@ use lab_names::{Key, LabCode, Moment, Name, Ordinal, PersonCode, Series};
 use lab_seal::Digest;
 
 /// Which version of a form is needed.
+#[derive(Drop)]
 pub enum FormWanted {
     /// The last version of the form.
     Last { code: Key },
@@ -15,35 +16,13 @@ pub enum FormWanted {
     Exact { code: Key, version: Ordinal },
 }
 
-// It is written out, so that a caller doesn't prove again how each part is dropped.
-impl Drop for FormWanted {
-    fn drop(self) {
-        match self {
-            FormWanted::Last { code: _ } => {}
-            FormWanted::Exact {
-                code: _,
-                version: _,
-            } => {}
-        }
-    }
-}
-
 /// Which record is needed.
+#[derive(Drop)]
 pub enum RecordWanted {
     /// The record of the number.
     Numbered { number: Ordinal },
     /// The record of the form and the sample, whatever the form's version.
     About { form: Key, sample: Name },
-}
-
-// It is written out, so that a caller doesn't prove again how each part is dropped.
-impl Drop for RecordWanted {
-    fn drop(self) {
-        match self {
-            RecordWanted::Numbered { number: _ } => {}
-            RecordWanted::About { form: _, sample: _ } => {}
-        }
-    }
 }
 
 /// Which list is needed.
@@ -71,7 +50,6 @@ pub struct Need {
     pub list: Option<ListWanted>,
 }
 
-// It is written out, so that a caller doesn't prove again how each part is dropped.
 impl Drop for Need {
     fn drop(self) {
         let Need {
@@ -127,7 +105,6 @@ pub struct Slice {
     pub trail: Series<TrailRow>,
 }
 
-// It is written out, so that a caller doesn't prove again how each part is dropped.
 impl Drop for Slice {
     fn drop(self) {
         let Slice {

@@ -19,7 +19,6 @@ pub struct FormVersion {
     pub form: Form,
 }
 
-// It is written out, so that a caller doesn't prove again how each part is dropped.
 impl Drop for FormVersion {
     fn drop(self) {
         let FormVersion {
@@ -46,7 +45,6 @@ pub struct Signature {
     pub seal: Seal,
 }
 
-// It is written out, so that a caller doesn't prove again how each part is dropped.
 impl Drop for Signature {
     fn drop(self) {
         let Signature {
@@ -76,7 +74,6 @@ pub struct Version {
     pub signatures: Series<Signature>,
 }
 
-// It is written out, so that a caller doesn't prove again how each part is dropped.
 impl Drop for Version {
     fn drop(self) {
         let Version {
@@ -102,7 +99,6 @@ pub struct Record {
     pub versions: Series<Version>,
 }
 
-// It is written out, so that a caller doesn't prove again how each part is dropped.
 impl Drop for Record {
     fn drop(self) {
         let Record {

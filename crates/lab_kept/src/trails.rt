@@ -86,6 +86,7 @@ pub enum Occasion {
 }
 
 /// What was done, with what it was done to.
+#[derive(Drop)]
 pub enum Deed {
     /// The laboratory of the code was founded.
     Found {
@@ -165,51 +166,6 @@ pub enum Deed {
     },
 }
 
-// It is written out, so that a caller doesn't prove again how each part is dropped.
-impl Drop for Deed {
-    fn drop(self) {
-        match self {
-            Deed::Found { lab: _ } => {}
-            Deed::Open { session: _ } => {}
-            Deed::Close { session: _ } => {}
-            Deed::Refuse { occasion: _ } => {}
-            Deed::Lock { person: _ } => {}
-            Deed::Password { person: _ } => {}
-            Deed::Enrol {
-                person: _,
-                roles: _,
-            } => {}
-            Deed::Issue { person: _ } => {}
-            Deed::Confirm { person: _ } => {}
-            Deed::Roles {
-                person: _,
-                roles: _,
-            } => {}
-            Deed::Retire { person: _ } => {}
-            Deed::Unlock { person: _ } => {}
-            Deed::Form {
-                form: _,
-                version: _,
-            } => {}
-            Deed::Record { record: _ } => {}
-            Deed::Entry {
-                record: _,
-                version: _,
-                key: _,
-            } => {}
-            Deed::Amend {
-                record: _,
-                version: _,
-            } => {}
-            Deed::Sign {
-                record: _,
-                version: _,
-                meaning: _,
-            } => {}
-        }
-    }
-}
-
 impl Deed {
     /// What the trail tells of it.
     pub fn action(&self) -> Action
@@ -244,7 +200,6 @@ pub struct Subject {
     text: String,
 }
 
-// It is written out, so that a caller doesn't prove again how each part is dropped.
 impl Drop for Subject {
     fn drop(self) {
         let Subject { text: _ } = self;
@@ -307,7 +262,6 @@ pub struct TrailRow {
     pub subject: Subject,
 }
 
-// It is written out, so that a caller doesn't prove again how each part is dropped.
 impl Drop for TrailRow {
     fn drop(self) {
         let TrailRow {

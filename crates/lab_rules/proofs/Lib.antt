@@ -1,1 +1,2 @@
+pub mod LastRows
 pub mod KnownValues

@@ -3,3 +3,4 @@ pub mod Following
 pub mod SigningRules
 pub mod Making
 pub mod Reading
+pub mod Latest

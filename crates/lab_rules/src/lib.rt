@@ -9,6 +9,7 @@ mod outcomes;
 mod reading;
 mod readings;
 mod refusals;
+mod values;
 
 pub use faults::{CommandFault, fail};
 pub use items::{Altered, Item};
@@ -18,3 +19,4 @@ pub use outcomes::{AmendmentMade, EntryMade, SignatureMade, Signing};
 pub use reading::{person_line, read_form, read_record, read_version, record_line};
 pub use readings::{PersonLine, RecordRead, RecordState, VersionRead, VersionState};
 pub use refusals::Refusal;
+pub use values::{altered_at, first_versions, latest, noted, values_at};

@@ -2,7 +2,7 @@
 ghost use Rattle.std.specs.Prelude.{◌≡◌, ◌++◌, ◌∷◌, [], None, is_none, ◌&&◌, map, IfOk, IfErr, IsTrue, option_copied};
 ghost use Rattle.std.specs.List.{list_any};
 ghost use Rattle.lab_kept.specs.Digests.{signature_of};
-ghost use Rattle.lab_kept.specs.Latest.{noted};
+ghost use Rattle.lab_rules.specs.Latest.{noted};
 ghost use Rattle.lab_kept.specs.Values.{meaning_of, rows_to};
 ghost use Rattle.lab_rules.specs.Following.{FollowsWhere};
 ghost use Rattle.lab_signatures.specs.Signing.{is_missing, content_refusal, reason_refusal, version_refusal, is_digest_made, is_digest_made_at, is_table_made, signed_meaning, signed_parts, signature_made, signing_record};
@@ -12,9 +12,11 @@ use crate::signatures::{
 };
 use lab_access::Person;
 use lab_forms::Field;
-use lab_kept::{Record, Signature, Version, first_versions, latest, noted};
+use lab_kept::{Record, Signature, Version};
 use lab_names::{LabCode, Moment, Ordinal, OutOfMemory, PersonCode};
-use lab_rules::{CommandFault, Refusal, SignatureMade, Signing, fail};
+use lab_rules::{
+    CommandFault, Refusal, SignatureMade, Signing, altered_at, fail, first_versions, latest, noted,
+};
 use lab_seal::{Digest, EntryRow, Meaning, SealParts, state_of};
 use std::alloc::Global;
 use std::collections::BTreeMap;
@@ -109,7 +111,7 @@ pub fn content_refusal(
     if number == Ordinal::FIRST {
         return Ok(None);
     }
-    if kept.altered_at(alloc, number)?.as_slice().is_empty() {
+    if altered_at(alloc, kept, number)?.as_slice().is_empty() {
         return Ok(Some(Refusal::NothingAltered));
     }
     Ok(None)

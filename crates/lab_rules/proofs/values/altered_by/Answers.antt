@@ -1,10 +1,10 @@
 -- The key of one field more, where it is altered.
 use Rattle.std.proofs.Common.{ℕ, Bool, List, arith}
 use Rattle.std.proofs.lemmas.Grind.{common_steps}
-use Rattle.lab_kept.specs.Latest.{noted}
+use Rattle.lab_rules.specs.Latest.{noted}
 use Rattle.lab_kept.specs.Values.{is_altered_by}
-use Rattle.lab_kept.proofs.LastRows.{altered_more}
-use Rattle.lab_kept.proofs.values.altered_by.Goals as goal
+use Rattle.lab_rules.proofs.LastRows.{altered_more}
+use Rattle.lab_rules.proofs.values.altered_by.Goals as goal
 
 pub loop-field-preserved : goal.loop-field-preserved
 loop-field-preserved c =

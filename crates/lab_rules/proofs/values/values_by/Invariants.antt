@@ -1,8 +1,8 @@
 use Rattle.std.proofs.Common.{◌≡◌, take}
 use Rattle.std.specs.List.{filter_map}
 use Rattle.lab_forms.specs.Forms.{key_of}
-use Rattle.lab_kept.specs.Latest.{noted}
-use Rattle.lab_kept.proofs.values.values_by.Given as goal
+use Rattle.lab_rules.specs.Latest.{noted}
+use Rattle.lab_rules.proofs.values.values_by.Given as goal
 
 -- the rows under the keys of the first fields
 abbrev pub invariant-loop-field : goal.invariant-loop-field

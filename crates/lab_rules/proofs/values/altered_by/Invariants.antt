@@ -1,9 +1,9 @@
 use Rattle.std.proofs.Common.{◌≡◌, take}
 use Rattle.std.specs.Prelude.{filter, map}
 use Rattle.lab_forms.specs.Forms.{key_of}
-use Rattle.lab_kept.specs.Latest.{noted}
+use Rattle.lab_rules.specs.Latest.{noted}
 use Rattle.lab_kept.specs.Values.{is_altered_by}
-use Rattle.lab_kept.proofs.values.altered_by.Given as goal
+use Rattle.lab_rules.proofs.values.altered_by.Given as goal
 
 -- the altered ones of the keys of the first fields
 abbrev pub invariant-loop-field : goal.invariant-loop-field

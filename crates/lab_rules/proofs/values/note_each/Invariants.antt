@@ -1,8 +1,8 @@
 use Rattle.std.proofs.Common.{ℕ, ◌≡◌, List, take}
 use Rattle.std.specs.Option.{option_or}
-use Rattle.lab_kept.specs.Latest.{noted}
+use Rattle.lab_rules.specs.Latest.{noted}
 use Rattle.lab_kept.specs.Values.{value_of}
-use Rattle.lab_kept.proofs.values.note_each.Given as goal
+use Rattle.lab_rules.proofs.values.note_each.Given as goal
 
 -- the table has the last of the first rows, or what it had
 abbrev pub invariant-loop-row : goal.invariant-loop-row

@@ -6,9 +6,9 @@ use Rattle.std.specs.Cmp.Lexicographic.{slice_cmp}
 use Rattle.std.specs.Ordering.{nat_cmp}
 use Rattle.std.proofs.lemmas.Map.Text.{btree_map_updates_str}
 use Rattle.lab_versions.specs.declared.rows.EntryRow.{EntryRow}
-use Rattle.lab_kept.specs.Latest.{noted}
-use Rattle.lab_kept.proofs.LastRows.{map_cond}
-use Rattle.lab_kept.proofs.values.note.Goals as goal
+use Rattle.lab_rules.specs.Latest.{noted}
+use Rattle.lab_rules.proofs.LastRows.{map_cond}
+use Rattle.lab_rules.proofs.values.note.Goals as goal
 
 pub returns : goal.returns
 returns c = λ key.

@@ -4,38 +4,40 @@ ghost use Rattle.std.specs.Prelude.{◌≡◌, ◌-◌, ℕ, List, Some, cond, m
 ghost use Rattle.std.specs.List.{filter_map};
 ghost use Rattle.std.specs.Option.{option_or};
 ghost use Rattle.lab_forms.specs.Forms.{key_of};
-ghost use Rattle.lab_kept.specs.Latest.{noted};
+ghost use Rattle.lab_rules.specs.Latest.{noted};
 ghost use Rattle.lab_kept.specs.Values.{all_rows, has_key, value_of, values_at, altered_at, is_altered_by};
 
-use crate::records::{Record, Version};
 use lab_forms::Field;
+use lab_kept::{Record, Version};
 use lab_names::{Key, Ordinal, OutOfMemory, Series};
 use lab_seal::EntryRow;
 use std::alloc::Global;
 use std::collections::BTreeMap;
 
-impl Record {
-    /// Its values at the version of the number, in the order of the form: of each field that has one, the last row of
-    /// all versions up to that one. The only error is out of memory.
-    pub fn values_at(&self, alloc: Global, number: Ordinal) -> Result<Series<EntryRow>, OutOfMemory>
-        ensures { IfOk result (λ rows. rows ≡ values_at self.now number) }
-    {
-        let versions = first_versions(self.versions.as_slice(), number.get() as usize);
-        let table = latest(alloc, versions)?;
-        values_by(alloc, self.form.form.fields(), &table)
-    }
+/// The values of the record at the version of the number, in the order of the form: of each field that has one, the last row of
+/// all versions up to that one. The only error is out of memory.
+pub fn values_at(
+    alloc: Global,
+    kept: &Record,
+    number: Ordinal,
+) -> Result<Series<EntryRow>, OutOfMemory>
+    ensures { IfOk result (λ rows. rows ≡ values_at kept.now number) }
+{
+    let versions = first_versions(kept.versions.as_slice(), number.get() as usize);
+    let table = latest(alloc, versions)?;
+    values_by(alloc, kept.form.form.fields(), &table)
+}
 
-    /// The keys that the version of the number altered, in the order of the form: those whose value differs from the one
-    /// before it. The only error is out of memory.
-    pub fn altered_at(&self, alloc: Global, number: Ordinal) -> Result<Series<Key>, OutOfMemory>
-        ensures { IfOk result (λ keys. keys ≡ altered_at self.now number) }
-    {
-        let versions = self.versions.as_slice();
-        let count = number.get() as usize;
-        let before = latest(alloc, first_versions(versions, count - 1))?;
-        let after = latest(alloc, first_versions(versions, count))?;
-        altered_by(alloc, self.form.form.fields(), &before, &after)
-    }
+/// The keys that the version of the number altered, in the order of the form: those whose value differs from the one before
+/// it. The only error is out of memory.
+pub fn altered_at(alloc: Global, kept: &Record, number: Ordinal) -> Result<Series<Key>, OutOfMemory>
+    ensures { IfOk result (λ keys. keys ≡ altered_at kept.now number) }
+{
+    let versions = kept.versions.as_slice();
+    let count = number.get() as usize;
+    let before = latest(alloc, first_versions(versions, count - 1))?;
+    let after = latest(alloc, first_versions(versions, count))?;
+    altered_by(alloc, kept.form.form.fields(), &before, &after)
 }
 
 /// The first versions, so many of them.

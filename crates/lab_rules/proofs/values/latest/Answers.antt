@@ -2,10 +2,10 @@
 use Rattle.std.proofs.Common.{◌∙◌, sym, ap, List, Option, take}
 use Rattle.std.specs.Option.{option_or}
 use Rattle.lab_versions.specs.declared.rows.EntryRow.{EntryRow}
-use Rattle.lab_kept.specs.Latest.{noted}
+use Rattle.lab_rules.specs.Latest.{noted}
 use Rattle.lab_kept.specs.Values.{all_rows, value_of}
-use Rattle.lab_kept.proofs.LastRows.{value_of_both, all_rows_more}
-use Rattle.lab_kept.proofs.values.latest.Goals as goal
+use Rattle.lab_rules.proofs.LastRows.{value_of_both, all_rows_more}
+use Rattle.lab_rules.proofs.values.latest.Goals as goal
 
 pub loop-version-preserved : goal.loop-version-preserved
 loop-version-preserved c = λ key.
