@@ -1,17 +1,11 @@
--- Small instances of the definitions: calls that commit once or not at all, and a laboratory that is founded.
-use Rattle.std.proofs.Common.{◌≡◌, inl, Ok, Err, refl, pos, true, false, [], ◌∷◌, true≢false}
-use Rattle.std.specs.Prelude.{IsTrue, codes}
+-- Small instances of the definition: calls that commit once or not at all.
+use Rattle.std.proofs.Common.{◌≡◌, inl, Ok, Err, refl}
+use Rattle.std.specs.Prelude.{IsTrue}
 use Rattle.sqlite.specs.State.{State, HasCleanDisk}
-use Rattle.lab_kept.specs.declared.labs.Lab.{Lab}
 use Rattle.lab_tables.specs.Rows.{Tables}
 use Rattle.lab_tables.specs.Held.{IsTyped}
 use Rattle.lab_tables.specs.Ready.{IsAtRest}
-use Rattle.lab_tables.proofs.KnownFile.{file, lab}
-use Rattle.lab_tables.proofs.KnownValues.{eve}
 use Rattle.lab_commits.specs.Commits.{Ends}
-use Rattle.lab_commits.specs.Newborns.{AddsLab}
-
--- ---- a call that commits once or not at all
 
 -- whatever was to be made, a call that failed and left the connection as it was has ended so
 pub known_failed : {E : Type 0} (step : Tables → Tables → Type 0) (fault : E) (s : State) → IsAtRest s
@@ -39,34 +33,3 @@ known_changed step fault old new clean live changed ends = changed (ends.rows cl
 pub known_never : {E : Type 0} (old new : State) → HasCleanDisk new → IsTyped old.now
     → Ends (λ (before after : Tables). ⊥) {A = Unit {0}} {E = E} (Ok tt) old new → ⊥
 known_never old new clean typed ends = ((ends.made clean).2 typed).1
-
--- ---- a laboratory that is founded
-
-abbrev zinc : Lab
-zinc = record {
-  code = codes "zinc";
-  name = codes "Zinc Lab";
-  last = 2000;
-  strays = 0;
-  persons = eve ∷ [];
-  sessions = [];
-  forms = [];
-  records = [];
-  trail = [];
-}
-
--- the row says that no number was given yet, whatever the laboratory has, and stands at the place of its id
-abbrev with_zinc : Tables
-with_zinc = record file {
-  labs = lab (pos 3) (codes "brick") (codes "Brick Lab") 700 0 1 2 6
-      ∷ lab (pos 5) (codes "zinc") (codes "Zinc Lab") 2000 0 0 0 0
-      ∷ lab (pos 7) (codes "aqua") (codes "Aqua Lab") 1600 2 2 2 12
-      ∷ [];
-}
-
-pub known_row : AddsLab (pos 5) zinc file with_zinc
-known_row = record { free = refl; made = refl }
-
--- aqua's own id isn't free: no tables are those with a row more under it
-pub known_taken : (new : Tables) → AddsLab (pos 7) zinc file new → ⊥
-known_taken new added = true≢false added.free

@@ -13,7 +13,7 @@ use Rattle.lab_tables.specs.Placing.{lab_row_of, put_lab, unasked, is_asked_for,
 use Rattle.lab_tables_placing.proofs.CodeOrder.{all_founders}
 use Rattle.lab_tables_placing.proofs.Enrolments.{AreUnasked}
 use Rattle.lab_newborns.specs.Newborns.{is_asked}
-use Rattle.lab_commits.specs.Newborns.{AddsRows}
+use Rattle.lab_writing_changes.specs.Newborns.{AddsRows}
 use Rattle.lab_commits.specs.Founding.{IsPlacedBy}
 
 -- ---- founders for whom nothing was asked

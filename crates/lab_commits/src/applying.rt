@@ -10,7 +10,6 @@ ghost use Rattle.lab_tables_changes.specs.Steps.{StepsBy, AreMadeIfAny};
 ghost use Rattle.lab_writing.specs.Calls.{IsInside, Steps};
 ghost use Rattle.lab_commits.specs.Commits.{Ends};
 
-use crate::changes::all_inside;
 use crate::inside::Inside;
 use crate::tables::Tables;
 use lab_columns::ReadFault;
@@ -18,6 +17,7 @@ use lab_kept::Change;
 use lab_names::LabCode;
 use lab_reading::lab_at;
 use lab_writing::RowId;
+use lab_writing_changes::all_inside;
 use sqlite::{Alter, Connection, Error, Transaction};
 use std::alloc::Global;
 

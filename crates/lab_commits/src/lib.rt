@@ -4,11 +4,9 @@
 #![tactic(auto)]
 
 mod applying;
-mod changes;
 mod founding;
 mod inside;
 mod places;
-mod rows;
 mod tables;
 
 pub use applying::apply;

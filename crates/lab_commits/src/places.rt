@@ -9,14 +9,14 @@ ghost use Rattle.lab_tables.specs.Ready.{IsAtRest, IsReady, PassesBy, tables_of}
 ghost use Rattle.lab_reading.specs.Shown.{labs_shown};
 ghost use Rattle.lab_writing.specs.Calls.{IsInside, Makes};
 ghost use Rattle.lab_commits.specs.Commits.{Ends};
-ghost use Rattle.lab_commits.specs.Newborns.{AddsRows};
+ghost use Rattle.lab_writing_changes.specs.Newborns.{AddsRows};
 
 use crate::inside::Inside;
-use crate::rows::add_rows;
 use lab_columns::asking::rows_by_text;
 use lab_columns::{ReadFault, Readable};
 use lab_kept::{Lab, PlacingFault};
 use lab_names::LabCode;
+use lab_writing_changes::add_rows;
 use sqlite::{Alter, Connection, Error, Row, Transaction};
 
 /// What an error of the store is told as.

@@ -5,7 +5,7 @@ use Rattle.lab_kept.specs.Births.{newborn_lab}
 use Rattle.lab_tables.specs.Meaning.{has_code}
 use Rattle.lab_tables.specs.Ready.{tables_of}
 use Rattle.lab_commits.specs.Commits.{Ends}
-use Rattle.lab_commits.specs.Newborns.{AddsRows}
+use Rattle.lab_writing_changes.specs.Newborns.{AddsRows}
 use Rattle.lab_commits.specs.Founding.{IsPlacedBy}
 use Rattle.lab_commits.proofs.Endings.{ends_after, none_found}
 use Rattle.lab_commits.proofs.Placed.{is_placed}

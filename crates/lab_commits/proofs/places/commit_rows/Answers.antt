@@ -2,7 +2,7 @@ use Rattle.std.proofs.Common.{◌≡◌, rules, subst}
 use Rattle.std.proofs.lemmas.Result.{on_ok_weaker}
 use Rattle.sqlite.specs.Held.{state}
 use Rattle.lab_commits.specs.Commits.{Ends}
-use Rattle.lab_commits.specs.Newborns.{AddsRows}
+use Rattle.lab_writing_changes.specs.Newborns.{AddsRows}
 use Rattle.lab_commits.proofs.Commits.{ends_by}
 use Rattle.lab_commits.proofs.places.commit_rows.Goals as goal
 

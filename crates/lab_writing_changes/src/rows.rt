@@ -6,7 +6,7 @@ ghost use Rattle.sqlite.specs.State.{HasCleanDisk, KeepsCommit, Survives};
 ghost use Rattle.lab_tables.specs.Changes.{InTurn, AddsPerson, AddsTold};
 ghost use Rattle.lab_tables.specs.Held.{IsTyped};
 ghost use Rattle.lab_writing.specs.Calls.{IsInside, Makes, Answers};
-ghost use Rattle.lab_commits.specs.Newborns.{AddsLab, AddsRows};
+ghost use Rattle.lab_writing_changes.specs.Newborns.{AddsLab, AddsRows};
 
 use lab_access::Person;
 use lab_kept::{Lab, TrailRow};

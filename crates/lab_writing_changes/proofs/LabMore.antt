@@ -26,7 +26,7 @@ use Rattle.lab_writing.proofs.Tables.{stored_labs, rising_labs}
 use Rattle.lab_writing.proofs.Writes.{cast_int, cast_null, add_next, next_id}
 use Rattle.lab_writing.proofs.LabWrites.{lab_cast}
 use Rattle.lab_writing.proofs.Inside.{Wrote}
-use Rattle.lab_commits.specs.Newborns.{AddsLab}
+use Rattle.lab_writing_changes.specs.Newborns.{AddsLab}
 
 abbrev pub add_lab_text : List ℕ
 add_lab_text = codes "INSERT INTO labs (code, name, last, stray, records, sessions, trail) VALUES (?1, ?2, ?3, ?4, 0, 0, 0)"

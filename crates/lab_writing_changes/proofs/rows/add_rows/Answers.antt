@@ -1,8 +1,8 @@
 use Rattle.std.proofs.Common.{arith}
 use Rattle.std.proofs.lemmas.Result.{on_ok_weaker}
 use Rattle.sqlite.specs.State.{HasCleanDisk}
-use Rattle.lab_commits.proofs.AllRows.{rows_added}
-use Rattle.lab_commits.proofs.rows.add_rows.Goals as goal
+use Rattle.lab_writing_changes.proofs.AllRows.{rows_added}
+use Rattle.lab_writing_changes.proofs.rows.add_rows.Goals as goal
 
 pub returns-clause-made : goal.returns-clause-made
 returns-clause-made g c clean =

@@ -100,11 +100,7 @@ fn change_rows<W: Writable>(tx: &mut W, lab: RowId, change: &Change) -> Result<(
 }
 
 /// Makes the changes, one after the other.
-pub(crate) fn all_inside<W: Writable>(
-    tx: &mut W,
-    lab: RowId,
-    changes: &[Change],
-) -> Result<(), Error>
+pub fn all_inside<W: Writable>(tx: &mut W, lab: RowId, changes: &[Change]) -> Result<(), Error>
     requires inside { IsInside (W.state tx.old) }
     ensures same_lender { W.lender tx.new ≡ W.lender tx.old }
     ensures inside { HasCleanDisk (W.state tx.new) →

@@ -1,5 +1,5 @@
-use Rattle.lab_commits.proofs.Steps.{closed_where_kept}
-use Rattle.lab_commits.proofs.changes.change_sessions.Goals as goal
+use Rattle.lab_writing_changes.proofs.Steps.{closed_where_kept}
+use Rattle.lab_writing_changes.proofs.changes.change_sessions.Goals as goal
 
 pub returns-clause-made : goal.returns-clause-made
 returns-clause-made g c clean =

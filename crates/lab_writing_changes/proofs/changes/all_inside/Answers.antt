@@ -4,8 +4,8 @@ use Rattle.lab_kept.specs.declared.changes.Change.{Change}
 use Rattle.lab_tables_changes.specs.Steps.{AppliesWhereKept}
 use Rattle.lab_writing.specs.Calls.{Steps}
 use Rattle.lab_writing.proofs.Inside.{none_then, keeps_then}
-use Rattle.lab_commits.proofs.Steps.{one_more}
-use Rattle.lab_commits.proofs.changes.all_inside.Goals as goal
+use Rattle.lab_writing_changes.proofs.Steps.{one_more}
+use Rattle.lab_writing_changes.proofs.changes.all_inside.Goals as goal
 
 pub loop-change-preserved : goal.loop-change-preserved
 loop-change-preserved g c =

@@ -3,8 +3,8 @@ use Rattle.sqlite_value.specs.declared.value.Value.TheVariants.{Text}
 use Rattle.sqlite_value.specs.Order.{Row}
 use Rattle.sqlite.specs.Values.{bound}
 use Rattle.sqlite.specs.State.{ExecutesInside}
-use Rattle.lab_commits.proofs.LabMore.{add_lab_text, lab_given, lab_added, lab_sound}
-use Rattle.lab_commits.proofs.rows.add_lab.Goals as goal
+use Rattle.lab_writing_changes.proofs.LabMore.{add_lab_text, lab_given, lab_added, lab_sound}
+use Rattle.lab_writing_changes.proofs.rows.add_lab.Goals as goal
 
 pub returns-clause-made : goal.returns-clause-made
 returns-clause-made g c clean =

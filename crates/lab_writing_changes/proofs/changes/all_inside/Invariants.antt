@@ -4,7 +4,7 @@ use Rattle.sqlite.specs.State.{HasCleanDisk, KeepsCommit, Survives}
 use Rattle.lab_tables.specs.Changes.{InTurn}
 use Rattle.lab_tables_changes.specs.Steps.{StepsBy}
 use Rattle.lab_writing.specs.Calls.{Steps}
-use Rattle.lab_commits.proofs.changes.all_inside.Given as goal
+use Rattle.lab_writing_changes.proofs.changes.all_inside.Given as goal
 
 -- the changes so far were made
 abbrev pub invariant-loop-change : goal.invariant-loop-change

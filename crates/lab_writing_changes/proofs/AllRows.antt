@@ -14,7 +14,7 @@ use Rattle.lab_tables.specs.Ready.{tables_of}
 use Rattle.lab_tables_laws.proofs.KeptByRules.{ids_by_order, keys_by_rules, arrows_by_rules}
 use Rattle.lab_tables_keeping.specs.ByRules.{IsByRules}
 use Rattle.lab_writing.specs.Calls.{Steps}
-use Rattle.lab_commits.specs.Newborns.{AddsLab, AddsRows}
+use Rattle.lab_writing_changes.specs.Newborns.{AddsLab, AddsRows}
 
 rules_of : (db : Database) → IsTyped db → IsDatabase db → IsByRules (tables_in db.trees)
 rules_of db typed sound =

@@ -4,7 +4,7 @@ use Rattle.lab_kept.specs.declared.trails.TrailRow.{TrailRow}
 use Rattle.lab_tables.specs.Changes.{AddsTold}
 use Rattle.lab_writing.specs.Calls.{Steps}
 use Rattle.lab_writing.proofs.Inside.{none_then, keeps_then, turns_more}
-use Rattle.lab_commits.proofs.rows.add_trail.Goals as goal
+use Rattle.lab_writing_changes.proofs.rows.add_trail.Goals as goal
 
 pub loop-told-preserved : goal.loop-told-preserved
 loop-told-preserved g c =

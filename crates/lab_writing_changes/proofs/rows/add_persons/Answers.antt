@@ -4,7 +4,7 @@ use Rattle.lab_access.specs.declared.persons.Person.{Person}
 use Rattle.lab_tables.specs.Changes.{AddsPerson}
 use Rattle.lab_writing.specs.Calls.{Steps}
 use Rattle.lab_writing.proofs.Inside.{none_then, keeps_then, turns_more}
-use Rattle.lab_commits.proofs.rows.add_persons.Goals as goal
+use Rattle.lab_writing_changes.proofs.rows.add_persons.Goals as goal
 
 pub loop-person-preserved : goal.loop-person-preserved
 loop-person-preserved g c =

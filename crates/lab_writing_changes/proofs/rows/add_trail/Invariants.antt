@@ -2,7 +2,7 @@ use Rattle.std.proofs.Common.{◌≡◌, take}
 use Rattle.sqlite.specs.State.{HasCleanDisk, KeepsCommit, Survives}
 use Rattle.lab_tables.specs.Changes.{InTurn, AddsTold}
 use Rattle.lab_writing.specs.Calls.{Steps}
-use Rattle.lab_commits.proofs.rows.add_trail.Given as goal
+use Rattle.lab_writing_changes.proofs.rows.add_trail.Given as goal
 
 -- those so far were added
 abbrev pub invariant-loop-told : goal.invariant-loop-told

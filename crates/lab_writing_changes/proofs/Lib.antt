@@ -1,0 +1,4 @@
+mod Steps
+pub mod LabMore
+pub mod AllRows
+pub mod KnownValues
