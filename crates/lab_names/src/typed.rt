@@ -1,9 +1,7 @@
 //! A text as somebody typed it, of which no rule has been asked yet.
 
-ghost use Rattle.std.specs.Prelude.{◌≡◌, IfOk, string_bytes};
+ghost use Rattle.std.specs.Prelude.{◌≡◌, string_bytes};
 
-use crate::OutOfMemory;
-use std::alloc::AllocError;
 use std::marker::Model;
 
 /// A text as somebody typed it: a password, or a value that no form has read yet.
@@ -41,23 +39,5 @@ impl Typed {
         ensures { result.now ≡ self.now }
     {
         self.text.as_str()
-    }
-
-    /// A copy. The only error is out of memory.
-    pub fn copy(&self) -> Result<Typed, OutOfMemory>
-        ensures { IfOk result (λ copy. copy ≡ self.now) }
-    {
-        Ok(self.clone()?)
-    }
-}
-
-impl Clone for Typed {
-    ghost use Rattle.std.specs.Prelude.{◌≡◌};
-
-    ghost is_clone = { λ typed copy. copy ≡ typed };
-
-    fn clone(&self) -> Result<Typed, AllocError> {
-        let text = self.text.clone()?;
-        Ok(Typed { text })
     }
 }

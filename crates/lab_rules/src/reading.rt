@@ -9,7 +9,7 @@ ghost use Rattle.lab_rules.specs.Reading.{reading_form, version_line, reading_re
 use crate::faults::{CommandFault, fail};
 use crate::readings::{PersonLine, RecordRead, RecordState, VersionRead, VersionState};
 use crate::refusals::Refusal;
-use crate::values::{altered_at, values_at};
+use crate::values::values_told;
 use lab_access::Person;
 use lab_kept::{FormVersion, Record, Version};
 use lab_names::{Key, LabCode, Moment, Ordinal, OutOfMemory, Series};
@@ -140,15 +140,14 @@ fn version_parts(
 {
     let number = version.origin.number();
     let digest = kept.digest_of(alloc, lab, version)?;
-    let altered = altered_at(alloc, kept, number)?;
-    let values = values_at(alloc, kept, number)?;
+    let told = values_told(alloc, kept, number)?;
     let version_copy = version.copy()?;
     Ok(VersionReadParts {
         version: version_copy,
         state: kept.state_of(version),
         digest,
-        altered,
-        values,
+        altered: told.altered,
+        values: told.values,
     })
 }
 

@@ -1,5 +1,5 @@
-//! What the versions of a record say together: its values, and the keys that a version altered. The rows are walked
-//! once, into a table of the last row of each key.
+//! What the versions of a record say together: its values, and the keys that a version altered. They are looked up in a
+//! table of the last row of each key, which one walk over the rows makes.
 ghost use Rattle.std.specs.Prelude.{◌≡◌, ◌-◌, ℕ, List, Some, cond, map, filter, take, IfOk, OnOk, option_copied};
 ghost use Rattle.std.specs.List.{filter_map};
 ghost use Rattle.std.specs.Option.{option_or};
@@ -14,18 +14,27 @@ use lab_seal::EntryRow;
 use std::alloc::Global;
 use std::collections::BTreeMap;
 
-/// The values of the record at the version of the number, in the order of the form: of each field that has one, the last row of
-/// all versions up to that one. The only error is out of memory.
-pub fn values_at(
-    alloc: Global,
-    kept: &Record,
-    number: Ordinal,
-) -> Result<Series<EntryRow>, OutOfMemory>
-    ensures { IfOk result (λ rows. rows ≡ values_at kept.now number) }
+/// What is told of a record at a version: the keys that the version altered, and the record's values at it.
+#[derive(Drop)]
+pub struct ValuesTold {
+    pub altered: Series<Key>,
+    pub values: Series<EntryRow>,
+}
+
+/// The keys that the version of the number altered, and the values of the record at it: of each field that has one, the last
+/// row of all versions up to that one. Both are in the order of the form. The only error is out of memory.
+pub fn values_told(alloc: Global, kept: &Record, number: Ordinal) -> Result<ValuesTold, OutOfMemory>
+    ensures altered { IfOk result (λ told. told.altered ≡ altered_at kept.now number) }
+    ensures values { IfOk result (λ told. told.values ≡ values_at kept.now number) }
 {
-    let versions = first_versions(kept.versions.as_slice(), number.get() as usize);
-    let table = latest(alloc, versions)?;
-    values_by(alloc, kept.form.form.fields(), &table)
+    let versions = kept.versions.as_slice();
+    let count = number.get() as usize;
+    let before = latest(alloc, first_versions(versions, count - 1))?;
+    let after = latest(alloc, first_versions(versions, count))?;
+    let fields = kept.form.form.fields();
+    let altered = altered_by(alloc, fields, &before, &after)?;
+    let values = values_by(alloc, fields, &after)?;
+    Ok(ValuesTold { altered, values })
 }
 
 /// The keys that the version of the number altered, in the order of the form: those whose value differs from the one before
