@@ -1,17 +1,9 @@
 //! `lab_bench WORKLOAD CALLS [ROWS]`: makes so many calls of one function of the laboratories' records, for a script to time;
-//! a version has so many rows, and else 200. It prints what the calls computed, and never a time. `lab_bench growths CALLS`
-//! makes each call that takes memory so many times, for a script to refuse it memory.
+//! a version has so many rows, and else 200. It prints what the calls computed, and never a time.
 #![tactic(auto)]
 
-mod growths;
 mod moments;
 mod openings;
-mod person_growths;
-mod printing;
-mod record_growths;
-mod results;
-mod sample_versions;
-mod samples;
 mod values;
 mod versions;
 mod workload;

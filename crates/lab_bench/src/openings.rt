@@ -1,9 +1,9 @@
 //! Sessions, opened; and the passwords alone that they are opened by.
 
-use crate::results::{both, text};
 use anyhow::Result;
 use lab_names::{Moment, Tick};
 use lab_people::{Opened, Password, Person, ROUNDS, Roles, open_session};
+use lab_samples::{both, text};
 use lab_seal::pbkdf2;
 use std::alloc::Global;
 

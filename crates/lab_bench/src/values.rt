@@ -1,10 +1,9 @@
 //! Values of a form, read.
 
-use crate::results::{both, text};
-use crate::samples::form;
 use anyhow::Result;
 use lab_forms::Form;
 use lab_names::{Key, Unit};
+use lab_samples::{both, form, text};
 use std::alloc::Global;
 
 // Texts of values, one that is out of range, and one that is no number.

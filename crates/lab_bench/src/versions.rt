@@ -1,9 +1,8 @@
 //! Texts of versions of so many rows, written, read and hashed; and rounds of PBKDF2.
 
-use crate::results::made_of;
-use crate::sample_versions::{version, version_text};
 use anyhow::{Result, bail};
 use lab_names::OutOfMemory;
+use lab_samples::{made_of, version, version_text};
 use lab_seal::{VersionParts, digest, pbkdf2, write_version};
 use lab_versions_read::{TextFault, read_version};
 use std::alloc::Global;

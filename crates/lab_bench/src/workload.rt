@@ -1,10 +1,9 @@
-use crate::growths::print_growths;
 use crate::moments::{parse_moments, print_moments};
 use crate::openings::{open_sessions, stretch_passwords};
-use crate::sample_versions::version_text;
 use crate::values::read_values;
 use crate::versions::{digest_versions, read_versions, stretch, write_versions};
 use anyhow::Result;
+use lab_samples::version_text;
 use std::alloc::Global;
 use std::io::Print;
 
@@ -31,8 +30,6 @@ pub enum Workload {
     Rounds,
     /// The text of a version, whatever the number.
     VersionText,
-    /// Each call that takes memory.
-    Growths,
 }
 
 impl Workload {
@@ -49,12 +46,11 @@ impl Workload {
             "stretch-passwords" => Some(Workload::StretchPasswords),
             "rounds" => Some(Workload::Rounds),
             "version-text" => Some(Workload::VersionText),
-            "growths" => Some(Workload::Growths),
             _ => None,
         }
     }
 
-    /// Makes so many calls, and prints what they computed, or its sum.
+    /// Makes so many calls, and prints a sum of what they computed.
     pub(crate) fn run(self, rt: &impl Print, alloc: Global, calls: u32, rows: u32) -> Result<()> {
         match self {
             Workload::ParseMoments => print_sum(rt, Ok(parse_moments(calls))),
@@ -67,7 +63,6 @@ impl Workload {
             Workload::StretchPasswords => print_sum(rt, Ok(stretch_passwords(calls))),
             Workload::Rounds => print_stretched(rt, alloc, calls),
             Workload::VersionText => print_version(rt, alloc, rows),
-            Workload::Growths => print_all(rt, alloc, calls),
         }
     }
 }
@@ -81,11 +76,6 @@ fn print_sum(rt: &impl Print, sum: Result<u64>) -> Result<()> {
 fn print_stretched(rt: &impl Print, alloc: Global, rounds: u32) -> Result<()> {
     let digits = hex::encode(alloc, stretch(rounds)?)?;
     println!(rt; "{digits}")?;
-    Ok(())
-}
-
-fn print_all(rt: &impl Print, alloc: Global, calls: u32) -> Result<()> {
-    print_growths(rt, alloc, calls)?;
     Ok(())
 }
 

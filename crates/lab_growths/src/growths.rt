@@ -2,13 +2,12 @@
 //! other.
 
 use crate::person_growths::print_person_growths;
-use crate::printing::{print_made, print_word};
 use crate::record_growths::print_record_growths;
-use crate::results::{both, made_of, text};
-use crate::samples::{colours, field, form, least, numbers};
+use crate::results::{print_made, print_word};
 use anyhow::Result;
 use lab_forms::{Bound, Choices, Field, Form, Kind, Value};
 use lab_names::{Keys, LabCodes, Names, Notes, PersonCodes, Rule, Text, Units};
+use lab_samples::{both, colours, field, form, least, made_of, numbers, text};
 use std::alloc::Global;
 use std::io::{self, Print};
 

@@ -1,13 +1,13 @@
 //! Copies of persons, of what was asked for them, and of sessions: the calls on these take no memory. Each has its arguments
 //! made for it alone, so that running out of memory stops one call and no other.
 
-use crate::printing::print_made;
-use crate::results::{both, made_of, text};
+use crate::results::print_made;
 use anyhow::{Context, Result};
 use lab_names::{Moment, PersonCodes, Tick};
 use lab_people::{
     Ask, Issued, Opened, Password, Person, Roles, Session, Verifier, ask_issue, enrol, open_session,
 };
+use lab_samples::{both, made_of, text};
 use std::alloc::Global;
 use std::io::{self, Print};
 

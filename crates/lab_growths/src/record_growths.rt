@@ -1,11 +1,10 @@
 //! The calls on versions and seals that take memory. Each has its arguments made for it alone, so that running out of
 //! memory stops one call and no other.
 
-use crate::printing::{print_made, print_word};
-use crate::results::{both, made_of, text};
-use crate::sample_versions::{text_of, version, version_text};
+use crate::results::{print_made, print_word};
 use anyhow::{Context, Result};
 use lab_names::{Moment, Ordinal};
+use lab_samples::{both, made_of, text, text_of, version, version_text};
 use lab_seal::{Amendment, Meaning, Origin, SealParts, VersionParts, digest};
 use lab_versions_read::read_version;
 use std::alloc::Global;
