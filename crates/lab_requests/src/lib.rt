@@ -3,7 +3,6 @@
 //! thing, so that a reply tells of what is recorded (21 CFR 11.10(e), ISO/IEC 17025:2017, 7.5.1).
 #![tactic(auto)]
 
-mod answers;
 mod requests;
 
 pub use requests::answer_asked;

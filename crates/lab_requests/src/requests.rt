@@ -8,7 +8,7 @@ ghost use Rattle.lab_wire.specs.Replies.{reply_text};
 ghost use Rattle.lab_runs.specs.Keeping.{AreWithin};
 ghost use Rattle.lab_runs.specs.Requests.{answer_to, is_idle, MovesBy, Steps};
 
-use crate::answers::{answer_on, no_such_lab};
+use lab_answers::{answer_on, no_such_lab};
 use lab_decisions::formed;
 use lab_kept::{Keeper, KeeperFault};
 use lab_machine::needs;

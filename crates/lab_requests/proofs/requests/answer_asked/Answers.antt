@@ -1,161 +1,151 @@
 -- What was decided on the part that was loaded is the step of the laboratory, and its changes fit.
 -- The rows rest over the load, and then they move by the changes that were built.
 use Rattle.std.proofs.Common.{sym, ap, ◌∙◌, subst}
-use Rattle.std.specs.Prelude.{◌≡◌, IfOk}
+use Rattle.std.specs.Prelude.{◌≡◌, List, Ok, IfOk}
 use Rattle.std.proofs.lemmas.Bool.{false≢true}
+use Rattle.lab_kept.specs.declared.changes.Change.{Change}
+use Rattle.lab_kept.specs.Changes.{ChangesFit}
+use Rattle.lab_kept.specs.Limits.{IsWithin}
 use Rattle.lab_kept.specs.Parts.{part_of}
+use Rattle.lab_kept.specs.Worlds.{Meaning, SameMeaning, Changes, Given, Lives}
+use Rattle.lab_laws.specs.Stepping.{WhereThere}
 use Rattle.lab_machine.specs.Machine.{step}
 use Rattle.lab_outcomes.specs.Deciding.{decided}
+use Rattle.lab_wire.specs.declared.replies.Answer.TheVariants.{Replied}
+use Rattle.lab_wire.specs.Replies.{reply_text}
+use Rattle.lab_runs.specs.Requests.{Builds, Steps}
 use Rattle.lab_requests.proofs.Deciding.{builds, none_there, idle_none, fits_there, made_steps, on_ok, either}
+use Rattle.lab_requests.proofs.requests.answer_asked.Given.{Over}
+use Rattle.lab_requests.proofs.requests.answer_asked.Goals.{After-answer_on}
 use Rattle.lab_requests.proofs.requests.answer_asked.Goals as goal
+
+-- ---- where the part of a laboratory was loaded
+
+-- what every laboratory meant before, and once the part was loaded
+abbrev old : (g : Over) → After-answer_on g → Meaning
+old g c = (g.S.Keeper.world c.args.keeper.now).meaning
+
+abbrev mid : (g : Over) → After-answer_on g → Meaning
+mid g c = (g.S.Keeper.world c.load-loaded.new.self).meaning
+
+-- the changes that are decided on the part
+abbrev changes : (g : Over) → After-answer_on g → List Change
+changes g c =
+    (decided c.in-Ok-Some.slice c.args.tick.now c.args.asked.instruction.command).changes
+
+-- what is known once it was answered: the keeper was honest and reached when the part was loaded,
+-- no laboratory changed by that, and what was built is the step
+record Answered (g : Over) (c : After-answer_on g) : Type 0 where
+  earlier : (g.S.Keeper.world c.load-loaded.new.self).is_honest
+  middle : (g.S.Keeper.world c.load-loaded.new.self).is_reached
+  lives : Lives (g.S.Keeper.world c.args.keeper.now) (g.S.Keeper.world c.load-loaded.new.self)
+  same : SameMeaning (old g c) (mid g c)
+  built : Builds (old g c c.args.asked.lab) c.args.tick.now c.args.asked.instruction
+      (reply_text c.args.tick.now (Replied
+      (decided c.in-Ok-Some.slice c.args.tick.now c.args.asked.instruction.command).reply))
+      (changes g c)
+
+answered : (g : Over) (c : After-answer_on g) →
+    Given (g.S.Keeper.world c.args.keeper.now) (g.S.Keeper.world c.answer_on.new.keeper)
+    (Answered g c)
+answered g c honest reached =
+    let earlier = c.answer_on.ensures.passes.honest honest in
+    let lives = c.in-Ok-Some.ensures.lives earlier reached in
+    record {
+      earlier = earlier;
+      middle = c.load-loaded.ensures.reached earlier reached;
+      lives = lives;
+      same = c.load-loaded.ensures.same earlier reached lives.1;
+      built = builds _ c.in-Ok-Some.slice c.args.tick.now c.args.asked.instruction
+          (sym c.in-Ok-Some.field-0-is ∙ c.in-Ok-Some.ensures.part earlier reached
+          ∙ ap (λ need. part_of need (old g c c.args.asked.lab)) c.in_ok-need.ensures.need)
+          c.formed.ensures;
+    }
+
+-- the changes fit what was loaded, where the laboratory is within its limits
+fits : (g : Over) (c : After-answer_on g) → Answered g c →
+    WhereThere IsWithin (old g c c.args.asked.lab) →
+    ChangesFit (mid g c c.args.asked.lab) (changes g c)
+fits g c was within = fits_there c.args.asked.lab (changes g c) (old g c) (mid g c)
+    (was.same c.args.asked.lab) (was.built.fit within)
+
+-- what was made of what was loaded is the step of what was there
+steps : (g : Over) (c : After-answer_on g) (held : Meaning) → Answered g c →
+    Changes c.args.asked.lab (changes g c) (mid g c) held →
+    Steps c.args.tick.now (Ok c.args.asked) (old g c) held
+steps g c held was made = made_steps c.args.asked.lab (changes g c)
+    (step (old g c c.args.asked.lab) c.args.tick.now c.args.asked.instruction).after
+    (old g c) (mid g c) held was.same was.built.after made
 
 pub returns-in-Ok-Some-clause-reply : goal.returns-in-Ok-Some-clause-reply
 returns-in-Ok-Some-clause-reply g c = λ honest reached.
-    let earlier = c.answer_on.ensures.passes.honest honest in
-    let built = builds _ c.in-Ok-Some.slice c.args.tick.now c.args.asked.instruction
-    (sym c.in-Ok-Some.field-0-is ∙ c.in-Ok-Some.ensures.part earlier reached
-    ∙ ap (λ need. part_of need
-    ((g.S.Keeper.world c.args.keeper.now).meaning c.args.asked.lab)) c.in_ok-need.ensures.need) c.formed.ensures in
-    subst (λ told. IfOk c.answer_on.result (λ reply. reply.items ≡ told)) built.replied
+    let was = answered g (goal.at.returns-in-Ok-Some-clause-reply g c).After-answer_on
+    honest reached in
+    subst (λ told. IfOk c.answer_on.result (λ reply. reply.items ≡ told)) was.built.replied
     c.answer_on.ensures.reply
 
 pub returns-in-Ok-Some-clause-quiet : goal.returns-in-Ok-Some-clause-quiet
 returns-in-Ok-Some-clause-quiet g c = λ idle honest reached live held left.
-    let earlier = c.answer_on.ensures.passes.honest honest in
-    let lives = c.in-Ok-Some.ensures.lives earlier reached in
-    let middle = c.load-loaded.ensures.reached earlier reached in
-    let built = builds _ c.in-Ok-Some.slice c.args.tick.now c.args.asked.instruction
-    (sym c.in-Ok-Some.field-0-is ∙ c.in-Ok-Some.ensures.part earlier reached
-    ∙ ap (λ need. part_of need
-    ((g.S.Keeper.world c.args.keeper.now).meaning c.args.asked.lab)) c.in_ok-need.ensures.need) c.formed.ensures in
-    c.load-loaded.ensures.crash earlier reached live held
-    (c.answer_on.ensures.quiet (built.idle.0 idle) honest middle lives.1 held left)
+    let was = answered g (goal.at.returns-in-Ok-Some-clause-quiet g c).After-answer_on
+    honest reached in
+    c.load-loaded.ensures.crash was.earlier reached live held
+    (c.answer_on.ensures.quiet (was.built.idle.0 idle) honest was.middle was.lives.1 held left)
 
 pub returns-in-Ok-Some-clause-after : goal.returns-in-Ok-Some-clause-after
 returns-in-Ok-Some-clause-after g c = λ within honest reached.
-    let earlier = c.answer_on.ensures.passes.honest honest in
-    let lives = c.in-Ok-Some.ensures.lives earlier reached in
-    let middle = c.load-loaded.ensures.reached earlier reached in
-    let same = c.load-loaded.ensures.same earlier reached lives.1 in
-    let built = builds _ c.in-Ok-Some.slice c.args.tick.now c.args.asked.instruction
-    (sym c.in-Ok-Some.field-0-is ∙ c.in-Ok-Some.ensures.part earlier reached
-    ∙ ap (λ need. part_of need
-    ((g.S.Keeper.world c.args.keeper.now).meaning c.args.asked.lab)) c.in_ok-need.ensures.need) c.formed.ensures in
-    let fits = fits_there c.args.asked.lab
-    (decided c.in-Ok-Some.slice c.args.tick.now c.args.asked.instruction.command).changes
-    (g.S.Keeper.world c.args.keeper.now).meaning
-    (g.S.Keeper.world c.load-loaded.new.self).meaning (same c.args.asked.lab)
-    (built.fit (within lives.0 c.args.asked.lab)) in
+    let on = (goal.at.returns-in-Ok-Some-clause-after g c).After-answer_on in
+    let was = answered g on honest reached in
     on_ok c.answer_on.result
-    (λ made. made_steps c.args.asked.lab
-    (decided c.in-Ok-Some.slice c.args.tick.now c.args.asked.instruction.command).changes
-    (step ((g.S.Keeper.world c.args.keeper.now).meaning c.args.asked.lab) c.args.tick.now
-    c.args.asked.instruction).after
-    (g.S.Keeper.world c.args.keeper.now).meaning
-    (g.S.Keeper.world c.load-loaded.new.self).meaning (g.S.Keeper.world c.answer_on.new.keeper).meaning same built.after made)
-    (c.answer_on.ensures.changed fits honest middle)
+    (steps g on (g.S.Keeper.world c.answer_on.new.keeper).meaning was)
+    (c.answer_on.ensures.changed (fits g on was (within was.lives.0 c.args.asked.lab))
+    honest was.middle)
 
 pub returns-in-Ok-Some-clause-rows : goal.returns-in-Ok-Some-clause-rows
 returns-in-Ok-Some-clause-rows g c = λ within honest reached.
-    let earlier = c.answer_on.ensures.passes.honest honest in
-    let lives = c.in-Ok-Some.ensures.lives earlier reached in
-    let middle = c.load-loaded.ensures.reached earlier reached in
-    let same = c.load-loaded.ensures.same earlier reached lives.1 in
-    let built = builds _ c.in-Ok-Some.slice c.args.tick.now c.args.asked.instruction
-    (sym c.in-Ok-Some.field-0-is ∙ c.in-Ok-Some.ensures.part earlier reached
-    ∙ ap (λ need. part_of need
-    ((g.S.Keeper.world c.args.keeper.now).meaning c.args.asked.lab)) c.in_ok-need.ensures.need) c.formed.ensures in
-    let fit = built.fit (within lives.0 c.args.asked.lab) in
-    let fits = fits_there c.args.asked.lab
-    (decided c.in-Ok-Some.slice c.args.tick.now c.args.asked.instruction.command).changes
-    (g.S.Keeper.world c.args.keeper.now).meaning
-    (g.S.Keeper.world c.load-loaded.new.self).meaning (same c.args.asked.lab) fit in
+    let on = (goal.at.returns-in-Ok-Some-clause-rows g c).After-answer_on in
+    let was = answered g on honest reached in
+    let there = within was.lives.0 c.args.asked.lab in
     on_ok c.answer_on.result
     (λ moved. record {
-      changes = (decided c.in-Ok-Some.slice c.args.tick.now c.args.asked.instruction.command).changes;
-      fit = fit;
-      after = built.after;
+      changes = changes g on;
+      fit = was.built.fit there;
+      after = was.built.after;
       moved = g.met.S.Keeper.moves_on _ _ _ _ _
-          (c.load-loaded.ensures.rows earlier reached lives.1) moved;
+          (c.load-loaded.ensures.rows was.earlier reached was.lives.1) moved;
     })
-    (c.answer_on.ensures.rows fits honest middle)
+    (c.answer_on.ensures.rows (fits g on was there) honest was.middle)
 
 pub returns-in-Ok-Some-clause-crash : goal.returns-in-Ok-Some-clause-crash
 returns-in-Ok-Some-clause-crash g c = λ within honest reached live held left.
-    let earlier = c.answer_on.ensures.passes.honest honest in
-    let lives = c.in-Ok-Some.ensures.lives earlier reached in
-    let middle = c.load-loaded.ensures.reached earlier reached in
-    let same = c.load-loaded.ensures.same earlier reached lives.1 in
-    let built = builds _ c.in-Ok-Some.slice c.args.tick.now c.args.asked.instruction
-    (sym c.in-Ok-Some.field-0-is ∙ c.in-Ok-Some.ensures.part earlier reached
-    ∙ ap (λ need. part_of need
-    ((g.S.Keeper.world c.args.keeper.now).meaning c.args.asked.lab)) c.in_ok-need.ensures.need) c.formed.ensures in
-    let fits = fits_there c.args.asked.lab
-    (decided c.in-Ok-Some.slice c.args.tick.now c.args.asked.instruction.command).changes
-    (g.S.Keeper.world c.args.keeper.now).meaning
-    (g.S.Keeper.world c.load-loaded.new.self).meaning (same c.args.asked.lab)
-    (built.fit (within live c.args.asked.lab)) in
-    either (λ was. c.load-loaded.ensures.crash earlier reached live held was)
-    (λ made. made_steps c.args.asked.lab
-    (decided c.in-Ok-Some.slice c.args.tick.now c.args.asked.instruction.command).changes
-    (step ((g.S.Keeper.world c.args.keeper.now).meaning c.args.asked.lab) c.args.tick.now
-    c.args.asked.instruction).after
-    (g.S.Keeper.world c.args.keeper.now).meaning
-    (g.S.Keeper.world c.load-loaded.new.self).meaning held same built.after made)
-    (c.answer_on.ensures.crash fits honest middle lives.1 held left)
+    let on = (goal.at.returns-in-Ok-Some-clause-crash g c).After-answer_on in
+    let was = answered g on honest reached in
+    either (c.load-loaded.ensures.crash was.earlier reached live held) (steps g on held was)
+    (c.answer_on.ensures.crash (fits g on was (within live c.args.asked.lab))
+    honest was.middle was.lives.1 held left)
 
 pub returns-in-Ok-Some-clause-safe : goal.returns-in-Ok-Some-clause-safe
 returns-in-Ok-Some-clause-safe g c = λ within honest reached live safe.
-    let earlier = c.answer_on.ensures.passes.honest honest in
-    let lives = c.in-Ok-Some.ensures.lives earlier reached in
-    let middle = c.load-loaded.ensures.reached earlier reached in
-    let same = c.load-loaded.ensures.same earlier reached lives.1 in
-    let built = builds _ c.in-Ok-Some.slice c.args.tick.now c.args.asked.instruction
-    (sym c.in-Ok-Some.field-0-is ∙ c.in-Ok-Some.ensures.part earlier reached
-    ∙ ap (λ need. part_of need
-    ((g.S.Keeper.world c.args.keeper.now).meaning c.args.asked.lab)) c.in_ok-need.ensures.need) c.formed.ensures in
-    let fits = fits_there c.args.asked.lab
-    (decided c.in-Ok-Some.slice c.args.tick.now c.args.asked.instruction.command).changes
-    (g.S.Keeper.world c.args.keeper.now).meaning
-    (g.S.Keeper.world c.load-loaded.new.self).meaning (same c.args.asked.lab)
-    (built.fit (within live c.args.asked.lab)) in
-    c.answer_on.ensures.safe fits honest middle lives.1
-    (c.load-loaded.ensures.safe earlier reached live safe)
+    let on = (goal.at.returns-in-Ok-Some-clause-safe g c).After-answer_on in
+    let was = answered g on honest reached in
+    c.answer_on.ensures.safe (fits g on was (within live c.args.asked.lab))
+    honest was.middle was.lives.1
+    (c.load-loaded.ensures.safe was.earlier reached live safe)
 
 pub returns-in-Ok-Some-clause-durable : goal.returns-in-Ok-Some-clause-durable
 returns-in-Ok-Some-clause-durable g c = λ within busy honest reached.
-    let earlier = c.answer_on.ensures.passes.honest honest in
-    let lives = c.in-Ok-Some.ensures.lives earlier reached in
-    let middle = c.load-loaded.ensures.reached earlier reached in
-    let same = c.load-loaded.ensures.same earlier reached lives.1 in
-    let built = builds _ c.in-Ok-Some.slice c.args.tick.now c.args.asked.instruction
-    (sym c.in-Ok-Some.field-0-is ∙ c.in-Ok-Some.ensures.part earlier reached
-    ∙ ap (λ need. part_of need
-    ((g.S.Keeper.world c.args.keeper.now).meaning c.args.asked.lab)) c.in_ok-need.ensures.need) c.formed.ensures in
-    let fits = fits_there c.args.asked.lab
-    (decided c.in-Ok-Some.slice c.args.tick.now c.args.asked.instruction.command).changes
-    (g.S.Keeper.world c.args.keeper.now).meaning
-    (g.S.Keeper.world c.load-loaded.new.self).meaning (same c.args.asked.lab)
-    (built.fit (within lives.0 c.args.asked.lab)) in
-    c.answer_on.ensures.durable fits
-    (λ none. false≢true (sym busy ∙ built.idle.1 none)) honest middle
+    let on = (goal.at.returns-in-Ok-Some-clause-durable g c).After-answer_on in
+    let was = answered g on honest reached in
+    c.answer_on.ensures.durable (fits g on was (within was.lives.0 c.args.asked.lab))
+    (λ none. false≢true (sym busy ∙ was.built.idle.1 none)) honest was.middle
 
 pub returns-in-Ok-Some-clause-reached : goal.returns-in-Ok-Some-clause-reached
 returns-in-Ok-Some-clause-reached g c = λ within honest reached.
-    let earlier = c.answer_on.ensures.passes.honest honest in
-    let lives = c.in-Ok-Some.ensures.lives earlier reached in
-    let middle = c.load-loaded.ensures.reached earlier reached in
-    let same = c.load-loaded.ensures.same earlier reached lives.1 in
-    let built = builds _ c.in-Ok-Some.slice c.args.tick.now c.args.asked.instruction
-    (sym c.in-Ok-Some.field-0-is ∙ c.in-Ok-Some.ensures.part earlier reached
-    ∙ ap (λ need. part_of need
-    ((g.S.Keeper.world c.args.keeper.now).meaning c.args.asked.lab)) c.in_ok-need.ensures.need) c.formed.ensures in
-    let fits = fits_there c.args.asked.lab
-    (decided c.in-Ok-Some.slice c.args.tick.now c.args.asked.instruction.command).changes
-    (g.S.Keeper.world c.args.keeper.now).meaning
-    (g.S.Keeper.world c.load-loaded.new.self).meaning (same c.args.asked.lab)
-    (built.fit (within lives.0 c.args.asked.lab)) in
-    c.answer_on.ensures.reached fits honest middle
+    let on = (goal.at.returns-in-Ok-Some-clause-reached g c).After-answer_on in
+    let was = answered g on honest reached in
+    c.answer_on.ensures.reached (fits g on was (within was.lives.0 c.args.asked.lab))
+    honest was.middle
+
+-- ---- where there is no laboratory of the code
 
 pub returns-in-Ok-None-clause-durable : goal.returns-in-Ok-None-clause-durable
 returns-in-Ok-None-clause-durable g c = λ within busy honest reached.
