@@ -72,14 +72,14 @@ fn all_code_rows<D: Readable>(conn: &mut D, lab: i64) -> Result<Vec<Row>, Error>
 fn person_of_row(alloc: Global, row: &Row) -> Result<PersonHead, ReadFault>
     ensures { IfOk result (λ person. person ≡ person_read row.now) }
 {
-    let code = text_of(alloc, row, 0)?;
-    let name = text_of(alloc, row, 1)?;
     let roles = roles_of(small_of(row, 2)?);
     let retired = flag_of(row, 3)?;
     let failures = small_of(row, 4)?;
     let locked = moment_if(row, 5)?;
     let password = password_of_row(row)?;
     let ask = ask_of_row(row)?;
+    let code = text_of(alloc, row, 0)?;
+    let name = text_of(alloc, row, 1)?;
     Ok(PersonHead {
         code,
         name,

@@ -38,9 +38,9 @@ fn field_of_row(alloc: Global, row: &Row) -> Result<FieldHead, ReadFault>
     ensures { IfOk result (λ field. field ≡ field_read row.now) }
 {
     let id = id_of(row, 0)?;
+    let required = flag_of(row, 3)?;
     let key = text_of(alloc, row, 1)?;
     let label = text_of(alloc, row, 2)?;
-    let required = flag_of(row, 3)?;
     let kind = kind_of_row(alloc, row)?;
     Ok(FieldHead {
         id,

@@ -39,9 +39,9 @@ pub fn form_of_row(alloc: Global, row: &Row) -> Result<FormHead, ReadFault>
     ensures { IfOk result (λ form. form ≡ form_read row.now) }
 {
     let id = id_of(row, 0)?;
-    let code = text_of(alloc, row, 1)?;
     let version = ordinal_of(row, 2)?;
     let approval = flag_of(row, 3)?;
+    let code = text_of(alloc, row, 1)?;
     Ok(FormHead {
         id,
         code,

@@ -18,10 +18,10 @@ use std::alloc::Global;
 fn number_of_row(alloc: Global, row: &Row) -> Result<Kind, ReadFault>
     ensures { IfOk result (λ kind. kind ≡ number_kind (kind_cells row.now)) }
 {
-    let Some(unit) = text_if(alloc, row, 5)? else {
+    let Some(decimals) = small_if(row, 6)? else {
         return Err(ReadFault::Storage);
     };
-    let Some(decimals) = small_if(row, 6)? else {
+    let Some(unit) = text_if(alloc, row, 5)? else {
         return Err(ReadFault::Storage);
     };
     let min = bound_if(alloc, row, 7)?;

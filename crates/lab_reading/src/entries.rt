@@ -33,11 +33,11 @@ fn entry_rows<D: Readable>(conn: &mut D, version: i64) -> Result<Vec<Row>, Error
 fn entry_of_row(alloc: Global, row: &Row) -> Result<EntryRow, ReadFault>
     ensures { IfOk result (λ entry. entry ≡ entry_read row.now) }
 {
+    let moment = moment_of(row, 4)?;
     let key = text_of(alloc, row, 0)?;
     let value = text_of(alloc, row, 1)?;
     let unit = text_of(alloc, row, 2)?;
     let person = text_of(alloc, row, 3)?;
-    let moment = moment_of(row, 4)?;
     let reason = text_if(alloc, row, 5)?;
     Ok(EntryRow {
         key,

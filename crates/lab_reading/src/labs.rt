@@ -37,13 +37,13 @@ fn lab_of_row(alloc: Global, row: &Row) -> Result<LabHead, ReadFault>
     ensures { IfOk result (λ lab. lab ≡ lab_read row.now) }
 {
     let id = id_of(row, 0)?;
-    let code = text_of(alloc, row, 1)?;
-    let name = text_of(alloc, row, 2)?;
     let last = moment_of(row, 3)?;
     let strays = count_of(row, 4)?;
     let records = count_of(row, 5)?;
     let sessions = count_of(row, 6)?;
     let trail = count_of(row, 7)?;
+    let code = text_of(alloc, row, 1)?;
+    let name = text_of(alloc, row, 2)?;
     Ok(LabHead {
         id,
         code,

@@ -38,9 +38,9 @@ fn record_of_row(alloc: Global, row: &Row) -> Result<RecordHead, ReadFault>
     let id = id_of(row, 0)?;
     let number = ordinal_of(row, 1)?;
     let form = id_of(row, 2)?;
+    let current = small_of(row, 5)?;
     let form_code = text_of(alloc, row, 3)?;
     let sample = text_of(alloc, row, 4)?;
-    let current = small_of(row, 5)?;
     Ok(RecordHead {
         id,
         number,

@@ -64,12 +64,12 @@ fn meaning_of(alloc: Global, row: &Row) -> Result<Meaning, ReadFault>
 fn signature_of_row(alloc: Global, row: &Row) -> Result<Signature, ReadFault>
     ensures { IfOk result (λ signature. signature ≡ signature_read row.now) }
 {
-    let person = text_of(alloc, row, 0)?;
-    let name = text_of(alloc, row, 1)?;
-    let meaning = meaning_of(alloc, row)?;
     let moment = moment_of(row, 4)?;
     let digest = digest_of(row, 5)?;
     let seal = Seal::from_bytes(digest_of(row, 6)?.bytes());
+    let person = text_of(alloc, row, 0)?;
+    let name = text_of(alloc, row, 1)?;
+    let meaning = meaning_of(alloc, row)?;
     Ok(Signature {
         person,
         name,

@@ -36,8 +36,8 @@ fn version_of_row(alloc: Global, row: &Row) -> Result<VersionHead, ReadFault>
     let id = id_of(row, 0)?;
     let number = ordinal_of(row, 1)?;
     let format = small_of(row, 2)?;
-    let opener = text_of(alloc, row, 3)?;
     let opened = moment_of(row, 4)?;
+    let opener = text_of(alloc, row, 3)?;
     let reason = text_if(alloc, row, 5)?;
     Ok(VersionHead {
         id,

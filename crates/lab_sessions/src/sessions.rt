@@ -37,12 +37,12 @@ fn session_of_row(alloc: Global, row: &Row) -> Result<Session, ReadFault>
     ensures { IfOk result (λ session. session ≡ session_read row.now) }
 {
     let number = ordinal_of(row, 0)?;
-    let person = text_of(alloc, row, 1)?;
     let token = digest_of(row, 2)?;
     let opened = moment_of(row, 3)?;
     let last = moment_of(row, 4)?;
     let closed = flag_of(row, 5)?;
     let signed = flag_of(row, 6)?;
+    let person = text_of(alloc, row, 1)?;
     Ok(Session {
         number,
         person,
