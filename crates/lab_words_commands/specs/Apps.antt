@@ -55,17 +55,26 @@ number_rule name = record (wanted_rule name) {
 
 -- ---- commands
 
+-- with a file, and a laboratory in it
+abbrev pub with_file_and_lab : App → App
+with_file_and_lab app = with_rule (with_rule app file_rule) lab_rule
+
+-- with a port, and how many connections are served there
+abbrev pub with_port_and_count : App → App
+with_port_and_count app = with_rule (with_rule app port_rule) count_rule
+
+-- with the first and the last number of records
+abbrev pub with_range : App → App
+with_range app = with_rule (with_rule app (number_rule (codes "from"))) (number_rule (codes "to"))
+
 abbrev pub found_app : App
-found_app = with_rule (with_rule (new_app (codes "found")) file_rule) lab_rule
+found_app = with_file_and_lab (new_app (codes "found"))
 
 abbrev pub serve_app : App
-serve_app =
-    with_rule (with_rule (with_rule (new_app (codes "serve")) file_rule) port_rule) count_rule
+serve_app = with_port_and_count (with_rule (new_app (codes "serve")) file_rule)
 
 abbrev pub copy_app : App
-copy_app =
-    with_rule (with_rule (with_rule (with_rule (new_app (codes "copy")) file_rule) lab_rule)
-    (number_rule (codes "from"))) (number_rule (codes "to"))
+copy_app = with_range (with_file_and_lab (new_app (codes "copy")))
 
 abbrev pub check_app : App
 check_app = new_app (codes "check")
@@ -87,7 +96,11 @@ abbrev pub with_files : App → App
 with_files app = with_subcommand (with_subcommand (with_subcommand app found_app.top)
     serve_app.top) copy_app.top
 
+-- with those of no file
+abbrev pub with_streams : App → App
+with_streams app = with_subcommand (with_subcommand (with_subcommand app check_app.top)
+    replay_app.top) rehearse_app.top
+
 -- with all of them
 abbrev pub labdesk_app : App
-labdesk_app = with_subcommand (with_subcommand (with_subcommand (with_files bare_app)
-    check_app.top) replay_app.top) rehearse_app.top
+labdesk_app = with_streams (with_files bare_app)

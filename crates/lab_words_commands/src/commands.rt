@@ -2,7 +2,7 @@
 
 ghost use Rattle.std.specs.Prelude.{◌≡◌, IfOk, false};
 ghost use Rattle.clap.specs.Words.{app_of, new_app, rule_of};
-ghost use Rattle.lab_words_commands.specs.Apps.{check_app, copy_app, count_rule, file_rule, found_app, lab_rule, moment_rule, named_rule, number_rule, port_rule, rehearse_app, replay_app, serve_app, wanted_rule};
+ghost use Rattle.lab_words_commands.specs.Apps.{check_app, copy_app, count_rule, file_rule, found_app, lab_rule, moment_rule, named_rule, number_rule, port_rule, rehearse_app, replay_app, serve_app, wanted_rule, with_file_and_lab, with_port_and_count, with_range};
 
 use clap::{Arg, Command, value_parser};
 use std::alloc::{AllocError, Global};
@@ -146,6 +146,40 @@ fn command<'a>(alloc: Global, name: &'a str, about: &'a str, more: &'a str) -> C
     Command::new(alloc, name).about(about).after_help(more)
 }
 
+// A command with a file, and a laboratory in it.
+fn with_file_and_lab<'a>(alloc: Global, bare: Command<'a>) -> Result<Command<'a>, AllocError>
+    ensures { IfOk result (λ more. app_of more ≡ with_file_and_lab (app_of bare.entry)) }
+{
+    let first = bare.arg(file_argument(alloc))?;
+    let whole = first.arg(lab_argument(alloc))?;
+    Ok(whole)
+}
+
+// A command with a port, and how many connections are served there.
+fn with_port_and_count<'a>(alloc: Global, bare: Command<'a>) -> Result<Command<'a>, AllocError>
+    ensures { IfOk result (λ more. app_of more ≡ with_port_and_count (app_of bare.entry)) }
+{
+    let first = bare.arg(port_argument(alloc))?;
+    let whole = first.arg(count_argument(alloc))?;
+    Ok(whole)
+}
+
+// A command with the first and the last number of records.
+fn with_range<'a>(alloc: Global, bare: Command<'a>) -> Result<Command<'a>, AllocError>
+    ensures { IfOk result (λ more. app_of more ≡ with_range (app_of bare.entry)) }
+{
+    let from = number_argument(alloc, "from", "A", "Number of the first record, 1 or more");
+    let first = bare.arg(from)?;
+    let to = number_argument(
+        alloc,
+        "to",
+        "B",
+        "Number of the last record, up to 1000000000",
+    );
+    let whole = first.arg(to)?;
+    Ok(whole)
+}
+
 /// `found`, of a laboratory in a file.
 ///
 /// # Errors
@@ -155,11 +189,7 @@ pub fn found_command<'a>(alloc: Global) -> Result<Command<'a>, AllocError>
 {
     let about = "Found a laboratory in a file, from the body of standard input";
     let bare = command(alloc, "found", about, FOUNDING);
-    let file = file_argument(alloc);
-    let first = bare.arg(file)?;
-    let lab = lab_argument(alloc);
-    let whole = first.arg(lab)?;
-    Ok(whole)
+    with_file_and_lab(alloc, bare)
 }
 
 /// `serve`, of a file at a port, for so many connections.
@@ -171,13 +201,8 @@ pub fn serve_command<'a>(alloc: Global) -> Result<Command<'a>, AllocError>
 {
     let about = "Serve the laboratories of a file, on a port of this machine";
     let bare = command(alloc, "serve", about, SERVING);
-    let file = file_argument(alloc);
-    let first = bare.arg(file)?;
-    let port = port_argument(alloc);
-    let second = first.arg(port)?;
-    let count = count_argument(alloc);
-    let whole = second.arg(count)?;
-    Ok(whole)
+    let first = bare.arg(file_argument(alloc))?;
+    with_port_and_count(alloc, first)
 }
 
 /// `copy`, of the records of a file's laboratory, from a number to a number.
@@ -189,20 +214,8 @@ pub fn copy_command<'a>(alloc: Global) -> Result<Command<'a>, AllocError>
 {
     let about = "Write the inspection copy of a laboratory's records to standard output";
     let bare = command(alloc, "copy", about, COPYING);
-    let file = file_argument(alloc);
-    let first = bare.arg(file)?;
-    let lab = lab_argument(alloc);
-    let second = first.arg(lab)?;
-    let from = number_argument(alloc, "from", "A", "Number of the first record, 1 or more");
-    let third = second.arg(from)?;
-    let to = number_argument(
-        alloc,
-        "to",
-        "B",
-        "Number of the last record, up to 1000000000",
-    );
-    let whole = third.arg(to)?;
-    Ok(whole)
+    let first = with_file_and_lab(alloc, bare)?;
+    with_range(alloc, first)
 }
 
 /// `rehearse`, of a laboratory at a moment.

@@ -5,8 +5,8 @@ ghost use Rattle.clap.specs.Words.{HasKind, kind_of};
 ghost use Rattle.clap.specs.declared.error.kind.ErrorKind.TheVariants.{ValueValidation};
 ghost use Rattle.lab_words_explained.specs.Explaining.{Explains, IsExplained};
 
-use clap::Error;
 use clap::error::ErrorKind;
+use clap::{Command, Error};
 use lab_messages::WriteFault;
 use lab_outside::{ServerFault, tell};
 use lab_words_commands::copy_command;
@@ -45,11 +45,16 @@ pub fn explain<W: Write, E: Write>(
     Ok(0)
 }
 
+// `copy` under the name that a fault in its words tells.
+fn named_copy<'a>(alloc: Global) -> Result<Command<'a>, AllocError> {
+    copy_command(alloc)?.bin_name("labdesk copy")
+}
+
 // The fault of a range of records that ends before it begins, as clap tells its own.
 fn order_fault(alloc: Global) -> Result<Error, AllocError>
     ensures { IfOk result (λ error. kind_of error ≡ ValueValidation) }
 {
-    let mut command = copy_command(alloc)?.bin_name("labdesk copy")?;
+    let mut command = named_copy(alloc)?;
     command.error(ErrorKind::ValueValidation, MISORDERED)
 }
 

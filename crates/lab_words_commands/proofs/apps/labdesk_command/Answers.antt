@@ -1,14 +1,11 @@
 -- The command as it was built is the one that `clap` was told of.
-use Rattle.std.proofs.Common.{◌≡◌, ◌∙◌, ap, refl, rules}
+use Rattle.std.proofs.Common.{◌≡◌, ◌∙◌, ap, subst}
+use Rattle.std.specs.Prelude.{IfOk}
 use Rattle.clap.specs.Words.{app_of}
-use Rattle.lab_words_commands.specs.Apps.{bare_app, with_files}
-use Rattle.lab_words_commands.proofs.AppLemmas.{commanded}
+use Rattle.lab_words_commands.specs.Apps.{with_files, with_streams}
 use Rattle.lab_words_commands.proofs.apps.labdesk_command.Goals as goal
 
 pub returns : goal.returns
 returns c =
-    let bare : app_of c.subcommand_required-bare.result ≡ bare_app = search rules in
-    let third = c.in_ok-third.ensures ∙ ap with_files bare in
-    let fourth = commanded third c.check_command.ensures refl c.in_ok-fourth.ensures in
-    let fifth = commanded fourth c.replay_command.ensures refl c.in_ok-fifth.ensures in
-    commanded fifth c.in_ok-rehearse.ensures refl c.in_ok-whole.ensures
+    subst (λ app. IfOk c.with_streams.result (λ more. app_of more ≡ with_streams app))
+    (c.in_ok-files.ensures ∙ ap with_files c.in_ok-bare.ensures) c.with_streams.ensures

@@ -1,8 +1,11 @@
 -- The command as it was built is, to `clap`, the one with its two arguments.
-use Rattle.lab_words_commands.proofs.AppLemmas.{argued}
+use Rattle.std.proofs.Common.{◌≡◌, subst}
+use Rattle.std.specs.Prelude.{IfOk}
+use Rattle.clap.specs.Words.{app_of}
+use Rattle.lab_words_commands.specs.Apps.{with_file_and_lab}
 use Rattle.lab_words_commands.proofs.commands.found_command.Goals as goal
 
 pub returns : goal.returns
 returns c =
-    let first = argued c.command-bare.ensures c.file_argument-file.ensures.rule c.file_argument-file.ensures.local c.in_ok-first.ensures in
-    argued first c.lab_argument-lab.ensures.rule c.lab_argument-lab.ensures.local c.in_ok-whole.ensures
+    subst (λ app. IfOk c.with_file_and_lab.result (λ more. app_of more ≡ with_file_and_lab app))
+    c.command-bare.ensures c.with_file_and_lab.ensures
