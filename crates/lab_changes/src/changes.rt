@@ -1,11 +1,11 @@
 //! The changes that are made of a laboratory in memory. Where memory runs out, the laboratory is as before.
-ghost use Rattle.std.specs.Prelude.{◌≡◌, OnOk, OnErr};
+ghost use Rattle.std.specs.Prelude.{◌≡◌, ◌++◌, ◌∷◌, [], OnOk, OnErr};
 ghost use Rattle.lab_access.specs.Sessions.{session_after, sessions_after};
 ghost use Rattle.lab_kept.specs.Changes.{change, added_person, added_form, with_person, with_session, in_record, entered_in, opened_in, signed_in};
 
 use lab_kept::{
     Change, Closing, EntryRow, FormVersion, Lab, Ordinal, OutOfMemory, Person, PersonCode, Record,
-    Series, Session, Signature, Version,
+    Series, Session, Signature, TrailRow, Version,
 };
 use lab_places::{
     enter, open, place_for_form, place_for_person, place_of_person, place_of_record,
@@ -21,29 +21,35 @@ pub fn change(alloc: Global, lab: &mut Lab, one: &Change) -> Result<(), OutOfMem
     ensures err { OnErr result (lab.new ≡ lab.old) }
 {
     match one {
-        Change::Last(last) => lab.last = *last,
-        Change::Strays(strays) => lab.strays = *strays,
-        Change::PersonAdded(person) => add_person(alloc, &mut lab.persons, person)?,
-        Change::PersonSet(person) => set_person(alloc, &mut lab.persons, person)?,
-        Change::SessionAdded(session) => lab.sessions.push(session.copy()?)?,
-        Change::SessionSet(session) => set_session(alloc, &mut lab.sessions, session)?,
-        Change::SessionsClosed { person, closing } => {
-            close_sessions(alloc, &mut lab.sessions, person, *closing)
+        Change::Last(last) => {
+            lab.last = *last;
+            Ok(())
         }
-        Change::FormAdded(form) => add_form(alloc, &mut lab.forms, form)?,
-        Change::RecordAdded(kept) => lab.records.push(kept.copy()?)?,
-        Change::RowAdded { record, row } => add_row(alloc, &mut lab.records, *record, row)?,
+        Change::Strays(strays) => {
+            lab.strays = *strays;
+            Ok(())
+        }
+        Change::PersonAdded(person) => add_person(alloc, &mut lab.persons, person),
+        Change::PersonSet(person) => set_person(alloc, &mut lab.persons, person),
+        Change::SessionAdded(session) => add_session(&mut lab.sessions, session),
+        Change::SessionSet(session) => set_session(alloc, &mut lab.sessions, session),
+        Change::SessionsClosed { person, closing } => {
+            close_sessions(alloc, &mut lab.sessions, person, *closing);
+            Ok(())
+        }
+        Change::FormAdded(form) => add_form(alloc, &mut lab.forms, form),
+        Change::RecordAdded(kept) => add_record(&mut lab.records, kept),
+        Change::RowAdded { record, row } => add_row(alloc, &mut lab.records, *record, row),
         Change::VersionOpened { record, version } => {
-            open_version(alloc, &mut lab.records, *record, version)?
+            open_version(alloc, &mut lab.records, *record, version)
         }
         Change::SignatureAdded {
             record,
             version,
             signature,
-        } => add_signature(alloc, &mut lab.records, *record, *version, signature)?,
-        Change::TrailAdded(row) => lab.trail.push(row.copy()?)?,
+        } => add_signature(alloc, &mut lab.records, *record, *version, signature),
+        Change::TrailAdded(row) => add_told(&mut lab.trail, row),
     }
-    Ok(())
 }
 
 fn add_person(
@@ -85,6 +91,30 @@ fn set_person(
     let person = person.copy()?;
     let before = mem::replace(persons, Series::new(alloc));
     *persons = with_person(before, person);
+    Ok(())
+}
+
+fn add_session(sessions: &mut Series<Session>, session: &Session) -> Result<(), OutOfMemory>
+    ensures ok { OnOk result (sessions.new ≡ sessions.old ++ session.now ∷ []) }
+    ensures err { OnErr result (sessions.new ≡ sessions.old) }
+{
+    sessions.push(session.copy()?)?;
+    Ok(())
+}
+
+fn add_record(records: &mut Series<Record>, kept: &Record) -> Result<(), OutOfMemory>
+    ensures ok { OnOk result (records.new ≡ records.old ++ kept.now ∷ []) }
+    ensures err { OnErr result (records.new ≡ records.old) }
+{
+    records.push(kept.copy()?)?;
+    Ok(())
+}
+
+fn add_told(trail: &mut Series<TrailRow>, row: &TrailRow) -> Result<(), OutOfMemory>
+    ensures ok { OnOk result (trail.new ≡ trail.old ++ row.now ∷ []) }
+    ensures err { OnErr result (trail.new ≡ trail.old) }
+{
+    trail.push(row.copy()?)?;
     Ok(())
 }
 
