@@ -1,7 +1,9 @@
 use Rattle.std.proofs.Common.{take}
 use Rattle.std.proofs.lemmas.Result.{err_from_is_err_and}
 use Rattle.lab_heads.specs.Requests.{accepted_head}
-use Rattle.lab_receptions.proofs.ReceptionLemmas.{expected_err, exact_refused, interim_refused, stop_of, found_of, whole_result, exact_result, interim_result, exact_unsent, interim_unsent}
+use Rattle.lab_receptions.proofs.ReceptionLemmas.{expected_err, IsFound, exact_refused, interim_refused, stop_of, found_of, whole_result, exact_result, interim_result, exact_unsent, interim_unsent}
+use Rattle.lab_receptions.proofs.requests.read_request.Given.{Over}
+use Rattle.lab_receptions.proofs.requests.read_request.Goals.{In_ok-body}
 use Rattle.lab_receptions.proofs.requests.read_request.Goals as goal
 
 -- the head is refused
@@ -31,6 +33,13 @@ returns-in_err-body-clause-interim g c =
     (stop_of old room count c.in_ok-count.ensures.within c.in_ok-count.ensures.stops)
     (expected_err (accepted_head head) refusal c.in_err-body.ensures.expected))
 
+-- the head is accepted
+
+found : (g : Over) (c : In_ok-body g) →
+    IsFound (take c.in_ok-count.count c.read_head.new.room) c.in_ok-body.body
+found g c = found_of c.read_head.new.room c.in_ok-count.count c.in_ok-body.body
+    c.in_ok-count.ensures.within c.in_ok-count.ensures.own c.in_ok-body.ensures.expected
+
 -- the interim answer was cut
 
 pub returns-in_err-send_interim-clause-exact : goal.returns-in_err-send_interim-clause-exact
@@ -38,7 +47,7 @@ returns-in_err-send_interim-clause-exact g c =
     let room = c.read_head.new.room in
     let count = c.in_ok-count.count in
     let body = c.in_ok-body.body in
-    let found = found_of room count body c.in_ok-count.ensures.within c.in_ok-count.ensures.own c.in_ok-body.ensures.expected in
+    let found = found g (goal.at.returns-in_err-send_interim-clause-exact g c).In_ok-body in
     let p = err_from_is_err_and c.from_residual-in_err-send_interim.result c.from_residual-in_err-send_interim.ensures.1 in
     rw (p.1, p.2) (exact_unsent (take count room) body found c.in_err-send_interim.field-0.0.sent
     (g.R.Read.remaining c.args.reader.now) (g.R.Read.remaining c.read_head.new.reader) c.in_ok-count.ensures.taken
@@ -49,7 +58,7 @@ returns-in_err-send_interim-clause-interim g c =
     let room = c.read_head.new.room in
     let count = c.in_ok-count.count in
     let body = c.in_ok-body.body in
-    let found = found_of room count body c.in_ok-count.ensures.within c.in_ok-count.ensures.own c.in_ok-body.ensures.expected in
+    let found = found g (goal.at.returns-in_err-send_interim-clause-interim g c).In_ok-body in
     let p = err_from_is_err_and c.from_residual-in_err-send_interim.result c.from_residual-in_err-send_interim.ensures.1 in
     rw (p.1, p.2) (interim_unsent (take count room) body found c.in_err-send_interim.field-0.0.sent
     (g.R.Read.remaining c.args.reader.now) (g.R.Read.remaining c.read_head.new.reader) c.in_ok-count.ensures.taken
@@ -63,7 +72,7 @@ returns-clause-exact g c =
     let room = c.read_head.new.room in
     let count = c.in_ok-count.count in
     let body = c.in_ok-body.body in
-    let found = found_of room count body c.in_ok-count.ensures.within c.in_ok-count.ensures.own c.in_ok-body.ensures.expected in
+    let found = found g (goal.at.returns-clause-exact g c).In_ok-body in
     exact_result (take count room) body found c.read_body.result
     (g.R.Read.remaining c.args.reader.now) (g.R.Read.remaining c.read_head.new.reader) (g.R.Read.remaining c.read_body.new.reader)
     c.in_ok-count.ensures.taken c.read_body.ensures.whole c.read_body.ensures.fault
@@ -73,7 +82,7 @@ returns-clause-interim g c =
     let room = c.read_head.new.room in
     let count = c.in_ok-count.count in
     let body = c.in_ok-body.body in
-    let found = found_of room count body c.in_ok-count.ensures.within c.in_ok-count.ensures.own c.in_ok-body.ensures.expected in
+    let found = found g (goal.at.returns-clause-interim g c).In_ok-body in
     interim_result (take count room) body found c.read_body.result
     (g.R.Read.remaining c.args.reader.now) (g.R.Read.remaining c.read_head.new.reader) (g.R.Read.remaining c.read_body.new.reader)
     c.in_ok-count.ensures.taken
@@ -85,7 +94,7 @@ returns-clause-whole g c =
     let room = c.read_head.new.room in
     let count = c.in_ok-count.count in
     let body = c.in_ok-body.body in
-    let found = found_of room count body c.in_ok-count.ensures.within c.in_ok-count.ensures.own c.in_ok-body.ensures.expected in
+    let found = found g (goal.at.returns-clause-whole g c).In_ok-body in
     whole_result (take count room) body found c.read_body.result
     (g.R.Read.remaining c.args.reader.now) (g.R.Read.remaining c.read_head.new.reader) (g.R.Read.remaining c.read_body.new.reader)
     c.in_ok-count.ensures.taken c.read_body.ensures.whole
