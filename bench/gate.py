@@ -12,8 +12,36 @@ import time
 TICKS = os.sysconf("SC_CLK_TCK")
 
 
+def text_of(path):
+    with open(path) as file:
+        return file.read()
+
+
+def edited(edit, crate):
+    """The files that an edit changes, by their path in the crate, as they are then."""
+    path, old, texts = "", "", {}
+    for line in text_of(edit).splitlines():
+        word, _, rest = line.partition(": ")
+        if word == "file":
+            path = rest
+            texts.setdefault(path, text_of(f"crates/{crate}/{path}"))
+        elif word == "old":
+            old = rest
+        elif word == "new":
+            texts[path] = texts[path].replace(old, rest)
+    return texts
+
+
+def edit_in(folder, crate):
+    """The edit whose wrong body a folder holds; none where it holds the crate as it stands."""
+    for edit in glob.glob(f"crates/{crate}/must-fail/*.edit"):
+        if all(text_of(f"{folder}/{path}") == text for path, text in edited(edit, crate).items()):
+            return os.path.basename(edit)
+    return None
+
+
 def of_process(number):
-    """The crate, the kind of work, when it began and its processor seconds so far; none where it is no prover."""
+    """The crate, the kind of work, when it began, its processor seconds so far, and where it works; none where it is no prover."""
     try:
         with open(f"/proc/{number}/cmdline") as file:
             words = file.read().split("\0")
@@ -26,17 +54,31 @@ def of_process(number):
         return None
     kind = "edits" if "edit" in folder else "tests" if "--test" in words else "check"
     crate = words[words.index("--crate-name") + 1]
-    return crate, kind, figures[19], sum(int(n) for n in figures[11:15]) / TICKS
+    return crate, kind, figures[19], sum(int(n) for n in figures[11:15]) / TICKS, folder
 
 
-def sample(spent, seen):
+def edit_tried(found):
+    """The edit that a process tries, where it tries one."""
+    crate, kind, _, _, folder = found
+    try:
+        return edit_in(folder, crate) if kind == "edits" else None
+    except OSError:
+        return None
+
+
+def sample(spent, tries, seen):
     for number in filter(str.isdigit, os.listdir("/proc")):
         found = of_process(number)
         if found is None:
             continue
-        crate, kind, begun, seconds = found
-        spent[crate, kind] += max(0.0, seconds - seen.get((number, begun), 0.0))
-        seen[number, begun] = seconds
+        crate, kind, begun, seconds, _ = found
+        if (number, begun) not in seen:
+            seen[number, begun] = 0.0, edit_tried(found)
+        before, edit = seen[number, begun]
+        spent[crate, kind] += max(0.0, seconds - before)
+        if edit:
+            tries[crate, edit] += max(0.0, seconds - before)
+        seen[number, begun] = seconds, edit
 
 
 def huge_pages():
@@ -48,16 +90,16 @@ def huge_pages():
         return "never"
 
 
-def watch(spent, done):
+def watch(spent, tries, done):
     seen = {}
     while not done.wait(0.5):
-        sample(spent, seen)
+        sample(spent, tries, seen)
 
 
 def main():
-    spent = collections.defaultdict(float)
+    spent, tries = collections.defaultdict(float), collections.defaultdict(float)
     done = threading.Event()
-    watcher = threading.Thread(target=watch, args=(spent, done))
+    watcher = threading.Thread(target=watch, args=(spent, tries, done))
     began = time.time()
     watcher.start()
     with open(sys.argv[1], "w") as said:
@@ -75,6 +117,8 @@ def main():
         edits = len(glob.glob(folder + "/must-fail/*.edit"))
         columns = " ".join(f"{spent[crate, kind]:>6.0f}" for kind in ("check", "tests", "edits"))
         print(f"{crate:<14} {columns} ({edits})")
+    for (crate, edit), seconds in sorted(tries.items()):
+        print(f"{crate}/{edit} {seconds:.0f}")
     sys.exit(status)
 
 

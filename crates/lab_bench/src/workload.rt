@@ -50,7 +50,8 @@ impl Workload {
         }
     }
 
-    /// Makes so many calls, and prints a sum of what they computed.
+    /// Makes so many calls, and prints a sum of what they computed; `rounds` prints its key in
+    /// hexadecimal digits, and `version-text` the text.
     pub(crate) fn run(self, rt: &impl Print, alloc: Global, calls: u32, rows: u32) -> Result<()> {
         match self {
             Workload::ParseMoments => print_sum(rt, Ok(parse_moments(calls))),
