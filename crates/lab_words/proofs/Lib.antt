@@ -1,3 +1,4 @@
+pub mod AppLemmas
 pub mod AskLemmas
 pub mod GivenLemmas
 pub mod KnownValues

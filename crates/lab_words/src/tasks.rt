@@ -5,8 +5,8 @@ ghost use Rattle.clap.specs.Words.{FailsBy, fault_of, found_of, rows_of as rows_
 ghost use Rattle.lab_words_commands.specs.Apps.{labdesk_app, last_port, most_connections};
 ghost use Rattle.lab_words.specs.Tasks.{IsGiven, IsGivenIn, ReadsMoment, ReadsNumber, ReadsText, copying, errand_called, errand_named, errand_of, founding, rehearsing, serving};
 
+use crate::apps::labdesk_command;
 use clap::{ArgMatches, Error};
-use lab_words_commands::labdesk_command;
 use std::alloc::Global;
 use std::convert::AsStr;
 

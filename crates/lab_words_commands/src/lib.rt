@@ -1,8 +1,8 @@
-//! `labdesk` with its commands and their arguments, as `clap` is told of it; its version, and what help says of it.
+//! The commands of `labdesk` with their arguments, as `clap` is told of them, and what help says of each.
 #![tactic(auto)]
 
-mod apps;
 mod commands;
 
-pub use apps::labdesk_command;
-pub use commands::copy_command;
+pub use commands::{
+    check_command, copy_command, found_command, rehearse_command, replay_command, serve_command,
+};
