@@ -1,6 +1,6 @@
 -- What the body of a reply tells, a line a reply, and its text: JSON (RFC 8259), or of a copy its
 -- rows as CSV (RFC 4180).
-use Rattle.std.specs.Prelude.{◌≡◌, ℕ, false, ⊤, List, [], ◌∷◌, codes}
+use Rattle.std.specs.Prelude.{◌≡◌, ℕ, Bool, true, false, ⊤, List, [], ◌∷◌, codes}
 use Rattle.serde_json.specs.Data.{Data, string}
 use Rattle.serde_json.specs.View.{view}
 use Rattle.serde_json.specs.Written.{compact_text, has_float}
@@ -30,6 +30,11 @@ pub data Body : Type 0 where
 abbrev pub body_shown : BodyOfCode → Body
 body_shown (bodies.Json value) = Json (view value)
 body_shown (bodies.Csv rows) = Csv rows.now
+
+-- whether a reply is told in JSON: all but a copy
+abbrev pub is_json : Reply → Bool
+is_json (Copied rows) = false
+is_json other = true
 
 -- of a reply
 abbrev pub body_of : Reply → Body

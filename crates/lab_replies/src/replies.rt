@@ -1,8 +1,8 @@
 //! What the body of a reply tells, and its text: JSON, or of a copy its rows as CSV.
-ghost use Rattle.std.specs.Prelude.{◌≡◌, IfOk};
+ghost use Rattle.std.specs.Prelude.{◌≡◌, IfOk, true};
 ghost use Rattle.serde_json.specs.View.{view};
 ghost use Rattle.lab_rows.specs.Csv.{csv_text};
-ghost use Rattle.lab_replies.specs.Replies.{card_data, body_shown, body_of, body_text, HasNoFloat, reply_text};
+ghost use Rattle.lab_replies.specs.Replies.{Json, card_data, body_shown, body_of, body_text, HasNoFloat, is_json, reply_text};
 
 use crate::records::{
     amended_value, entered_value, record_opened_value, record_value, records_value, signed_value,
@@ -64,45 +64,50 @@ fn body_of(alloc: Global, reply: &Reply) -> Result<Body<'_>, OutOfMemory>
     ensures { IfOk result (λ body. body_shown body ≡ body_of reply.now) }
 {
     match reply {
-        Reply::Refused(refusal) => Ok(Body::Json(refusal_value(alloc, refusal)?)),
-        Reply::Card { lab, name } => Ok(Body::Json(card_value(alloc, lab, name)?)),
+        Reply::Copied(rows) => Ok(Body::Csv(rows.as_slice())),
+        reply => Ok(Body::Json(json_of(alloc, reply)?)),
+    }
+}
+
+// The same of a reply that is told in JSON. A copy isn't.
+fn json_of(alloc: Global, reply: &Reply) -> Result<Value, OutOfMemory>
+    requires { is_json reply.now ≡ true }
+    ensures { IfOk result (λ value. Json (view value) ≡ body_of reply.now) }
+{
+    match reply {
+        Reply::Refused(refusal) => refusal_value(alloc, refusal),
+        Reply::Card { lab, name } => card_value(alloc, lab, name),
         Reply::Opened {
             session,
             token,
             due,
-        } => Ok(Body::Json(opened_value(alloc, *session, token, *due)?)),
-        Reply::Closed { session } => Ok(Body::Json(closed_value(alloc, *session)?)),
-        Reply::PasswordChanged { changed } => Ok(Body::Json(changed_value(alloc, *changed)?)),
-        Reply::PersonDone { code } => Ok(Body::Json(person_done_value(alloc, code)?)),
-        Reply::HalfTold { half } => Ok(Body::Json(half_value(alloc, half)?)),
-        Reply::RolesSet { code, roles } => Ok(Body::Json(roles_set_value(alloc, code, roles)?)),
-        Reply::Persons(persons) => Ok(Body::Json(persons_value(alloc, persons.as_slice())?)),
-        Reply::FormMade { code, version } => Ok(Body::Json(form_made_value(
-            alloc, code, *version,
-        )?)),
-        Reply::FormRead(form) => Ok(Body::Json(form_value(alloc, form)?)),
-        Reply::RecordOpened { number, version } => Ok(Body::Json(record_opened_value(
-            alloc, *number, *version,
-        )?)),
+        } => opened_value(alloc, *session, token, *due),
+        Reply::Closed { session } => closed_value(alloc, *session),
+        Reply::PasswordChanged { changed } => changed_value(alloc, *changed),
+        Reply::PersonDone { code } => person_done_value(alloc, code),
+        Reply::HalfTold { half } => half_value(alloc, half),
+        Reply::RolesSet { code, roles } => roles_set_value(alloc, code, roles),
+        Reply::Persons(persons) => persons_value(alloc, persons.as_slice()),
+        Reply::FormMade { code, version } => form_made_value(alloc, code, *version),
+        Reply::FormRead(form) => form_value(alloc, form),
+        Reply::RecordOpened { number, version } => record_opened_value(alloc, *number, *version),
         Reply::Entered {
             number,
             version,
             rows,
             digest,
-        } => Ok(Body::Json(entered_value(alloc, *number, *version, *rows, digest)?)),
+        } => entered_value(alloc, *number, *version, *rows, digest),
         Reply::Amended {
             number,
             version,
             digest,
-        } => Ok(Body::Json(amended_value(alloc, *number, *version, digest)?)),
-        Reply::Signed { signature, state } => Ok(Body::Json(signed_value(
-            alloc, signature, state,
-        )?)),
-        Reply::RecordRead(read) => Ok(Body::Json(record_value(alloc, read)?)),
-        Reply::VersionRead(read) => Ok(Body::Json(version_value(alloc, read)?)),
-        Reply::Records(records) => Ok(Body::Json(records_value(alloc, records.as_slice())?)),
-        Reply::Trail(rows) => Ok(Body::Json(trail_value(alloc, rows.as_slice())?)),
-        Reply::Copied(rows) => Ok(Body::Csv(rows.as_slice())),
+        } => amended_value(alloc, *number, *version, digest),
+        Reply::Signed { signature, state } => signed_value(alloc, signature, state),
+        Reply::RecordRead(read) => record_value(alloc, read),
+        Reply::VersionRead(read) => version_value(alloc, read),
+        Reply::Records(records) => records_value(alloc, records.as_slice()),
+        Reply::Trail(rows) => trail_value(alloc, rows.as_slice()),
+        Reply::Copied(_) => Ok(Value::Null),
     }
 }
 
