@@ -46,35 +46,53 @@ fn command(alloc: Global, words: &mut Words) -> Result<Command, Halt> {
 fn command_on_records(alloc: Global, word: &str, words: &mut Words) -> Result<Command, Halt> {
     match word {
         "form" => make_form(alloc, words),
-        "read form" => Ok(Command::ReadForm {
-            code: text(alloc, words.next_word())?,
-            version: ordinal(words.next_word())?,
-        }),
+        "read form" => read_form(alloc, words),
         "record" => open_record(alloc, words),
         "entry" => enter(alloc, words),
         "amend" => amend(alloc, words),
         "sign" => sign(alloc, words),
-        "read record" => Ok(Command::ReadRecord {
-            number: ordinal(words.next_word())?,
-        }),
-        "read version" => Ok(Command::ReadVersion {
-            number: ordinal(words.next_word())?,
-            version: ordinal(words.next_word())?,
-        }),
-        "records" => Ok(Command::ReadRecords {
-            from: ordinal(words.next_word())?,
-            to: ordinal(words.next_word())?,
-        }),
-        "trail" => Ok(Command::ReadTrail {
-            from: ordinal(words.next_word())?,
-            to: ordinal(words.next_word())?,
-        }),
-        "copy" => Ok(Command::TakeCopy {
-            from: ordinal(words.next_word())?,
-            to: ordinal(words.next_word())?,
-        }),
+        "read record" => read_record(words),
+        "read version" => read_version(words),
+        "records" => read_records(words),
+        "trail" => read_trail(words),
+        "copy" => take_copy(words),
         _ => Err(Halt::BadLine),
     }
+}
+
+fn read_form(alloc: Global, words: &mut Words) -> Result<Command, Halt> {
+    let code = text(alloc, words.next_word())?;
+    let version = ordinal(words.next_word())?;
+    Ok(Command::ReadForm { code, version })
+}
+
+fn read_record(words: &mut Words) -> Result<Command, Halt> {
+    let number = ordinal(words.next_word())?;
+    Ok(Command::ReadRecord { number })
+}
+
+fn read_version(words: &mut Words) -> Result<Command, Halt> {
+    let number = ordinal(words.next_word())?;
+    let version = ordinal(words.next_word())?;
+    Ok(Command::ReadVersion { number, version })
+}
+
+fn read_records(words: &mut Words) -> Result<Command, Halt> {
+    let from = ordinal(words.next_word())?;
+    let to = ordinal(words.next_word())?;
+    Ok(Command::ReadRecords { from, to })
+}
+
+fn read_trail(words: &mut Words) -> Result<Command, Halt> {
+    let from = ordinal(words.next_word())?;
+    let to = ordinal(words.next_word())?;
+    Ok(Command::ReadTrail { from, to })
+}
+
+fn take_copy(words: &mut Words) -> Result<Command, Halt> {
+    let from = ordinal(words.next_word())?;
+    let to = ordinal(words.next_word())?;
+    Ok(Command::TakeCopy { from, to })
 }
 
 fn open(alloc: Global, words: &mut Words) -> Result<Command, Halt> {
