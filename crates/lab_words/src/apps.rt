@@ -1,8 +1,8 @@
 //! The commands of `labdesk` together, as `clap` is told of them, its version, and what help says of all.
 
-ghost use Rattle.std.specs.Prelude.{◌≡◌, IfOk};
+ghost use Rattle.std.specs.Prelude.{◌≡◌, IfOk, true};
 ghost use Rattle.clap.specs.Words.{app_of, with_subcommand};
-ghost use Rattle.lab_words_commands.specs.Apps.{bare_app, copy_app, found_app, labdesk_app, rehearse_app, serve_app, with_files, with_streams};
+ghost use Rattle.lab_words_commands.specs.Apps.{bare_app, copy_app, found_app, labdesk_app, rehearse_app, serve_app, told_app, with_files, with_plain, with_streams};
 
 use clap::Command;
 use lab_words_commands::{
@@ -19,13 +19,32 @@ const COMMANDS: &str = "What goes in and comes out is described in docs/FORMATS.
     labdesk found --file laboratories --lab aqua < examples/founding.json
     labdesk serve --file laboratories --port 8080";
 
+// What help and `--version` say of a command, and that it wants a subcommand.
+fn told<'a>(command: Command<'a>) -> Command<'a>
+    ensures { app_of result ≡ told_app (app_of command.entry) }
+{
+    command
+        .version(VERSION)
+        .about("Signed laboratory records")
+        .after_help(COMMANDS)
+        .subcommand_required(true)
+}
+
 // `labdesk` by itself.
 fn bare_command<'a>(alloc: Global) -> Result<Command<'a>, AllocError>
     ensures { IfOk result (λ command. app_of command ≡ bare_app) }
 {
     let named = Command::new(alloc, "labdesk").bin_name("labdesk")?;
-    let told = named.version(VERSION).about("Signed laboratory records");
-    Ok(told.after_help(COMMANDS).subcommand_required(true))
+    Ok(told(named))
+}
+
+// A command with one more subcommand, of which nothing is asked but that its words be read.
+fn with<'a>(bare: Command<'a>, subcommand: Command<'a>) -> Result<Command<'a>, AllocError>
+    requires { (app_of subcommand).top.is_plain ≡ true }
+    ensures { IfOk result
+        (λ more. app_of more ≡ with_subcommand (app_of bare.entry) (app_of subcommand.entry).top) }
+{
+    bare.subcommand(subcommand)
 }
 
 // A command with `found`.
@@ -33,7 +52,7 @@ fn with_found<'a>(alloc: Global, bare: Command<'a>) -> Result<Command<'a>, Alloc
     ensures { IfOk result (λ more. app_of more ≡ with_subcommand (app_of bare.entry) found_app.top) }
 {
     let found = found_command(alloc)?;
-    bare.subcommand(found)
+    with(bare, found)
 }
 
 // A command with `serve`.
@@ -41,7 +60,7 @@ fn with_serve<'a>(alloc: Global, bare: Command<'a>) -> Result<Command<'a>, Alloc
     ensures { IfOk result (λ more. app_of more ≡ with_subcommand (app_of bare.entry) serve_app.top) }
 {
     let serve = serve_command(alloc)?;
-    bare.subcommand(serve)
+    with(bare, serve)
 }
 
 // A command with `copy`.
@@ -49,7 +68,7 @@ fn with_copy<'a>(alloc: Global, bare: Command<'a>) -> Result<Command<'a>, AllocE
     ensures { IfOk result (λ more. app_of more ≡ with_subcommand (app_of bare.entry) copy_app.top) }
 {
     let copy = copy_command(alloc)?;
-    bare.subcommand(copy)
+    with(bare, copy)
 }
 
 // A command with `rehearse`.
@@ -58,7 +77,7 @@ fn with_rehearse<'a>(alloc: Global, bare: Command<'a>) -> Result<Command<'a>, Al
         (λ more. app_of more ≡ with_subcommand (app_of bare.entry) rehearse_app.top) }
 {
     let rehearse = rehearse_command(alloc)?;
-    bare.subcommand(rehearse)
+    with(bare, rehearse)
 }
 
 // A command with the subcommands of a file.
@@ -70,13 +89,20 @@ fn with_files<'a>(alloc: Global, bare: Command<'a>) -> Result<Command<'a>, Alloc
     with_copy(alloc, second)
 }
 
+// A command with the two subcommands that have no arguments.
+fn with_plain<'a>(alloc: Global, bare: Command<'a>) -> Result<Command<'a>, AllocError>
+    ensures { IfOk result (λ more. app_of more ≡ with_plain (app_of bare.entry)) }
+{
+    let first = with(bare, check_command(alloc))?;
+    with(first, replay_command(alloc))
+}
+
 // A command with the subcommands of no file.
 fn with_streams<'a>(alloc: Global, bare: Command<'a>) -> Result<Command<'a>, AllocError>
     ensures { IfOk result (λ more. app_of more ≡ with_streams (app_of bare.entry)) }
 {
-    let first = bare.subcommand(check_command(alloc))?;
-    let second = first.subcommand(replay_command(alloc))?;
-    with_rehearse(alloc, second)
+    let first = with_plain(alloc, bare)?;
+    with_rehearse(alloc, first)
 }
 
 /// `labdesk` with its subcommands.

@@ -85,21 +85,28 @@ replay_app = new_app (codes "replay")
 abbrev pub rehearse_app : App
 rehearse_app = with_rule (with_rule (new_app (codes "rehearse")) lab_rule) moment_rule
 
+-- that has a version, and wants a subcommand
+abbrev pub told_app : App → App
+told_app app = record app {
+  top = record app.top { has_version = true; subcommand_required = true };
+}
+
 -- `labdesk` by itself
 abbrev pub bare_app : App
-bare_app = record (new_app (codes "labdesk")) {
-  top = record (new_app (codes "labdesk")).top { has_version = true; subcommand_required = true };
-}
+bare_app = told_app (new_app (codes "labdesk"))
 
 -- with the subcommands of a file
 abbrev pub with_files : App → App
 with_files app = with_subcommand (with_subcommand (with_subcommand app found_app.top)
     serve_app.top) copy_app.top
 
--- with those of no file
+-- with those of no file: the two that have no arguments
+abbrev pub with_plain : App → App
+with_plain app = with_subcommand (with_subcommand app check_app.top) replay_app.top
+
+-- and the one that has
 abbrev pub with_streams : App → App
-with_streams app = with_subcommand (with_subcommand (with_subcommand app check_app.top)
-    replay_app.top) rehearse_app.top
+with_streams app = with_subcommand (with_plain app) rehearse_app.top
 
 -- with all of them
 abbrev pub labdesk_app : App

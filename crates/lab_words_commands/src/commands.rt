@@ -1,7 +1,7 @@
 //! Each command of `labdesk` with its arguments, as `clap` is told of it, and what help says of it.
 
 ghost use Rattle.std.specs.Prelude.{◌≡◌, IfOk, false};
-ghost use Rattle.clap.specs.Words.{app_of, new_app, rule_of};
+ghost use Rattle.clap.specs.Words.{app_of, new_app, rule_of, with_rule};
 ghost use Rattle.lab_words_commands.specs.Apps.{check_app, copy_app, count_rule, file_rule, found_app, lab_rule, moment_rule, named_rule, number_rule, port_rule, rehearse_app, replay_app, serve_app, wanted_rule, with_file_and_lab, with_port_and_count, with_range};
 
 use clap::{Arg, Command, value_parser};
@@ -146,22 +146,29 @@ fn command<'a>(alloc: Global, name: &'a str, about: &'a str, more: &'a str) -> C
     Command::new(alloc, name).about(about).after_help(more)
 }
 
+// A command with one more argument, which is its own.
+fn with<'a>(bare: Command<'a>, argument: Arg<'a>) -> Result<Command<'a>, AllocError>
+    requires { argument.global ≡ false }
+    ensures { IfOk result
+        (λ more. app_of more ≡ with_rule (app_of bare.entry) (rule_of argument.entry)) }
+{
+    bare.arg(argument)
+}
+
 // A command with a file, and a laboratory in it.
 fn with_file_and_lab<'a>(alloc: Global, bare: Command<'a>) -> Result<Command<'a>, AllocError>
     ensures { IfOk result (λ more. app_of more ≡ with_file_and_lab (app_of bare.entry)) }
 {
-    let first = bare.arg(file_argument(alloc))?;
-    let whole = first.arg(lab_argument(alloc))?;
-    Ok(whole)
+    let first = with(bare, file_argument(alloc))?;
+    with(first, lab_argument(alloc))
 }
 
 // A command with a port, and how many connections are served there.
 fn with_port_and_count<'a>(alloc: Global, bare: Command<'a>) -> Result<Command<'a>, AllocError>
     ensures { IfOk result (λ more. app_of more ≡ with_port_and_count (app_of bare.entry)) }
 {
-    let first = bare.arg(port_argument(alloc))?;
-    let whole = first.arg(count_argument(alloc))?;
-    Ok(whole)
+    let first = with(bare, port_argument(alloc))?;
+    with(first, count_argument(alloc))
 }
 
 // A command with the first and the last number of records.
@@ -169,15 +176,9 @@ fn with_range<'a>(alloc: Global, bare: Command<'a>) -> Result<Command<'a>, Alloc
     ensures { IfOk result (λ more. app_of more ≡ with_range (app_of bare.entry)) }
 {
     let from = number_argument(alloc, "from", "A", "Number of the first record, 1 or more");
-    let first = bare.arg(from)?;
-    let to = number_argument(
-        alloc,
-        "to",
-        "B",
-        "Number of the last record, up to 1000000000",
-    );
-    let whole = first.arg(to)?;
-    Ok(whole)
+    let first = with(bare, from)?;
+    let help = "Number of the last record, up to 1000000000";
+    with(first, number_argument(alloc, "to", "B", help))
 }
 
 /// `found`, of a laboratory in a file.
@@ -201,7 +202,7 @@ pub fn serve_command<'a>(alloc: Global) -> Result<Command<'a>, AllocError>
 {
     let about = "Serve the laboratories of a file, on a port of this machine";
     let bare = command(alloc, "serve", about, SERVING);
-    let first = bare.arg(file_argument(alloc))?;
+    let first = with(bare, file_argument(alloc))?;
     with_port_and_count(alloc, first)
 }
 
@@ -227,11 +228,8 @@ pub fn rehearse_command<'a>(alloc: Global) -> Result<Command<'a>, AllocError>
 {
     let about = "Found a laboratory from the body of standard input, and ask for its card";
     let bare = command(alloc, "rehearse", about, REHEARSING);
-    let lab = lab_argument(alloc);
-    let first = bare.arg(lab)?;
-    let moment = moment_argument(alloc);
-    let whole = first.arg(moment)?;
-    Ok(whole)
+    let first = with(bare, lab_argument(alloc))?;
+    with(first, moment_argument(alloc))
 }
 
 /// `check`.
