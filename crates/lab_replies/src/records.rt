@@ -12,7 +12,7 @@ use lab_replies_parts::members::{
     bytes, count, current, flag, moment, object_of, object_with, ordinal, put_all, state, text,
     text_if_any,
 };
-use lab_replies_parts::parts::{AnyReply, Shown, list_of, put_list};
+use lab_replies_parts::parts::{AnyReply, Shown, list_of, put_list, put_list_of};
 use lab_rules::{RecordRead, RecordState, VersionRead, VersionState};
 use lab_seal::{Amendment, Digest, EntryRow, Format, State};
 use serde_json::{Map, Value};
@@ -275,30 +275,12 @@ fn put_lists(
     ensures { OnOk result (members_view members.new.entries
         ≡ members_onto (version_lists read.now) (members_view members.old.entries)) }
 {
-    put_list(
-        members,
-        alloc,
-        "altered",
-        list_of::<AnyReply, _>(alloc, read.altered.as_slice())?,
-    )?;
-    put_list(
-        members,
-        alloc,
-        "rows",
-        list_of::<OfRecords, _>(alloc, read.version.rows.rows())?,
-    )?;
-    put_list(
-        members,
-        alloc,
-        "signatures",
-        list_of::<OfRecords, _>(alloc, read.version.signatures.as_slice())?,
-    )?;
-    put_list(
-        members,
-        alloc,
-        "values",
-        values_list(alloc, read.values.as_slice())?,
-    )
+    let signatures = read.version.signatures.as_slice();
+    put_list_of::<AnyReply, _>(members, alloc, "altered", read.altered.as_slice())?;
+    put_list_of::<OfRecords, _>(members, alloc, "rows", read.version.rows.rows())?;
+    put_list_of::<OfRecords, _>(members, alloc, "signatures", signatures)?;
+    let values = values_list(alloc, read.values.as_slice())?;
+    put_list(members, alloc, "values", values)
 }
 
 impl Shown<OfRecords> for RecordState {

@@ -5,7 +5,7 @@ ghost use Rattle.lab_forms.specs.Kinds.{kind_word};
 ghost use Rattle.lab_replies_parts.specs.Forms.{form_made_data, form_data, with_bound, with_kind, field_members};
 
 use crate::members::{count, flag, object_of, object_with, ordinal, put_all, text};
-use crate::parts::{AnyReply, Shown, list_of, put_list};
+use crate::parts::{AnyReply, Shown, list_of, put_list_of};
 use lab_forms::{Bound, Field, Kind};
 use lab_kept::FormVersion;
 use lab_names::{Key, Ordinal, OutOfMemory};
@@ -99,12 +99,7 @@ fn put_kind(members: &mut Map<String, Value>, alloc: Global, kind: &Kind) -> Res
         }
         Kind::Text { size } => { put_all(members, alloc, &[count("size", u64::from(*size))]) }
         Kind::Choice { choices } => {
-            put_list(
-                members,
-                alloc,
-                "choices",
-                list_of::<AnyReply, _>(alloc, choices.names())?,
-            )
+            put_list_of::<AnyReply, _>(members, alloc, "choices", choices.names())
         }
         Kind::Date | Kind::YesNo => Ok(()),
     }

@@ -93,3 +93,18 @@ pub fn put_list(
 {
     put(members, alloc, name, Value::from(list))
 }
+
+/// Adds a member that lists these, as values in their order. The only error is out of memory.
+pub fn put_list_of<G, T: Shown<G>>(
+    members: &mut Map<String, Value>,
+    alloc: Global,
+    name: &str,
+    things: &[T],
+) -> Result<(), OutOfMemory>
+    ensures { OnOk result (members_view members.new.entries
+        ≡ with_member name.now (list_from (map T.data_of things.now))
+        (members_view members.old.entries)) }
+{
+    let list = list_of::<G, T>(alloc, things)?;
+    put_list(members, alloc, name, list)
+}
