@@ -32,7 +32,7 @@ use Rattle.lab_checks_versions.specs.declared.faults.CheckFault.{CheckFault}
 use Rattle.lab_checks_versions.specs.declared.faults.CheckFault.TheVariants.{Flawed, Read, Memory}
 use Rattle.lab_checks_versions.specs.declared.hands.VersionAtHand.{VersionAtHand}
 use Rattle.lab_checks.specs.declared.kept.Kept.{Kept}
-use Rattle.lab_checks_versions.proofs.ListLemmas.{some_same, never, no_some, last_push, last_cons, keep_push, skip_push, last_map, before_here, after_here, before_past, after_past}
+use Rattle.lab_rows.proofs.ListLemmas.{some_same, never, no_some, last_push, last_cons, keep_push, skip_push, last_map, before_here, after_here, before_past, after_past}
 
 -- ---- kinds
 

@@ -25,7 +25,7 @@ use Rattle.lab_checks_versions.specs.declared.faults.CheckFault.{CheckFault}
 use Rattle.lab_checks_versions.specs.declared.faults.CheckFault.TheVariants.{Flawed, Read, Memory}
 use Rattle.lab_checks.specs.declared.kept.Kept.{Kept}
 use Rattle.lab_checks.proofs.KeptLemmas.{at_none, edition_is, verdict_at_end}
-use Rattle.lab_checks_versions.proofs.ListLemmas.{never, no_some, some_same}
+use Rattle.lab_rows.proofs.ListLemmas.{never, no_some, some_same}
 
 -- ---- each record takes a byte at least, and ends between records
 

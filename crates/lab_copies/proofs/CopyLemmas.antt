@@ -28,7 +28,7 @@ use Rattle.lab_rows.proofs.ReadLemmas.{read_back}
 use Rattle.lab_copies.specs.declared.orders.CopyOrder.{CopyOrder}
 use Rattle.lab_copies.specs.CopyLines.{copy_line, record_line, end_line, record_lines, body_lines, copy_lines, copy_of, fields_of_line, rows_of_lines}
 use Rattle.lab_copies.specs.Soundness.{AreLines, CopiesAreSound}
-use Rattle.lab_copies.proofs.ListLemmas.{last_push, skip_push, never}
+use Rattle.lab_rows.proofs.ListLemmas.{last_push, skip_push, never}
 use Rattle.lab_copies.proofs.PlaceLemmas.{same_number, both, in_place, no_flaw}
 use Rattle.lab_copies.proofs.VersionLemmas.{flawless_append}
 use Rattle.lab_copies.proofs.WholeLemmas.{Ends, record_flawless}

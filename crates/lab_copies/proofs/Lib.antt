@@ -1,6 +1,5 @@
 pub mod KnownValues
 pub mod RowLemmas
-pub mod ListLemmas
 pub mod SeenLemmas
 pub mod PlaceLemmas
 pub mod SignerLemmas

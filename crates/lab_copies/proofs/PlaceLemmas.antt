@@ -13,7 +13,7 @@ use Rattle.lab_rows.specs.declared.lines.Line.{Line}
 use Rattle.lab_rows.specs.declared.lines.Line.TheVariants.{Copy, Record, Version, Entry, Signature, End}
 use Rattle.lab_rows.specs.declared.lines.SignatureLine.{SignatureLine}
 use Rattle.lab_rows.specs.declared.lines.VersionLine.{VersionLine}
-use Rattle.lab_copies.proofs.ListLemmas.{never}
+use Rattle.lab_rows.proofs.ListLemmas.{never}
 use Rattle.lab_copies.proofs.SeenLemmas.{Seen}
 
 pub same_bytes : (bytes : List ℕ) → bytes_eq bytes bytes ≡ true

@@ -10,7 +10,7 @@ use Rattle.lab_rows.specs.declared.lines.Line.TheVariants.{Copy, Record, Version
 use Rattle.lab_rows.specs.declared.lines.RecordLine.{RecordLine}
 use Rattle.lab_rows.specs.declared.lines.SignatureLine.{SignatureLine}
 use Rattle.lab_rows.specs.declared.lines.VersionLine.{VersionLine}
-use Rattle.lab_copies.proofs.ListLemmas.{last_push, keep_push, skip_push, before_here, after_here, before_past, after_past}
+use Rattle.lab_rows.proofs.ListLemmas.{last_push, keep_push, skip_push, before_here, after_here, before_past, after_past}
 
 -- the lines end in a version's rows, which are these
 pub record Seen (lines : List Line) (told : Told) : Type 0 where

@@ -32,7 +32,7 @@ use Rattle.lab_rows.specs.declared.lines.VersionLine.{VersionLine}
 use Rattle.lab_copies.specs.CopyLines.{record_line, state_shown, reason_of, version_line, entry_line, signature_line, version_lines}
 use Rattle.lab_copies.proofs.SeenLemmas.{Seen, seen_told, version_seen, entry_seen, signature_seen}
 use Rattle.lab_copies.proofs.PlaceLemmas.{same_bytes, both, no_flaw, entry_flawless, signature_flawless}
-use Rattle.lab_copies.proofs.ListLemmas.{never}
+use Rattle.lab_rows.proofs.ListLemmas.{never}
 use Rattle.lab_copies.proofs.RowLemmas.{map_of_map}
 use Rattle.lab_copies.proofs.SignerLemmas.{persons_differ}
 

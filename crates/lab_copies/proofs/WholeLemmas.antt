@@ -27,7 +27,7 @@ use Rattle.lab_rows.specs.declared.lines.Line.TheVariants.{Copy, Record, Version
 use Rattle.lab_rows.specs.declared.lines.RecordLine.{RecordLine}
 use Rattle.lab_rows.specs.declared.lines.VersionLine.{VersionLine}
 use Rattle.lab_copies.specs.CopyLines.{record_line, state_shown, version_line, end_line, version_lines, record_lines, body_lines}
-use Rattle.lab_copies.proofs.ListLemmas.{last_push, skip_push, never}
+use Rattle.lab_rows.proofs.ListLemmas.{last_push, skip_push, never}
 use Rattle.lab_copies.proofs.PlaceLemmas.{same_number, both, in_place, no_flaw, version_may}
 use Rattle.lab_copies.proofs.SeenLemmas.{Seen, record_here}
 use Rattle.lab_copies.proofs.VersionLemmas.{IsBehind, told_whole, version_good, last_good, flawless_append, version_flawless}

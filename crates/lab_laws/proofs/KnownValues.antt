@@ -43,7 +43,7 @@ use Rattle.lab_laws.specs.Births.{IsAdministrator, IsFounded}
 use Rattle.lab_laws.specs.Runs.{Asked, after_all, AreAskedRightly, IsReleasing}
 use Rattle.lab_laws.specs.Stepping.{HoldsOf, WhereThere}
 use Rattle.lab_laws.proofs.RunLemmas.{run_releasing}
-use Rattle.lab_copies.proofs.ListLemmas.{no_some}
+use Rattle.lab_rows.proofs.ListLemmas.{no_some}
 use Rattle.lab_machine.specs.declared.replies.Reply.TheVariants.{Card, Copied}
 use Rattle.lab_laws.specs.Inspections.{AreCopiable, IfCopied, counts_within}
 

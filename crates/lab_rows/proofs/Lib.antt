@@ -1,3 +1,4 @@
+pub mod ListLemmas
 pub mod TextLemmas
 pub mod ReadLemmas
 pub mod SoundLemmas

@@ -2,7 +2,7 @@ use Rattle.std.proofs.Common.{map, ap, ◌∙◌}
 use Rattle.std.specs.List.{list_any}
 use Rattle.std.specs.Str.{bytes_eq}
 use Rattle.lab_versions.specs.declared.rows.EntryRow.{EntryRow}
-use Rattle.lab_checks_versions.proofs.ListLemmas.{any_of_map}
+use Rattle.lab_rows.proofs.ListLemmas.{any_of_map}
 use Rattle.lab_checks_versions.proofs.hands.VersionAtHand.has_entered.Goals as goal
 
 pub returns : goal.returns
