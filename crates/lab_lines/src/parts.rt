@@ -43,13 +43,21 @@ pub(crate) fn copy_parts<'a>(row: &RowFields<'a>) -> Option<CopyParts<'a>>
     ensures value { option_map copy_of result ≡ copy_line (columns_in row.now) }
     ensures texts { IfSome result AreCopyTexts }
 {
-    let lab = fields::text::<LabCodes>(row.lab)?;
-    let from = fields::ordinal(row.record_number)?;
-    let to = fields::ordinal(row.version)?;
-    let edition = fields::edition(row.key)?;
-    let person = fields::person(row.person)?;
-    let name = fields::text::<Names>(row.name)?;
-    let moment = fields::moment(row.moment)?;
+    let (Some(edition), Some(lab), Some(from), Some(to)) = (
+        fields::edition(row.key),
+        fields::text::<LabCodes>(row.lab),
+        fields::ordinal(row.record_number),
+        fields::ordinal(row.version),
+    ) else {
+        return None;
+    };
+    let (Some(person), Some(name), Some(moment)) = (
+        fields::person(row.person),
+        fields::text::<Names>(row.name),
+        fields::moment(row.moment),
+    ) else {
+        return None;
+    };
     fields::empty(&[row.value, row.unit, row.reason, row.digest, row.seal])?;
     Some(CopyParts {
         edition,
@@ -67,11 +75,19 @@ pub(crate) fn record_parts<'a>(row: &RowFields<'a>) -> Option<RecordParts<'a>>
     ensures value { option_map record_of result ≡ record_line (columns_in row.now) }
     ensures texts { IfSome result AreRecordTexts }
 {
-    let lab = fields::text::<LabCodes>(row.lab)?;
-    let record_number = fields::ordinal(row.record_number)?;
-    let form_version = fields::ordinal(row.version)?;
-    let form = fields::text::<Keys>(row.key)?;
-    let sample = fields::text::<Names>(row.value)?;
+    let (Some(lab), Some(record_number)) = (
+        fields::text::<LabCodes>(row.lab),
+        fields::ordinal(row.record_number),
+    ) else {
+        return None;
+    };
+    let (Some(form), Some(form_version), Some(sample)) = (
+        fields::text::<Keys>(row.key),
+        fields::ordinal(row.version),
+        fields::text::<Names>(row.value),
+    ) else {
+        return None;
+    };
     fields::empty(&[
         row.unit, row.person, row.name, row.moment, row.reason, row.digest, row.seal,
     ])?;

@@ -58,15 +58,27 @@ pub fn version_parts<'a>(row: &RowFields<'a>) -> Option<VersionRowParts<'a>>
     ensures value { option_map version_of result ≡ version_line (columns_in row.now) }
     ensures texts { IfSome result AreVersionTexts }
 {
-    let lab = fields::text::<LabCodes>(row.lab)?;
-    let record_number = fields::ordinal(row.record_number)?;
-    let number = fields::ordinal(row.version)?;
-    let format = fields::format(row.key, row.name)?;
-    let state = fields::state(row.value)?;
-    let opener = fields::text::<PersonCodes>(row.person)?;
-    let opened = fields::moment(row.moment)?;
-    let reason = fields::version_reason(number, row.reason)?;
-    let digest = fields::digest(row.digest)?;
+    let (Some(lab), Some(record_number), Some(number)) = (
+        fields::text::<LabCodes>(row.lab),
+        fields::ordinal(row.record_number),
+        fields::ordinal(row.version),
+    ) else {
+        return None;
+    };
+    let (Some(format), Some(state), Some(digest)) = (
+        fields::format(row.key, row.name),
+        fields::state(row.value),
+        fields::digest(row.digest),
+    ) else {
+        return None;
+    };
+    let (Some(opener), Some(opened), Some(reason)) = (
+        fields::text::<PersonCodes>(row.person),
+        fields::moment(row.moment),
+        fields::version_reason(number, row.reason),
+    ) else {
+        return None;
+    };
     fields::empty(&[row.unit, row.seal])?;
     Some(VersionRowParts {
         lab,
@@ -87,15 +99,27 @@ pub fn entry_parts<'a>(row: &RowFields<'a>) -> Option<EntryParts<'a>>
     ensures value { option_map entry_of result ≡ entry_line (columns_in row.now) }
     ensures texts { IfSome result AreEntryTexts }
 {
-    let lab = fields::text::<LabCodes>(row.lab)?;
-    let record_number = fields::ordinal(row.record_number)?;
-    let version = fields::ordinal(row.version)?;
-    let key = fields::text::<Keys>(row.key)?;
-    let value = fields::text::<Notes>(row.value)?;
-    let unit = fields::text::<Units>(row.unit)?;
-    let person = fields::text::<PersonCodes>(row.person)?;
-    let moment = fields::moment(row.moment)?;
-    let reason = fields::reason(row.reason)?;
+    let (Some(lab), Some(record_number), Some(version)) = (
+        fields::text::<LabCodes>(row.lab),
+        fields::ordinal(row.record_number),
+        fields::ordinal(row.version),
+    ) else {
+        return None;
+    };
+    let (Some(key), Some(value), Some(unit)) = (
+        fields::text::<Keys>(row.key),
+        fields::text::<Notes>(row.value),
+        fields::text::<Units>(row.unit),
+    ) else {
+        return None;
+    };
+    let (Some(person), Some(moment), Some(reason)) = (
+        fields::text::<PersonCodes>(row.person),
+        fields::moment(row.moment),
+        fields::reason(row.reason),
+    ) else {
+        return None;
+    };
     fields::empty(&[row.name, row.digest, row.seal])?;
     Some(EntryParts {
         lab,
@@ -116,15 +140,27 @@ pub fn signature_parts<'a>(row: &RowFields<'a>) -> Option<SignatureParts<'a>>
     ensures value { option_map signature_of result ≡ signature_line (columns_in row.now) }
     ensures texts { IfSome result AreSignatureTexts }
 {
-    let lab = fields::text::<LabCodes>(row.lab)?;
-    let record_number = fields::ordinal(row.record_number)?;
-    let version = fields::ordinal(row.version)?;
-    let meaning = fields::meaning(row.value, row.reason)?;
-    let person = fields::text::<PersonCodes>(row.person)?;
-    let name = fields::text::<Names>(row.name)?;
-    let moment = fields::moment(row.moment)?;
-    let digest = fields::digest(row.digest)?;
-    let seal = fields::seal(row.seal)?;
+    let (Some(lab), Some(record_number), Some(version)) = (
+        fields::text::<LabCodes>(row.lab),
+        fields::ordinal(row.record_number),
+        fields::ordinal(row.version),
+    ) else {
+        return None;
+    };
+    let (Some(person), Some(name), Some(moment)) = (
+        fields::text::<PersonCodes>(row.person),
+        fields::text::<Names>(row.name),
+        fields::moment(row.moment),
+    ) else {
+        return None;
+    };
+    let (Some(meaning), Some(digest), Some(seal)) = (
+        fields::meaning(row.value, row.reason),
+        fields::digest(row.digest),
+        fields::seal(row.seal),
+    ) else {
+        return None;
+    };
     fields::empty(&[row.key, row.unit])?;
     Some(SignatureParts {
         lab,

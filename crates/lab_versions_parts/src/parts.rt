@@ -179,12 +179,24 @@ fn first_opening(text: &[u8]) -> Option<(Opening<'_>, &[u8])>
 pub fn first_row(text: &[u8]) -> Option<(Row<'_>, &[u8])>
     ensures { option_map (λ found. (row_of found.0, found.1.now)) result ≡ first_row text.now }
 {
-    let (key, rest) = fields::text::<Keys>(text)?;
-    let (value, rest) = fields::text::<Notes>(rest)?;
-    let (unit, rest) = fields::text::<Units>(rest)?;
-    let (person, rest) = fields::text::<PersonCodes>(rest)?;
-    let (moment, rest) = fields::moment(rest)?;
-    let (reason, rest) = fields::reason(rest)?;
+    let Some((key, rest)) = fields::text::<Keys>(text) else {
+        return None;
+    };
+    let Some((value, rest)) = fields::text::<Notes>(rest) else {
+        return None;
+    };
+    let Some((unit, rest)) = fields::text::<Units>(rest) else {
+        return None;
+    };
+    let Some((person, rest)) = fields::text::<PersonCodes>(rest) else {
+        return None;
+    };
+    let Some((moment, rest)) = fields::moment(rest) else {
+        return None;
+    };
+    let Some((reason, rest)) = fields::reason(rest) else {
+        return None;
+    };
     let row = Row {
         key,
         value,
