@@ -22,22 +22,11 @@ fn command(alloc: Global, words: &mut Words) -> Result<Command, Halt> {
         "password" => change_password(alloc, words),
         "enrol" => enrol(alloc, words),
         "persons" => Ok(Command::ReadPersons),
-        "issue" => Ok(Command::AskIssue {
-            code: text(alloc, words.next_word())?,
-        }),
-        "confirm" => Ok(Command::ConfirmIssue {
-            code: text(alloc, words.next_word())?,
-        }),
-        "roles" => Ok(Command::SetRoles {
-            code: text(alloc, words.next_word())?,
-            roles: roles(words.next_word()),
-        }),
-        "retire" => Ok(Command::Retire {
-            code: text(alloc, words.next_word())?,
-        }),
-        "unlock" => Ok(Command::Unlock {
-            code: text(alloc, words.next_word())?,
-        }),
+        "issue" => ask_issue(alloc, words),
+        "confirm" => confirm_issue(alloc, words),
+        "roles" => set_roles(alloc, words),
+        "retire" => retire(alloc, words),
+        "unlock" => unlock(alloc, words),
         word => command_on_records(alloc, word, words),
     }
 }
@@ -112,6 +101,32 @@ fn enrol(alloc: Global, words: &mut Words) -> Result<Command, Halt> {
     let name = text(alloc, words.next_word())?;
     let roles = roles(words.next_word());
     Ok(Command::Enrol { code, name, roles })
+}
+
+fn ask_issue(alloc: Global, words: &mut Words) -> Result<Command, Halt> {
+    let code = text(alloc, words.next_word())?;
+    Ok(Command::AskIssue { code })
+}
+
+fn confirm_issue(alloc: Global, words: &mut Words) -> Result<Command, Halt> {
+    let code = text(alloc, words.next_word())?;
+    Ok(Command::ConfirmIssue { code })
+}
+
+fn set_roles(alloc: Global, words: &mut Words) -> Result<Command, Halt> {
+    let code = text(alloc, words.next_word())?;
+    let roles = roles(words.next_word());
+    Ok(Command::SetRoles { code, roles })
+}
+
+fn retire(alloc: Global, words: &mut Words) -> Result<Command, Halt> {
+    let code = text(alloc, words.next_word())?;
+    Ok(Command::Retire { code })
+}
+
+fn unlock(alloc: Global, words: &mut Words) -> Result<Command, Halt> {
+    let code = text(alloc, words.next_word())?;
+    Ok(Command::Unlock { code })
 }
 
 fn make_form(alloc: Global, words: &mut Words) -> Result<Command, Halt> {
