@@ -1,12 +1,11 @@
 -- What was decided on the part that was loaded is the step of the laboratory, and its changes fit.
 -- The rows rest over the load, and then they move by the changes that were built.
-use Rattle.std.proofs.Common.{sym, ap, ◌∙◌, subst}
+use Rattle.std.proofs.Common.{sym, ◌∙◌, subst}
 use Rattle.std.specs.Prelude.{◌≡◌, List, Ok, IfOk}
 use Rattle.std.proofs.lemmas.Bool.{false≢true}
 use Rattle.lab_kept.specs.declared.changes.Change.{Change}
 use Rattle.lab_kept.specs.Changes.{ChangesFit}
 use Rattle.lab_kept.specs.Limits.{IsWithin}
-use Rattle.lab_kept.specs.Parts.{part_of}
 use Rattle.lab_kept.specs.Worlds.{Meaning, SameMeaning, Changes, Given, Lives}
 use Rattle.lab_laws.specs.Stepping.{WhereThere}
 use Rattle.lab_machine.specs.Machine.{step}
@@ -26,7 +25,7 @@ abbrev old : (g : Over) → After-answer_on g → Meaning
 old g c = (g.S.Keeper.world c.args.keeper.now).meaning
 
 abbrev mid : (g : Over) → After-answer_on g → Meaning
-mid g c = (g.S.Keeper.world c.load-loaded.new.self).meaning
+mid g c = (g.S.Keeper.world c.load_needed.new.keeper).meaning
 
 -- the changes that are decided on the part
 abbrev changes : (g : Over) → After-answer_on g → List Change
@@ -36,9 +35,9 @@ changes g c =
 -- what is known once it was answered: the keeper was honest and reached when the part was loaded,
 -- no laboratory changed by that, and what was built is the step
 record Answered (g : Over) (c : After-answer_on g) : Type 0 where
-  earlier : (g.S.Keeper.world c.load-loaded.new.self).is_honest
-  middle : (g.S.Keeper.world c.load-loaded.new.self).is_reached
-  lives : Lives (g.S.Keeper.world c.args.keeper.now) (g.S.Keeper.world c.load-loaded.new.self)
+  earlier : (g.S.Keeper.world c.load_needed.new.keeper).is_honest
+  middle : (g.S.Keeper.world c.load_needed.new.keeper).is_reached
+  lives : Lives (g.S.Keeper.world c.args.keeper.now) (g.S.Keeper.world c.load_needed.new.keeper)
   same : SameMeaning (old g c) (mid g c)
   built : Builds (old g c c.args.asked.lab) c.args.tick.now c.args.asked.instruction
       (reply_text c.args.tick.now (Replied
@@ -53,12 +52,11 @@ answered g c honest reached =
     let lives = c.in-Ok-Some.ensures.lives earlier reached in
     record {
       earlier = earlier;
-      middle = c.load-loaded.ensures.reached earlier reached;
+      middle = c.load_needed.ensures.reached earlier reached;
       lives = lives;
-      same = c.load-loaded.ensures.same earlier reached lives.1;
+      same = c.load_needed.ensures.same earlier reached lives.1;
       built = builds _ c.in-Ok-Some.slice c.args.tick.now c.args.asked.instruction
-          (sym c.in-Ok-Some.field-0-is ∙ c.in-Ok-Some.ensures.part earlier reached
-          ∙ ap (λ need. part_of need (old g c c.args.asked.lab)) c.in_ok-need.ensures.need)
+          (sym c.in-Ok-Some.field-0-is ∙ c.in-Ok-Some.ensures.part earlier reached)
           c.formed.ensures;
     }
 
@@ -88,7 +86,7 @@ pub returns-in-Ok-Some-clause-quiet : goal.returns-in-Ok-Some-clause-quiet
 returns-in-Ok-Some-clause-quiet g c = λ idle honest reached live held left.
     let was = answered g (goal.at.returns-in-Ok-Some-clause-quiet g c).After-answer_on
     honest reached in
-    c.load-loaded.ensures.crash was.earlier reached live held
+    c.load_needed.ensures.crash was.earlier reached live held
     (c.answer_on.ensures.quiet (was.built.idle.0 idle) honest was.middle was.lives.1 held left)
 
 pub returns-in-Ok-Some-clause-after : goal.returns-in-Ok-Some-clause-after
@@ -111,7 +109,7 @@ returns-in-Ok-Some-clause-rows g c = λ within honest reached.
       fit = was.built.fit there;
       after = was.built.after;
       moved = g.met.S.Keeper.moves_on _ _ _ _ _
-          (c.load-loaded.ensures.rows was.earlier reached was.lives.1) moved;
+          (c.load_needed.ensures.rows was.earlier reached was.lives.1) moved;
     })
     (c.answer_on.ensures.rows (fits g on was there) honest was.middle)
 
@@ -119,7 +117,7 @@ pub returns-in-Ok-Some-clause-crash : goal.returns-in-Ok-Some-clause-crash
 returns-in-Ok-Some-clause-crash g c = λ within honest reached live held left.
     let on = (goal.at.returns-in-Ok-Some-clause-crash g c).After-answer_on in
     let was = answered g on honest reached in
-    either (c.load-loaded.ensures.crash was.earlier reached live held) (steps g on held was)
+    either (c.load_needed.ensures.crash was.earlier reached live held) (steps g on held was)
     (c.answer_on.ensures.crash (fits g on was (within live c.args.asked.lab))
     honest was.middle was.lives.1 held left)
 
@@ -129,7 +127,7 @@ returns-in-Ok-Some-clause-safe g c = λ within honest reached live safe.
     let was = answered g on honest reached in
     c.answer_on.ensures.safe (fits g on was (within live c.args.asked.lab))
     honest was.middle was.lives.1
-    (c.load-loaded.ensures.safe was.earlier reached live safe)
+    (c.load_needed.ensures.safe was.earlier reached live safe)
 
 pub returns-in-Ok-Some-clause-durable : goal.returns-in-Ok-Some-clause-durable
 returns-in-Ok-Some-clause-durable g c = λ within busy honest reached.
@@ -150,7 +148,5 @@ returns-in-Ok-Some-clause-reached g c = λ within honest reached.
 pub returns-in-Ok-None-clause-durable : goal.returns-in-Ok-None-clause-durable
 returns-in-Ok-None-clause-durable g c = λ within busy honest reached.
     let none = none_there _ c.args.tick.now c.args.asked.instruction
-    (sym c.in-Ok-None.field-0-is ∙ c.in-Ok-None.ensures.part honest reached
-    ∙ ap (λ need. part_of need
-    ((g.S.Keeper.world c.args.keeper.now).meaning c.args.asked.lab)) c.in_ok-need.ensures.need) in
+    (sym c.in-Ok-None.field-0-is ∙ c.in-Ok-None.ensures.part honest reached) in
     absurd (false≢true (sym busy ∙ idle_none _ c.args.tick.now c.args.asked.instruction none))
