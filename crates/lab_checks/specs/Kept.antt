@@ -95,7 +95,8 @@ about_with (Record line) about = Some line
 about_with _ about = about
 
 abbrev pub version_by : ℕ → Option RecordLine → Option VersionAtHand → Line → Option VersionAtHand
-version_by row about version (Version line) = option_map (λ about. begun row about version line) about
+version_by row about version (Version line) =
+    option_map (λ about. begun row about version line) about
 version_by row about version (Entry line) = option_map (with_entry line.row) version
 version_by row about version (Signature line) =
     option_map (with_signature line.parts.person line.parts.meaning) version
@@ -146,7 +147,8 @@ ends_in_version lines = is_some_and is_of_version (last_of lines)
 abbrev pub hand_at : List Line → Option VersionAtHand
 hand_at lines =
     if ends_in_version lines
-    then option_map (hand_of (length (before_last is_version lines) + 2)) (last_told lines) else None
+    then option_map (hand_of (length (before_last is_version lines) + 2)) (last_told lines)
+    else None
 
 -- nothing yet
 abbrev pub kept_none : Kept

@@ -19,7 +19,8 @@ pub record IsEnough (fuel : ℕ) (state : State) (bytes : List ℕ) : Type 0 whe
   pub few : length bytes ≤ fuel
 
 -- what is found of the whole copy is what is found of these bytes behind the lines so far
-pub record IsLeft (found : Result Counts Flaw) (kept : Kept) (row : ℕ) (state : State) (bytes : List ℕ) : Type 0 where
+pub record IsLeft (found : Result Counts Flaw) (kept : Kept) (row : ℕ) (state : State)
+    (bytes : List ℕ) : Type 0 where
   pub lines : List Line
   pub fuel : ℕ
   pub row_is : row ≡ length lines + 2

@@ -40,7 +40,8 @@ impl<R: Read> Read for AskedReader<R> {
 // Asks for bytes, while asks are left. Where a signal interrupted the reader, it is asked again.
 fn read_some<R: Read>(reader: &mut R, asks_left: &mut u64, buffer: &mut [u8]) -> io::Result<usize>
     ensures bound { ReadsAtMost result buffer.new }
-    ensures bytes { ReadConsumes (R.remaining reader.old) (R.remaining reader.new) result buffer.new }
+    ensures bytes { ReadConsumes (R.remaining reader.old) (R.remaining reader.new)
+        result buffer.new }
 
     // Each answer costs an ask, and none is given back.
     ensures asked { OnOk result (asks_left.new < asks_left.old) }

@@ -40,7 +40,8 @@ fn check_all<R: Read>(alloc: Global, rows: &mut Reader<R>) -> Result<Counts, Che
     requires trim { reader_trim rows.old ≡ trim.None }
     requires ready { Ready rows.old }
     requires state { reader_state rows.old ≡ st.StartRecord }
-    ensures { (known : Option (List ℕ)) → source_of R.remaining rows.old ≡ option_map strip_bom known
+    ensures { (known : Option (List ℕ))
+        → source_of R.remaining rows.old ≡ option_map strip_bom known
         → IfSome known (λ bytes. IsAnswer (verdict (rows_of bytes)) result) }
 {
     let mut row = ByteRecord::new(alloc);

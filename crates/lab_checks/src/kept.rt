@@ -224,7 +224,8 @@ impl Kept {
 
     // Whether the digest is that in the row of the version at hand.
     fn has_digest(&self, digest: &Digest) -> bool
-        ensures { result ≡ is_some_and (λ (hand : VersionAtHand). bytes_eq hand.digest digest.now) self.now.version }
+        ensures { result ≡ is_some_and (λ (hand : VersionAtHand). bytes_eq hand.digest digest.now)
+            self.now.version }
     {
         match &self.version {
             Some(version) => version.digest().bytes() == digest.bytes(),

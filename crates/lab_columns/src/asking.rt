@@ -15,7 +15,8 @@ pub fn rows_by_text<D: Readable>(conn: &mut D, sql: &str, first: &str) -> Result
     ensures err { HasCleanDisk (D.state conn.new) → IfErr result
         (FailsToQuery sql.now (Text first.now ∷ [])
         (D.state conn.old) (D.state conn.new)) }
-    ensures mode { (D.state conn.old).in_transaction ≡ false → (D.state conn.new).in_transaction ≡ false }
+    ensures mode { (D.state conn.old).in_transaction ≡ false
+        → (D.state conn.new).in_transaction ≡ false }
     ensures survives { Survives (D.state conn.old) (D.state conn.new)
         (CommitsShowing sql.now (Text first.now ∷ []) (D.state conn.old)) }
 {
@@ -30,7 +31,8 @@ pub fn rows_by_one<D: Readable>(conn: &mut D, sql: &str, first: i64) -> Result<V
     ensures err { HasCleanDisk (D.state conn.new) → IfErr result
         (FailsToQuery sql.now (Int first ∷ [])
         (D.state conn.old) (D.state conn.new)) }
-    ensures mode { (D.state conn.old).in_transaction ≡ false → (D.state conn.new).in_transaction ≡ false }
+    ensures mode { (D.state conn.old).in_transaction ≡ false
+        → (D.state conn.new).in_transaction ≡ false }
     ensures survives { Survives (D.state conn.old) (D.state conn.new)
         (CommitsShowing sql.now (Int first ∷ []) (D.state conn.old)) }
 {
@@ -50,7 +52,8 @@ pub fn rows_by_code<D: Readable>(
     ensures err { HasCleanDisk (D.state conn.new) → IfErr result
         (FailsToQuery sql.now (Int first ∷ Text second.now ∷ [])
         (D.state conn.old) (D.state conn.new)) }
-    ensures mode { (D.state conn.old).in_transaction ≡ false → (D.state conn.new).in_transaction ≡ false }
+    ensures mode { (D.state conn.old).in_transaction ≡ false
+        → (D.state conn.new).in_transaction ≡ false }
     ensures survives { Survives (D.state conn.old) (D.state conn.new)
         (CommitsShowing sql.now (Int first ∷ Text second.now ∷ []) (D.state conn.old)) }
 {
@@ -71,7 +74,8 @@ pub fn rows_by_range<D: Readable>(
     ensures err { HasCleanDisk (D.state conn.new) → IfErr result
         (FailsToQuery sql.now (Int first ∷ Int (pos second) ∷ Int (pos third) ∷ [])
         (D.state conn.old) (D.state conn.new)) }
-    ensures mode { (D.state conn.old).in_transaction ≡ false → (D.state conn.new).in_transaction ≡ false }
+    ensures mode { (D.state conn.old).in_transaction ≡ false
+        → (D.state conn.new).in_transaction ≡ false }
     ensures survives { Survives (D.state conn.old) (D.state conn.new)
         (CommitsShowing sql.now (Int first ∷ Int (pos second) ∷ Int (pos third) ∷ [])
         (D.state conn.old)) }

@@ -20,11 +20,12 @@ pub trait Readable {
     /// # Errors
     /// The statement is refused, the disk fails, or memory runs out.
     fn query_all(&mut self, sql: &str, params: &[ValueRef<'_>]) -> Result<Vec<Row>, Error>
-        ensures ok { HasCleanDisk (state self.new) → IfOk result
-            (λ rows. Shown sql.now (bound params.now) (state self.old) (state self.new) rows.items) }
+        ensures ok { HasCleanDisk (state self.new) → IfOk result (λ rows.
+            Shown sql.now (bound params.now) (state self.old) (state self.new) rows.items) }
         ensures err { HasCleanDisk (state self.new) → IfErr result
             (FailsToQuery sql.now (bound params.now) (state self.old) (state self.new)) }
-        ensures mode { (state self.old).in_transaction ≡ false → (state self.new).in_transaction ≡ false }
+        ensures mode { (state self.old).in_transaction ≡ false
+            → (state self.new).in_transaction ≡ false }
         ensures survives { Survives (state self.old) (state self.new)
             (CommitsShowing sql.now (bound params.now) (state self.old)) };
 }

@@ -1,4 +1,5 @@
--- What a founding makes of the tables: the laboratory is placed, and nothing was asked for its founders.
+-- What a founding makes of the tables: the laboratory is placed, and nothing was asked for its
+-- founders.
 use Rattle.std.specs.Prelude.{◌≡◌, None}
 use Rattle.lab_kept.specs.declared.births.Newborn.{Newborn}
 use Rattle.lab_kept.specs.Births.{newborn_lab}

@@ -75,10 +75,13 @@ pub fn apply<S: Alter>(
 ) -> Result<(), ReadFault>
     requires at_rest { IsAtRest (state S.Store tables.old.conn) }
     ensures at_rest { IsAtRest (state S.Store tables.new.conn) }
-    ensures clean { HasCleanDisk (state S.Store tables.new.conn) → HasCleanDisk (state S.Store tables.old.conn) }
+    ensures clean { HasCleanDisk (state S.Store tables.new.conn) →
+        HasCleanDisk (state S.Store tables.old.conn) }
     ensures live { HasCleanDisk (state S.Store tables.new.conn) →
-        IsTrue (state S.Store tables.new.conn).is_open → IsTrue (state S.Store tables.old.conn).is_open }
-    ensures ends { IsReady (state S.Store tables.old.conn) → Ends (AreMadeIfAny code.now changes.now) result
+        IsTrue (state S.Store tables.new.conn).is_open →
+        IsTrue (state S.Store tables.old.conn).is_open }
+    ensures ends { IsReady (state S.Store tables.old.conn) →
+        Ends (AreMadeIfAny code.now changes.now) result
         (state S.Store tables.old.conn) (state S.Store tables.new.conn) }
     ensures quiet { changes.now ≡ [] → IsReady (state S.Store tables.old.conn) →
         LeavesNoMore (state S.Store tables.old.conn) (state S.Store tables.new.conn) }

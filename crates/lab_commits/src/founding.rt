@@ -29,15 +29,18 @@ pub fn found<S: Alter>(
 ) -> Result<(), PlacingFault>
     requires at_rest { IsAtRest (state S.Store tables.old.conn) }
     ensures at_rest { IsAtRest (state S.Store tables.new.conn) }
-    ensures clean { HasCleanDisk (state S.Store tables.new.conn) → HasCleanDisk (state S.Store tables.old.conn) }
+    ensures clean { HasCleanDisk (state S.Store tables.new.conn) →
+        HasCleanDisk (state S.Store tables.old.conn) }
     ensures live { HasCleanDisk (state S.Store tables.new.conn) →
-        IsTrue (state S.Store tables.new.conn).is_open → IsTrue (state S.Store tables.old.conn).is_open }
+        IsTrue (state S.Store tables.new.conn).is_open →
+        IsTrue (state S.Store tables.old.conn).is_open }
     ensures ends { IsReady (state S.Store tables.old.conn) → Ends (IsPlacedBy newborn) result
         (state S.Store tables.old.conn) (state S.Store tables.new.conn) }
     ensures exists { result ≡ Err LabExists → IsReady (state S.Store tables.old.conn) →
         HasCleanDisk (state S.Store tables.new.conn) →
         IsSome (meaning (tables_of (state S.Store tables.old.conn)) newborn.code)
-        × IsTrue (state S.Store tables.old.conn).is_open × IsTrue (state S.Store tables.new.conn).is_open }
+        × IsTrue (state S.Store tables.old.conn).is_open
+        × IsTrue (state S.Store tables.new.conn).is_open }
     ensures quiet { result ≡ Err LabExists → IsReady (state S.Store tables.old.conn) →
         LeavesNoMore (state S.Store tables.old.conn) (state S.Store tables.new.conn) }
 {

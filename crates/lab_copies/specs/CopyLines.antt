@@ -102,7 +102,8 @@ abbrev pub version_lines : List ℕ → Record → Version → List Line
 version_lines lab kept version =
     line.Version (version_line lab kept version)
     ∷ map (λ row. line.Entry (entry_line lab kept version row)) version.rows
-    ++ map (λ signature. line.Signature (signature_line lab kept version signature)) version.signatures
+    ++ map (λ signature. line.Signature (signature_line lab kept version signature))
+    version.signatures
 
 -- a record, then its versions
 abbrev pub record_lines : List ℕ → Record → List Line

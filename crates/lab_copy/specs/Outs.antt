@@ -1,4 +1,5 @@
--- What of a copy goes out: the text of its rows as CSV (RFC 4180), or after a fault the front of it.
+-- What of a copy goes out: the text of its rows as CSV (RFC 4180), or after a fault the front of
+-- it.
 use Rattle.std.specs.Prelude.{◌≡◌, ℕ, ◌+◌, ◌-◌, ◌^◌, min, Bool, if◌then◌else◌, List, [], ◌∷◌, ◌++◌, codes, Option, Some, None, Result, Ok, Err}
 use Rattle.std.specs.Str.{bytes_eq}
 use Rattle.std.specs.Io.KnownBytes.{Appends}

@@ -17,7 +17,8 @@ pub fn write_copy<W: Write>(
     writer: &mut W,
     rows: &[CopyRow],
 ) -> Result<(), CopyOutFault>
-    ensures text { Sends (W.contents writer.old) (W.contents writer.new) (csv_text rows.now) result }
+    ensures text { Sends (W.contents writer.old) (W.contents writer.new)
+        (csv_text rows.now) result }
     ensures nothing { rows.now ≡ [] → result ≡ Ok tt }
 {
     for row in rows {
@@ -61,7 +62,8 @@ impl CopyOut {
         writer: &mut W,
         line: &CopyLine,
     ) -> Result<CopyOut, CopyOutFault>
-        ensures text { Sends (W.contents writer.old) (W.contents writer.new) (start_text line.now) result }
+        ensures text { Sends (W.contents writer.old) (W.contents writer.new)
+            (start_text line.now) result }
         ensures fresh { IfOk result (λ out.
             out ≡ record { lab = line.now.lab; counts = no_counts; fault = None }) }
     {
@@ -84,7 +86,8 @@ impl CopyOut {
         writer: &mut W,
         row: &CopyRow,
     ) -> Result<(), CopyOutFault>
-        ensures text { Sends (W.contents writer.old) (W.contents writer.new) (csv_row row.now) result }
+        ensures text { Sends (W.contents writer.old) (W.contents writer.new)
+            (csv_row row.now) result }
         ensures counts { OnOk result
             (self.new ≡ record self.old { counts = counted self.old.counts row.now }) }
         ensures fault { IfErr result (λ fault. self.new ≡ record self.old { fault = Some fault }) }
@@ -106,7 +109,8 @@ impl CopyOut {
     #[tactic(auto, using(crate::proofs::SendLemmas::none_went))]
     pub fn finish<W: Write>(self, alloc: Global, writer: &mut W) -> Result<Counts, CopyOutFault>
         ensures text { Sends (W.contents writer.old) (W.contents writer.new)
-            (csv_row (fields_in (end_row (record { lab = self.lab; counts = self.counts })))) result }
+            (csv_row (fields_in (end_row (record { lab = self.lab; counts = self.counts }))))
+            result }
         ensures counts { IfOk result (λ counts. counts ≡ self.counts) }
         ensures stopped { IfSome self.fault (λ fault. (result ≡ Err fault)
             × Keeps (W.contents writer.old) (W.contents writer.new)) }

@@ -1,6 +1,6 @@
--- Where something is made, so that memory may run out: the note that a request came by a session, the
--- card, and what an opening makes, or what its failed password changes. A refusal that notes nothing
--- is told as it is.
+-- Where something is made, so that memory may run out: the note that a request came by a session,
+-- the card, and what an opening makes, or what its failed password changes. A refusal that notes
+-- nothing is told as it is.
 use Rattle.std.specs.Prelude.{Bool, true, false, not, Option}
 use Rattle.lab_names.specs.declared.tick.Tick.{Tick}
 use Rattle.lab_access.specs.declared.sessions.Session.{Session}

@@ -111,8 +111,8 @@ fn is_open(state: Option<State>) -> bool
 /// The value of an item, as the form of the record reads it. Memory may run out only for a value that the form takes.
 #[tactic(auto, using(crate::proofs::ValueLemmas::no_refusal))]
 pub(crate) fn read_item(alloc: Global, kept: &Record, item: &Item) -> Result<Note, CommandFault>
-    ensures { IsReadWhere (is_none (item_refusal kept.now item.now)) (item_refusal kept.now item.now)
-        item.now.value result }
+    ensures { IsReadWhere (is_none (item_refusal kept.now item.now))
+        (item_refusal kept.now item.now) item.now.value result }
 {
     match kept
         .form
@@ -173,7 +173,8 @@ fn digest_with(
     version: &Version,
     row: &EntryRow,
 ) -> Result<Digest, OutOfMemory>
-    ensures { IfOk result (λ digest. digest ≡ digest_of lab.now kept.now (with_row row.now version.now)) }
+    ensures { IfOk result (λ digest.
+        digest ≡ digest_of lab.now kept.now (with_row row.now version.now)) }
 {
     let next = with_row(version, row)?;
     let digest = kept.digest_of(alloc, lab, &next);

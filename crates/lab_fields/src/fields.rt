@@ -60,8 +60,10 @@ pub fn own_person(alloc: Global, person: Option<&str>) -> Result<Option<PersonCo
 
 /// A person's code, or nobody.
 pub fn person(bytes: &[u8]) -> Option<Option<&str>>
-    ensures value { option_map (λ person. option_map (λ code. code.now) person) result ≡ person_in bytes.now }
-    ensures admitted { IfSome result (λ person. IsPersonOrNone (option_map (λ code. code.now) person)) }
+    ensures value { option_map (λ person. option_map (λ code. code.now) person) result
+        ≡ person_in bytes.now }
+    ensures admitted { IfSome result (λ person.
+        IsPersonOrNone (option_map (λ code. code.now) person)) }
 {
     if bytes.is_empty() {
         return Some(None);
@@ -71,8 +73,10 @@ pub fn person(bytes: &[u8]) -> Option<Option<&str>>
 
 /// A note, or nothing.
 pub fn reason(bytes: &[u8]) -> Option<Option<&str>>
-    ensures value { option_map (λ reason. option_map (λ note. note.now) reason) result ≡ reason_in bytes.now }
-    ensures admitted { IfSome result (λ reason. IsNoteOrNone (option_map (λ note. note.now) reason)) }
+    ensures value { option_map (λ reason. option_map (λ note. note.now) reason) result
+        ≡ reason_in bytes.now }
+    ensures admitted { IfSome result (λ reason.
+        IsNoteOrNone (option_map (λ note. note.now) reason)) }
 {
     if bytes.is_empty() {
         return Some(None);
@@ -84,7 +88,8 @@ pub fn reason(bytes: &[u8]) -> Option<Option<&str>>
 pub fn version_reason(number: Ordinal, bytes: &[u8]) -> Option<Option<&str>>
     ensures value { option_map (λ reason. option_map (λ note. note.now) reason) result
         ≡ version_reason_in number bytes.now }
-    ensures admitted { IfSome result (λ reason. IsNoteOrNone (option_map (λ note. note.now) reason)) }
+    ensures admitted { IfSome result (λ reason.
+        IsNoteOrNone (option_map (λ note. note.now) reason)) }
     ensures reasoned { IfSome result (λ reason.
         HasReasonUnlessFirst number (option_map (λ note. note.now) reason)) }
 {

@@ -77,7 +77,7 @@ new_tables = record {
 abbrev pub IsNewFile : Database → Type 0
 IsNewFile db = Holds db new_tables
 
--- a call that makes a file, however it ends: a crash leaves what it could leave before or, where the
--- file was empty, a new file
+-- a call that makes a file, however it ends: a crash leaves what it could leave before or, where
+-- the file was empty, a new file
 abbrev pub Ends : State → State → Type 0
 Ends old new = CommitsOnce (λ db. IsBlank old.now → IsNewFile db) old new

@@ -25,7 +25,8 @@ is_field field = is_kind field.kind
 abbrev pub field_limit : ℕ
 field_limit = 60
 
--- at least one field, and no more than the limit, each one that a form may have, no two with one key
+-- at least one field, and no more than the limit, each one that a form may have, no two with one
+-- key
 unfoldable pub is_form : List Field → Bool
 is_form fields =
     nat_le 1 (length fields) && not (has_text_twice (map key_of fields))

@@ -1,5 +1,5 @@
--- How many bytes a head and a request take, and that what stands behind them says nothing of either:
--- the division into reads doesn't matter.
+-- How many bytes a head and a request take, and that what stands behind them says nothing of
+-- either: the division into reads doesn't matter.
 use Rattle.std.specs.Prelude.{◌≡◌, ℕ, min, List, ◌++◌, length, take, if◌then◌else◌, IsOk, Result, Ok, Err}
 use Rattle.lab_heads.specs.declared.refusals.HeadRefusal.{HeadRefusal}
 use Rattle.lab_heads.specs.Heads.{GoodHead, head_limit, head_text, has_end, head_end}

@@ -43,7 +43,8 @@ pub(crate) fn accept(bytes: &[u8]) -> Result<RequestHead<'_>, HeadRefusal>
 // So many bytes from a place on, if so many have come.
 fn bytes_at(bytes: &[u8], start: usize, count: usize) -> Option<&[u8]>
     ensures { option_map (λ found. found.now) result
-        ≡ (if nat_le (start + count) (length bytes.now) then Some (take count (drop start bytes.now)) else None) }
+        ≡ (if nat_le (start + count) (length bytes.now)
+        then Some (take count (drop start bytes.now)) else None) }
 {
     bytes.get(start..)?.get(..count)
 }

@@ -1,7 +1,7 @@
 -- How much a laboratory holds at the most; and that what is numbered in it is numbered from 1 on
 -- without gaps. How many persons it has is said in lab_access, and how many fields a form has in
--- lab_forms; every other limit stands here, and src/limits.rt has its constant. The numbers are this
--- system's own.
+-- lab_forms; every other limit stands here, and src/limits.rt has its constant. The numbers are
+-- this system's own.
 use Rattle.std.specs.Prelude.{◌≡◌, ◌≤◌, ℕ, ◌+◌, IsTrue, false, List, [], ◌∷◌, ◌++◌, length, Some, All}
 use Rattle.lab_names.specs.Ordinals.{last_ordinal}
 use Rattle.lab_kept.specs.declared.records.FormVersion.{FormVersion}

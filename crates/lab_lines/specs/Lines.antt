@@ -15,7 +15,8 @@ use Rattle.lab_fields.specs.Fields.{HasReasonUnlessFirst}
 use Rattle.lab_lines.specs.declared.faults.RowFault.{RowFault}
 use Rattle.lab_lines.specs.declared.faults.RowFault.TheVariants.{BadRow, Memory}
 
--- what is found is what is there, and a bad row is told where nothing is; out of memory says nothing
+-- what is found is what is there, and a bad row is told where nothing is; out of memory says
+-- nothing
 abbrev pub IsRead : {A : Type 0} → Option A → Result A RowFault → Type 0
 IsRead found (Ok value) = found ≡ Some value
 IsRead found (Err BadRow) = found ≡ None

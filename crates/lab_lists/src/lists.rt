@@ -120,7 +120,8 @@ fn part_in(
     code: &LabCode,
     need: &Need,
 ) -> Result<Option<Slice>, OutOfMemory>
-    ensures part { IfOk result (λ found. found ≡ part_of need.now (lab_of labs.old.items code.now)) }
+    ensures part { IfOk result (λ found.
+        found ≡ part_of need.now (lab_of labs.old.items code.now)) }
     ensures same { labs.new.items ≡ labs.old.items }
 {
     let Some(place) = place_of(labs, code) else {

@@ -95,8 +95,8 @@ closing_case lab session =
 abbrev pub with_changed : Lab → PasswordChanged → Lab
 with_changed lab changed = record lab {
   persons = with_person changed.person lab.persons;
-  sessions =
-      sessions_after changed.closing changed.person.code (with_session changed.session lab.sessions);
+  sessions = sessions_after changed.closing changed.person.code
+      (with_session changed.session lab.sessions);
 }
 
 abbrev pub changed_case : Lab → ℕ → Result PasswordChanged PeopleFault → Case

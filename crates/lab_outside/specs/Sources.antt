@@ -1,6 +1,6 @@
--- What a source gives, one after the other: the moments of a clock, words of chance, connections. It
--- is told where it is known; of a clock, of a source of chance and of a listener of the system it
--- isn't.
+-- What a source gives, one after the other: the moments of a clock, words of chance, connections.
+-- It is told where it is known; of a clock, of a source of chance and of a listener of the system
+-- it isn't.
 use Rattle.std.specs.Prelude.{◌≡◌, List, ◌++◌, Option, Some, None}
 
 -- these were given, in order, and the rest is still to come

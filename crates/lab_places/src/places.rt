@@ -160,7 +160,8 @@ fn sign_in(
     number: Ordinal,
     signature: Signature,
 ) -> Result<(), OutOfMemory>
-    ensures ok { OnOk result (versions.new ≡ in_version number (with_signature signature) versions.old) }
+    ensures ok { OnOk result
+        (versions.new ≡ in_version number (with_signature signature) versions.old) }
     ensures err { OnErr result (versions.new ≡ versions.old) }
 {
     let Some(place) = place_of_version(versions, number) else {

@@ -1,5 +1,6 @@
--- How far a head has come by its bytes so far. It ends with the first empty line, LF LF or LF CR LF behind its first line;
--- CR and LF before that line are passed over (RFC 9112, sections 2.1 and 2.2).
+-- How far a head has come by its bytes so far. It ends with the first empty line, LF LF or LF CR LF
+-- behind its first line; CR and LF before that line are passed over (RFC 9112, sections 2.1 and
+-- 2.2).
 use Rattle.std.specs.Prelude.{ℕ, Bool, true, false, ◌==◌, if◌then◌else◌}
 use Rattle.httparse.specs.Ascii.{carriage_return}
 use Rattle.httparse.specs.Pieces.{is_newline}

@@ -33,7 +33,8 @@ pub(crate) fn read_some<R: Read>(
     buffer: &mut [u8],
 ) -> Result<usize, ReadFault>
     ensures bound { ReadsAtMost result buffer.new }
-    ensures bytes { ReadConsumes (R.remaining reader.old) (R.remaining reader.new) result buffer.new }
+    ensures bytes { ReadConsumes (R.remaining reader.old) (R.remaining reader.new)
+        result buffer.new }
 
     // Each answer costs an ask, and none is given back.
     ensures asked { OnOk result (asks_left.new < asks_left.old) }

@@ -15,7 +15,8 @@ pub(crate) fn send_interim<W: Write>(writer: &mut W, is_due: bool) -> Result<(),
     ensures whole { OnOk result
         (Appends (W.contents writer.old) (W.contents writer.new) (lines_if is_due)) }
     ensures cut { IfErr result (λ fault.
-        Appends (W.contents writer.old) (W.contents writer.new) (take fault.sent (lines_if is_due))) }
+        Appends (W.contents writer.old) (W.contents writer.new)
+        (take fault.sent (lines_if is_due))) }
     ensures short { IfErr result (λ fault. fault.sent < length (lines_if is_due)) }
 {
     let lines = if is_due { INTERIM_LINES } else { b"" };

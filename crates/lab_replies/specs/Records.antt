@@ -134,8 +134,8 @@ abbrev pub reason_of : Option Amendment → Option (List ℕ)
 reason_of None = None
 reason_of (Some amendment) = Some amendment.reason
 
--- a version of a record: which record it is of; whether an approval is wanted is said by the version
--- of the form
+-- a version of a record: which record it is of; whether an approval is wanted is said by the
+-- version of the form
 abbrev pub version_about : VersionRead → List (List ℕ × Data)
 version_about read =
     (codes "approval", boolean read.form.form.approval)

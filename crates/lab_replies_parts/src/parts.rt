@@ -89,7 +89,8 @@ pub fn put_list(
     list: Vec<Value>,
 ) -> Result<(), OutOfMemory>
     ensures { OnOk result (members_view members.new.entries
-        ≡ with_member name.now (list_from (map view list.items)) (members_view members.old.entries)) }
+        ≡ with_member name.now (list_from (map view list.items))
+        (members_view members.old.entries)) }
 {
     put(members, alloc, name, Value::from(list))
 }

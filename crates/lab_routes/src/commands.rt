@@ -51,7 +51,8 @@ fn number_at(i: usize, place: &str) -> Ordinal
 fn form(alloc: Global, place: &str) -> Result<Command, RouteFault>
     requires key { IsTrue (is_key (segment_at 1 place.now)) }
     requires version { IsSome (ordinal_in (segment_at 2 place.now)) }
-    ensures read { IfOk result (λ command. command ≡ ReadForm (segment_at 1 place.now) (number_at 2 place.now)) }
+    ensures read { IfOk result (λ command.
+        command ≡ ReadForm (segment_at 1 place.now) (number_at 2 place.now)) }
     ensures fault { IfErr result (λ fault. fault ≡ Memory) }
 {
     let version = number_at(2, place);
@@ -126,7 +127,8 @@ fn copy(query: &str) -> Result<Command, RouteFault>
 
 // What a body names.
 fn posted(alloc: Global, post: Post, body: &[u8]) -> Result<Command, RouteFault>
-    ensures read { IfOk result (λ command. by_body (body_named (post_named post) body.now) ≡ Ok command) }
+    ensures read { IfOk result (λ command.
+        by_body (body_named (post_named post) body.now) ≡ Ok command) }
     ensures fault { IfErr result (FaultFits (by_body (body_named (post_named post) body.now))) }
 {
     match command_in(alloc, post, body) {
@@ -140,8 +142,10 @@ fn posted(alloc: Global, post: Post, body: &[u8]) -> Result<Command, RouteFault>
 #[tactic(auto, unfolding(crate::specs::Commands::command_at))]
 fn command_at(alloc: Global, to: &Destination<'_>, body: &[u8]) -> Result<Command, RouteFault>
     requires { Admitted to.now.route to.now.place.now }
-    ensures read { IfOk result (λ command. command_at to.now.route to.now.place.now to.now.query.now body.now ≡ Ok command) }
-    ensures fault { IfErr result (FaultFits (command_at to.now.route to.now.place.now to.now.query.now body.now)) }
+    ensures read { IfOk result (λ command.
+        command_at to.now.route to.now.place.now to.now.query.now body.now ≡ Ok command) }
+    ensures fault { IfErr result
+        (FaultFits (command_at to.now.route to.now.place.now to.now.query.now body.now)) }
 {
     match to.route {
         Route::Card => Ok(Command::Card),

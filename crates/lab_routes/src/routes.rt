@@ -172,7 +172,8 @@ fn is_row(method: &[u8], place: &str, row: &Row) -> bool
 }
 
 fn row_among(method: &[u8], place: &str, rows: &[Row]) -> Option<Row>
-    ensures { option_map row_shown result ≡ find (is_row method.now place.now) (map row_shown rows.now) }
+    ensures { option_map row_shown result
+        ≡ find (is_row method.now place.now) (map row_shown rows.now) }
 {
     for row in rows {
         if is_row(method, place, row) {
@@ -232,7 +233,8 @@ fn route_of(method: &[u8], place: &str) -> Result<Route, RouteRefusal>
 /// - else `Method` where the place has other methods.
 #[tactic(auto, unfolding(crate::specs::Routes::destination_of))]
 pub fn destination_of<'t>(method: &[u8], target: &'t str) -> Result<Destination<'t>, RouteRefusal>
-    ensures found { IfOk result (λ to. destination_of method.now target.now ≡ Ok (destination_shown to)) }
+    ensures found { IfOk result (λ to.
+        destination_of method.now target.now ≡ Ok (destination_shown to)) }
     ensures refused { IfErr result (λ refusal. destination_of method.now target.now ≡ Err refusal) }
 {
     let Some(rest) = behind(LABS_PREFIX, path_of(target)) else {

@@ -284,7 +284,8 @@ is_state told made = bytes_eq (state_word made) (state_word told)
 abbrev pub has_signatures_of_state : Told → Bool
 has_signatures_of_state told =
     is_some_and (is_state told.line.state)
-    (state_of (map (λ (one : SignatureLine). one.parts.meaning) told.signatures) (wants_approval told.line.format))
+    (state_of (map (λ (one : SignatureLine). one.parts.meaning) told.signatures)
+    (wants_approval told.line.format))
 
 -- the author entered a row, every other signer none, and the third signer isn't the second
 abbrev pub are_different_persons : List (List ℕ) → List (List ℕ) → Bool
@@ -318,15 +319,16 @@ flaw_of_last_version lines =
 -- what is wrong with a signature that follows these lines
 unfoldable pub flaw_of_signature : List Line → SignatureLine → Option Flaw
 flaw_of_signature before line =
-    if not (is_some_and (λ (version : VersionLine). bytes_eq version.digest line.parts.version) (last_version before))
+    if not (is_some_and (λ (version : VersionLine). bytes_eq version.digest line.parts.version)
+    (last_version before))
     then Some (Digest (length before + 2))
     else if not (bytes_eq (seal_of line.parts) line.seal) then Some (Seal (length before + 2))
     else None
 
 -- ---- the flaws of a copy, in the order in which they are told
 
--- what a line shows that is in its place: a signature its own flaw, and a line that ends a version's
--- rows that of the version
+-- what a line shows that is in its place: a signature its own flaw, and a line that ends a
+-- version's rows that of the version
 abbrev pub flaw_shown : List Line → Line → Option Flaw
 flaw_shown before (Entry line) = None
 flaw_shown before (Signature line) = flaw_of_signature before line
@@ -349,7 +351,8 @@ verdict_or verdict None = verdict
 verdict_or verdict (Some flaw) = Err flaw
 
 -- a row that stands for no line, or a line with the verdict on what follows it
-abbrev pub verdict_of_line : List Line → Option Line → (List Line → Result Counts Flaw) → Result Counts Flaw
+abbrev pub verdict_of_line : List Line → Option Line → (List Line → Result Counts Flaw)
+    → Result Counts Flaw
 verdict_of_line before None after = Err (BadRow (length before + 2))
 verdict_of_line before (Some line) after =
     verdict_or (after (before ++ (line ∷ []))) (flaw_of_line before line)
@@ -357,7 +360,8 @@ verdict_of_line before (Some line) after =
 -- what is found of rows that follow these lines: the first flaw, or how many rows there are
 unfoldable pub verdict_after : List Line → List (List (List ℕ)) → Result Counts Flaw
 verdict_after before [] = verdict_or (Ok (counts_of before)) (flaw_at_end before)
-verdict_after before (row ∷ rows) = verdict_of_line before (line_in before row) (λ lines. verdict_after lines rows)
+verdict_after before (row ∷ rows) =
+    verdict_of_line before (line_in before row) (λ lines. verdict_after lines rows)
 
 -- the row of the header
 abbrev pub is_header : List (List ℕ) → Bool

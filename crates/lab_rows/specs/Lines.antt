@@ -1,5 +1,5 @@
--- Lines whose parts are what their types admit. The row of such a line stands for it, and for nothing
--- else.
+-- Lines whose parts are what their types admit. The row of such a line stands for it, and for
+-- nothing else.
 use Rattle.std.specs.Prelude.{◌≡◌, ◌≢◌, ℕ, ◌≤◌, IsTrue, List, Option, Some, None}
 use Rattle.lab_names.specs.Moment.{is_moment}
 use Rattle.lab_names.specs.Names.{is_lab_code, is_person_code, is_key, is_name, is_note}

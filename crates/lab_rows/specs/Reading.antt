@@ -27,7 +27,8 @@ use Rattle.lab_rows.specs.declared.lines.Line.TheVariants.{Copy, Record, Version
 
 -- thirteen fields as the columns of a row
 abbrev pub columns_of : List (List ℕ) → Option Columns
-columns_of (kind ∷ lab ∷ record_number ∷ version ∷ key ∷ value ∷ unit ∷ person ∷ name ∷ moment ∷ reason ∷ digest ∷ seal ∷ []) =
+columns_of (kind ∷ lab ∷ record_number ∷ version ∷ key ∷ value ∷ unit ∷ person ∷ name ∷ moment
+    ∷ reason ∷ digest ∷ seal ∷ []) =
     Some (record {
       kind = kind;
       lab = lab;
@@ -62,7 +63,8 @@ last_count = 1000000000000
 
 -- a number of rows
 abbrev pub count_in : List ℕ → Option ℕ
-count_in digits = number_of digits >>= (λ count. if nat_le count last_count then Some count else None)
+count_in digits =
+    number_of digits >>= (λ count. if nat_le count last_count then Some count else None)
 
 abbrev pub edition_in : List ℕ → Option Edition
 edition_in key =
@@ -130,7 +132,8 @@ record_line row = do
   form_version ← ordinal_in row.version
   form ← text_where is_key row.key
   sample ← text_where is_name row.value
-  empty ← all_empty (row.unit ∷ row.person ∷ row.name ∷ row.moment ∷ row.reason ∷ row.digest ∷ row.seal ∷ [])
+  empty ← all_empty
+      (row.unit ∷ row.person ∷ row.name ∷ row.moment ∷ row.reason ∷ row.digest ∷ row.seal ∷ [])
   Some (record {
     lab = lab;
     record_number = record_number;
@@ -222,7 +225,8 @@ end_line row = do
   versions ← count_in row.version
   entries ← count_in row.key
   signatures ← count_in row.value
-  empty ← all_empty (row.unit ∷ row.person ∷ row.name ∷ row.moment ∷ row.reason ∷ row.digest ∷ row.seal ∷ [])
+  empty ← all_empty
+      (row.unit ∷ row.person ∷ row.name ∷ row.moment ∷ row.reason ∷ row.digest ∷ row.seal ∷ [])
   Some (record {
     lab = lab;
     counts = record {
@@ -237,9 +241,12 @@ end_line row = do
 unfoldable pub line_of : Columns → Option Line
 line_of row =
     if bytes_eq row.kind (codes "copy") then option_map (λ line. Copy line) (copy_line row)
-    else if bytes_eq row.kind (codes "record") then option_map (λ line. Record line) (record_line row)
-    else if bytes_eq row.kind (codes "version") then option_map (λ line. Version line) (version_line row)
+    else if bytes_eq row.kind (codes "record")
+    then option_map (λ line. Record line) (record_line row)
+    else if bytes_eq row.kind (codes "version")
+    then option_map (λ line. Version line) (version_line row)
     else if bytes_eq row.kind (codes "entry") then option_map (λ line. Entry line) (entry_line row)
-    else if bytes_eq row.kind (codes "signature") then option_map (λ line. Signature line) (signature_line row)
+    else if bytes_eq row.kind (codes "signature")
+    then option_map (λ line. Signature line) (signature_line row)
     else if bytes_eq row.kind (codes "end") then option_map (λ line. End line) (end_line row)
     else None

@@ -54,8 +54,8 @@ Steps tick (Err refusal) old new = SameMeaning old new
 Steps tick (Ok asked) old new =
     SetsOne asked.lab (step (old asked.lab) tick asked.instruction).after old new
 
--- a reply that is built, and changes, make the step of a laboratory: the changes fit it, where it is
--- within its limits, and there are none where the step writes nothing, and there alone
+-- a reply that is built, and changes, make the step of a laboratory: the changes fit it, where it
+-- is within its limits, and there are none where the step writes nothing, and there alone
 pub record Builds (lab : Option Lab) (tick : Tick) (instruction : Instruction) (reply : List ℕ)
     (changes : List Change) : Type 0 where
   pub replied : reply ≡ reply_text tick (Replied (step lab tick instruction).reply)

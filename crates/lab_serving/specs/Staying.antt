@@ -10,8 +10,8 @@ pub record Stays (old new : World) : Type 0 where
   pub reached : new.is_reached
   pub safe : StaysSafe old new
 
--- over any number of them: each laboratory has all that was recorded, and what was released is as it
--- was; and while no fault shuts the keeper, a crash leaves well-kept tables alone
+-- over any number of them: each laboratory has all that was recorded, and what was released is as
+-- it was; and while no fault shuts the keeper, a crash leaves well-kept tables alone
 pub record StaysOn (old new : World) : Type 0 where
   pub within : AreWithin new
   pub releasing : AreReleasing old → AreReleasing new

@@ -1,5 +1,5 @@
--- What connections make of a desk: each is handled in its turn, over the keeper as the one before it
--- left it, and nothing else is done.
+-- What connections make of a desk: each is handled in its turn, over the keeper as the one before
+-- it left it, and nothing else is done.
 use Rattle.std.specs.Prelude.{◌≡◌, ◌++◌, ◌≤◌, ◌<◌, ℕ, List, [], ◌∷◌, Option, Some, None, Result, Ok, Err, length, map, take}
 use Rattle.std.specs.Io.KnownBytes.{Appends, Keeps}
 use Rattle.lab_names.specs.declared.tick.Tick.{Tick}

@@ -20,7 +20,8 @@ pub(crate) fn rows_by_token<D: Readable>(
     ensures err { HasCleanDisk (D.state conn.new) → IfErr result
         (FailsToQuery sql.now (Int first ∷ Blob second.now ∷ [])
         (D.state conn.old) (D.state conn.new)) }
-    ensures mode { (D.state conn.old).in_transaction ≡ false → (D.state conn.new).in_transaction ≡ false }
+    ensures mode { (D.state conn.old).in_transaction ≡ false
+        → (D.state conn.new).in_transaction ≡ false }
     ensures survives { Survives (D.state conn.old) (D.state conn.new)
         (CommitsShowing sql.now (Int first ∷ Blob second.now ∷ []) (D.state conn.old)) }
 {

@@ -38,9 +38,9 @@ valued word (Some value) = word ++ codes " " ++ decimal value
 abbrev pub task_fault_line : TaskFault → List ℕ
 task_fault_line fault = told_line (valued (task_fault_word fault) (task_fault_value fault))
 
--- standard error was told the fault's line, or, where a value has to be put into it and there was no
--- memory for that, that memory ran out; where standard error failed, the line's first bytes, and not
--- all
+-- standard error was told the fault's line, or, where a value has to be put into it and there was
+-- no memory for that, that memory ran out; where standard error failed, the line's first bytes, and
+-- not all
 abbrev pub IsToldOf : {X : Type 0} → TaskFault → Result X Untold → Option (List ℕ) →
     Option (List ℕ) → Type 0
 IsToldOf fault told before after =

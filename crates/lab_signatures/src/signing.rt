@@ -98,7 +98,8 @@ pub fn content_refusal(
     kept: &Record,
     number: Ordinal,
 ) -> Result<Option<Refusal>, OutOfMemory>
-    ensures refusal { IfOk result (λ refusal. refusal ≡ content_refusal signing.now kept.now number) }
+    ensures refusal { IfOk result (λ refusal.
+        refusal ≡ content_refusal signing.now kept.now number) }
     ensures memory { IfErr result (λ _. IsTrue (is_table_made signing.now)) }
 {
     match signing {

@@ -1,5 +1,5 @@
--- Laws of the tables as a keeper's: a laboratory is kept under its own code, and changes after a rest
--- are changes of the tables before it.
+-- Laws of the tables as a keeper's: a laboratory is kept under its own code, and changes after a
+-- rest are changes of the tables before it.
 use Rattle.std.proofs.Common.{◌≡◌, ℕ, List, Option, Some, None, option_map, find, refl, sym, ap, subst, ◌∙◌}
 use Rattle.std.proofs.lemmas.Slice.Eq.{bytes_eq-Decides}
 use Rattle.sqlite_rules.proofs.ListLemmas.{has_found}
@@ -13,11 +13,13 @@ use Rattle.lab_tables.specs.Meaning.{lab_in, has_code, meaning}
 use Rattle.lab_tables.specs.Ready.{IsKept}
 use Rattle.lab_tables_changes.specs.Steps.{AreMadeIfAny}
 
-own_code_by : (t : Tables) (code : List ℕ) (found : Option LabRow) (lab : Lab) → find (has_code code) t.labs ≡ found → option_map (lab_in t) found ≡ Some lab → lab.code ≡ code
+own_code_by : (t : Tables) (code : List ℕ) (found : Option LabRow) (lab : Lab) →
+    find (has_code code) t.labs ≡ found → option_map (lab_in t) found ≡ Some lab → lab.code ≡ code
 own_code_by t code None lab is shown = absurd (let e = shown in cc)
 own_code_by t code (Some row) lab is shown =
     let same : lab_in t row ≡ lab = (let e = shown in cc) in
-    sym (ap (λ (one : Lab). one.code) same) ∙ (bytes_eq-Decides row.code code).0 (has_found (has_code code) t.labs row is).1
+    sym (ap (λ (one : Lab). one.code) same)
+    ∙ (bytes_eq-Decides row.code code).0 (has_found (has_code code) t.labs row is).1
 
 pub own_code : {db : Database} → IsKept db → (code : List ℕ) (lab : Lab) →
     meaning (tables_in db.trees) code ≡ Some lab → lab.code ≡ code
@@ -25,7 +27,8 @@ own_code {db} kept code lab is =
     let t = tables_in db.trees in own_code_by t code (find (has_code code) t.labs) lab refl is
 
 -- and under which a crash leaves it
-pub own_code_left : (trees : Trees) (held : Meaning) → SameMeaning (meaning (tables_in trees)) held →
+pub own_code_left : (trees : Trees) (held : Meaning) →
+    SameMeaning (meaning (tables_in trees)) held →
     (code : List ℕ) (lab : Lab) → held code ≡ Some lab → lab.code ≡ code
 own_code_left trees held same code lab is =
     let t = tables_in trees in

@@ -1,10 +1,10 @@
 -- What each kind of change of a laboratory makes of the tables: rows that are added, under any ids
--- that no row of their tables has, and rows that are set. Counters and `current` follow; every other
--- row stays as it is, and none is taken away (21 CFR 11.10(e), "record changes shall not obscure
--- previously recorded information"). Whose the rows are is said once, by the row of the laboratory
--- with the code: each added row has that row's id, or an arrow to a row that was found under it. A
--- change that names somebody or something which isn't found there makes nothing of the tables: it is
--- related to none.
+-- that no row of their tables has, and rows that are set. Counters and `current` follow; every
+-- other row stays as it is, and none is taken away (21 CFR 11.10(e), "record changes shall not
+-- obscure previously recorded information"). Whose the rows are is said once, by the row of the
+-- laboratory with the code: each added row has that row's id, or an arrow to a row that was found
+-- under it. A change that names somebody or something which isn't found there makes nothing of the
+-- tables: it is related to none.
 use Rattle.std.specs.Prelude.{◌≡◌, ℕ, ℤ, ◌+◌, Bool, false, true, ◌&&◌, ◌==◌, List, [], ◌∷◌, length, filter, find, Option, Some, None, option_map, bytes_eq}
 use Rattle.std.specs.Ordering.{int_eq}
 use Rattle.sqlite_keyed.specs.Keyed.{has_key, insert_by}
@@ -71,7 +71,8 @@ abbrev pub IsFree : {X : Type 0} → (X → ℤ) → List X → ℤ → Type 0
 IsFree id rows new = has_key id rows new ≡ false
 
 -- one step after the other, for each item
-abbrev pub InTurn : {A : Type 0} → (A → Tables → Tables → Type 0) → List A → Tables → Tables → Type 0
+abbrev pub InTurn : {A : Type 0} → (A → Tables → Tables → Type 0) → List A → Tables → Tables
+    → Type 0
 InTurn step [] old new = new ≡ old
 InTurn step (one ∷ others) old new =
     (middle : Tables) × step one old middle × InTurn step others middle new
@@ -116,13 +117,14 @@ in_lab id next t = record t { labs = update_where (λ (one : LabRow). int_eq one
 -- the row with the same id becomes this one
 abbrev pub set_person : PersonRow → Tables → Tables
 set_person row t = record t {
-  persons = update_where (λ (one : PersonRow). int_eq one.id row.id) (λ (one : PersonRow). row) t.persons;
+  persons = update_where (λ (one : PersonRow). int_eq one.id row.id)
+      (λ (one : PersonRow). row) t.persons;
 }
 
 abbrev pub set_session : SessionRow → Tables → Tables
 set_session row t = record t {
-  sessions =
-      update_where (λ (one : SessionRow). int_eq one.id row.id) (λ (one : SessionRow). row) t.sessions;
+  sessions = update_where (λ (one : SessionRow). int_eq one.id row.id)
+      (λ (one : SessionRow). row) t.sessions;
 }
 
 abbrev pub set_current : ℤ → ℕ → Tables → Tables

@@ -1,6 +1,6 @@
--- How values stand in columns: as they are read, whatever the columns hold, and as they are written.
--- What is written is read back as it was; a row whose columns aren't those that are written of what
--- is read of them is no row of a well-kept table.
+-- How values stand in columns: as they are read, whatever the columns hold, and as they are
+-- written. What is written is read back as it was; a row whose columns aren't those that are
+-- written of what is read of them is no row of a well-kept table.
 use Rattle.std.specs.Prelude.{ℕ, ℤ, ◌+◌, ◌/◌, ◌%◌, ◌==◌, Bool, true, false, List, [], ◌∷◌, find, Option, Some, None, unwrap_or, bytes_eq, codes, if◌then◌else◌}
 use Rattle.lab_secrets.specs.declared.verifiers.VerifierParts.{VerifierParts}
 use Rattle.lab_forms.specs.declared.kinds.Kind.{Kind}

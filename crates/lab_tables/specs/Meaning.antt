@@ -1,12 +1,12 @@
 -- What the tables mean for one laboratory: the laboratory as `lab_kept` has it, with numbers and
--- codes and no id of a row. The way leads down the owning arrows, one at a time: a laboratory has the
--- persons, sessions, forms, records and rows of the trail whose `lab` is its row; a form its fields,
--- a field its choices; a record its versions, a version its entries and signatures. Of a person to
--- whom another arrow leads only the code is taken. Lists stand in the order of numbers or places,
--- persons in that of their codes, versions of forms in that of codes and numbers. In well-kept
--- tables these are all the rows whose arrows lead to the laboratory (ISO/IEC 17025:2017, 7.5.1, "the
--- identity of personnel responsible for each laboratory activity and for checking data and
--- results").
+-- codes and no id of a row. The way leads down the owning arrows, one at a time: a laboratory has
+-- the persons, sessions, forms, records and rows of the trail whose `lab` is its row; a form its
+-- fields, a field its choices; a record its versions, a version its entries and signatures. Of a
+-- person to whom another arrow leads only the code is taken. Lists stand in the order of numbers or
+-- places, persons in that of their codes, versions of forms in that of codes and numbers. In
+-- well-kept tables these are all the rows whose arrows lead to the laboratory (ISO/IEC 17025:2017,
+-- 7.5.1, "the identity of personnel responsible for each laboratory activity and for checking data
+-- and results").
 use Rattle.std.specs.Prelude.{ℕ, ℤ, Bool, false, List, [], ◌∷◌, map, filter, find, Option, Some, None, option_map, unwrap_or, bytes_eq}
 use Rattle.std.specs.declared.cmp.Ordering.{Ordering}
 use Rattle.std.specs.Ordering.{int_eq, nat_cmp, ordering_then}
@@ -217,8 +217,8 @@ version_after kept before leaf = record {
   signatures = leaf.signatures;
 }
 
--- versions of a record, each of which amends the one before it as that is now; the first amends what
--- stands before them
+-- versions of a record, each of which amends the one before it as that is now; the first amends
+-- what stands before them
 abbrev pub chained : List ℕ → Record → Option (List ℕ) → List Leaf → List Version
 chained lab kept before [] = []
 chained lab kept before (one ∷ others) =

@@ -1,6 +1,7 @@
--- What a connection must be so that calls on it may begin, and what a call leaves it: one that reads,
--- one inside a transaction, and one that commits. What a connection shows says something only while
--- no fault of the disk went unseen (a clean disk, as the kit has it) and none has shut it.
+-- What a connection must be so that calls on it may begin, and what a call leaves it: one that
+-- reads, one inside a transaction, and one that commits. What a connection shows says something
+-- only while no fault of the disk went unseen (a clean disk, as the kit has it) and none has shut
+-- it.
 use Rattle.std.specs.Prelude.{◌≡◌, ◌⊎◌, false, IsTrue}
 use Rattle.sqlite_trees.specs.Tree.{Trees}
 use Rattle.sqlite.specs.Effect.{Database}

@@ -1,6 +1,6 @@
--- Tables that are well kept: no two rows have one key, each arrow leads to a row, and all arrows of a
--- row lead to one laboratory; numbers and places run from 1 without gaps; what a row says twice it
--- says alike (21 CFR 11.10(a), "the ability to discern invalid or altered records"; ISO/IEC
+-- Tables that are well kept: no two rows have one key, each arrow leads to a row, and all arrows of
+-- a row lead to one laboratory; numbers and places run from 1 without gaps; what a row says twice
+-- it says alike (21 CFR 11.10(a), "the ability to discern invalid or altered records"; ISO/IEC
 -- 17025:2017, 7.11.3: a system that manages information is (b) "safeguarded against tampering and
 -- loss" and (d) "maintained in a manner that ensures the integrity of the data and information").
 -- Most parts are tests, so that a file can be tried.
@@ -293,8 +293,8 @@ IsTrailSpelled one = action_word (action_in one.action) ≡ one.action
 
 -- ---- all of it
 
--- all but which schema the file names: so tables are while a file is made, whose row of `desk` comes
--- last
+-- all but which schema the file names: so tables are while a file is made, whose row of `desk`
+-- comes last
 pub record AreWellKept (t : Tables) : Type 0 where
   pub ids : IsTrue (are_ids_unique t)
   pub keys : IsTrue (are_keys_unique t)

@@ -1,6 +1,6 @@
--- What the changes of a request make of the tables, one after the other, in a database that keeps its
--- own rules. ISO/IEC 17025:2017, 7.11.3(d): a system that manages information is "maintained in a
--- manner that ensures the integrity of the data and information".
+-- What the changes of a request make of the tables, one after the other, in a database that keeps
+-- its own rules. ISO/IEC 17025:2017, 7.11.3(d): a system that manages information is "maintained in
+-- a manner that ensures the integrity of the data and information".
 use Rattle.std.specs.Prelude.{◌≡◌, ◌⊎◌, ℕ, ℤ, List, [], find, Some}
 use Rattle.lab_kept.specs.declared.changes.Change.{Change}
 use Rattle.lab_kept.specs.declared.changes.Change.TheVariants.{Last, Strays, PersonAdded, PersonSet, SessionAdded, SessionSet, SessionsClosed, FormAdded, RecordAdded, RowAdded, VersionOpened, SignatureAdded, TrailAdded}
@@ -25,8 +25,10 @@ AppliesWhereKept lab (SessionsClosed person closing) old new =
 AppliesWhereKept lab (FormAdded form) old new = AppliesIn lab (FormAdded form) old new
 AppliesWhereKept lab (RecordAdded kept) old new = AppliesIn lab (RecordAdded kept) old new
 AppliesWhereKept lab (RowAdded number row) old new = AppliesIn lab (RowAdded number row) old new
-AppliesWhereKept lab (VersionOpened number version) old new = AppliesIn lab (VersionOpened number version) old new
-AppliesWhereKept lab (SignatureAdded number version signature) old new = AppliesIn lab (SignatureAdded number version signature) old new
+AppliesWhereKept lab (VersionOpened number version) old new =
+    AppliesIn lab (VersionOpened number version) old new
+AppliesWhereKept lab (SignatureAdded number version signature) old new =
+    AppliesIn lab (SignatureAdded number version signature) old new
 AppliesWhereKept lab (TrailAdded told) old new = AppliesIn lab (TrailAdded told) old new
 
 -- the change was made of the laboratory whose row has the id, and left tables in which ids rise and

@@ -20,10 +20,13 @@ ghost use Rattle.lab_tables_keeping.specs.ByRules.{IsByRules};
 /// well kept again, and names the schema as before. That ids and keys are unique there and that arrows lead to rows a database
 /// of the schema keeps by itself, whatever is written.
 pub fn a_change_keeps_the_tables_well()
-    ensures rules { (db : Database) → IsTyped db → Obeys lab_schema db.trees → IsByRules (tables_in db.trees) }
-    ensures kept { (old new : Tables) (code : List ℕ) (one : Change) → AreWellKept old → IsByRules new
-        → ChangesFit (meaning old code) (one ∷ []) → Applies code one old new → AreWellKept new }
-    ensures desk { (old new : Tables) (code : List ℕ) (one : Change) → Applies code one old new → new.desk ≡ old.desk }
+    ensures rules { (db : Database) → IsTyped db → Obeys lab_schema db.trees
+        → IsByRules (tables_in db.trees) }
+    ensures kept { (old new : Tables) (code : List ℕ) (one : Change) → AreWellKept old
+        → IsByRules new → ChangesFit (meaning old code) (one ∷ []) → Applies code one old new
+        → AreWellKept new }
+    ensures desk { (old new : Tables) (code : List ℕ) (one : Change) → Applies code one old new
+        → new.desk ≡ old.desk }
 {}
 
 /// Law: where a laboratory is founded, what its placing makes of well-kept tables is well kept again; and whichever laboratory

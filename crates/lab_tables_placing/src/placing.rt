@@ -16,7 +16,8 @@ pub fn a_founded_laboratory_is_placed()
     ensures placed { (old new : Tables) (newborn : Newborn) → AreRising old → AreWellKept old
         → IsTrue (are_ids_unique new) → IsTrue (are_keys_unique new) → IsTrue (are_arrows_whole new)
         → newborn.first.ask ≡ None → newborn.second.ask ≡ None → newborn.third.ask ≡ None
-        → PlacesLab (newborn_lab newborn) old new → Places (newborn_lab newborn) (meaning old) (meaning new) }
+        → PlacesLab (newborn_lab newborn) old new
+        → Places (newborn_lab newborn) (meaning old) (meaning new) }
     ensures kept { (old new : Tables) (newborn : Newborn) → AreRising old → AreWellKept old
         → IsTrue (are_ids_unique new) → IsTrue (are_keys_unique new) → IsTrue (are_arrows_whole new)
         → newborn.first.ask ≡ None → newborn.second.ask ≡ None → newborn.third.ask ≡ None

@@ -1,5 +1,6 @@
--- What `labdesk check` tells of an inspection copy (21 CFR 11.10(a), "the ability to discern invalid or altered records"): a line on
--- standard output, and a status. Its words are this system's own (docs/REFUSALS.md).
+-- What `labdesk check` tells of an inspection copy (21 CFR 11.10(a), "the ability to discern
+-- invalid or altered records"): a line on standard output, and a status. Its words are this
+-- system's own (docs/REFUSALS.md).
 use Rattle.std.specs.Prelude.{◌≡◌, ◌<◌, ℕ, List, ◌++◌, [], length, take, codes, decimal, Option, Some, None, Result, Ok, Err}
 use Rattle.std.specs.Io.KnownBytes.{Keeps, Appends}
 use Rattle.lab_messages.specs.declared.sending.WriteFault.{WriteFault as Untold}
@@ -57,7 +58,8 @@ IsCut text before after = (sent : ℕ) × Appends before after (take sent text) 
 
 -- the line of the verdict was told, and nothing else; after a write fault its first bytes were, and
 -- after another fault nothing
-abbrev pub IsVerdictTold : Result Counts Flaw → Result ℕ StopFault → (before after : Option (List ℕ)) → Type 0
+abbrev pub IsVerdictTold : Result Counts Flaw → Result ℕ StopFault
+    → (before after : Option (List ℕ)) → Type 0
 IsVerdictTold verdict (Ok status) before after =
     (status ≡ verdict_status verdict) × Appends before after (verdict_line verdict)
 IsVerdictTold verdict (Err Write) before after = IsCut (verdict_line verdict) before after

@@ -1,5 +1,5 @@
--- What is answered, and its bytes: the body is JSON (RFC 8259), or a copy as CSV (RFC 4180), and the
--- status may ask for a field (RFC 9110, sections 8.3, 10.2.1 and 11.6.1).
+-- What is answered, and its bytes: the body is JSON (RFC 8259), or a copy as CSV (RFC 4180), and
+-- the status may ask for a field (RFC 9110, sections 8.3, 10.2.1 and 11.6.1).
 use Rattle.std.specs.Prelude.{ℕ, List, [], ◌++◌, ◌==◌, codes, if◌then◌else◌, Some, None}
 use Rattle.serde_json.specs.Written.{compact_text}
 use Rattle.lab_names.specs.declared.tick.Tick.{Tick}

@@ -49,7 +49,8 @@ fn with<'a>(bare: Command<'a>, subcommand: Command<'a>) -> Result<Command<'a>, A
 
 // A command with `found`.
 fn with_found<'a>(alloc: Global, bare: Command<'a>) -> Result<Command<'a>, AllocError>
-    ensures { IfOk result (λ more. app_of more ≡ with_subcommand (app_of bare.entry) found_app.top) }
+    ensures { IfOk result (λ more.
+        app_of more ≡ with_subcommand (app_of bare.entry) found_app.top) }
 {
     let found = found_command(alloc)?;
     with(bare, found)
@@ -57,7 +58,8 @@ fn with_found<'a>(alloc: Global, bare: Command<'a>) -> Result<Command<'a>, Alloc
 
 // A command with `serve`.
 fn with_serve<'a>(alloc: Global, bare: Command<'a>) -> Result<Command<'a>, AllocError>
-    ensures { IfOk result (λ more. app_of more ≡ with_subcommand (app_of bare.entry) serve_app.top) }
+    ensures { IfOk result (λ more.
+        app_of more ≡ with_subcommand (app_of bare.entry) serve_app.top) }
 {
     let serve = serve_command(alloc)?;
     with(bare, serve)

@@ -1,5 +1,5 @@
--- What each call inside a transaction wants of the connection, and what it makes of the tables. Calls
--- stand one after the other, and the last of all commits.
+-- What each call inside a transaction wants of the connection, and what it makes of the tables.
+-- Calls stand one after the other, and the last of all commits.
 use Rattle.std.specs.Prelude.{◌≡◌, Result, OnOk, IfOk, IsTrue}
 use Rattle.sqlite.specs.Effect.{IsDatabase}
 use Rattle.sqlite.specs.State.{State, HasCleanDisk}

@@ -73,7 +73,8 @@ pub fn lab_id_at<W: Writable>(tx: &mut W, code: &LabCode) -> Result<RowId, Error
 fn person_rows<W: Writable>(tx: &mut W, lab: RowId, code: &str) -> Result<Vec<Row>, Error>
     requires inside { IsInside (W.state tx.old) }
     ensures same_lender { W.lender tx.new ≡ W.lender tx.old }
-    ensures rows { Answers result (λ rows. Finds (λ t. rows.items ≡ persons_shown lab.id code.now t))
+    ensures rows { Answers result
+        (λ rows. Finds (λ t. rows.items ≡ persons_shown lab.id code.now t))
         (W.state tx.old) (W.state tx.new) }
     ensures kept { HasCleanDisk (W.state tx.new) → KeepsCommit
         (W.state tx.old) (W.state tx.new) }
@@ -92,7 +93,8 @@ fn person_rows<W: Writable>(tx: &mut W, lab: RowId, code: &str) -> Result<Vec<Ro
 pub fn person_id_at<W: Writable>(tx: &mut W, lab: RowId, code: &PersonCode) -> Result<RowId, Error>
     requires inside { IsInside (W.state tx.old) }
     ensures same_lender { W.lender tx.new ≡ W.lender tx.old }
-    ensures found { Answers result (λ one. Finds (λ t. person_named t lab.id code.now ≡ Some one.id))
+    ensures found { Answers result
+        (λ one. Finds (λ t. person_named t lab.id code.now ≡ Some one.id))
         (W.state tx.old) (W.state tx.new) }
     ensures kept { HasCleanDisk (W.state tx.new) → KeepsCommit
         (W.state tx.old) (W.state tx.new) }
@@ -111,7 +113,8 @@ pub fn person_if_any<W: Writable>(
 ) -> Result<Option<RowId>, Error>
     requires inside { IsInside (W.state tx.old) }
     ensures same_lender { W.lender tx.new ≡ W.lender tx.old }
-    ensures found { Answers result (λ one. Finds (λ t. IsNamedIfAny t lab.id code.now (option_map row_id one)))
+    ensures found { Answers result
+        (λ one. Finds (λ t. IsNamedIfAny t lab.id code.now (option_map row_id one)))
         (W.state tx.old) (W.state tx.new) }
     ensures kept { HasCleanDisk (W.state tx.new) → KeepsCommit
         (W.state tx.old) (W.state tx.new) }
@@ -131,7 +134,8 @@ pub fn person_if_any<W: Writable>(
 fn session_rows<W: Writable>(tx: &mut W, lab: RowId, token: &[u8]) -> Result<Vec<Row>, Error>
     requires inside { IsInside (W.state tx.old) }
     ensures same_lender { W.lender tx.new ≡ W.lender tx.old }
-    ensures rows { Answers result (λ rows. Finds (λ t. rows.items ≡ sessions_shown lab.id token.now t))
+    ensures rows { Answers result
+        (λ rows. Finds (λ t. rows.items ≡ sessions_shown lab.id token.now t))
         (W.state tx.old) (W.state tx.new) }
     ensures kept { HasCleanDisk (W.state tx.new) → KeepsCommit
         (W.state tx.old) (W.state tx.new) }

@@ -24,8 +24,8 @@ pub trait Writable {
     /// The statement is refused, the transaction has ended, the disk fails, or memory runs out.
     fn query_all(&mut self, sql: &str, params: &[ValueRef<'_>]) -> Result<Vec<Row>, Error>
         ensures same_lender { lender self.new ≡ lender self.old }
-        ensures ok { HasCleanDisk (state self.new) → IfOk result
-            (λ rows. Shown sql.now (bound params.now) (state self.old) (state self.new) rows.items) }
+        ensures ok { HasCleanDisk (state self.new) → IfOk result (λ rows.
+            Shown sql.now (bound params.now) (state self.old) (state self.new) rows.items) }
         ensures err { HasCleanDisk (state self.new) → IfErr result
             (λ e. FailsToQuery sql.now (bound params.now) (state self.old) (state self.new) e
             ⊎ IsTooLate sql.now (bound params.now) (state self.old) (state self.new) e) }

@@ -1,5 +1,5 @@
--- What the rows of a founded laboratory make of the tables: its own row, under an id that none has, the
--- rows of its persons and the rows of its trail; every other row stays as it is.
+-- What the rows of a founded laboratory make of the tables: its own row, under an id that none has,
+-- the rows of its persons and the rows of its trail; every other row stays as it is.
 use Rattle.std.specs.Prelude.{◌≡◌, ℤ}
 use Rattle.lab_kept.specs.declared.labs.Lab.{Lab}
 use Rattle.lab_tables.specs.Rows.{Tables, lab_id}

@@ -71,7 +71,8 @@ fn all_rows<W: Writable>(tx: &mut W, person: RowId) -> Result<Vec<Row>, Error>
 fn other_rows<W: Writable>(tx: &mut W, person: RowId, kept: Ordinal) -> Result<Vec<Row>, Error>
     requires inside { IsInside (W.state tx.old) }
     ensures same_lender { W.lender tx.new ≡ W.lender tx.old }
-    ensures rows { Answers result (λ rows. Finds (λ t. rows.items ≡ opened_shown person.id (Others kept) t))
+    ensures rows { Answers result
+        (λ rows. Finds (λ t. rows.items ≡ opened_shown person.id (Others kept) t))
         (W.state tx.old) (W.state tx.new) }
     ensures kept { HasCleanDisk (W.state tx.new) → KeepsCommit
         (W.state tx.old) (W.state tx.new) }
