@@ -18,7 +18,8 @@ use lab_names::Tick;
 use lab_wire::Asked;
 use std::alloc::Global;
 
-// Loads the part of the laboratory that its instruction needs, or none where there is no laboratory of the code.
+// Loads the part of the laboratory that its instruction needs, or none where there is no
+// laboratory of the code.
 fn load_needed<S: Keeper>(
     keeper: &mut S,
     tick: &Tick,
@@ -38,7 +39,8 @@ fn load_needed<S: Keeper>(
         (Quiet (S.world keeper.old) (S.world keeper.new)) }
     ensures safe { Given (S.world keeper.old) (S.world keeper.new)
         (StaysSafe (S.world keeper.old) (S.world keeper.new)) }
-    ensures reached { Given (S.world keeper.old) (S.world keeper.new) (S.world keeper.new).is_reached }
+    ensures reached { Given (S.world keeper.old) (S.world keeper.new)
+        (S.world keeper.new).is_reached }
     ensures passes { Passes (S.world keeper.old) (S.world keeper.new) }
 {
     let need = needs(tick, &asked.instruction)?;

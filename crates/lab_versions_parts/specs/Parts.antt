@@ -94,7 +94,12 @@ first_front text = do
   amendment ← first_origin heading.0.3 subject.1
   opening ← first_opening amendment.1
   Some (
-    record { heading = heading.0; subject = subject.0; amendment = amendment.0; opening = opening.0 },
+    record {
+      heading = heading.0;
+      subject = subject.0;
+      amendment = amendment.0;
+      opening = opening.0;
+    },
     opening.1,
   )
 

@@ -50,12 +50,19 @@ fn named_copy<'a>(alloc: Global) -> Result<Command<'a>, AllocError> {
     copy_command(alloc)?.bin_name("labdesk copy")
 }
 
-// The fault of a range of records that ends before it begins, as clap tells its own.
+// The fault of a range of records that ends before it begins, as clap tells those of a command.
+fn misordered(mut command: Command<'_>) -> Result<Error, AllocError>
+    ensures { IfOk result (λ error. kind_of error ≡ ValueValidation) }
+{
+    command.error(ErrorKind::ValueValidation, MISORDERED)
+}
+
+// That fault of `copy`.
 fn order_fault(alloc: Global) -> Result<Error, AllocError>
     ensures { IfOk result (λ error. kind_of error ≡ ValueValidation) }
 {
-    let mut command = named_copy(alloc)?;
-    command.error(ErrorKind::ValueValidation, MISORDERED)
+    let copy = named_copy(alloc)?;
+    misordered(copy)
 }
 
 // The same, or that memory ran out.
