@@ -57,8 +57,9 @@ Options:
   -h, --help      Print help
 
 It founds a laboratory in the file, at the moment of the clock, and prints `founded` and its
-code. A file is made where there is none, and stays where the founding is refused. The body of a
-founding is described in docs/FORMATS.md. An example:
+code. A file is made where there is none, and stays where the founding is refused. The input is a
+JSON object: the laboratory's `name`, and three `founders`, each with `code`, `name` and
+`password`. It is described in docs/FORMATS.md. An example:
 
     labdesk found --file laboratories --lab aqua < examples/founding.json
 """,
@@ -104,7 +105,8 @@ Options:
   -h, --help  Print help
 
 It tells `good` and how many records, versions, entries and signatures the copy has, or
-`bad`, what is wrong first, and the row. A copy is described in docs/COPIES.md. An example:
+`bad`, what is wrong first, and the row. The input is CSV, as `labdesk copy` writes it, and is
+described in docs/COPIES.md. An example:
 
     labdesk check < copy.csv
 """,
@@ -136,8 +138,8 @@ Options:
   -h, --help        Print help
 
 It founds the laboratory in memory, at the first of all moments, asks for its card over a
-socket of this machine at the given moment, and prints the reply. The body of a founding is
-described in docs/FORMATS.md. An example:
+socket of this machine at the given moment, and prints the reply. The input is a JSON object, as
+that of `labdesk found`, and is described in docs/FORMATS.md. An example:
 
     labdesk rehearse --lab aqua --moment 100 < examples/founding.json
 """,

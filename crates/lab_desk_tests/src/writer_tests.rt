@@ -12,7 +12,7 @@ fn desk_with_aqua<R: Abort + AllocGlobal>(rt: &R) -> Desk<Lists> {
     let code = code(rt, "aqua");
     let found = desk.found(&code, &tick(rt, 50, 1), BODY);
     drop(code);
-    assert!(rt; found.is_ok());
+    assert!(rt; found == Ok(()));
     desk
 }
 

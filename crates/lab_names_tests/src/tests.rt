@@ -184,20 +184,20 @@ fn no_other_text_is_a_moment(rt: HostRuntime) {
     }
 }
 
-static NUMBERS: [(u32, bool); 7] = [
-    (0, false),
-    (1, true),
-    (2, true),
-    (999_999_999, true),
-    (1_000_000_000, true),
-    (1_000_000_001, false),
-    (u32::MAX, false),
+static NUMBERS: [(u32, Option<u32>); 7] = [
+    (0, None),
+    (1, Some(1)),
+    (2, Some(2)),
+    (999_999_999, Some(999_999_999)),
+    (1_000_000_000, Some(1_000_000_000)),
+    (1_000_000_001, None),
+    (u32::MAX, None),
 ];
 
 #[test]
 fn ordinals_are_1_to_1000000000(rt: HostRuntime) {
-    for &(number, is_ordinal) in &NUMBERS {
-        assert!(rt; Ordinal::new(number).is_some() == is_ordinal);
+    for &(number, ordinal) in &NUMBERS {
+        assert!(rt; Ordinal::new(number).map(Ordinal::get) == ordinal);
     }
 }
 

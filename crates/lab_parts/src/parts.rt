@@ -91,7 +91,7 @@ fn callers_of(lab: &Lab, token: &Option<Digest>) -> Result<Callers, OutOfMemory>
         both.caller ≡ caller_of lab.now (option_and_then (session_at lab.now) token.now)) }
 {
     let found = session(lab, token);
-    let (session, caller) = both(session_copy(found), caller(lab, found))?;
+    let (session, caller) = both(found.map(Session::copy).transpose(), caller(lab, found))?;
     Ok(Callers { session, caller })
 }
 
@@ -101,15 +101,6 @@ fn session<'a>(lab: &'a Lab, token: &Option<Digest>) -> Option<&'a Session>
     match token {
         Some(digest) => session_of(lab.sessions.as_slice(), digest),
         None => None,
-    }
-}
-
-fn session_copy(found: Option<&Session>) -> Result<Option<Session>, OutOfMemory>
-    ensures { IfOk result (λ copy. copy ≡ option_copied found.entry) }
-{
-    match found {
-        Some(session) => Ok(Some(session.copy()?)),
-        None => Ok(None),
     }
 }
 
@@ -185,16 +176,7 @@ fn form(lab: &Lab, wanted: &FormWanted) -> Result<Option<FormVersion>, OutOfMemo
         FormWanted::Last { code } => last_form(forms, code),
         FormWanted::Exact { code, version } => exact_form(forms, code, *version),
     };
-    form_copy(found)
-}
-
-fn form_copy(found: Option<&FormVersion>) -> Result<Option<FormVersion>, OutOfMemory>
-    ensures { IfOk result (λ copy. copy ≡ option_copied found.entry) }
-{
-    match found {
-        Some(form) => Ok(Some(form.copy()?)),
-        None => Ok(None),
-    }
+    found.map(FormVersion::copy).transpose()
 }
 
 fn filed(lab: &Lab, wanted: &RecordWanted) -> Result<Option<Record>, OutOfMemory>
@@ -205,16 +187,7 @@ fn filed(lab: &Lab, wanted: &RecordWanted) -> Result<Option<Record>, OutOfMemory
         RecordWanted::Numbered { number } => record_of(records, *number),
         RecordWanted::About { form, sample } => record_about(records, form, sample),
     };
-    record_copy(found)
-}
-
-fn record_copy(found: Option<&Record>) -> Result<Option<Record>, OutOfMemory>
-    ensures { IfOk result (λ copy. copy ≡ option_copied found.entry) }
-{
-    match found {
-        Some(kept) => Ok(Some(kept.copy()?)),
-        None => Ok(None),
-    }
+    found.map(Record::copy).transpose()
 }
 
 fn listed_in(lab: &Lab, alloc: Global, list: &Option<ListWanted>) -> Result<Listed, OutOfMemory>

@@ -3,23 +3,26 @@ use lab_kept::{Change, Keeper, KeeperFault, Need, Newborn, PlacingFault, Slice};
 use lab_lists::Lists;
 use lab_names::{LabCode, Series};
 
-/// A list of laboratories that refuses every second call, for memory and for storage by turns. It
-/// tells nothing of what it keeps, so that its calls are proved without it.
+/// A list of laboratories that refuses every second call, for memory and for storage by turns, for
+/// as long as it is moody. It tells nothing of what it keeps, so that its calls are proved without
+/// it.
 #[derive(Drop)]
 pub struct Moody {
     /// What it keeps.
     pub lists: Lists,
     /// How many calls it had, of the last four.
     pub calls: u64,
+    /// Whether it refuses any.
+    pub is_moody: bool,
 }
 
 impl Moody {
     /// The fault of this call, if it is one that is refused: of four, the second and the last.
     fn refusal(&mut self) -> Option<KeeperFault> {
         self.calls = (self.calls % 4).saturating_add(1);
-        match self.calls {
-            2 => Some(KeeperFault::Memory),
-            4 => Some(KeeperFault::Storage),
+        match (self.is_moody, self.calls) {
+            (true, 2) => Some(KeeperFault::Memory),
+            (true, 4) => Some(KeeperFault::Storage),
             _ => None,
         }
     }

@@ -1,48 +1,70 @@
-//! What foundings get of a keeper that refuses.
+//! What foundings and requests get of a keeper that refuses.
+use crate::texts::{ANSWERS, BODY, CARD, OPEN};
 use lab_desk::{Desk, Event, LabCode, RunFault, Series, Tick};
 use lab_lists::Lists;
 use lab_names::Moment;
 use lab_refusing::Moody;
 use std::process::Abort;
 
-const BODY: &[u8] =
-    b"{\"founders\":[{\"code\":\"ann\",\"name\":\"N\",\"password\":\"twelve bytes\"},\
-    {\"code\":\"bob\",\"name\":\"N\",\"password\":\"twelve bytes\"},\
-    {\"code\":\"cid\",\"name\":\"N\",\"password\":\"twelve bytes\"}],\"name\":\"Aqua Lab\"}";
+// What an event is made of: the code and the body of a founding, or the bytes of a call, which has
+// no code.
+type Told = (Option<&'static str>, &'static [u8]);
 
-// What is written of five foundings, of which the second and the fourth are refused.
-const LINES: &[u8] = b"founded aqua\nrefused 90 memory\nrefused 64 lab_exists\n\
-    refused 63 storage\nfounded brick\n";
+const EVENTS: [Told; 10] = [
+    (Some("aqua"), BODY),
+    (Some("brick"), BODY),
+    (Some("aqua"), BODY),
+    (Some("brick"), BODY),
+    (Some("brick"), BODY),
+    (None, OPEN),
+    (None, CARD),
+    (None, OPEN),
+    (None, OPEN),
+    (None, CARD),
+];
 
-fn tick(rt: &impl Abort) -> Tick {
+const TAKEN: [bool; 10] = [
+    true, false, true, false, true, false, true, false, false, true,
+];
+
+fn tick(rt: &impl Abort, seconds: i64) -> Tick {
     Tick {
-        moment: Moment::from_seconds(50).expect(rt, "a moment"),
+        moment: Moment::from_seconds(seconds).expect(rt, "a moment"),
         words: [1, 2, 3, 4, 5, 6, 7, 8],
     }
 }
 
-fn founding<R: Abort + AllocGlobal>(rt: &R, lab: &str) -> Event {
-    let tick = tick(rt);
-    let body = BODY.to_vec(rt.alloc()).expect(rt, "the bytes");
-    Event::Found {
-        lab: LabCode::parse(rt.alloc(), lab).expect(rt, "a code"),
-        tick,
-        body: Series::from_vec(body),
+fn event<R: Abort + AllocGlobal>(rt: &R, (lab, bytes): Told) -> Event {
+    let bytes = Series::from_vec(bytes.to_vec(rt.alloc()).expect(rt, "the bytes"));
+    match lab {
+        Some(lab) => Event::Found {
+            lab: LabCode::parse(rt.alloc(), lab).expect(rt, "a code"),
+            tick: tick(rt, 50),
+            body: bytes,
+        },
+        None => Event::Call {
+            tick: tick(rt, 100),
+            bytes,
+        },
     }
 }
 
-fn foundings<R: Abort + AllocGlobal>(rt: &R) -> Vec<Event> {
+fn events<R: Abort + AllocGlobal>(rt: &R) -> Vec<Event> {
     let mut events = Vec::new(rt.alloc());
-    for lab in ["aqua", "brick", "aqua", "brick", "brick"] {
-        events.push(founding(rt, lab)).expect(rt, "the event");
+    for told in EVENTS {
+        events.push(event(rt, told)).expect(rt, "the event");
     }
     events
 }
 
 // A desk with no laboratory, over a keeper that has had no call.
 fn moody_desk<R: Abort + AllocGlobal>(rt: &R) -> Desk<Moody> {
-    let lists = Lists::new(rt.alloc());
-    Desk::new(rt.alloc(), Moody { lists, calls: 0 }).expect(rt, "a desk")
+    let moody = Moody {
+        lists: Lists::new(rt.alloc()),
+        calls: 0,
+        is_moody: true,
+    };
+    Desk::new(rt.alloc(), moody).expect(rt, "a desk")
 }
 
 // The run, without clauses, so that the proof of the test doesn't carry them.
@@ -55,14 +77,14 @@ fn run(
 }
 
 #[test]
-fn foundings_that_are_refused_found_nothing(rt: HostRuntime) {
-    let events = foundings(&rt);
+fn what_is_refused_is_told_so_and_changes_nothing(rt: HostRuntime) {
+    let events = events(&rt);
     let mut desk = moody_desk(&rt);
     let mut written = Vec::new(rt.alloc());
     let ended = run(&mut desk, &events, &mut written);
     drop(desk);
     drop(events);
     let taken = ended.expect(&rt, "a run");
-    assert!(rt; taken.as_slice() == [true, false, true, false, true].as_slice());
-    assert!(rt; written.as_slice() == LINES);
+    assert!(rt; taken.as_slice() == TAKEN.as_slice());
+    assert!(rt; written.as_slice() == ANSWERS);
 }

@@ -107,7 +107,7 @@ fn json_of(alloc: Global, reply: &Reply) -> Result<Value, OutOfMemory>
         Reply::VersionRead(read) => version_value(alloc, read),
         Reply::Records(records) => records_value(alloc, records.as_slice()),
         Reply::Trail(rows) => trail_value(alloc, rows.as_slice()),
-        Reply::Copied(_) => Ok(Value::Null),
+        Reply::Copied(_) => unreachable!(),
     }
 }
 

@@ -22,7 +22,7 @@ fn found<R: Abort + AllocGlobal>(rt: &R, desk: &mut Desk<Lists>, code: &str) {
     let code = LabCode::parse(rt.alloc(), code).expect(rt, "a code");
     let found = desk.found(&code, &tick(rt, 50), BODY);
     drop(code);
-    assert!(rt; found.is_ok());
+    assert!(rt; found == Ok(()));
 }
 
 // Whether both desks take a request in the hundredth second, and get these replies.

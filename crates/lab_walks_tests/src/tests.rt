@@ -23,7 +23,7 @@ fn goes_out<R: Abort + AllocGlobal>(rt: &R, code: &LabCode, wanted: &str) -> boo
         &mut Unheard,
     );
     drop(lists);
-    done.is_ok() && out.as_slice() == wanted.as_bytes()
+    done == Ok(()) && out.as_slice() == wanted.as_bytes()
 }
 
 #[test]

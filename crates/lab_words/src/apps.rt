@@ -38,7 +38,7 @@ fn bare_command<'a>(alloc: Global) -> Result<Command<'a>, AllocError>
     Ok(told(named))
 }
 
-// A command with one more subcommand, of which nothing is asked but that its words be read.
+// A command with one more subcommand, whose arguments are its own.
 fn with<'a>(bare: Command<'a>, subcommand: Command<'a>) -> Result<Command<'a>, AllocError>
     requires { (app_of subcommand).top.is_plain ≡ true }
     ensures { IfOk result

@@ -10,8 +10,9 @@ use std::alloc::{AllocError, Global};
 /// What help says of a founding.
 const FOUNDING: &str =
     "It founds a laboratory in the file, at the moment of the clock, and prints `founded` and its
-code. A file is made where there is none, and stays where the founding is refused. The body of a
-founding is described in docs/FORMATS.md. An example:
+code. A file is made where there is none, and stays where the founding is refused. The input is a
+JSON object: the laboratory's `name`, and three `founders`, each with `code`, `name` and
+`password`. It is described in docs/FORMATS.md. An example:
 
     labdesk found --file laboratories --lab aqua < examples/founding.json";
 
@@ -32,7 +33,8 @@ A copy is described in docs/COPIES.md. An example:
 /// What help says of the check of a copy.
 const CHECKING: &str =
     "It tells `good` and how many records, versions, entries and signatures the copy has, or
-`bad`, what is wrong first, and the row. A copy is described in docs/COPIES.md. An example:
+`bad`, what is wrong first, and the row. The input is CSV, as `labdesk copy` writes it, and is
+described in docs/COPIES.md. An example:
 
     labdesk check < copy.csv";
 
@@ -50,8 +52,8 @@ The input is described in docs/FORMATS.md. An example:
 /// What help says of a rehearsal.
 const REHEARSING: &str =
     "It founds the laboratory in memory, at the first of all moments, asks for its card over a
-socket of this machine at the given moment, and prints the reply. The body of a founding is
-described in docs/FORMATS.md. An example:
+socket of this machine at the given moment, and prints the reply. The input is a JSON object, as
+that of `labdesk found`, and is described in docs/FORMATS.md. An example:
 
     labdesk rehearse --lab aqua --moment 100 < examples/founding.json";
 

@@ -1,0 +1,33 @@
+//! The body of a founding, requests, and all that a run of them writes over a keeper that refuses, by docs/HTTP.md and
+//! docs/FORMATS.md.
+
+pub(crate) const BODY: &[u8] =
+    b"{\"founders\":[{\"code\":\"ann\",\"name\":\"N\",\"password\":\"twelve bytes\"},\
+    {\"code\":\"bob\",\"name\":\"N\",\"password\":\"twelve bytes\"},\
+    {\"code\":\"cid\",\"name\":\"N\",\"password\":\"twelve bytes\"}],\"name\":\"Aqua Lab\"}";
+
+pub(crate) const CARD: &[u8] = b"GET /labs/aqua HTTP/1.1\r\nHost: d\r\n\r\n";
+
+pub(crate) const OPEN: &[u8] =
+    b"POST /labs/aqua/open HTTP/1.1\r\nHost: d\r\nContent-Length: 40\r\n\r\n\
+    {\"code\":\"ann\",\"password\":\"twelve bytes\"}";
+
+/// Of five foundings the second and the fourth are refused. Then come an opening whose load is refused for memory, the card, an
+/// opening whose load the store refuses, one whose change is refused for memory, and the card again.
+pub(crate) const ANSWERS: &[u8] = b"founded aqua\nrefused 90 memory\nrefused 64 lab_exists\n\
+    refused 63 storage\nfounded brick\n\
+    HTTP/1.1 503 Service Unavailable\r\n\
+    Content-Type: application/json\r\nContent-Length: 30\r\nConnection: close\r\n\r\n\
+    {\"error\":\"memory\",\"number\":90}\
+    HTTP/1.1 200 OK\r\nDate: Thu, 01 Jan 1970 00:01:40 GMT\r\n\
+    Content-Type: application/json\r\nContent-Length: 32\r\nConnection: close\r\n\r\n\
+    {\"lab\":\"aqua\",\"name\":\"Aqua Lab\"}\
+    HTTP/1.1 503 Service Unavailable\r\nDate: Thu, 01 Jan 1970 00:01:40 GMT\r\n\
+    Content-Type: application/json\r\nContent-Length: 31\r\nConnection: close\r\n\r\n\
+    {\"error\":\"storage\",\"number\":63}\
+    HTTP/1.1 503 Service Unavailable\r\n\
+    Content-Type: application/json\r\nContent-Length: 30\r\nConnection: close\r\n\r\n\
+    {\"error\":\"memory\",\"number\":90}\
+    HTTP/1.1 200 OK\r\nDate: Thu, 01 Jan 1970 00:01:40 GMT\r\n\
+    Content-Type: application/json\r\nContent-Length: 32\r\nConnection: close\r\n\r\n\
+    {\"lab\":\"aqua\",\"name\":\"Aqua Lab\"}";
