@@ -1,6 +1,6 @@
 -- What is decided on a part of a laboratory: the reply, and the changes that are to be made, in
 -- order. That this is the step of the whole laboratory is a law (`what_is_decided`), not said here.
-use Rattle.std.specs.Prelude.{ℕ, ◌+◌, nat_le, List, [], ◌∷◌, ◌++◌, Option, Some, if◌then◌else◌}
+use Rattle.std.specs.Prelude.{◌≡◌, ℕ, ◌+◌, false, nat_le, List, [], ◌∷◌, ◌++◌, Option, Some, if◌then◌else◌, ⊤, ⊥}
 use Rattle.lab_names.specs.declared.tick.Tick.{Tick}
 use Rattle.lab_access.specs.declared.sessions.Session.{Session}
 use Rattle.lab_access.specs.declared.sessions.Closing.TheVariants.{All}
@@ -80,6 +80,14 @@ ended_by rows strays moment person before (Failed occasion failure) =
 ended_by rows strays moment person before (Read reply) = outcome reply before
 ended_by rows strays moment person before (Made reply deed own) =
     ended_made before rows moment person reply deed own
+
+-- something is made of it, so that memory may be asked for: of a failed password, and of a deed
+-- where the trail has room for its row
+abbrev pub IsWritten : ℕ → Done → Type 0
+IsWritten rows (Refused refusal) = ⊥
+IsWritten rows (Failed occasion failure) = ⊤
+IsWritten rows (Read reply) = ⊥
+IsWritten rows (Made reply deed own) = nat_le count_limit rows ≡ false
 
 abbrev pub ended_done : Slice → ℕ → List ℕ → List Change → Done → Outcome
 ended_done slice moment person before done =

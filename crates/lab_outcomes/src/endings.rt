@@ -1,7 +1,8 @@
 //! How a command ends on a part of a laboratory: what notes that its request came, what is made of a failed password, and what a
 //! full trail refuses.
-ghost use Rattle.std.specs.Prelude.{◌≡◌, ◌∷◌, [], IfOk};
-ghost use Rattle.lab_outcomes.specs.Deciding.{failing, outcome, ended_made, ended_by, touching};
+ghost use Rattle.std.specs.Prelude.{◌≡◌, ◌∷◌, [], false, nat_le, IfOk, OnErr};
+ghost use Rattle.lab_kept.specs.Limits.{count_limit};
+ghost use Rattle.lab_outcomes.specs.Deciding.{IsWritten, failing, outcome, ended_made, ended_by, touching};
 
 use crate::drafts::next_number;
 use crate::outcome::Outcome;
@@ -107,8 +108,9 @@ pub fn end(
     person: &PersonCode,
     done: Done,
 ) -> Result<Outcome, OutOfMemory>
-    ensures { IfOk result
+    ensures ended { IfOk result
         (λ outcome. outcome ≡ ended_by rows strays moment person.now before done) }
+    ensures memory { OnErr result (IsWritten rows done) }
 {
     match done {
         Done::Refused(refusal) => Ok(refused(before, refusal)),
@@ -136,8 +138,9 @@ fn ended_made(
     deed: Deed,
     own: Series<Change>,
 ) -> Result<Outcome, OutOfMemory>
-    ensures { IfOk result (λ outcome. outcome
+    ensures made { IfOk result (λ outcome. outcome
         ≡ ended_made before rows moment person.now reply deed own) }
+    ensures memory { OnErr result (nat_le count_limit rows ≡ false) }
 {
     let Some(number) = next_number(rows) else {
         drop(reply);
