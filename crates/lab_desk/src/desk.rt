@@ -1,6 +1,6 @@
 //! The desk: one body for every keeper.
 
-ghost use Rattle.std.specs.Prelude.{◌≡◌, ◌⊎◌, ◌≤◌, length, vec_capacity, [], true, false, Ok, Err, IsTrue, IsFalse, IfOk, IfErr, OnOk, OnErr, option_map};
+ghost use Rattle.std.specs.Prelude.{◌≡◌, ◌⊎◌, ◌≤◌, length, vec_capacity, [], true, false, Ok, Err, IsTrue, IsFalse, IsSome, IfOk, IfErr, OnOk, OnErr, option_map};
 ghost use Rattle.lab_kept.specs.Worlds.{Passes, Given, Leaves, Lives, Quiet, CommitsAs, IsDurable, StaysSafe};
 ghost use Rattle.lab_wire.specs.declared.refusals.RequestRefusal.{RequestRefusal as OneRefusal};
 ghost use Rattle.lab_wire.specs.declared.replies.Answer.TheVariants.{Refused as RefusedAnswer};
@@ -10,7 +10,6 @@ ghost use Rattle.lab_runs.specs.Requests.{TakesRequest, RefusesRequest, TellsFau
 ghost use Rattle.lab_runs.specs.Keeping.{AreWithin, AreReleasing, KeptFrom};
 ghost use Rattle.lab_foundings.specs.Foundings.{founding_in, Founds, Births, TakesFounding, RefusesFounding, shown};
 ghost use Rattle.lab_foundings.specs.Faults.{FoundFaultFits, OnBody, OnKept, OnUncommitted};
-ghost use Rattle.std.specs.Prelude.{IsSome};
 
 use lab_foundings::{FoundFault, Line, founded, newborn_of, unfounded};
 use lab_kept::{Keeper, KeeperFault};

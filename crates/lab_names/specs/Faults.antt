@@ -16,9 +16,6 @@ pub record Entry : Type 0 where
 abbrev pub memory_entry : Entry
 memory_entry = record { number = 90; word = codes "memory" }
 
-abbrev pub memory_number : ℕ
-memory_number = memory_entry.number
-
 abbrev pub memory_word : List ℕ
 memory_word = memory_entry.word
 

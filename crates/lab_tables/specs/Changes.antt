@@ -418,7 +418,3 @@ pub record Applies (code : List ℕ) (one : Change) (old new : Tables) : Type 0 
   pub lab : LabRow
   pub found : find (has_code code) old.labs ≡ Some lab
   pub made : AppliesIn lab.id one old new
-
--- the changes were, the first of them first
-abbrev pub AppliesAll : List ℕ → List Change → Tables → Tables → Type 0
-AppliesAll code changes old new = InTurn (Applies code) changes old new

@@ -5,7 +5,7 @@
 use Rattle.std.specs.Prelude.{◌≡◌, ◌⊎◌, false, IsTrue}
 use Rattle.sqlite_trees.specs.Tree.{Trees}
 use Rattle.sqlite.specs.Effect.{Database}
-use Rattle.sqlite.specs.State.{State, HasCleanDisk, KeepsCommit}
+use Rattle.sqlite.specs.State.{State, HasCleanDisk}
 use Rattle.lab_tables.specs.Rows.{Tables, tables_in}
 use Rattle.lab_tables.specs.Held.{IsTyped}
 use Rattle.lab_tables.specs.WellKept.{IsWellKept}
@@ -54,17 +54,6 @@ pub record PassesBy (old new : State) : Type 0 where
 -- by the step, of the tables that were shown, where they were ours
 abbrev pub IsMadeBy : (Tables → Tables → Type 0) → State → Database → Type 0
 IsMadeBy step old db = IsTyped old.now → IsTyped db × step (tables_of old) (tables_in db.trees)
-
--- a call inside a transaction that ended well
-pub record Advances (step : Tables → Tables → Type 0) (old new : State) : Type 0 where
-  pub inside : IsTrue new.in_transaction
-  pub made : IsMadeBy step old new.now
-
--- a call inside a transaction, however it ended: nothing was committed, also where it rolled back
-pub record StaysInside (old new : State) : Type 0 where
-  pub clean : HasCleanDisk new → HasCleanDisk old
-  pub committed : HasCleanDisk new → KeepsCommit old new
-  pub crash : LeavesNoMore old new
 
 -- a call that commits once, or not at all, however it ends: a crash may leave what it could leave
 -- before, or what the commit makes

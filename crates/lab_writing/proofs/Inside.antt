@@ -1,15 +1,15 @@
 -- Calls inside a transaction: what a statement that ended well makes, and calls one after the other.
-use Rattle.std.proofs.Common.{◌≡◌, ◌⊎◌, inl, inr, ℕ, ◌+◌, ◌<◌, List, [], ◌∷◌, ◌++◌, take, length, get_or, Ok, Err, Result, OnOk, IsTrue, refl, sym, subst, ◌∙◌, arith}
+use Rattle.std.proofs.Common.{◌≡◌, ◌⊎◌, inl, inr, ℕ, ◌+◌, ◌<◌, List, [], ◌∷◌, ◌++◌, take, length, get_or, Ok, Err, Result, OnOk, IsTrue, refl, sym, subst, ◌∙◌}
 use Rattle.std.proofs.lemmas.List.{take_more}
 use Rattle.sqlite_value.specs.Order.{Row}
 use Rattle.sqlite.specs.declared.error.Error.{Error}
 use Rattle.sqlite.specs.Effect.{Database, IsDatabase}
-use Rattle.sqlite.specs.State.{State, Executes, ExecutesInside, IsUnchanged, IsRolledBack, KeepsCommit, HasCleanDisk, Survives}
+use Rattle.sqlite.specs.State.{State, Executes, ExecutesInside, IsUnchanged, IsRolledBack, KeepsCommit, Survives}
 use Rattle.sqlite.proofs.StateLemmas.{survives_then}
 use Rattle.lab_tables.specs.Rows.{Tables}
 use Rattle.lab_tables.specs.Changes.{InTurn}
 use Rattle.lab_tables.specs.Held.{IsTyped, Holds}
-use Rattle.lab_tables.specs.Ready.{Advances, StaysInside, tables_of}
+use Rattle.lab_tables.specs.Ready.{tables_of}
 use Rattle.lab_writing.specs.Calls.{Steps, Finds}
 
 -- ---- a statement
@@ -42,9 +42,6 @@ inside_keeps sql params old new (Err e) (inr h) = ended_keeps old new (inl h.2)
 
 -- ---- steps
 
-pub advances : (step : Tables → Tables → Type 0) (old new : State) → Steps step old new → Advances step old new
-advances step old new it = record { inside = it.inside; made = it.made }
-
 pub steps_weaker : (first second : Tables → Tables → Type 0) (a b : State) → ((before after : Tables) → first before after → second before after) → Steps first a b → Steps second a b
 steps_weaker first second a b f p = record {
   inside = p.inside;
@@ -76,14 +73,6 @@ keeps_then a b c p q = record { was_open = λ opened. p.was_open (q.was_open ope
 
 pub none_then : (a b c : State) → Survives a b (λ _. ⊥) → Survives b c (λ _. ⊥) → Survives a c (λ _. ⊥)
 none_then a b c = survives_then a b c (λ _. ⊥) (λ _. ⊥) (λ _. ⊥) (λ _ db none. none) (λ _ db none. none)
-
--- both together say that a call stays inside
-pub stays_by : (a c : State) → Survives a c (λ _. ⊥) → (HasCleanDisk c → KeepsCommit a c) → StaysInside a c
-stays_by a c survives keeps = record {
-  clean = λ clean. omega (arith, survives.clean);
-  committed = keeps;
-  crash = λ clean opened trees left. elim (survives.crash clean trees left) [ inl before ↦ before | inr none ↦ absurd none ];
-}
 
 -- ---- steps in turn, for the items of a list
 
