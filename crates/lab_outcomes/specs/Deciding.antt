@@ -1,6 +1,6 @@
 -- What is decided on a part of a laboratory: the reply, and the changes that are to be made, in
 -- order. That this is the step of the whole laboratory is a law (`what_is_decided`), not said here.
-use Rattle.std.specs.Prelude.{◌≡◌, ℕ, ◌+◌, false, nat_le, List, [], ◌∷◌, ◌++◌, Option, Some, if◌then◌else◌, ⊤, ⊥}
+use Rattle.std.specs.Prelude.{◌≡◌, ℕ, ◌+◌, false, nat_le, List, [], ◌∷◌, ◌++◌, Option, Some, if◌then◌else◌, ⊤}
 use Rattle.lab_names.specs.declared.tick.Tick.{Tick}
 use Rattle.lab_access.specs.declared.sessions.Session.{Session}
 use Rattle.lab_access.specs.declared.sessions.Closing.TheVariants.{All}

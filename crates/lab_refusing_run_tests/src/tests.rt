@@ -1,5 +1,5 @@
 //! What foundings and requests get of a keeper that refuses.
-use crate::texts::{ANSWERS, BODY, CARD, OPEN};
+use crate::texts::{ANSWERS, BODY, CARD, CEDAR_CARD, OPEN};
 use lab_desk::{Desk, Event, LabCode, RunFault, Series, Tick};
 use lab_lists::Lists;
 use lab_names::Moment;
@@ -17,10 +17,10 @@ const EVENTS: [Told; 10] = [
     (Some("brick"), BODY),
     (Some("brick"), BODY),
     (None, OPEN),
-    (None, CARD),
+    (None, CEDAR_CARD),
     (None, OPEN),
-    (None, OPEN),
     (None, CARD),
+    (None, CEDAR_CARD),
 ];
 
 const TAKEN: [bool; 10] = [

@@ -8,26 +8,30 @@ pub(crate) const BODY: &[u8] =
 
 pub(crate) const CARD: &[u8] = b"GET /labs/aqua HTTP/1.1\r\nHost: d\r\n\r\n";
 
+/// Of cedar there is no laboratory, so nothing is changed, and the keeper is called once.
+pub(crate) const CEDAR_CARD: &[u8] = b"GET /labs/cedar HTTP/1.1\r\nHost: d\r\n\r\n";
+
 pub(crate) const OPEN: &[u8] =
     b"POST /labs/aqua/open HTTP/1.1\r\nHost: d\r\nContent-Length: 40\r\n\r\n\
     {\"code\":\"ann\",\"password\":\"twelve bytes\"}";
 
-/// Of five foundings the second and the fourth are refused. Then come an opening whose load is refused for memory, the card, an
-/// opening whose load the store refuses, one whose change is refused for memory, and the card again.
+/// Of five foundings the second and the fourth are refused. Then come an opening whose load is refused for memory, the card of
+/// no laboratory, an opening whose load the store refuses, a card whose change, which is none, is refused for memory, and the
+/// card of no laboratory again.
 pub(crate) const ANSWERS: &[u8] = b"founded aqua\nrefused 90 memory\nrefused 64 lab_exists\n\
     refused 63 storage\nfounded brick\n\
     HTTP/1.1 503 Service Unavailable\r\n\
     Content-Type: application/json\r\nContent-Length: 30\r\nConnection: close\r\n\r\n\
     {\"error\":\"memory\",\"number\":90}\
-    HTTP/1.1 200 OK\r\nDate: Thu, 01 Jan 1970 00:01:40 GMT\r\n\
-    Content-Type: application/json\r\nContent-Length: 32\r\nConnection: close\r\n\r\n\
-    {\"lab\":\"aqua\",\"name\":\"Aqua Lab\"}\
+    HTTP/1.1 404 Not Found\r\nDate: Thu, 01 Jan 1970 00:01:40 GMT\r\n\
+    Content-Type: application/json\r\nContent-Length: 35\r\nConnection: close\r\n\r\n\
+    {\"error\":\"no_such_lab\",\"number\":40}\
     HTTP/1.1 503 Service Unavailable\r\nDate: Thu, 01 Jan 1970 00:01:40 GMT\r\n\
     Content-Type: application/json\r\nContent-Length: 31\r\nConnection: close\r\n\r\n\
     {\"error\":\"storage\",\"number\":63}\
     HTTP/1.1 503 Service Unavailable\r\n\
     Content-Type: application/json\r\nContent-Length: 30\r\nConnection: close\r\n\r\n\
     {\"error\":\"memory\",\"number\":90}\
-    HTTP/1.1 200 OK\r\nDate: Thu, 01 Jan 1970 00:01:40 GMT\r\n\
-    Content-Type: application/json\r\nContent-Length: 32\r\nConnection: close\r\n\r\n\
-    {\"lab\":\"aqua\",\"name\":\"Aqua Lab\"}";
+    HTTP/1.1 404 Not Found\r\nDate: Thu, 01 Jan 1970 00:01:40 GMT\r\n\
+    Content-Type: application/json\r\nContent-Length: 35\r\nConnection: close\r\n\r\n\
+    {\"error\":\"no_such_lab\",\"number\":40}";
