@@ -7,15 +7,14 @@ use Rattle.lab_names.specs.Names.{is_person_code, is_key, is_name, is_note, is_u
 use lib.Utf8.{encode}
 use Rattle.lab_secrets.specs.Digits.{bytes_of_digits}
 use Rattle.lab_forms.specs.Forms.{form_refusal}
-use Rattle.lab_machine.specs.declared.commands.Command.TheVariants.{Open, Close, AskIssue, ConfirmIssue, Retire, Unlock, MakeForm, Amend, Sign}
+use Rattle.lab_machine.specs.declared.commands.Command.TheVariants.{Open, Close, AskIssue, ConfirmIssue, Retire, Unlock, MakeForm, Sign}
 use Rattle.lab_members.specs.declared.refusals.BodyRefusal.TheVariants.{BadBody, BadName, Form}
-use Rattle.lab_forms.specs.declared.faults.FormRefusal.TheVariants.{NoFields, KeyTwice}
+use Rattle.lab_forms.specs.declared.faults.FormRefusal.TheVariants.{NoFields}
 use Rattle.lab_forms.specs.declared.kinds.Kind.TheVariants.{Number, Choice, YesNo}
 use Rattle.lab_rules.specs.declared.outcomes.Signing.TheVariants.{Rejection}
 use Rattle.lab_machine.specs.declared.births.Founder.{Founder}
 use Rattle.lab_members.specs.Members.{has_members}
 use Rattle.lab_bodies.specs.Accounts.{opening_named, closing_named, person_named, issue_named, confirmation_named, retirement_named, unlocking_named}
-use Rattle.lab_bodies_records.specs.Records.{is_amendment_body, item_read, altered_read, amendment_named}
 use Rattle.lab_bodies_records.specs.Signatures.{is_signature_body, signature_read, signature_named}
 use Rattle.lab_bodies.specs.Forms.{is_field_body, is_form_body, field_read, form_read, form_named}
 use Rattle.lab_bodies.specs.Foundings.{is_founding_body, founder_read, founding_named}
@@ -54,31 +53,12 @@ pub known_issue : (issue_named (object (member (codes "code") (says (codes "ann"
 unfolding issue_named person_named has_members is_person_code
 known_issue = (refl, refl)
 
--- two altered values of one key
-abbrev lead : Data
-lead = object (member (codes "key") (says (codes "lead")) (member (codes "unit") (says []) (member (codes "value") (says (codes "7.5")) no_members)))
-
-abbrev amends : Data → Data
-amends altered = object (member (codes "altered") altered (member (codes "record") (number (unsigned 1)) no_members))
-
-pub known_amendments : (amendment_named (amends (array (item lead no_items)))
-    ≡ Ok (Amend 1 None (record { key = codes "lead"; value = codes "7.5"; unit = [] } ∷ [])))
-    × (amendment_named (amends (array (item lead (item lead no_items)))) ≡ Err (Form KeyTwice))
-    × (amendment_named (amends (array (item null no_items))) ≡ Err BadBody)
-    × (amendment_named (amends null) ≡ Err BadBody)
-unfolding amendment_named is_amendment_body altered_read item_read has_members is_key is_unit
-known_amendments = (refl, refl, refl, refl)
-
--- only a rejection may have a reason
+-- a rejection, with its reason
 abbrev signs : List ℕ → Data
 signs meaning = object (
     member (codes "digest") (says (codes "00112233445566778899aabbccddeeff00112233445566778899aabbccddeeff"))
     (member (codes "meaning") (says meaning) (member (codes "password") (says []) (member (codes "reason") (says (codes "blurred"))
     (member (codes "record") (number (unsigned 1)) (member (codes "version") (number (unsigned 1)) no_members))))))
-
-pub known_reasons : (is_signature_body (signs (codes "review")) ≡ false) × (is_signature_body (signs (codes "witness")) ≡ false)
-unfolding is_signature_body has_members
-known_reasons = (refl, refl)
 
 pub known_signature : signature_named (signs (codes "rejection"))
     ≡ Ok (Sign 1 1 (0 ∷ 17 ∷ 34 ∷ 51 ∷ 68 ∷ 85 ∷ 102 ∷ 119 ∷ 136 ∷ 153 ∷ 170 ∷ 187 ∷ 204 ∷ 221 ∷ 238 ∷ 255

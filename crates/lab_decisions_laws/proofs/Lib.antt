@@ -8,3 +8,4 @@ pub mod OwnCases
 pub mod Passing
 pub mod RuleCases
 pub mod RuleFits
+mod KnownValues

@@ -1,2 +1,3 @@
 pub mod AlteringLemmas
 pub mod ValueLemmas
+mod KnownValues

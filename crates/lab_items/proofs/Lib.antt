@@ -3,3 +3,4 @@ pub mod ReadLemmas
 pub mod TextLemmas
 pub mod PartLemmas
 pub mod SpellingLemmas
+mod KnownValues

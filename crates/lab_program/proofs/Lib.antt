@@ -1,2 +1,3 @@
 pub mod DoneLemmas
 pub mod UnbegunLemmas
+mod KnownValues

@@ -1,3 +1,4 @@
 pub mod PartLemmas
 pub mod MemberLemmas
 pub mod FloatLemmas
+mod KnownValues

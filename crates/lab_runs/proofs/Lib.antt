@@ -3,3 +3,4 @@ pub mod Keeping
 pub mod Retaining
 pub mod Releasing
 pub mod Running
+mod KnownValues

@@ -1,2 +1,3 @@
 pub mod WholeLemmas
 pub mod VersionLemmas
+mod KnownValues

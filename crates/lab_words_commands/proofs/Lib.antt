@@ -1,1 +1,2 @@
 pub mod AppLemmas
+mod KnownValues

@@ -1,1 +1,2 @@
 pub mod ExplainLemmas
+mod KnownValues
