@@ -1,5 +1,5 @@
 -- Bodies as the documents of the interface write them, so that a wrong rule in the definitions does not check.
-use Rattle.std.proofs.Common.{◌≡◌, refl, ℕ, List, [], ◌∷◌, codes, Some, None, Ok, Err, true, false}
+use Rattle.std.proofs.Common.{◌≡◌, refl, ℕ, List, [], ◌∷◌, codes, Some, None, Ok, Err, true}
 use Rattle.std.specs.Str.{is_utf8, chars}
 use Rattle.hex.specs.Hex.{decode_pairs}
 use Rattle.serde_json.specs.Data.{Data, null, boolean, number, unsigned, string, array, object, Items, no_items, item, Members, no_members, member}

@@ -2,17 +2,15 @@
 use Rattle.std.proofs.Common.{◌≡◌, refl, ℕ, List, [], ◌∷◌, codes, Some, None, Ok, Err, false}
 use Rattle.std.specs.Str.{is_utf8, chars}
 use lib.Utf8.{encode}
-use Rattle.serde_json.specs.Data.{Data, null, number, unsigned, string, array, object, Items, no_items, item, Members, no_members, member}
+use Rattle.serde_json.specs.Data.{Data, null, number, unsigned, string, array, object, no_items, item, Members, no_members, member}
 use Rattle.lab_names.specs.Names.{is_key, is_name, is_note, is_unit}
-use Rattle.lab_secrets.specs.Digits.{bytes_of_digits}
 use Rattle.lab_forms.specs.declared.faults.FormRefusal.TheVariants.{KeyTwice}
 use Rattle.lab_rules.specs.declared.items.Item.{Item}
-use Rattle.lab_rules.specs.declared.outcomes.Signing.TheVariants.{Rejection}
-use Rattle.lab_machine.specs.declared.commands.Command.TheVariants.{OpenRecord, Enter, Amend, Sign}
+use Rattle.lab_machine.specs.declared.commands.Command.TheVariants.{OpenRecord, Enter, Amend}
 use Rattle.lab_members.specs.declared.refusals.BodyRefusal.TheVariants.{BadBody, BadName, Form}
 use Rattle.lab_members.specs.Members.{has_members}
 use Rattle.lab_bodies_records.specs.Records.{record_named, entry_named, is_amendment_body, item_read, altered_read, amendment_named}
-use Rattle.lab_bodies_records.specs.Signatures.{is_signature_body, signature_read, signature_named}
+use Rattle.lab_bodies_records.specs.Signatures.{is_signature_body}
 
 -- a text
 abbrev says : List ℕ → Data

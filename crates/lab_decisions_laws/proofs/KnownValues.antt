@@ -1,6 +1,6 @@
 -- Values from outside, so that a wrong rule in the definitions does not check: what notes that a request came, and the card, which notes
 -- nothing.
-use Rattle.std.proofs.Common.{◌≡◌, refl, sym, ap, ℕ, Bool, [], ◌∷◌, codes, None, true, false, true≢false}
+use Rattle.std.proofs.Common.{refl, sym, ap, Bool, [], ◌∷◌, codes, None, true, false, true≢false}
 use Rattle.lab_names.specs.declared.tick.Tick.{Tick}
 use Rattle.lab_kept.specs.declared.changes.Change.{Change}
 use Rattle.lab_kept.specs.declared.changes.Change.TheVariants.{Last, Strays}

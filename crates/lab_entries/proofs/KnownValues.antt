@@ -1,26 +1,25 @@
 -- Values from outside, so that a wrong rule in the definitions does not check: what an entry and an amendment come to by
 -- docs/RECORDS.md, each refusal in its turn. No digest is computed: it stands as the `digest_of` a version.
-use Rattle.std.proofs.Common.{◌≡◌, refl, ℕ, Bool, List, [], ◌∷◌, codes, Some, None, true, false}
-use Rattle.std.specs.Prelude.{Option, Result, Ok, Err}
+use Rattle.std.proofs.Common.{◌≡◌, refl, ℕ, List, [], ◌∷◌, codes, Some, None, true, false}
+use Rattle.std.specs.Prelude.{Option, Ok, Err}
 use Rattle.std.specs.Str.{is_utf8, chars}
 use lib.Utf8.{encode}
-use Rattle.lab_names.specs.Names.{is_note, is_unit, is_name}
+use Rattle.lab_names.specs.Names.{is_note}
 use Rattle.lab_forms.specs.declared.faults.FormRefusal.TheVariants.{NoSuchField, BadValue, WrongUnit, OutOfRange}
 use Rattle.lab_forms.specs.declared.forms.Field.{Field}
 use Rattle.lab_forms.specs.declared.kinds.Kind.TheVariants.{Number}
 use Rattle.lab_forms.specs.Forms.{value_refusal}
 use Rattle.lab_forms.specs.Numbers.{is_number, amount, is_unsigned_number, is_digits, without_sign, without_comparison, millionths_of, number_of}
-use Rattle.lab_access.specs.declared.refusals.PeopleRefusal.TheVariants.{LabFull}
 use Rattle.lab_versions.specs.declared.rows.EntryRow.{EntryRow}
 use Rattle.lab_seal.specs.declared.seals.Meaning.{Meaning}
-use Rattle.lab_seal.specs.declared.seals.Meaning.TheVariants.{Authorship, Review, Rejection}
+use Rattle.lab_seal.specs.declared.seals.Meaning.TheVariants.{Authorship, Review}
 use Rattle.lab_kept.specs.declared.records.FormVersion.{FormVersion}
 use Rattle.lab_kept.specs.declared.records.Record.{Record}
 use Rattle.lab_kept.specs.declared.records.Signature.{Signature}
 use Rattle.lab_kept.specs.declared.records.Version.{Version}
 use Rattle.lab_kept.specs.Digests.{digest_of}
 use Rattle.lab_rules.specs.declared.items.Item.{Item}
-use Rattle.lab_rules.specs.declared.refusals.Refusal.TheVariants.{People, Form, NoSuchRecord, NotOpen, ReasonWanted, NothingAltered, NotAltered, AmendmentOpen}
+use Rattle.lab_rules.specs.declared.refusals.Refusal.TheVariants.{Form, NoSuchRecord, NotOpen, ReasonWanted, NothingAltered, NotAltered, AmendmentOpen}
 use Rattle.lab_rules.specs.Making.{first_version}
 use Rattle.lab_entries.specs.Entering.{entering, amending, is_table_made}
 

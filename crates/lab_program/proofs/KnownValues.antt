@@ -14,7 +14,7 @@ known_bodies = (refl, refl)
 module _ (before after told_before told_after : Option (List ℕ)) (status : Result ℕ Untold) (Done : Type 0) where
   pub known_code : OfCode before after told_before told_after status Done (codes "aqua") → Done
   unfolding is_lab_code
-  known_code done = done
+  known_code held = held
 
   pub known_no_code : OfCode before after told_before told_after status Done (codes "Aqua") → NameFault
   unfolding is_lab_code

@@ -7,7 +7,6 @@ use Rattle.lab_access.specs.declared.policy.Rule.TheVariants.{SignReview}
 use Rattle.lab_access.specs.declared.refusals.PeopleRefusal.TheVariants.{RoleWanted, OwnIssue}
 use Rattle.lab_access.specs.declared.roles.Role.TheVariants.{Analyst, Reviewer}
 use Rattle.lab_access.specs.Roles.{no_roles, with_role}
-use Rattle.lab_forms.specs.declared.forms.Field.{Field}
 use Rattle.lab_forms.specs.declared.kinds.Kind.TheVariants.{Number, Date}
 use Rattle.lab_kept.specs.declared.records.FormVersion.{FormVersion}
 use Rattle.lab_seal.specs.declared.states.State.TheVariants.{Released}

@@ -1,13 +1,11 @@
 -- Values from outside, so that a wrong rule in the definitions does not check: whose event is whose, and what a laboratory's run by itself
 -- answers (docs/FORMATS.md has the lines).
-use Rattle.std.proofs.Common.{◌≡◌, refl, ◌∙◌, ap, lit<, ℕ, List, [], ◌∷◌, ◌++◌, codes, decimal, Some, None, true, false}
-use Rattle.std.specs.Prelude.{Option}
+use Rattle.std.proofs.Common.{◌≡◌, refl, ℕ, List, [], ◌∷◌, codes, Some, None, true, false}
 use Rattle.lab_names.specs.declared.tick.Tick.{Tick}
-use Rattle.lab_kept.specs.declared.labs.Lab.{Lab}
 use Rattle.lab_kept.specs.Worlds.{Meaning}
 use Rattle.lab_runs.specs.declared.events.Event.TheVariants.{Found}
-use Rattle.lab_runs.specs.Alone.{Own, Founds, own_of, alone_after, alone_answers}
-use Rattle.lab_runs.specs.Runs.{Handled, own_in, own_events, own_answers, after_run, answers_of}
+use Rattle.lab_runs.specs.Alone.{Founds, own_of, alone_answers}
+use Rattle.lab_runs.specs.Runs.{Handled, own_events, own_answers, after_run, answers_of}
 
 -- a founding belongs to the laboratory of its code, and to no other
 pub known_owners : (tick : Tick) (body : List ℕ)

@@ -1,6 +1,6 @@
 -- Values from outside, so that a wrong rule in the definitions does not check: with which status words end that ask for no task
 -- (docs/FORMATS.md).
-use Rattle.std.proofs.Common.{◌≡◌, refl, sym, ap, inl, List, ℕ, Bool, false, Ok, Err, true≢false}
+use Rattle.std.proofs.Common.{refl, sym, ap, inl, List, ℕ, Bool, false, Ok, Err, true≢false}
 use Rattle.std.specs.Prelude.{Option, Result, ◌==◌}
 use Rattle.std.specs.Io.KnownBytes.{Keeps}
 use Rattle.clap.specs.declared.error.kind.ErrorKind.TheVariants.{DisplayHelp, DisplayVersion, UnknownArgument}
