@@ -1,5 +1,6 @@
 //! Who gets in, and what each may do: persons with their passwords and roles, sessions and the policy. One person and one
-//! session at a time, with no table and no other laboratory (21 CFR 11.10(g), 11.200(a)(1) and 11.300).
+//! session at a time, with no table and no other laboratory (21 CFR 11.10(g), 11.200(a)(1)(i), and those parts of
+//! 11.300(a), (b) and (d) that `specs/` quotes).
 #![tactic(auto)]
 
 mod attempts;

@@ -1,5 +1,5 @@
 //! What the fields of a form take as values.
-ghost use Rattle.std.specs.Prelude.{◌≡◌, ◌≤◌, IfOk, IsTrue, List, ℕ, nat_eq, bytes_eq, string_bytes};
+ghost use Rattle.std.specs.Prelude.{◌≡◌, ◌≤◌, IfOk, IsTrue, List, ℕ, nat_eq, bytes_eq};
 ghost use Rattle.std.specs.Cmp.Lexicographic.{pointwise, nat_list_eq_equiv, lists_equiv};
 ghost use Rattle.std.specs.Cmp.{partial_equiv_from_equiv};
 ghost use Rattle.lab_forms.specs.Kinds.{bound_amount, is_bound, is_at_most};
@@ -7,7 +7,7 @@ ghost use Rattle.lab_forms.specs.Kinds.{bound_amount, is_bound, is_at_most};
 use crate::dates::is_date_text;
 use crate::numbers::{DECIMALS_LIMIT, read_amount, uncompared};
 use crate::words::{Worded, has_word, has_word_twice};
-use lab_names::{Name, Notes, OutOfMemory, Rule, Unit};
+use lab_names::{Name, Notes, OutOfMemory, Rule, Unit, Writing};
 use std::alloc::AllocError;
 use std::marker::Model;
 
@@ -19,75 +19,7 @@ const CHOICES_LIMIT: usize = 20;
 
 /// The least or the greatest amount of a number, as it is written. Any text may stand here: whether it is a number is
 /// tested where a form is made.
-///
-/// A contract sees it as the list of its bytes.
-#[derive(Debug)]
-pub struct Bound {
-    text: String,
-}
-
-// It is written out, so that a caller doesn't prove again how each part is dropped.
-impl Drop for Bound {
-    fn drop(self) {
-        let Bound { text: _ } = self;
-    }
-}
-
-impl Model for Bound {
-    ghost use Rattle.std.specs.Prelude.{List, ℕ, string_bytes};
-
-    ghost Value = { List ℕ };
-
-    ghost view = { λ bound. string_bytes bound.text };
-}
-
-impl Bound {
-    /// The bound that the text writes.
-    pub fn new(text: String) -> Bound
-        ensures { result ≡ string_bytes text }
-    {
-        Bound { text }
-    }
-
-    /// The bound's text.
-    pub fn as_str(&self) -> &str
-        ensures { result.now ≡ self.now }
-    {
-        self.text.as_str()
-    }
-
-    /// A copy.
-    pub fn copy(&self) -> Result<Bound, OutOfMemory>
-        ensures { IfOk result (λ copy. copy ≡ self.now) }
-    {
-        Ok(self.clone()?)
-    }
-}
-
-impl Clone for Bound {
-    ghost use Rattle.std.specs.Prelude.{◌≡◌};
-
-    ghost is_clone = { λ bound copy. copy ≡ bound };
-
-    fn clone(&self) -> Result<Bound, AllocError> {
-        let text = self.text.clone()?;
-        Ok(Bound { text })
-    }
-}
-
-impl PartialEq for Bound {
-    ghost eq = { pointwise nat_eq };
-
-    ghost laws = { partial_equiv_from_equiv nat_list_eq_equiv };
-
-    fn eq(&self, other: &Bound) -> bool {
-        self.text == other.text
-    }
-}
-
-impl Eq for Bound {
-    ghost laws = { nat_list_eq_equiv };
-}
+pub type Bound = Writing;
 
 /// The names among which a value is chosen, in their order.
 ///

@@ -1,12 +1,11 @@
 //! The trail: what it tells of each action, by which word and with which subject.
-ghost use Rattle.std.specs.Prelude.{◌≡◌, IfOk, string_bytes};
+ghost use Rattle.std.specs.Prelude.{◌≡◌, IfOk};
 ghost use Rattle.lab_kept.specs.Trails.{action_word, action_of};
 
 use lab_access::Roles;
-use lab_names::{Key, LabCode, Moment, Ordinal, OutOfMemory, PersonCode};
+use lab_names::{Key, LabCode, Moment, Ordinal, OutOfMemory, PersonCode, Writing};
 use lab_seal::Meaning;
 use std::alloc::AllocError;
-use std::marker::Model;
 
 /// What a row of the trail tells of.
 #[derive(Clone, Copy)]
@@ -194,59 +193,7 @@ impl Deed {
 }
 
 /// The subject of a row of the trail, as it is written.
-///
-/// A contract sees it as the list of its bytes.
-pub struct Subject {
-    text: String,
-}
-
-impl Drop for Subject {
-    fn drop(self) {
-        let Subject { text: _ } = self;
-    }
-}
-
-impl Model for Subject {
-    ghost use Rattle.std.specs.Prelude.{List, ℕ, string_bytes};
-
-    ghost Value = { List ℕ };
-
-    ghost view = { λ subject. string_bytes subject.text };
-}
-
-impl Subject {
-    /// The subject that the text writes.
-    pub fn new(text: String) -> Subject
-        ensures { result ≡ string_bytes text }
-    {
-        Subject { text }
-    }
-
-    /// The subject's text.
-    pub fn as_str(&self) -> &str
-        ensures { result.now ≡ self.now }
-    {
-        self.text.as_str()
-    }
-
-    /// A copy. The only error is out of memory.
-    pub fn copy(&self) -> Result<Subject, OutOfMemory>
-        ensures { IfOk result (λ copy. copy ≡ self.now) }
-    {
-        Ok(self.clone()?)
-    }
-}
-
-impl Clone for Subject {
-    ghost use Rattle.std.specs.Prelude.{◌≡◌};
-
-    ghost is_clone = { λ subject copy. copy ≡ subject };
-
-    fn clone(&self) -> Result<Subject, AllocError> {
-        let text = self.text.clone()?;
-        Ok(Subject { text })
-    }
-}
+pub type Subject = Writing;
 
 /// A row of the trail.
 pub struct TrailRow {

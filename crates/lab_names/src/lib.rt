@@ -14,6 +14,7 @@ pub use faults::{MomentFault, NameFault, OutOfMemory};
 pub use moment::Moment;
 pub use names::{
     Key, Keys, LabCode, LabCodes, Name, Names, Note, Notes, PersonCode, PersonCodes, Unit, Units,
+    Writing, Writings,
 };
 pub use ordinals::Ordinal;
 pub use series::Series;

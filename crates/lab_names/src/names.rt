@@ -2,7 +2,7 @@
 //! and units, each with its rule.
 ghost use Rattle.std.specs.Prelude.{◌≡◌};
 ghost use Rattle.std.specs.List.{list_all};
-ghost use Rattle.lab_names.specs.Names.{is_code_byte, is_code, is_lab_code, is_person_code, is_key, is_name_byte, is_name, is_note_byte, is_note, is_unit};
+ghost use Rattle.lab_names.specs.Names.{is_code_byte, is_code, is_lab_code, is_person_code, is_key, is_name_byte, is_name, is_note_byte, is_note, is_unit, is_writing};
 
 use crate::text::{Rule, Text};
 
@@ -185,3 +185,18 @@ impl Rule for Units {
 
 /// The unit of a number: nothing, or a name of 20 bytes at most.
 pub type Unit = Text<Units>;
+
+/// The rule of texts as they are written, which asks nothing of them.
+#[derive(Drop)]
+pub struct Writings;
+
+impl Rule for Writings {
+    ghost admits = { is_writing };
+
+    fn admits(_text: &str) -> bool {
+        true
+    }
+}
+
+/// A text as it is written, of which no rule is asked.
+pub type Writing = Text<Writings>;

@@ -5,7 +5,7 @@ ghost use Rattle.std.specs.Cmp.Lexicographic.{pointwise, slice_cmp, nat_list_eq_
 ghost use Rattle.std.specs.Cmp.{partial_equiv_from_equiv};
 ghost use Rattle.lab_names.specs.Faults.{NameFaultFits};
 
-use crate::{NameFault, OutOfMemory};
+use crate::{NameFault, OutOfMemory, Writings};
 use std::alloc::{AllocError, Global};
 use std::cmp::Ordering;
 use std::fmt;
@@ -76,6 +76,18 @@ impl<R: Rule> Text<R> {
         ensures { IfOk result (λ copy. copy ≡ self.now) }
     {
         Ok(self.clone()?)
+    }
+}
+
+impl Text<Writings> {
+    /// The text, as it is written. It takes no memory.
+    pub fn new(text: String) -> Text<Writings>
+        ensures { result ≡ string_bytes text }
+    {
+        Text {
+            text,
+            rule: PhantomData,
+        }
     }
 }
 

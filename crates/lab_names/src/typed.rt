@@ -4,7 +4,8 @@ ghost use Rattle.std.specs.Prelude.{◌≡◌, string_bytes};
 
 use std::marker::Model;
 
-/// A text as somebody typed it: a password, or a value that no form has read yet.
+/// A text as somebody typed it: a password, or a value that no form has read yet. It is no `Writing`, since a password is
+/// neither printed nor copied.
 ///
 /// A contract sees it as the list of its bytes.
 pub struct Typed {
