@@ -5,7 +5,7 @@ use crate::person_growths::print_person_growths;
 use crate::record_growths::print_record_growths;
 use crate::results::{print_made, print_word};
 use anyhow::Result;
-use lab_forms::{Bound, Choices, Field, Form, Kind, Value};
+use lab_forms::{Choices, Field, Form, Kind, Value};
 use lab_names::{Keys, LabCodes, Names, Notes, PersonCodes, Rule, Text, Units};
 use lab_samples::{both, colours, field, form, least, made_of, numbers, text};
 use std::alloc::Global;
@@ -63,7 +63,7 @@ fn print_forms(rt: &impl Print, alloc: Global) -> io::Result<()> {
 }
 
 fn print_copied_kinds(rt: &impl Print, alloc: Global) -> io::Result<()> {
-    print_made(rt, made_of(least(alloc), Bound::copy), Bound::as_str)?;
+    print_made(rt, made_of(least(alloc), Text::copy), Text::as_str)?;
     print_word(rt, made_of(colours(alloc), Choices::copy), "choices")?;
     print_word(rt, made_of(numbers(alloc), Kind::copy), "number")?;
     print_word(rt, made_of(choice(alloc), Kind::copy), "choice")
