@@ -164,7 +164,7 @@ fn show_card(alloc: Global, slice: &Slice) -> Result<Outcome, OutOfMemory>
 }
 
 // An opening: its moment is noted where it is accepted, and where the password fails. The code is copied for the trail, and
-// that there is no memory for it counts only where the trail tells of the opening.
+// that there is no memory for it counts only where the opening is accepted.
 #[tactic(auto, using(crate::proofs::Taken::opened_is_made))]
 fn decide_opening(
     alloc: Global,

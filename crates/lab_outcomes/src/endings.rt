@@ -66,17 +66,19 @@ pub fn opening_made(
         ≡ ended_made [] rows moment code.now reply deed (Change.Last moment ∷ own)) }
     ensures memory { OnErr result (nat_le count_limit rows ≡ false) }
 {
-    let before = Series::new(alloc);
     let Some(number) = next_number(rows) else {
         drop(reply);
         drop(deed);
         drop(own);
-        return Ok(refused(before, Refusal::People(PeopleRefusal::LabFull)));
+        let refusal = Refusal::People(PeopleRefusal::LabFull);
+        return Ok(refused(Series::new(alloc), refusal));
     };
     match with_moment(alloc, moment, own) {
-        Ok(own) => told_made(alloc, before, number, moment, code, reply, deed, own),
+        Ok(own) => {
+            let before = Series::new(alloc);
+            told_made(alloc, before, number, moment, code, reply, deed, own)
+        }
         Err(fault) => {
-            drop(before);
             drop(reply);
             drop(deed);
             Err(fault)
