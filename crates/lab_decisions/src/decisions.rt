@@ -225,7 +225,7 @@ fn decide_in(
     }
 }
 
-// A command in a session whose request was noted by these changes.
+// A command in a session whose request was noted by these changes. The only error is out of memory: the caller is copied in any case.
 fn decide_noted(
     alloc: Global,
     slice: &mut Slice,
