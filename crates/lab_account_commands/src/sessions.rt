@@ -70,7 +70,8 @@ fn opened_done(alloc: Global, opened: Opened) -> Result<Done, OutOfMemory>
     ))
 }
 
-/// What the closing of the session by its person comes to. The only error is out of memory.
+/// What the closing of the session by its person comes to. The only error is out of memory: the closed session is a change in any
+/// case.
 pub fn closed_done(alloc: Global, session: Session) -> Result<Done, OutOfMemory>
     ensures { IfOk result (λ done. done ≡ closed_done session) }
 {

@@ -399,13 +399,16 @@ abbrev made_by : Slice → Tick → ℕ → Person → Command → Bool
 made_by part tick moment person command =
     makes part (record tick { moment = moment }) (session person.code) person command
 
--- closing makes its changes, and a list its lines; a form is read as it stands, and what isn't asked in a session makes nothing
+-- closing makes its changes, and a list its lines, unless it has none; a form is read as it stands, and what isn't asked in a session makes nothing
 pub known_makings : (tick : Tick) (password : List ℕ)
-    → (made_by slice tick 1200 dan Close ≡ true) × (made_by slice tick 1200 ann ReadPersons ≡ true)
+    → (made_by slice tick 1200 dan Close ≡ true) × (made_by slice tick 1200 ann ReadPersons ≡ false)
+    × (made_by (record slice { persons = ann ∷ [] }) tick 1200 ann ReadPersons ≡ true)
+    × (made_by slice tick 1200 dan (ReadRecords 1 9) ≡ false)
+    × (made_by (record slice { records = about first ∷ [] }) tick 1200 dan (ReadRecords 1 9) ≡ true)
     × (made_by (with_form (water 1 false)) tick 1200 dan (ReadForm (codes "water") 1) ≡ false)
     × (made_by slice tick 1200 dan (Open (codes "dan") password) ≡ false)
 unfolding makes
-known_makings tick password = (refl, refl, refl, refl)
+known_makings tick password = (refl, refl, refl, refl, refl, refl, refl)
 
 -- a code that is there is refused with nothing made, and somebody new is made; so it is with a lock and a password, with one's
 -- own roles and another's, and with a form

@@ -103,7 +103,7 @@ fn decide_by(
     }
 }
 
-// A command that its session may not give, of which it is noted that it came.
+// A command that its session may not give, of which it is noted that it came, in any case. The only error is out of memory.
 fn barred(
     alloc: Global,
     moment: Moment,
@@ -150,6 +150,7 @@ fn decide_without(
     }
 }
 
+// The card, of which code and name are copied in any case. The only error is out of memory.
 fn show_card(alloc: Global, slice: &Slice) -> Result<Outcome, OutOfMemory>
     ensures { IfOk result
         (λ shown. shown ≡ outcome (Reply.Card slice.now.code slice.now.name) []) }
@@ -163,7 +164,7 @@ fn show_card(alloc: Global, slice: &Slice) -> Result<Outcome, OutOfMemory>
 }
 
 // An opening: its moment is noted where it is accepted, and where the password fails. The code is copied for the trail, and
-// that there is no memory for it counts only where the trail tells of the opening.
+// that there is no memory for it counts only where the opening is accepted.
 #[tactic(auto, using(crate::proofs::Taken::opened_is_made))]
 fn decide_opening(
     alloc: Global,
@@ -198,7 +199,7 @@ fn decide_opening(
     }
 }
 
-// A command in a session: its request is taken note of before all.
+// A command in a session: its request is taken note of before all, in any case. The only error is out of memory.
 fn decide_in(
     alloc: Global,
     slice: &mut Slice,
@@ -224,7 +225,7 @@ fn decide_in(
     }
 }
 
-// A command in a session whose request was noted by these changes.
+// A command in a session whose request was noted by these changes. The only error is out of memory: the caller is copied in any case.
 fn decide_noted(
     alloc: Global,
     slice: &mut Slice,

@@ -1,8 +1,8 @@
 -- Where a command makes something, so that memory may run out: where its rule gives what is asked
--- for. A refusal makes nothing, and is told as it is. Two commands make something before their last
--- refusals are found: an amendment is held against a table of the rows that stand, and a signature
--- against the version's digest.
-use Rattle.std.specs.Prelude.{ℕ, Bool, true, false, Option, Result, Ok, Err, is_ok, if◌then◌else◌}
+-- for, and a list where it has a line. A refusal makes nothing, and is told as it is. Two commands
+-- make something before their last refusals are found: an amendment is held against a table of the
+-- rows that stand, and a signature against the version's digest.
+use Rattle.std.specs.Prelude.{ℕ, Bool, true, false, not, ◌==◌, List, length, Option, Result, Ok, Err, is_ok, if◌then◌else◌}
 use Rattle.lab_names.specs.declared.tick.Tick.{Tick}
 use Rattle.lab_access.specs.declared.persons.Person.{Person}
 use Rattle.lab_access.specs.declared.sessions.Session.{Session}
@@ -25,7 +25,12 @@ abbrev pub is_digest_made_by : Option Record → ℕ → Signing → Result Pers
 is_digest_made_by filed version signing (Err failure) = false
 is_digest_made_by filed version signing (Ok person) = is_digest_made_at filed version signing
 
--- in a session; a form and the trail are read as they stand in the part
+-- what is told in lines, a line each
+abbrev pub has_lines : {A : Type 0} → List A → Bool
+has_lines listed = not (length listed == 0)
+
+-- in a session; a form and the trail are read as they stand in the part. A closing makes its change
+-- in any case, and a copy the row at its head.
 unfoldable pub makes : Slice → Tick → Session → Person → Command → Bool
 makes slice tick session caller Card = false
 makes slice tick session caller (Open code password) = false
@@ -34,7 +39,7 @@ makes slice tick session caller (ChangePassword old new) =
     is_ok (changing caller session old new tick)
 makes slice tick session caller (Enrol code name roles) =
     is_ok (enrolling code name roles slice.person slice.counts.persons)
-makes slice tick session caller ReadPersons = true
+makes slice tick session caller ReadPersons = has_lines slice.persons
 makes slice tick session caller (AskIssue code) = is_ok (asking caller.code slice.person tick)
 makes slice tick session caller (ConfirmIssue code) =
     is_ok (confirming caller.code slice.person tick)
@@ -59,6 +64,6 @@ makes slice tick session caller (ReadRecord number) =
     is_ok (reading_record slice.code slice.filed)
 makes slice tick session caller (ReadVersion number version) =
     is_ok (reading_version slice.code slice.filed version)
-makes slice tick session caller (ReadRecords from to) = true
+makes slice tick session caller (ReadRecords from to) = has_lines slice.records
 makes slice tick session caller (ReadTrail from to) = false
 makes slice tick session caller (TakeCopy from to) = true

@@ -1,6 +1,7 @@
 -- Values from outside, so that a wrong rule in the definitions does not check: what a trail of a
 -- thousand million rows has no room for.
-use Rattle.std.proofs.Common.{◌≡◌, ℕ, [], ◌∷◌, codes, refl, Some}
+use Rattle.std.proofs.Common.{◌≡◌, ℕ, true, false, [], ◌∷◌, codes, refl, Some}
+use Rattle.std.specs.Prelude.{⊤}
 use Rattle.lab_access.specs.declared.persons.Person.{Person}
 use Rattle.lab_access.specs.declared.refusals.Failure.TheVariants.{Counted, Locking, AlreadyLocked, Stray}
 use Rattle.lab_access.specs.declared.refusals.PeopleRefusal.TheVariants.{LabFull}
@@ -12,7 +13,7 @@ use Rattle.lab_kept.specs.declared.trails.Occasion.TheVariants.{Opening}
 use Rattle.lab_kept.specs.Trails.{row_of}
 use Rattle.lab_rules.specs.declared.refusals.Refusal.TheVariants.{People}
 use Rattle.lab_machine.specs.declared.replies.Reply.TheVariants.{Refused, Closed}
-use Rattle.lab_outcomes.specs.Deciding.{failing, outcome, ended_made}
+use Rattle.lab_outcomes.specs.Deciding.{IsFailureWritten, failing, outcome, ended_made}
 
 -- the row of that number, that the person's password was refused, or that the account was locked
 abbrev refused_row : ℕ → Person → Change
@@ -41,6 +42,13 @@ pub known_failures : (person : Person)
     × (failing 1000000000 0 500 Opening (AlreadyLocked person) ≡ [])
     × (failing 0 7 500 Opening Stray ≡ Strays 8 ∷ [])
 known_failures person = (refl, refl, refl, refl, refl)
+
+-- memory may run out of a password that meets a lock as long as there is room for its row, and of one that is counted in any case
+pub known_writings : (person : Person)
+    → (IsFailureWritten 999999999 (AlreadyLocked person) ≡ (false ≡ false))
+    × (IsFailureWritten 1000000000 (AlreadyLocked person) ≡ (true ≡ false))
+    × (IsFailureWritten 1000000000 (Counted person) ≡ ⊤)
+known_writings person = (refl, refl, refl)
 
 -- what is made is told, and refused where the trail is full
 pub known_ends : (before own : Change)

@@ -81,11 +81,19 @@ ended_by rows strays moment person before (Read reply) = outcome reply before
 ended_by rows strays moment person before (Made reply deed own) =
     ended_made before rows moment person reply deed own
 
--- something is made of it, so that memory may be asked for: of a failed password, and of a deed
--- where the trail has room for its row
+-- a failed password changes something, so that memory may be asked for: of a locked account where
+-- the trail has room for its row, and else in any case
+abbrev pub IsFailureWritten : ℕ → Failure → Type 0
+IsFailureWritten rows (Counted person) = ⊤
+IsFailureWritten rows (Locking person) = ⊤
+IsFailureWritten rows (AlreadyLocked person) = nat_le count_limit rows ≡ false
+IsFailureWritten rows Stray = ⊤
+
+-- something is made of it, so that memory may be asked for: of a failed password that changes
+-- something, and of a deed where the trail has room for its row
 abbrev pub IsWritten : ℕ → Done → Type 0
 IsWritten rows (Refused refusal) = ⊥
-IsWritten rows (Failed occasion failure) = ⊤
+IsWritten rows (Failed occasion failure) = IsFailureWritten rows failure
 IsWritten rows (Read reply) = ⊥
 IsWritten rows (Made reply deed own) = nat_le count_limit rows ≡ false
 

@@ -1,9 +1,9 @@
 //! The rows that the trail is given, where it has so many, and what a failed password changes.
-ghost use Rattle.std.specs.Prelude.{◌≡◌, ◌+◌, ◌++◌, ◌∷◌, Some, true, false, nat_le, IfOk, OnOk, MatchOption};
+ghost use Rattle.std.specs.Prelude.{◌≡◌, ◌+◌, ◌++◌, ◌∷◌, Some, true, false, nat_le, IfOk, OnOk, OnErr, MatchOption};
 ghost use Rattle.lab_kept.specs.Limits.{count_limit};
 ghost use Rattle.lab_kept.specs.Trails.{row_of};
 ghost use Rattle.lab_machine.specs.Cases.{more_strays};
-ghost use Rattle.lab_outcomes.specs.Deciding.{noted_rows, two_rows, failing};
+ghost use Rattle.lab_outcomes.specs.Deciding.{IsFailureWritten, noted_rows, two_rows, failing};
 
 use lab_access::{Closing, Failure, Person};
 use lab_kept::{COUNT_LIMIT, Change, Deed, Occasion, TrailRow};
@@ -24,7 +24,7 @@ pub fn next_number(rows: u64) -> Option<Ordinal>
     Ordinal::after(rows as u32)
 }
 
-/// The row of the number that tells of the deed. The only error is out of memory.
+/// The row of the number that tells of the deed. The only error is out of memory: the code is copied in any case.
 pub fn row_of(
     alloc: Global,
     number: Ordinal,
@@ -45,7 +45,7 @@ pub fn row_of(
     })
 }
 
-// The row that tells of the deed, where the trail has room for it.
+// The row that tells of the deed, where the trail has room for it. The only error is out of memory, where it has.
 fn note(
     alloc: Global,
     changes: &mut Series<Change>,
@@ -54,8 +54,9 @@ fn note(
     person: &PersonCode,
     deed: &Deed,
 ) -> Result<(), OutOfMemory>
-    ensures { OnOk result
+    ensures noted { OnOk result
         (changes.new ≡ changes.old ++ noted_rows rows moment person.now deed.now) }
+    ensures memory { OnErr result (nat_le count_limit rows ≡ false) }
 {
     let Some(number) = next_number(rows) else {
         return Ok(());
@@ -65,7 +66,7 @@ fn note(
     Ok(())
 }
 
-// The rows that tell of two deeds, where the trail has room for them.
+// The rows that tell of two deeds, where the trail has room for them. The only error is out of memory, where it has room for one.
 fn note_two(
     alloc: Global,
     changes: &mut Series<Change>,
@@ -75,8 +76,9 @@ fn note_two(
     first: &Deed,
     second: &Deed,
 ) -> Result<(), OutOfMemory>
-    ensures { OnOk result
+    ensures noted { OnOk result
         (changes.new ≡ changes.old ++ two_rows rows moment person.now first.now second.now) }
+    ensures memory { OnErr result (nat_le count_limit rows ≡ false) }
 {
     let Some(number) = next_number(rows) else {
         return Ok(());
@@ -87,7 +89,7 @@ fn note_two(
     note(alloc, changes, told, moment, person, second)
 }
 
-/// What a failed password changes. The only error is out of memory.
+/// What a failed password changes. The only error is out of memory, where it changes something.
 pub fn fail(
     alloc: Global,
     changes: &mut Series<Change>,
@@ -97,8 +99,9 @@ pub fn fail(
     occasion: Occasion,
     failure: Failure,
 ) -> Result<(), OutOfMemory>
-    ensures { OnOk result
+    ensures changed { OnOk result
         (changes.new ≡ changes.old ++ failing rows strays moment occasion failure) }
+    ensures memory { OnErr result (IsFailureWritten rows failure) }
 {
     match failure {
         Failure::Counted(person) => fail_counted(alloc, changes, rows, moment, occasion, person),
@@ -114,7 +117,7 @@ pub fn fail(
     }
 }
 
-// What a failed password changes that is counted.
+// What a failed password changes that is counted: the person, in any case.
 fn fail_counted(
     alloc: Global,
     changes: &mut Series<Change>,
@@ -132,7 +135,7 @@ fn fail_counted(
     note(alloc, changes, rows, moment, &code, &refused)
 }
 
-// What a failed password changes that locks.
+// What a failed password changes that locks: the person, in any case.
 fn fail_locking(
     alloc: Global,
     changes: &mut Series<Change>,

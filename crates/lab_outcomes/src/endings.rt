@@ -1,7 +1,8 @@
 //! How a command ends on a part of a laboratory: what notes that its request came, what is made of a failed password, and what a
 //! full trail refuses.
-ghost use Rattle.std.specs.Prelude.{◌≡◌, ◌∷◌, [], false, nat_le, IfOk, OnErr};
+ghost use Rattle.std.specs.Prelude.{◌≡◌, ◌++◌, ◌∷◌, [], Some, false, nat_le, IfOk, OnErr};
 ghost use Rattle.lab_kept.specs.Limits.{count_limit};
+ghost use Rattle.lab_kept.specs.Trails.{row_of};
 ghost use Rattle.lab_outcomes.specs.Deciding.{IsWritten, failing, outcome, ended_made, ended_by, touching};
 
 use crate::drafts::next_number;
@@ -10,11 +11,11 @@ use crate::telling::{failed, refused, told};
 use lab_access::{Failure, PeopleRefusal, Session};
 use lab_kept::{Change, Deed, Occasion};
 use lab_machine::{Done, Reply, joined, pair, single};
-use lab_names::{Moment, OutOfMemory, PersonCode, Series};
+use lab_names::{Moment, Ordinal, OutOfMemory, PersonCode, Series};
 use lab_rules::Refusal;
 use std::alloc::Global;
 
-/// That a request came by the session at the moment. The only error is out of memory.
+/// That a request came by the session at the moment. The only error is out of memory: two changes are made in any case.
 pub fn touching(
     alloc: Global,
     moment: Moment,
@@ -27,7 +28,8 @@ pub fn touching(
     pair(alloc, Change::Last(moment), Change::SessionSet(touched))
 }
 
-/// The end of an opening whose password failed: its moment is noted. The only error is out of memory.
+/// The end of an opening whose password failed: its moment is noted. The only error is out of memory: the moment is a change in any
+/// case.
 pub fn opening_failed(
     alloc: Global,
     rows: u64,
@@ -49,7 +51,8 @@ pub fn opening_failed(
     }
 }
 
-/// The end of an opening that is accepted: its moment is noted. The only error is out of memory.
+/// The end of an opening that is accepted: a full trail refuses it; else its moment is noted, and the deed is told. The only error
+/// is out of memory, where the trail has room.
 pub fn opening_made(
     alloc: Global,
     rows: u64,
@@ -59,20 +62,22 @@ pub fn opening_made(
     deed: Deed,
     own: Series<Change>,
 ) -> Result<Outcome, OutOfMemory>
-    ensures { IfOk result (λ outcome. outcome
+    ensures made { IfOk result (λ outcome. outcome
         ≡ ended_made [] rows moment code.now reply deed (Change.Last moment ∷ own)) }
+    ensures memory { OnErr result (nat_le count_limit rows ≡ false) }
 {
+    let Some(number) = next_number(rows) else {
+        drop(reply);
+        drop(deed);
+        drop(own);
+        let refusal = Refusal::People(PeopleRefusal::LabFull);
+        return Ok(refused(Series::new(alloc), refusal));
+    };
     match with_moment(alloc, moment, own) {
-        Ok(own) => ended_made(
-            alloc,
-            Series::new(alloc),
-            rows,
-            moment,
-            code,
-            reply,
-            deed,
-            own,
-        ),
+        Ok(own) => {
+            let before = Series::new(alloc);
+            told_made(alloc, before, number, moment, code, reply, deed, own)
+        }
         Err(fault) => {
             drop(reply);
             drop(deed);
@@ -81,7 +86,7 @@ pub fn opening_made(
     }
 }
 
-// The moment of the last activity, and changes behind it.
+// The moment of the last activity, a change in any case, and changes behind it. The only error is out of memory.
 fn with_moment(
     alloc: Global,
     moment: Moment,
@@ -98,7 +103,7 @@ fn with_moment(
     }
 }
 
-/// The end of a command in a session. The only error is out of memory.
+/// The end of a command in a session. The only error is out of memory, where something is written of it.
 pub fn end(
     alloc: Global,
     before: Series<Change>,
@@ -127,7 +132,7 @@ pub fn end(
     }
 }
 
-// Something is made: a full trail refuses last; else the deed is told.
+// Something is made: a full trail refuses last; else the deed is told. The only error is out of memory, where the trail has room.
 fn ended_made(
     alloc: Global,
     before: Series<Change>,
@@ -148,6 +153,23 @@ fn ended_made(
         drop(own);
         return Ok(refused(before, Refusal::People(PeopleRefusal::LabFull)));
     };
+    told_made(alloc, before, number, moment, person, reply, deed, own)
+}
+
+// What was made is told, by the number that the trail gives it. The only error is out of memory: its row is made in any case.
+fn told_made(
+    alloc: Global,
+    before: Series<Change>,
+    number: Ordinal,
+    moment: Moment,
+    person: &PersonCode,
+    reply: Reply,
+    deed: Deed,
+    own: Series<Change>,
+) -> Result<Outcome, OutOfMemory>
+    ensures { IfOk result (λ made. made ≡ outcome reply (before ++ own
+        ++ Change.TrailAdded (row_of number moment (Some person.now) deed) ∷ [])) }
+{
     let changes = told(alloc, before, own, number, moment, person, &deed);
     drop(deed);
     match changes {

@@ -1,7 +1,7 @@
 //! What is told: a refusal, a failed password, and the row behind what is made.
-ghost use Rattle.std.specs.Prelude.{◌≡◌, ◌++◌, ◌∷◌, [], Some, IfOk};
+ghost use Rattle.std.specs.Prelude.{◌≡◌, ◌++◌, ◌∷◌, [], Some, IfOk, OnErr};
 ghost use Rattle.lab_kept.specs.Trails.{row_of};
-ghost use Rattle.lab_outcomes.specs.Deciding.{failing, outcome};
+ghost use Rattle.lab_outcomes.specs.Deciding.{IsFailureWritten, failing, outcome};
 
 use crate::drafts::{fail, row_of};
 use crate::outcome::Outcome;
@@ -22,7 +22,7 @@ pub fn refused(changes: Series<Change>, refusal: Refusal) -> Outcome
     }
 }
 
-/// A password that was given for a command failed. The only error is out of memory.
+/// A password that was given for a command failed. The only error is out of memory, where that changes something.
 pub fn failed(
     alloc: Global,
     before: Series<Change>,
@@ -32,16 +32,17 @@ pub fn failed(
     occasion: Occasion,
     failure: Failure,
 ) -> Result<Outcome, OutOfMemory>
-    ensures { IfOk result (λ told. told
+    ensures failed { IfOk result (λ told. told
         ≡ outcome (Reply.Refused (Refusal.People PeopleRefusal.Credentials))
         (before ++ failing rows strays moment occasion failure)) }
+    ensures memory { OnErr result (IsFailureWritten rows failure) }
 {
     let mut changes = before;
     fail(alloc, &mut changes, rows, strays, moment, occasion, failure)?;
     Ok(refused(changes, Refusal::People(PeopleRefusal::Credentials)))
 }
 
-/// Changes, and behind them the row that tells of the deed. The only error is out of memory.
+/// Changes, and behind them the row that tells of the deed. The only error is out of memory: the row is made in any case.
 pub fn told(
     alloc: Global,
     before: Series<Change>,

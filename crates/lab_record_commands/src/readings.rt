@@ -4,6 +4,7 @@ ghost use Rattle.lab_rules.specs.Reading.{reading_form, reading_record, reading_
 ghost use Rattle.lab_copies.specs.CopyLines.{copy_rows};
 ghost use Rattle.lab_machine.specs.Own.{copy_order};
 ghost use Rattle.lab_machine.specs.Done.{then_read_done};
+ghost use Rattle.lab_machine.specs.Makings.{has_lines};
 
 use lab_access::Person;
 use lab_copies::{CopyOrder, CopyRow, copy_rows};
@@ -65,13 +66,14 @@ pub fn version_read_done(
     }
 }
 
-/// Persons in a line each, at the moment. The only error is out of memory.
+/// Persons in a line each, at the moment. The only error is out of memory, where there is one.
 pub fn person_lines(
     alloc: Global,
     persons: &[Person],
     moment: Moment,
 ) -> Result<Series<PersonLine>, OutOfMemory>
-    ensures { IfOk result (λ lines. lines ≡ map (person_line moment) persons.now) }
+    ensures lines { IfOk result (λ lines. lines ≡ map (person_line moment) persons.now) }
+    ensures memory { OnErr result (IsTrue (has_lines persons.now)) }
 {
     let mut lines = Series::new(alloc);
     for person in persons {
@@ -80,9 +82,10 @@ pub fn person_lines(
     Ok(lines)
 }
 
-/// Records in a line each. The only error is out of memory.
+/// Records in a line each. The only error is out of memory, where there is one.
 pub fn record_lines(alloc: Global, records: &[Record]) -> Result<Series<RecordState>, OutOfMemory>
-    ensures { IfOk result (λ lines. lines ≡ map record_line records.now) }
+    ensures lines { IfOk result (λ lines. lines ≡ map record_line records.now) }
+    ensures memory { OnErr result (IsTrue (has_lines records.now)) }
 {
     let mut lines = Series::new(alloc);
     for kept in records {
@@ -92,7 +95,7 @@ pub fn record_lines(alloc: Global, records: &[Record]) -> Result<Series<RecordSt
 }
 
 /// The rows of a copy of the part's records, which are those from a number to a number, made for a person at a moment. The only
-/// error is out of memory.
+/// error is out of memory: the row at its head is made in any case.
 pub fn copied_rows(
     alloc: Global,
     slice: &Slice,
