@@ -4,7 +4,9 @@
     bench/commands.py --check
 
 - its routes with those of crates/lab_routes: each stands once;
-- number, word and status of each refusal with docs/REFUSALS.md; and the steps of a table, which never go back;
+- number, word and status of each refusal with docs/REFUSALS.md, where it has a status of HTTP; and the steps of a table, which never go
+  back;
+- the tables of docs/REFUSALS.md: each row has a word, a status, when it comes and what to do;
 - each example with the requests of examples/day.py, and with what they are answered;
 - the members of bodies with those that examples/day.py sends, and those of replies, in order, with the examples beside them;
 - rules and roles with those of bench/laboratory.py.
@@ -26,6 +28,8 @@ from laboratory import LETTERS, RULES  # noqa: E402
 SERVER = "http://localhost:8080"
 ROUTE = re.compile(r"`(GET|POST) /labs/\{lab\}([^`?]*)(\?[^`]*)?`")
 SIGNATURES = ("authorship", "review", "rejection", "approval")
+# The status of a refusal: of an HTTP reply, of a command's end, or of none that tells it.
+STATUS = re.compile(r"[1-5]\d\d|exit 1|none")
 # How the headers of tables of members end: of a body's, and of a reply's.
 SENT, TOLD = "What it is", "What it tells"
 
@@ -45,7 +49,7 @@ class Section:
         routes = [found for line in text.splitlines() if (found := ROUTE.fullmatch(line))]
         self.name, self.routes = name, [found.group(1, 2) for found in routes]
         self.who = next((line for line in text.splitlines() if line.startswith("**Who.**")), "")
-        self.tables = [table_of(rows) for rows in re.findall(r"(?:^\|.*\n)+", text, re.M)]
+        self.tables = tables_in(text)
         self.examples = re.findall(r"^```sh\n(.*?)^```\n\n```(json|http|csv)\n(.*?)^```$", text, re.M | re.S)
         self.blocks = text.count("```sh\n")
 
@@ -56,6 +60,10 @@ class Section:
     def members(self, first, last):
         rows = self.rows(first, last)
         return None if rows is None else [row[0].strip("`") for row in rows]
+
+
+def tables_in(text):
+    return [table_of(rows) for rows in re.findall(r"(?:^\|.*\n)+", text, re.M)]
 
 
 def table_of(text):
@@ -134,7 +142,7 @@ def routes_differ(parts):
 
 
 def refusals_differ(parts):
-    rows = re.findall(r"^\| (\d+) \| `(\w+)` \| (\d*) \|", text_of("docs/REFUSALS.md"), re.M)
+    rows = re.findall(r"^\| (\d+) \| `(\w+)` \| (\d\d\d) \|", text_of("docs/REFUSALS.md"), re.M)
     known = {number: (word, status) for number, word, status in rows}
     for part in parts:
         steps = []
@@ -145,6 +153,17 @@ def refusals_differ(parts):
                 yield f"{part.name}: {number} {word} {status}, and docs/REFUSALS.md has {known.get(number)}"
         if steps != sorted(steps):
             yield f"{part.name}: its steps go back"
+
+
+def refusals_lack():
+    """What a row of docs/REFUSALS.md lacks."""
+    for header, *rows in tables_in(text_of("docs/REFUSALS.md")):
+        if header[-4:] != ["Word", "Status", "When", "What to do"]:
+            yield f"docs/REFUSALS.md: a table of {header}"
+            continue
+        for row in rows:
+            if not (all(row) and re.fullmatch(r"`\w+`", row[-4]) and STATUS.fullmatch(row[-3])):
+                yield f"docs/REFUSALS.md: a row of {row}"
 
 
 def examples_differ(parts, made):
@@ -221,6 +240,7 @@ def main(words):
     compared = [
         (f"each of its {sum(len(part.routes) for part in parts)} routes stands once", routes_differ(parts)),
         (f"its {refusals} rows of refusals are those of docs/REFUSALS.md", refusals_differ(parts)),
+        ("each refusal of docs/REFUSALS.md has its status, when it comes and what to do", refusals_lack()),
         (f"its {examples} examples are those of the day", examples_differ(parts, made)),
         ("the members of bodies and replies", (one for part in parts for one in members_differ(part))),
         ("rules and roles", (one for part in parts for one in rules_differ(part))),

@@ -1,6 +1,6 @@
 //! Versions of forms, with their fields.
 
-ghost use Rattle.std.specs.Prelude.{◌≡◌, Some, option_map, slice_get, IfOk, OnOk};
+ghost use Rattle.std.specs.Prelude.{◌≡◌, option_map, slice_get, IfOk, IfSome, OnOk};
 ghost use Rattle.sqlite_keyed.specs.Keyed.{get_by};
 ghost use Rattle.sqlite.specs.State.{HasCleanDisk, IsUnchanged};
 ghost use Rattle.lab_tables.specs.Ready.{IsReady, PassesBy, tables_of};
@@ -77,18 +77,18 @@ fn form_head_at<D: Readable>(
     first_form(alloc, &rows)
 }
 
-/// The form of the fields. One that no form may have is a fault of the store.
-fn form_made(fields: Vec<Field>, approval: bool) -> Result<Form, ReadFault>
-    ensures { IfOk result
+/// The form of the fields. There may be none.
+fn form_made(fields: Vec<Field>, approval: bool) -> Option<Form>
+    ensures { IfSome result
         (λ form. form ≡ record { fields = fields.items; approval = approval }) }
 {
     match Form::make(fields, approval) {
-        Ok(form) => Ok(form),
-        Err(_) => Err(ReadFault::Storage),
+        Ok(form) => Some(form),
+        Err(_) => None,
     }
 }
 
-/// The version of a form that has the row, with its fields.
+/// The version of a form that has the row, with its fields. Fields that no form may have are a fault of the store.
 pub fn form_whole<D: Readable>(
     alloc: Global,
     conn: &mut D,
@@ -101,22 +101,12 @@ pub fn form_whole<D: Readable>(
         IfOk result (λ form. form ≡ form_by (tables_of (D.state conn.old)) head) }
 {
     let fields = fields_at(alloc, conn, head.id)?;
-    let form = form_made(fields, head.approval)?;
+    let form = form_made(fields, head.approval).ok_or(ReadFault::Storage)?;
     Ok(FormVersion {
         code: head.code,
         version: head.version,
         form,
     })
-}
-
-/// The row that was found. That there is none is a fault of the store.
-fn found_form(found: Option<FormHead>) -> Result<FormHead, ReadFault>
-    ensures { IfOk result (λ form. found ≡ Some form) }
-{
-    match found {
-        Some(form) => Ok(form),
-        None => Err(ReadFault::Storage),
-    }
 }
 
 /// The version of a form with the id, with its fields. That there is none is a fault of the store.
@@ -127,7 +117,8 @@ pub fn form_at<D: Readable>(alloc: Global, conn: &mut D, id: i64) -> Result<Form
     ensures form { IsReady (D.state conn.old) → HasCleanDisk (D.state conn.new) →
         IfOk result (λ form. form ≡ form_at (tables_of (D.state conn.old)) id) }
 {
-    let found = form_head_at(alloc, conn, id)?;
-    let head = found_form(found)?;
+    let Some(head) = form_head_at(alloc, conn, id)? else {
+        return Err(ReadFault::Storage);
+    };
     form_whole(alloc, conn, head)
 }

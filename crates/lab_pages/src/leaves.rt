@@ -70,22 +70,6 @@ fn give_version<W: Write>(
     Ok(())
 }
 
-/// The version that the rows tell, behind one of the digest or none.
-fn version_made(
-    cover: &Record,
-    before: Option<Digest>,
-    leaf: VersionLeaf,
-) -> Result<Version, CopyOutFault>
-    ensures version { IfOk result
-        (λ version. version ≡ version_after cover.now before (leaf_of leaf)) }
-    ensures fault { IfErr result (CopyFaultFits ⊥ (Unit {0}) (Unit {0})) }
-{
-    match version_after(cover, before, leaf) {
-        Ok(version) => Ok(version),
-        Err(fault) => Err(told(fault)),
-    }
-}
-
 /// Writes the rows of the version that its own rows tell, behind one of the digest or none, and
 /// answers its digest.
 fn give_leaf<W: Write>(
@@ -108,7 +92,9 @@ fn give_leaf<W: Write>(
         ≡ digest_of lab.now cover.now (version_after cover.now before (leaf_of leaf))) }
     ensures fault { IfErr result (CopyFaultFits ⊥ (Unit {0}) (Unit {0})) }
 {
-    let version = version_made(cover, before, leaf)?;
+    let Some(version) = version_after(cover, before, leaf) else {
+        return Err(CopyOutFault::Storage);
+    };
     let digest = cover.digest_of(alloc, lab, &version)?;
     give_version(alloc, lab, cover, &version, out, writer)?;
     Ok(digest)

@@ -1,6 +1,6 @@
 //! Signatures of a version.
 
-ghost use Rattle.std.specs.Prelude.{◌≡◌, map, IfOk, OnOk};
+ghost use Rattle.std.specs.Prelude.{◌≡◌, map, IfOk, IfSome, OnOk};
 ghost use Rattle.sqlite.specs.State.{HasCleanDisk, IsUnchanged};
 ghost use Rattle.lab_tables.specs.Ready.{IsReady, PassesBy, tables_of};
 ghost use Rattle.lab_tables.specs.Columns.{meaning_in};
@@ -34,19 +34,19 @@ fn signature_rows<D: Readable>(conn: &mut D, version: i64) -> Result<Vec<Row>, E
     )
 }
 
-/// What a version was signed as, by its word and its reason. A word that none is written as is a fault of the store.
-fn meaning_by(word: &str, reason: Option<Note>) -> Result<Meaning, ReadFault>
-    ensures { IfOk result (λ meaning. meaning ≡ meaning_in word.now reason) }
+/// What a version was signed as, by its word and its reason. There may be none that is written so.
+fn meaning_by(word: &str, reason: Option<Note>) -> Option<Meaning>
+    ensures { IfSome result (λ meaning. meaning ≡ meaning_in word.now reason) }
 {
     match word {
-        "authorship" => Ok(Meaning::Authorship),
-        "review" => Ok(Meaning::Review),
+        "authorship" => Some(Meaning::Authorship),
+        "review" => Some(Meaning::Review),
         "rejection" => match reason {
-            Some(reason) => Ok(Meaning::Rejection(reason)),
-            None => Err(ReadFault::Storage),
+            Some(reason) => Some(Meaning::Rejection(reason)),
+            None => None,
         },
-        "approval" => Ok(Meaning::Approval),
-        _ => Err(ReadFault::Storage),
+        "approval" => Some(Meaning::Approval),
+        _ => None,
     }
 }
 
@@ -57,7 +57,7 @@ fn meaning_of(alloc: Global, row: &Row) -> Result<Meaning, ReadFault>
 {
     let word: Text<Keys> = text_of(alloc, row, 2)?;
     let reason = text_if(alloc, row, 3)?;
-    meaning_by(word.as_str(), reason)
+    meaning_by(word.as_str(), reason).ok_or(ReadFault::Storage)
 }
 
 /// The signature that a row shows.

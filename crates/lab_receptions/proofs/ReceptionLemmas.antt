@@ -8,7 +8,7 @@ use Rattle.std.proofs.lemmas.List.{length-take-le}
 use Rattle.std.proofs.lemmas.Bool.{le-leb}
 use Rattle.std.proofs.lemmas.Bool.Decides.{nat_tests}
 use Rattle.lab_heads.specs.declared.refusals.HeadRefusal.{HeadRefusal}
-use Rattle.lab_heads.specs.declared.refusals.HeadRefusal.TheVariants.{BadHead, HeadTooLong, TransferCoding, LengthWanted, BodyTooLong, ShortBody}
+use Rattle.lab_heads.specs.declared.refusals.HeadRefusal.TheVariants.{ShortBody}
 use Rattle.lab_heads.specs.declared.refusals.HeadFault.{HeadFault}
 use Rattle.lab_heads.specs.declared.refusals.HeadFault.TheVariants.{Refused, Read, Write, Memory}
 use Rattle.lab_heads.specs.declared.expected.ExpectedBody.{ExpectedBody}
@@ -115,12 +115,8 @@ module _ (head : List ℕ) (good : GoodHead) (is : IsHead head good) where
       → IsBodyFault mid (body_length good.head.fields) fault → IfSome old (λ bytes. IsReception bytes (Err fault))
   exact_fault fault None mid gave came = tt
   exact_fault fault (Some bytes) None gave came = absurd gave
-  exact_fault (Refused BadHead) (Some bytes) (Some left) gave came = absurd came
-  exact_fault (Refused HeadTooLong) (Some bytes) (Some left) gave came = absurd came
-  exact_fault (Refused TransferCoding) (Some bytes) (Some left) gave came = absurd came
-  exact_fault (Refused LengthWanted) (Some bytes) (Some left) gave came = absurd came
-  exact_fault (Refused BodyTooLong) (Some bytes) (Some left) gave came = absurd came
-  exact_fault (Refused ShortBody) (Some bytes) (Some left) gave came = ap request_in gave ∙ short_is left came
+  exact_fault (Refused refusal) (Some bytes) (Some left) gave came =
+      ap request_in gave ∙ short_is left came.1 ∙ ap (λ t. Err t) (sym came.0)
   exact_fault Read (Some bytes) (Some left) gave came = tt
   exact_fault (Write sent) (Some bytes) (Some left) gave came = absurd came
   exact_fault Memory (Some bytes) (Some left) gave came = ap is_ok (accepted_of bytes left gave)

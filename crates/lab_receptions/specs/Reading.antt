@@ -1,7 +1,7 @@
 -- What a reader gave, piece by piece.
 use Rattle.std.specs.Prelude.{◌≡◌, ℕ, ◌<◌, List, [], ◌∷◌, ◌++◌, length, Option, Some, None, IfSome}
 use Rattle.std.specs.Io.KnownBytes.{Consumes, IsAtEnd}
-use Rattle.lab_heads.specs.declared.refusals.HeadRefusal.TheVariants.{BadHead, HeadTooLong, TransferCoding, LengthWanted, BodyTooLong, ShortBody}
+use Rattle.lab_heads.specs.declared.refusals.HeadRefusal.TheVariants.{ShortBody}
 use Rattle.lab_heads.specs.declared.refusals.HeadFault.{HeadFault}
 use Rattle.lab_heads.specs.declared.refusals.HeadFault.TheVariants.{Refused, Read, Write, Memory}
 
@@ -21,12 +21,8 @@ HasBody head count request old new =
 
 -- why no body of so many bytes was read: among the refusals only that fewer came
 abbrev pub IsBodyFault : Option (List ℕ) → ℕ → HeadFault → Type 0
-IsBodyFault old count (Refused BadHead) = ⊥
-IsBodyFault old count (Refused HeadTooLong) = ⊥
-IsBodyFault old count (Refused TransferCoding) = ⊥
-IsBodyFault old count (Refused LengthWanted) = ⊥
-IsBodyFault old count (Refused BodyTooLong) = ⊥
-IsBodyFault old count (Refused ShortBody) = IfSome old (λ left. length left < count)
+IsBodyFault old count (Refused refusal) =
+    (refusal ≡ ShortBody) × IfSome old (λ left. length left < count)
 IsBodyFault old count Read = Unit {0}
 IsBodyFault old count (Write sent) = ⊥
 IsBodyFault old count Memory = Unit {0}

@@ -88,44 +88,14 @@ field_floats field = kind_floats field field.kind
 
 -- ---- replies
 
+-- beside the word and the number some tell members: the last line of each lemma is for every other one, and is looked at for each
 people_floats : (entry : Entry) (told : PeopleRefusal) → has_float (refused_data entry (people_members told)) ≡ false
-people_floats entry people.Credentials = refl
-people_floats entry people.RandomRepeated = refl
-people_floats entry people.NoSession = refl
-people_floats entry people.PasswordDue = refl
 people_floats entry (people.RoleWanted rule) = refl
-people_floats entry people.BadPassword = refl
-people_floats entry people.SamePassword = refl
-people_floats entry people.CodeTaken = refl
-people_floats entry people.LabFull = refl
-people_floats entry people.OwnIssue = refl
-people_floats entry people.IssueOpen = refl
-people_floats entry people.SamePerson = refl
-people_floats entry people.NoIssue = refl
-people_floats entry people.NoSuchPerson = refl
+people_floats entry _ = refl
 
 refusal_floats : (told : Refusal) → has_float (refusal_data told) ≡ false
-refusal_floats refusal.NoSuchLab = refl
-refusal_floats refusal.ClockBehind = refl
 refusal_floats (refusal.People told) = people_floats (people_refusal_entry told) told
-refusal_floats (refusal.Form told) = refl
-refusal_floats refusal.NoSuchForm = refl
-refusal_floats (refusal.RecordExists number) = refl
-refusal_floats refusal.NoSuchRecord = refl
-refusal_floats refusal.NoSuchVersion = refl
-refusal_floats refusal.NotOpen = refl
-refusal_floats refusal.ReasonWanted = refl
-refusal_floats refusal.NothingAltered = refl
-refusal_floats (refusal.NotAltered key) = refl
-refusal_floats refusal.AmendmentOpen = refl
-refusal_floats refusal.EntriesMissing = refl
-refusal_floats (refusal.StaleDigest digest) = refl
-refusal_floats refusal.AlreadySigned = refl
-refusal_floats refusal.OwnWork = refl
-refusal_floats refusal.NotAuthor = refl
-refusal_floats refusal.NotSigned = refl
-refusal_floats refusal.CodeWanted = refl
-refusal_floats refusal.ApprovalNotWanted = refl
+refusal_floats _ = refl
 
 form_floats : (form : FormVersion) → has_float (form_data form) ≡ false
 form_floats form = neither _ _ (list_floats field_data field_floats form.form.fields) refl

@@ -1,6 +1,6 @@
 //! Versions of a record, each of which amends the one before it as that is now.
 
-ghost use Rattle.std.specs.Prelude.{◌≡◌, None, [], ◌∷◌, ◌++◌, map, option_map, unwrap_or, IfOk, OnOk};
+ghost use Rattle.std.specs.Prelude.{◌≡◌, None, [], ◌∷◌, ◌++◌, map, option_map, unwrap_or, IfOk, IfSome, OnOk};
 ghost use Rattle.lab_kept.specs.Digests.{digest_of};
 ghost use Rattle.lab_kept.specs.Lookups.{last_of};
 ghost use Rattle.lab_tables.specs.Columns.{format_in};
@@ -28,42 +28,31 @@ fn format_of(number: u32, approval: bool) -> Format
 }
 
 /// Where a version comes from, whose number and reason these are, behind one of the digest or none. A first version of a
-/// later number, and a later one without a reason or of the first number, are faults of the store.
-fn origin_after(
-    number: Ordinal,
-    reason: Option<Note>,
-    before: Option<Digest>,
-) -> Result<Origin, ReadFault>
-    ensures { IfOk result (λ origin. origin ≡ origin_after number reason before) }
+/// later number, and a later one without a reason or of the first number, come from nowhere.
+fn origin_after(number: Ordinal, reason: Option<Note>, before: Option<Digest>) -> Option<Origin>
+    ensures { IfSome result (λ origin. origin ≡ origin_after number reason before) }
 {
     match before {
         None => {
             if number != Ordinal::FIRST {
-                return Err(ReadFault::Storage);
+                return None;
             }
-            Ok(Origin::first())
+            Some(Origin::first())
         }
         Some(previous) => match reason {
-            Some(reason) => match Origin::amending(number, Amendment { previous, reason }) {
-                Some(origin) => Ok(origin),
-                None => Err(ReadFault::Storage),
-            },
-            None => Err(ReadFault::Storage),
+            Some(reason) => Origin::amending(number, Amendment { previous, reason }),
+            None => None,
         },
     }
 }
 
-/// The version that the rows tell, behind one of the digest or none. Of the record all but its versions is read. A first
-/// version of another number, and a later one without a reason or of the first number, are faults of the store.
-pub fn version_after(
-    cover: &Record,
-    before: Option<Digest>,
-    leaf: VersionLeaf,
-) -> Result<Version, ReadFault>
-    ensures { IfOk result (λ version. version ≡ version_after cover.now before (leaf_of leaf)) }
+/// The version that the rows tell, behind one of the digest or none. Of the record all but its versions is read. There is
+/// none that is first and of another number, nor a later one without a reason or of the first number.
+pub fn version_after(cover: &Record, before: Option<Digest>, leaf: VersionLeaf) -> Option<Version>
+    ensures { IfSome result (λ version. version ≡ version_after cover.now before (leaf_of leaf)) }
 {
     let origin = origin_after(leaf.number, leaf.reason, before)?;
-    Ok(Version {
+    Some(Version {
         format: format_of(leaf.format, cover.form.form.approval()),
         origin,
         opener: leaf.opener,
@@ -103,7 +92,7 @@ fn add_version(
         ++ version_after cover.now (before_next lab.now cover.now made.old) (leaf_of leaf) ∷ []) }
 {
     let before = before_next(alloc, lab, cover, made)?;
-    let version = version_after(cover, before, leaf)?;
+    let version = version_after(cover, before, leaf).ok_or(ReadFault::Storage)?;
     made.push(version)?;
     Ok(())
 }

@@ -45,7 +45,7 @@ fn told_of_row(alloc: Global, row: &Row) -> Result<ToldHead, ReadFault>
     let moment = moment_of(row, 1)?;
     let person = id_if(row, 2)?;
     let word: Text<Keys> = text_of(alloc, row, 3)?;
-    let action = action_by(word.as_str())?;
+    let action = action_by(word.as_str()).ok_or(ReadFault::Storage)?;
     let subject = subject_of(alloc, row, 4)?;
     Ok(ToldHead {
         number,

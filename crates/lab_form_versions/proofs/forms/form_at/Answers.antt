@@ -11,9 +11,9 @@ use Rattle.lab_form_versions.proofs.forms.form_at.Goals as goal
 pub returns-clause-form : goal.returns-clause-form
 returns-clause-form g c ready clean =
     let t = tables_of (g.D.Readable.state c.args.conn.now) in
-    let head = c.in_ok-head.head in
+    let head = c.in-Some.head in
     let was = c.form_whole.ensures.passes.clean clean in
-    let same = c.in_ok-found.ensures.same was in
-    let found = rw (to_z-of_z w64 c.args.id c.ranges.id) at (c.in_ok-found.ensures.found ready was) in
+    let same = c.in_ok-head.ensures.same was in
+    let found = rw (to_z-of_z w64 c.args.id c.ranges.id) at (c.in_ok-head.ensures.found ready was) in
     if_then c.form_whole.result (λ form is. is ∙ ap (λ (db : Database). form_by (tables_in db.trees) head) same.0.now_is
-    ∙ form_is t c.args.id head (sym found ∙ c.in_ok-head.ensures)) (c.form_whole.ensures.form (c.in_ok-found.ensures.passes.ready ready) clean)
+    ∙ form_is t c.args.id head (sym found ∙ c.in-Some.is)) (c.form_whole.ensures.form (c.in_ok-head.ensures.passes.ready ready) clean)

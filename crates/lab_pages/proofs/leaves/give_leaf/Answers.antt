@@ -15,7 +15,7 @@ returns-in_err-give_version-clause-text g c =
     let cover = c.args.cover.now in
     rw failed.1 (front_as (g.W.Write.contents c.args.writer.now)
     (g.W.Write.contents c.give_version.new.writer)
-    (page_rows lab cover c.in_ok-version.version)
+    (page_rows lab cover c.in-Some.version)
     (page_rows lab cover (version_after cover c.args.before (leaf_of c.args.leaf)))
-    (ap (page_rows lab cover) c.in_ok-version.ensures.version)
+    (ap (page_rows lab cover) c.in-Some.ensures)
     c.in_err-give_version.ensures.text)
