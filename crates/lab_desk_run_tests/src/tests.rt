@@ -73,6 +73,6 @@ fn a_run_answers_in_order_and_tells_what_was_taken(rt: HostRuntime) {
     drop(desk);
     drop(events);
     let taken = ended.expect(&rt, "a run");
-    assert!(rt; taken.as_slice() == [true; 3].as_slice());
-    assert!(rt; written.as_slice() == ANSWERS);
+    assert_eq!(rt; taken.as_slice(), [true; 3].as_slice());
+    assert_eq!(rt; written.as_slice(), ANSWERS);
 }

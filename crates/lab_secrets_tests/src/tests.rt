@@ -138,13 +138,7 @@ const STRETCHED: [(&[u8], &[u8], [&[u8; 64]; 4]); 5] = [
 ];
 
 // So many rounds make of the password and the salt what the digits stand for.
-fn assert_stretched(
-    rt: &impl Abort,
-    password: &[u8],
-    salt: &[u8],
-    rounds: u32,
-    digits: &[u8; 64],
-) {
+fn assert_stretched(rt: &impl Abort, password: &[u8], salt: &[u8], rounds: u32, digits: &[u8; 64]) {
     assert!(rt; rounds > 0);
     assert_bytes(rt, pbkdf2(password, salt, rounds), digits);
 }
@@ -174,13 +168,19 @@ const ASKED: [(u8, &[u8], bool); 4] = [
 #[test]
 fn verifiers_accept_their_password_alone(rt: HostRuntime) {
     let parts = Verifier::make(b"correct horse 1", SALT, 2).parts();
-    assert_eq!(rt; (parts.salt, parts.rounds), (SALT, 2));
-    assert_bytes(&rt, parts.bytes, KEPT);
+    let salt = parts.salt;
+    let kept = parts.bytes;
+    assert_eq!(rt; salt, SALT);
+    assert_eq!(rt; parts.rounds, 2);
+    assert_bytes(&rt, kept, KEPT);
     for (other, password, is_accepted) in ASKED {
         let mut bytes = parts.bytes;
         bytes[31] ^= other;
         let verifier = Verifier::from_parts(SALT, 2, bytes);
-        assert_eq!(rt; (other, password, verifier.accepts(password)), (other, password, is_accepted));
+        assert_eq!(rt;
+            (other, password, verifier.accepts(password)),
+            (other, password, is_accepted)
+        );
     }
 }
 
