@@ -178,9 +178,8 @@ fn verifiers_accept_their_password_alone(rt: HostRuntime) {
         bytes[31] ^= other;
         let verifier = Verifier::from_parts(SALT, 2, bytes);
         assert_eq!(rt;
-            verifier.accepts(password),
-            is_accepted,
-            "{other} at {password:?}"
+            (other, password, verifier.accepts(password)),
+            (other, password, is_accepted)
         );
     }
 }
