@@ -31,6 +31,6 @@ static RULES: [(Rule, &str, bool); 23] = [
 #[test]
 fn each_rule_has_its_word_and_its_bar(rt: HostRuntime) {
     for &(rule, word, is_barred) in &RULES {
-        assert!(rt; (rule.word(), rule.is_barred_by_due()) == (word, is_barred));
+        assert_eq!(rt; (rule.word(), rule.is_barred_by_due()), (word, is_barred));
     }
 }

@@ -64,6 +64,12 @@ fn run(
     desk.run(events, written)
 }
 
+// The run took each event, and wrote their answers.
+fn assert_told(rt: &impl Abort, taken: &[bool], written: &[u8]) {
+    assert_eq!(rt; taken, [true; 3].as_slice());
+    assert_eq!(rt; written, ANSWERS);
+}
+
 #[test]
 fn a_run_answers_in_order_and_tells_what_was_taken(rt: HostRuntime) {
     let events = events(&rt);
@@ -73,6 +79,5 @@ fn a_run_answers_in_order_and_tells_what_was_taken(rt: HostRuntime) {
     drop(desk);
     drop(events);
     let taken = ended.expect(&rt, "a run");
-    assert!(rt; taken.as_slice() == [true; 3].as_slice());
-    assert!(rt; written.as_slice() == ANSWERS);
+    assert_told(&rt, &taken, &written);
 }

@@ -1,5 +1,6 @@
 //! What only a test shows of forms: where there is memory, values are read and copies made.
-use lab_forms::{Bound, Choices, Field, Form, Key, Kind, Name, Unit};
+use lab_forms::{Bound, Choices, Field, Form, Key, Kind, Name, Unit, Value};
+use std::fmt::Debug;
 use std::process::Abort;
 
 fn bound(rt: &(impl Abort + AllocGlobal), text: &str) -> Bound {
@@ -76,14 +77,18 @@ static VALUES: [(&str, &str, &str); 13] = [
     ("clear", "no", ""),
 ];
 
+// A copy is the same as what was copied.
+fn assert_same<T: Debug + PartialEq>(rt: &impl Abort, copy: &T, copied: &T) {
+    assert_eq!(rt; *copy, *copied);
+}
+
+// The value is printed so.
+fn assert_printed(rt: &impl Abort, value: &Value, text: &str) {
+    assert_eq!(rt; value.print(), text);
+}
+
 // The text is read as it is written, and so is a copy of the value.
-fn is_read(
-    rt: &(impl Abort + AllocGlobal),
-    form: &Form,
-    key: &str,
-    text: &str,
-    unit: &str,
-) -> bool {
+fn assert_read(rt: &(impl Abort + AllocGlobal), form: &Form, key: &str, text: &str, unit: &str) {
     let key = Key::parse(rt.alloc(), key).expect(rt, "a key");
     let unit = Unit::parse(rt.alloc(), unit).expect(rt, "a unit");
     let value = form.read_value(rt.alloc(), &key, text, &unit);
@@ -91,38 +96,38 @@ fn is_read(
     drop(unit);
     let value = value.expect(rt, text);
     let copy = value.copy().expect(rt, "memory");
-    let is_same = value.print() == text && copy == value;
+    assert_printed(rt, &value, text);
+    assert_same(rt, &copy, &value);
     drop(copy);
     drop(value);
-    is_same
 }
 
 #[test]
 fn values_of_each_kind_are_read(rt: HostRuntime) {
     let form = form(&rt);
     for &(key, text, unit) in &VALUES {
-        assert!(rt; is_read(&rt, &form, key, text, unit));
+        assert_read(&rt, &form, key, text, unit);
     }
     drop(form);
 }
 
-fn is_copied(rt: &impl Abort, field: &Field) -> bool {
+fn assert_copied(rt: &impl Abort, field: &Field) {
     let copy = field.copy().expect(rt, "memory");
     let kind = field.kind.copy().expect(rt, "memory");
-    let is_same = copy == *field && kind == field.kind;
+    assert_same(rt, &copy, field);
+    assert_same(rt, &kind, &field.kind);
     drop(copy);
     drop(kind);
-    is_same
 }
 
 #[test]
 fn copies_of_a_form_its_fields_and_their_kinds_are_equal(rt: HostRuntime) {
     let form = form(&rt);
     for field in form.fields() {
-        assert!(rt; is_copied(&rt, field));
+        assert_copied(&rt, field);
     }
     let copy = form.copy().expect(&rt, "memory");
-    assert!(rt; copy == form);
+    assert_same(&rt, &copy, &form);
     drop(copy);
     drop(form);
 }
@@ -131,12 +136,12 @@ fn copies_of_a_form_its_fields_and_their_kinds_are_equal(rt: HostRuntime) {
 fn copies_of_a_bound_and_of_choices_are_equal(rt: HostRuntime) {
     let bound = bound(&rt, "-1.50");
     let copy = bound.copy().expect(&rt, "memory");
-    assert!(rt; copy == bound);
+    assert_same(&rt, &copy, &bound);
     drop(copy);
     drop(bound);
     let choices = choices(&rt);
     let copy = choices.copy().expect(&rt, "memory");
-    assert!(rt; copy == choices);
+    assert_same(&rt, &copy, &choices);
     drop(copy);
     drop(choices);
 }

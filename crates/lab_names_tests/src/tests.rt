@@ -69,28 +69,31 @@ fn admitting(text: &str) -> [bool; 6] {
     ]
 }
 
-fn are_admitted(texts: &[&str], wanted: [bool; 6]) -> bool {
-    texts.iter().all(|text| admitting(text) == wanted)
+// The rules that admit each of the texts are these.
+fn assert_admitted(rt: &impl Abort, texts: &[&str], wanted: [bool; 6]) {
+    for text in texts {
+        assert_eq!(rt; admitting(text), wanted, "of {text:?}");
+    }
 }
 
 #[test]
 fn each_rule_admits_its_texts_alone(rt: HostRuntime) {
     for &(texts, wanted) in &TEXTS {
-        assert!(rt; are_admitted(texts, wanted));
+        assert_admitted(&rt, texts, wanted);
     }
 }
 
 // The longest names and notes, of characters of 1 to 4 bytes: the character, how often it stands
-// behind the rest, and whether that is a name and a note, and with one byte more.
-static LONGEST: [(&str, usize, &str, [bool; 4]); 8] = [
-    ("a", 120, "", [true, true, false, true]),
-    ("é", 60, "", [true, true, false, true]),
-    ("水", 40, "", [true, true, false, true]),
-    ("🜄", 30, "", [true, true, false, true]),
-    ("a", 1000, "", [false, true, false, false]),
-    ("é", 500, "", [false, true, false, false]),
-    ("水", 333, "b", [false, true, false, false]),
-    ("🜄", 250, "", [false, true, false, false]),
+// behind the rest, and whether that is a name, and with one byte more a name and a note.
+static LONGEST: [(&str, usize, &str, [bool; 3]); 8] = [
+    ("a", 120, "", [true, false, true]),
+    ("é", 60, "", [true, false, true]),
+    ("水", 40, "", [true, false, true]),
+    ("🜄", 30, "", [true, false, true]),
+    ("a", 1000, "", [false, false, false]),
+    ("é", 500, "", [false, false, false]),
+    ("水", 333, "b", [false, false, false]),
+    ("🜄", 250, "", [false, false, false]),
 ];
 
 fn repeated(rt: &(impl Abort + AllocGlobal), character: &str, count: usize, rest: &str) -> String {
@@ -102,13 +105,13 @@ fn repeated(rt: &(impl Abort + AllocGlobal), character: &str, count: usize, rest
 }
 
 // A note is shown as it was written, and so is a copy of it.
-fn is_shown(rt: &(impl Abort + AllocGlobal), text: &str) -> bool {
+fn assert_shown(rt: &(impl Abort + AllocGlobal), text: &str) {
     let note = Note::parse(rt.alloc(), text).expect(rt, "a note");
     let copy = note.copy().expect(rt, "memory");
-    let is_same = note.as_str() == text && copy == note;
+    assert_eq!(rt; note.as_str(), text);
+    assert_eq!(rt; copy, note);
     drop(copy);
     drop(note);
-    is_same
 }
 
 #[test]
@@ -116,41 +119,45 @@ fn names_have_120_bytes_at_most_and_notes_1000(rt: HostRuntime) {
     for &(character, count, rest, wanted) in &LONGEST {
         let mut text = repeated(&rt, character, count, rest);
         let is_name = Names::admits(text.as_str());
-        let is_note = is_shown(&rt, text.as_str());
+        assert_shown(&rt, text.as_str());
         text.push('b').expect(&rt, "memory");
         let are_longer = (Names::admits(text.as_str()), Notes::admits(text.as_str()));
         drop(text);
-        assert!(rt; [is_name, is_note, are_longer.0, are_longer.1] == wanted);
+        assert_eq!(rt;
+            [is_name, are_longer.0, are_longer.1],
+            wanted,
+            "{count} times {character}"
+        );
     }
 }
 
 // Seconds, with the texts and the days that Python's `datetime` gives; other seconds are none.
-static MOMENTS: [(i64, Option<([u8; 20], u64)>); 11] = [
-    (0, Some((*b"1970-01-01T00:00:00Z", 0))),
-    (784_111_777, Some((*b"1994-11-06T08:49:37Z", 9_075))),
-    (951_782_400, Some((*b"2000-02-29T00:00:00Z", 11_016))),
-    (1_078_012_799, Some((*b"2004-02-28T23:59:59Z", 12_476))),
-    (4_102_444_799, Some((*b"2099-12-31T23:59:59Z", 47_481))),
-    (4_102_444_800, Some((*b"2100-01-01T00:00:00Z", 47_482))),
-    (253_402_300_799, Some((*b"9999-12-31T23:59:59Z", 2_932_896))),
-    (i64::MIN, None),
-    (-1, None),
-    (253_402_300_800, None),
-    (i64::MAX, None),
+static MOMENTS: [(i64, Result<([u8; 20], u64), MomentFault>); 11] = [
+    (0, Ok((*b"1970-01-01T00:00:00Z", 0))),
+    (784_111_777, Ok((*b"1994-11-06T08:49:37Z", 9_075))),
+    (951_782_400, Ok((*b"2000-02-29T00:00:00Z", 11_016))),
+    (1_078_012_799, Ok((*b"2004-02-28T23:59:59Z", 12_476))),
+    (4_102_444_799, Ok((*b"2099-12-31T23:59:59Z", 47_481))),
+    (4_102_444_800, Ok((*b"2100-01-01T00:00:00Z", 47_482))),
+    (253_402_300_799, Ok((*b"9999-12-31T23:59:59Z", 2_932_896))),
+    (i64::MIN, Err(MomentFault::BadMoment)),
+    (-1, Err(MomentFault::BadMoment)),
+    (253_402_300_800, Err(MomentFault::BadMoment)),
+    (i64::MAX, Err(MomentFault::BadMoment)),
 ];
 
-fn printed(seconds: i64) -> Option<([u8; 20], u64)> {
-    let moment = Moment::from_seconds(seconds).ok()?;
+fn printed(seconds: i64) -> Result<([u8; 20], u64), MomentFault> {
+    let moment = Moment::from_seconds(seconds)?;
     let mut text = [0; 20];
     moment.print(&mut text);
-    Some((text, moment.day()))
+    Ok((text, moment.day()))
 }
 
 // That the text is read as the second again is a clause of `Moment::parse`.
 #[test]
 fn moments_are_printed(rt: HostRuntime) {
     for &(seconds, wanted) in &MOMENTS {
-        assert!(rt; printed(seconds) == wanted);
+        assert_eq!(rt; printed(seconds), wanted, "at {seconds}");
     }
 }
 
@@ -180,7 +187,11 @@ static NO_MOMENTS: [&str; 20] = [
 #[test]
 fn no_other_text_is_a_moment(rt: HostRuntime) {
     for text in &NO_MOMENTS {
-        assert!(rt; Moment::parse(text) == Err(MomentFault::BadMoment));
+        assert_eq!(rt;
+            Moment::parse(text),
+            Err(MomentFault::BadMoment),
+            "of {text:?}"
+        );
     }
 }
 
@@ -197,7 +208,11 @@ static NUMBERS: [(u32, Option<u32>); 7] = [
 #[test]
 fn ordinals_are_1_to_1000000000(rt: HostRuntime) {
     for &(number, ordinal) in &NUMBERS {
-        assert!(rt; Ordinal::new(number).map(Ordinal::get) == ordinal);
+        assert_eq!(rt;
+            Ordinal::new(number).map(Ordinal::get),
+            ordinal,
+            "at {number}"
+        );
     }
 }
 
@@ -208,7 +223,7 @@ fn a_series_and_its_copy_have_their_values_in_order(rt: HostRuntime) {
         series.push(value).expect(&rt, "memory");
     }
     let copy = series.clone().expect(&rt, "memory");
-    assert!(rt; copy.as_slice() == [3, 1, 2].as_slice());
+    assert_eq!(rt; copy.as_slice(), [3, 1, 2].as_slice());
     drop(copy);
     drop(series);
 }

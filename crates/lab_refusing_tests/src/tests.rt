@@ -25,7 +25,7 @@ fn desk_with<R: Abort + AllocGlobal>(rt: &R, calls: u64) -> Desk<Moody> {
     let code = LabCode::parse(rt.alloc(), "aqua").expect(rt, "a code");
     let found = desk.found(&code, &tick(rt, 50), BODY);
     drop(code);
-    assert!(rt; found == Ok(()));
+    assert_eq!(rt; found, Ok(()));
     desk
 }
 
@@ -36,20 +36,20 @@ fn calmed<R: Abort + AllocGlobal>(rt: &R, desk: Desk<Moody>) -> Desk<Moody> {
     Desk::new(rt.alloc(), moody).expect(rt, "a desk")
 }
 
-// An opening in the hundredth second: whether it is taken, and whether this is its reply.
-fn opened(rt: &impl Abort, desk: &mut Desk<Moody>, reply: &[u8]) -> (bool, bool) {
+// An opening in the hundredth second is taken or not, and gets this reply.
+fn assert_opened(rt: &impl Abort, desk: &mut Desk<Moody>, wanted: (bool, &[u8])) {
     let is_taken = desk.handle(&tick(rt, 100), OPEN);
-    (is_taken, desk.reply() == reply)
+    assert_eq!(rt; (is_taken, desk.reply()), wanted);
 }
 
 // Two openings get these refusals, of a keeper that has had so many calls before the founding; a third, once it refuses nothing,
 // gets the reply of the first that there ever was.
 fn assert_refused<R: Abort + AllocGlobal>(rt: &R, calls: u64, [first, second]: [&[u8]; 2]) {
     let mut desk = desk_with(rt, calls);
-    assert!(rt; opened(rt, &mut desk, first) == (false, true));
-    assert!(rt; opened(rt, &mut desk, second) == (false, true));
+    assert_opened(rt, &mut desk, (false, first));
+    assert_opened(rt, &mut desk, (false, second));
     let mut desk = calmed(rt, desk);
-    assert!(rt; opened(rt, &mut desk, OPEN_REPLY) == (true, true));
+    assert_opened(rt, &mut desk, (true, OPEN_REPLY));
     drop(desk);
 }
 

@@ -83,6 +83,6 @@ fn seals_are_those_of_hashlib(rt: HostRuntime) {
         let parts = copied(&rt, seal_parts(&rt, person, name, place, seconds));
         let found = seal(&parts).digits();
         drop(parts);
-        assert!(rt; found == *digits);
+        assert_eq!(rt; found, *digits, "of {person} at {seconds}");
     }
 }

@@ -1,9 +1,15 @@
 //! Hashes, verifiers, tokens and digits.
 use lab_secrets::{Digest, Token, Verifier, digest, hmac, pbkdf2};
+use std::process::Abort;
 
-// Whether the bytes have these hexadecimal digits.
-fn have(bytes: [u8; 32], digits: &[u8; 64]) -> bool {
-    Digest::from_bytes(bytes).digits() == *digits
+// The digits are these.
+fn assert_digits(rt: &impl Abort, digits: [u8; 64], wanted: &[u8; 64]) {
+    assert_eq!(rt; digits, *wanted);
+}
+
+// The bytes have these hexadecimal digits.
+fn assert_bytes(rt: &impl Abort, bytes: [u8; 32], wanted: &[u8; 64]) {
+    assert_digits(rt, Digest::from_bytes(bytes).digits(), wanted);
 }
 
 // RFC 4231, section 4: the keys and texts of its seven cases, with the results for SHA-256; of the
@@ -69,7 +75,7 @@ const TAGS: [(&[u8], &[u8], &[u8; 64]); 10] = [
 #[test]
 fn texts_have_these_tags(rt: HostRuntime) {
     for (key, text, digits) in TAGS {
-        assert!(rt; have(hmac(key, text), digits));
+        assert_bytes(&rt, hmac(key, text), digits);
     }
 }
 
@@ -131,20 +137,24 @@ const STRETCHED: [(&[u8], &[u8], [&[u8; 64]; 4]); 5] = [
     ),
 ];
 
-// Whether so many rounds make of the password and the salt what the digits stand for.
-fn is_stretched(password: &[u8], salt: &[u8], rounds: u32, digits: &[u8; 64]) -> bool {
-    rounds > 0 && have(pbkdf2(password, salt, rounds), digits)
+// So many rounds make of the password and the salt what the digits stand for.
+fn assert_stretched(rt: &impl Abort, password: &[u8], salt: &[u8], rounds: u32, digits: &[u8; 64]) {
+    assert!(rt; rounds > 0);
+    assert_bytes(rt, pbkdf2(password, salt, rounds), digits);
 }
 
 #[test]
 fn passwords_are_stretched(rt: HostRuntime) {
     for (password, salt, [one, two, many, most]) in STRETCHED {
-        assert!(rt; is_stretched(password, salt, 1, one));
-        assert!(rt; is_stretched(password, salt, 2, two));
-        assert!(rt; is_stretched(password, salt, 4096, many));
-        assert!(rt; is_stretched(password, salt, 10_000, most));
+        assert_stretched(&rt, password, salt, 1, one);
+        assert_stretched(&rt, password, salt, 2, two);
+        assert_stretched(&rt, password, salt, 4096, many);
+        assert_stretched(&rt, password, salt, 10_000, most);
     }
 }
+
+// What a verifier keeps of `correct horse 1` after two rounds, by Python's `hashlib.pbkdf2_hmac`.
+const KEPT: &[u8; 64] = b"74a3fae6b408b58a7cb47be7333c04f97604b5efd93c25aeabae3992e3354f2a";
 
 // A verifier, and others of the same salt and rounds whose bytes are the same but for the last, are
 // asked whether they accept a password.
@@ -158,12 +168,19 @@ const ASKED: [(u8, &[u8], bool); 4] = [
 #[test]
 fn verifiers_accept_their_password_alone(rt: HostRuntime) {
     let parts = Verifier::make(b"correct horse 1", SALT, 2).parts();
-    assert!(rt; parts.salt == SALT && parts.rounds == 2);
+    let salt = parts.salt;
+    let kept = parts.bytes;
+    assert_eq!(rt; salt, SALT);
+    assert_eq!(rt; parts.rounds, 2);
+    assert_bytes(&rt, kept, KEPT);
     for (other, password, is_accepted) in ASKED {
         let mut bytes = parts.bytes;
         bytes[31] ^= other;
         let verifier = Verifier::from_parts(SALT, 2, bytes);
-        assert!(rt; verifier.accepts(password) == is_accepted);
+        assert_eq!(rt;
+            (other, password, verifier.accepts(password)),
+            (other, password, is_accepted)
+        );
     }
 }
 
@@ -174,7 +191,7 @@ const WORDS: [u64; 8] = [1, 2, 3, 4, 0x0102_0304_0506_0708, u64::MAX, 7, 8];
 fn a_token_is_kept_as_its_digest(rt: HostRuntime) {
     let digest = Token::from_words(&WORDS).digest();
     let known = b"7236c00c170036c6de133a878210ddd58567aa1d0619a0f70f69e38ae6f916e9";
-    assert!(rt; digest.digits() == *known);
+    assert_digits(&rt, digest.digits(), known);
 }
 
 // An example of FIPS 180-4, and the digits of a token.
@@ -186,8 +203,10 @@ const DIGITS: [&[u8; 64]; 2] = [
 #[test]
 fn digits_are_read(rt: HostRuntime) {
     let [abc, token] = DIGITS;
-    assert!(rt; Digest::from_digits(abc) == Some(digest(b"abc")));
-    let words = Token::from_words(&WORDS).digits();
-    let read = Token::from_digits(token).map(|token| token.digits());
-    assert!(rt; read == Some(words) && words == *token);
+    let read = Digest::from_digits(abc).expect(&rt, "a digest");
+    assert_eq!(rt; read, digest(b"abc"));
+    assert_digits(&rt, read.digits(), abc);
+    let read = Token::from_digits(token).expect(&rt, "a token");
+    assert_digits(&rt, read.digits(), token);
+    assert_digits(&rt, Token::from_words(&WORDS).digits(), token);
 }

@@ -22,33 +22,41 @@ fn found<R: Abort + AllocGlobal>(rt: &R, desk: &mut Desk<Lists>, code: &str) {
     let code = LabCode::parse(rt.alloc(), code).expect(rt, "a code");
     let found = desk.found(&code, &tick(rt, 50), BODY);
     drop(code);
-    assert!(rt; found == Ok(()));
+    assert_eq!(rt; found, Ok(()));
 }
 
-// Whether both desks take a request in the hundredth second, and get these replies.
-fn are_answered(
+fn assert_bytes(rt: &impl Abort, bytes: &[u8], wanted: &[u8]) {
+    assert_eq!(rt; bytes, wanted);
+}
+
+// Both desks take a request in the hundredth second, and give these replies.
+fn assert_answered(
+    rt: &impl Abort,
     (desk, other): (&mut Desk<Lists>, &mut Desk<Lists>),
-    tick: &Tick,
     request: &[u8],
     (reply, other_reply): (&[u8], &[u8]),
-) -> bool {
-    let Twins { one, other: both } = twin(desk, other, tick, request);
-    one && both && desk.reply() == reply && other.reply() == other_reply
+) {
+    let twins = twin(desk, other, &tick(rt, 100), request);
+    let taken = Twins {
+        one: true,
+        other: true,
+    };
+    assert_eq!(rt; twins, taken);
+    assert_bytes(rt, desk.reply(), reply);
+    assert_bytes(rt, other.reply(), other_reply);
 }
 
 #[test]
 fn desks_that_agree_on_one_laboratory_alone_answer_alike_of_it_alone(rt: HostRuntime) {
-    let tick = tick(&rt, 100);
     let mut lone = empty_desk(&rt);
     let mut full = empty_desk(&rt);
     found(&rt, &mut lone, "aqua");
     found(&rt, &mut full, "zinc");
     found(&rt, &mut full, "aqua");
     let replies = (OPEN_REPLY, OPEN_REPLY);
-    let of_aqua = are_answered((&mut lone, &mut full), &tick, OPEN, replies);
+    assert_answered(&rt, (&mut lone, &mut full), OPEN, replies);
     let replies = (NO_SUCH_LAB_REPLY, ZINC_CARD_REPLY);
-    let of_zinc = are_answered((&mut lone, &mut full), &tick, ZINC_CARD, replies);
+    assert_answered(&rt, (&mut lone, &mut full), ZINC_CARD, replies);
     drop(lone);
     drop(full);
-    assert!(rt; of_aqua && of_zinc);
 }

@@ -48,13 +48,12 @@ static VERSIONS: [(Format, &[u8]); 6] = [
 ];
 
 // The version is written so.
-fn is_written(rt: &(impl Abort + AllocGlobal), version: VersionParts, text: &[u8]) -> bool {
+fn assert_written(rt: &(impl Abort + AllocGlobal), version: VersionParts, text: &[u8]) {
     let written = write_version(rt.alloc(), &version);
     drop(version);
     let written = written.expect(rt, "a text");
-    let is_same = written.as_slice() == text;
+    assert_eq!(rt; written.as_slice(), text);
     drop(written);
-    is_same
 }
 
 // A copy of the version that has the text.
@@ -71,8 +70,8 @@ fn versions_are_read_copied_and_written_again(rt: HostRuntime) {
     for &(format, text) in &VERSIONS {
         let version = copy_read(&rt, text);
         let read = version.format;
-        assert!(rt; is_written(&rt, version, text));
-        assert!(rt; read == format);
+        assert_written(&rt, version, text);
+        assert_eq!(rt; read, format);
     }
 }
 
@@ -96,7 +95,7 @@ fn joined(rt: &(impl Abort + AllocGlobal), front: &[u8], rest: &[u8], times: usi
 fn many_rows_are_read_copied_and_written_again(rt: HostRuntime) {
     let text = joined(&rt, FRONT, ROWS, 100);
     let version = copy_read(&rt, &text);
-    assert!(rt; is_written(&rt, version, &text));
+    assert_written(&rt, version, &text);
     drop(text);
 }
 
@@ -162,7 +161,7 @@ const AMENDED_VERSION: &[u8] = b"11:labrecord 1\n4:aqua\n1:1\n1:2\n5:water\n1:1\
 
 #[test]
 fn text_of_an_amended_version_counts_bytes(rt: HostRuntime) {
-    assert!(rt; is_written(&rt, amended_version(&rt), AMENDED_VERSION));
+    assert_written(&rt, amended_version(&rt), AMENDED_VERSION);
 }
 
 // What follows the first version's heading, its subject and its origin.
@@ -249,8 +248,8 @@ fn other_texts_are_refused(rt: HostRuntime) {
     for &(front, rest) in &REFUSED {
         let text = joined(&rt, front, rest, 1);
         let fault = read_version(rt.alloc(), &text).err();
+        assert_eq!(rt; fault, Some(TextFault::BadText), "of {text:?}");
         drop(text);
-        assert!(rt; fault == Some(TextFault::BadText));
     }
     one_spelling();
 }

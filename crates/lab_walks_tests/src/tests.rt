@@ -5,8 +5,8 @@ use lab_kept::{LabCode, Ordinal};
 use lab_walks::{Unheard, WholeRecords, copy_out};
 use std::process::Abort;
 
-// Whether the copy of records 1 to 9 at second 5000 goes out, and is this text.
-fn goes_out<R: Abort + AllocGlobal>(rt: &R, code: &LabCode, wanted: &str) -> bool {
+// The copy of records 1 to 9 at second 5000 goes out, and is this text.
+fn assert_copied<R: Abort + AllocGlobal>(rt: &R, code: &LabCode, wanted: &str) {
     let to = Ordinal::new(9).expect(rt, "an ordinal");
     let moment = moment(rt, 5000);
     let mut lists = lists(rt, code);
@@ -23,13 +23,14 @@ fn goes_out<R: Abort + AllocGlobal>(rt: &R, code: &LabCode, wanted: &str) -> boo
         &mut Unheard,
     );
     drop(lists);
-    done == Ok(()) && out.as_slice() == wanted.as_bytes()
+    assert_eq!(rt; done, Ok(()));
+    assert_eq!(rt; out.as_slice(), wanted.as_bytes());
+    drop(out);
 }
 
 #[test]
 fn all_records_go_out(rt: HostRuntime) {
     let code = text(&rt, "aqua");
-    let is_out = goes_out(&rt, &code, COPY);
+    assert_copied(&rt, &code, COPY);
     drop(code);
-    assert!(rt; is_out);
 }

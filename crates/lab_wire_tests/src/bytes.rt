@@ -3,5 +3,5 @@ use std::process::Abort;
 
 /// The bytes are those that are wanted.
 pub(crate) fn assert_bytes(rt: &impl Abort, bytes: &[u8], wanted: &[u8]) {
-    assert!(rt; bytes == wanted);
+    assert_eq!(rt; bytes, wanted);
 }

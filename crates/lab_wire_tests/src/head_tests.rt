@@ -9,6 +9,6 @@ fn faults_of_streams_have_words_alone(rt: HostRuntime) {
         (HeadFault::Write { sent: 3 }, None, "write_fault"),
         (HeadFault::Memory, Some(90), "memory"),
     ] {
-        assert!(rt; (fault.number(), fault.word()) == (number, word));
+        assert_eq!(rt; (fault.number(), fault.word()), (number, word));
     }
 }

@@ -49,15 +49,15 @@ impl Write for Pipe {
 }
 
 // Of the reply these bytes go out, with this answer.
-fn goes_out(rt: &impl Abort, mut pipe: Pipe, wanted: Result<(), WriteFault>, bytes: &[u8]) {
-    assert!(rt; write_reply(&mut pipe, REPLY) == wanted);
+fn assert_sent(rt: &impl Abort, mut pipe: Pipe, wanted: Result<(), WriteFault>, bytes: &[u8]) {
+    assert_eq!(rt; write_reply(&mut pipe, REPLY), wanted);
     assert_bytes(rt, &pipe.taken, bytes);
 }
 
 #[test]
 fn the_whole_reply_goes_out_however_little_is_taken_at_once(rt: HostRuntime) {
     for at_once in 1..9 {
-        goes_out(&rt, Pipe::new(rt.alloc(), at_once, 0, false), Ok(()), REPLY);
+        assert_sent(&rt, Pipe::new(rt.alloc(), at_once, 0, false), Ok(()), REPLY);
     }
 }
 
@@ -66,7 +66,7 @@ fn a_fault_says_how_many_bytes_went_out(rt: HostRuntime) {
     for (stops_at, sent) in [(1, 0), (2, 2), (3, 4), (4, 6)] {
         for fails in [false, true] {
             let pipe = Pipe::new(rt.alloc(), 2, stops_at, fails);
-            goes_out(&rt, pipe, Err(WriteFault { sent }), &REPLY[..sent.min(7)]);
+            assert_sent(&rt, pipe, Err(WriteFault { sent }), &REPLY[..sent.min(7)]);
         }
     }
 }
@@ -75,5 +75,6 @@ fn a_fault_says_how_many_bytes_went_out(rt: HostRuntime) {
 fn no_byte_needs_no_write(rt: HostRuntime) {
     let mut pipe = Pipe::new(rt.alloc(), 1, 1, true);
     write_reply(&mut pipe, b"").expect(&rt, "no byte to write");
-    assert!(rt; pipe.writes == 0);
+    assert_eq!(rt; pipe.writes, 0);
+    assert_bytes(&rt, &pipe.taken, b"");
 }
