@@ -1,5 +1,5 @@
 //! Where a file is made beside other tables, and what stays.
-use crate::helpers::{database, make, number};
+use crate::helpers::{assert_shown, database, make};
 use lab_files::FileFault;
 
 #[test]
@@ -7,10 +7,12 @@ fn a_file_is_made_beside_a_table_of_another_name(rt: HostRuntime) {
     let statements = "CREATE TABLE note (x TEXT); INSERT INTO note VALUES ('kept')";
     let mut conn = database(&rt, statements);
     let made = make(&mut conn);
-    let kept = number(&mut conn, "SELECT count(*) FROM note WHERE x = 'kept'");
-    let desks = number(&mut conn, "SELECT count(*) FROM desk");
+    assert_eq!(rt; made, Ok(()));
+    let notes = "SELECT group_concat(x) FROM note";
+    assert_shown(&rt, &mut conn, notes, "kept");
+    let desks = "SELECT group_concat(id || ' ' || schema) FROM desk";
+    assert_shown(&rt, &mut conn, desks, "1 3");
     drop(conn);
-    assert!(rt; made == Ok(()) && kept == Some(1) && desks == Some(1));
 }
 
 // A view of the name of a table is refused by the store, and takes with it the tables that were made before.
@@ -19,7 +21,8 @@ fn no_file_is_made_beside_a_view_of_such_a_name(rt: HostRuntime) {
     let statements = "CREATE TABLE note (x TEXT); CREATE VIEW forms AS SELECT x FROM note";
     let mut conn = database(&rt, statements);
     let made = make(&mut conn);
-    let things = number(&mut conn, "SELECT count(*) FROM sqlite_schema");
+    assert_eq!(rt; made, Err(FileFault::Storage));
+    let things = "SELECT group_concat(name) FROM sqlite_schema";
+    assert_shown(&rt, &mut conn, things, "note,forms");
     drop(conn);
-    assert!(rt; made == Err(FileFault::Storage) && things == Some(2));
 }

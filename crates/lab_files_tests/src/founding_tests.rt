@@ -68,5 +68,5 @@ fn founders_of_one_code_are_refused(rt: HostRuntime) {
     let made = made(&mut tables);
     let founded = founded(rt.alloc(), &mut tables, newborn);
     drop(tables);
-    assert!(rt; made == Ok(()) && founded == Err(PlacingFault::Storage));
+    assert_eq!(rt; (made, founded), (Ok(()), Err(PlacingFault::Storage)));
 }

@@ -19,7 +19,11 @@ pub(crate) fn make(conn: &mut File) -> Result<(), FileFault> {
     create(conn)
 }
 
-/// The number that a question shows; none where the store refuses.
-pub(crate) fn number(conn: &mut File, question: &str) -> Option<i64> {
-    conn.query_row(question, &[]).ok()?.get(0).ok()
+/// A question shows this text.
+pub(crate) fn assert_shown(rt: &impl Abort, conn: &mut File, question: &str, wanted: &str) {
+    let row = conn.query_row(question, &[]).expect(rt, question);
+    let shown: String = row.get(0).expect(rt, question);
+    drop(row);
+    assert_eq!(rt; shown.as_str(), wanted);
+    drop(shown);
 }
