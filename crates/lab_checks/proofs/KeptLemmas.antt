@@ -1,7 +1,7 @@
 -- What is kept of lines tells what the lines tell.
-use Rattle.std.proofs.Common.{◌≡◌, ◌≢◌, ◌⊎◌, inl, inr, ℕ, ◌+◌, Bool, true, false, not, ◌&&◌, if◌then◌else◌, nat_le, List, [], ◌∷◌, ◌++◌, map, length, Option, Some, None, option_map, Result, Ok, Err, refl, sym, ap, subst, ◌∙◌, arith}
-use Rattle.std.specs.Prelude.{◌==◌, unwrap_or, IfErr, OnOk}
-use Rattle.std.specs.List.{before_last, after_last, filter_map}
+use Rattle.std.proofs.Common.{◌≡◌, ◌≢◌, ◌⊎◌, inl, inr, ℕ, ◌+◌, ◌^◌, ◌<◌, ◌≤◌, Bool, true, false, not, ◌&&◌, if◌then◌else◌, nat_le, List, [], ◌∷◌, ◌++◌, map, length, Option, Some, None, option_map, Result, Ok, Err, refl, sym, ap, subst, ◌∙◌, arith}
+use Rattle.std.specs.Prelude.{◌==◌, unwrap_or, is_some, IfErr, IsTrue, OnOk}
+use Rattle.std.specs.List.{before_last, after_last, cons_option, filter_map}
 use Rattle.std.specs.Option.{option_or}
 use Rattle.std.specs.Str.{bytes_eq}
 use Rattle.std.proofs.lemmas.Bool.{eqb-true}
@@ -21,13 +21,12 @@ use Rattle.lab_rows.specs.declared.lines.Line.TheVariants.{Copy, Record, Version
 use Rattle.lab_rows.specs.declared.lines.RecordLine.{RecordLine}
 use Rattle.lab_rows.specs.declared.lines.SignatureLine.{SignatureLine}
 use Rattle.lab_rows.specs.declared.lines.VersionLine.{VersionLine}
-use Rattle.lab_checks_versions.specs.Places.{counts_with}
-use Rattle.lab_checks_versions.specs.Faults.{IsAnswer, IsNoFlaw, IsShown}
+use Rattle.lab_checks_versions.specs.Places.{count_of, counts_with}
 use Rattle.lab_fields.specs.Fields.{HasReasonUnlessFirst}
 use Rattle.lab_lines.specs.Lines.{IsReasoned}
 use Rattle.lab_checks_versions.specs.Hands.{hand_of, amendment_by, amendment_behind, begun, with_entry, with_signature, has_numbers, is_next, flaw_of_hand}
 use Rattle.lab_lines.specs.Kinds.{kind_of, may_come_after, is_end_kind}
-use Rattle.lab_checks.specs.Kept.{is_next_record, is_version_behind, has_kept_numbers, may_come, is_in_place_by, is_in_place_kept, flaw_of_signature_kept, flaw_of_version_kept, flaw_kept, hand_begun, copy_with, about_with, version_with, kept_with, verdict_kept, edition_by, first_copy, ends_in_version, hand_at, kept_none, kept_of, BeginsWithCopy, HasVersion, IsAt, IsTaken, MayBegin}
+use Rattle.lab_checks.specs.Kept.{is_next_record, is_version_behind, has_kept_numbers, may_come, is_in_place_by, is_in_place_kept, flaw_of_signature_kept, flaw_of_version_kept, flaw_kept, hand_begun, copy_with, about_with, version_with, kept_with, verdict_kept, edition_by, first_copy, ends_in_version, hand_at, kept_none, kept_of, BeginsWithCopy, HasVersion, IsAt, IsKeepFault, IsTaken, MayBegin, MayRunOut, is_kept_made, is_text_made}
 use Rattle.lab_checks_versions.specs.declared.faults.CheckFault.{CheckFault}
 use Rattle.lab_checks_versions.specs.declared.faults.CheckFault.TheVariants.{Flawed, Read, Memory}
 use Rattle.lab_checks_versions.specs.declared.hands.VersionAtHand.{VersionAtHand}
@@ -769,26 +768,77 @@ taken row kept more lines line row_is is place reasoned none made = (
   subst (λ one. IsAt one (lines ++ (line ∷ []))) (sym made) (at_next row kept lines line row_is is place reasoned),
 )
 
-pub told_nothing : (lines : List Line) (line : Line) (kept : Kept) (fault : CheckFault) → IsNoFlaw fault → IsTaken lines line kept (Err fault)
-told_nothing lines line kept (Flawed _) none = absurd none
-told_nothing lines line kept Read none = tt
-told_nothing lines line kept (Memory _) none = tt
+-- a line whose version at hand has rows ends them
+ends_by : (lines : List Line) (ends : Bool) → ends_in_version lines ≡ ends → is_some (hand_at lines) ≡ true → ends_in_version lines ≡ true
+ends_by lines true is some = is
+ends_by lines false is some = never (sym (ap is_some (no_hand lines is)) ∙ some)
+
+hand_ends : (kept : Kept) (lines : List Line) → IsAt kept lines → is_some kept.version ≡ true → ends_in_version lines ≡ true
+hand_ends kept lines is some =
+    ends_by lines (ends_in_version lines) refl (subst (λ (one : Kept). is_some one.version ≡ true) is.kept_is some)
+
+-- memory ran out where the text of the version at hand was made
+seeing : (kept : Kept) (lines : List Line) (line : Line) → IsAt kept lines → is_in_place lines line ≡ true
+    → IsTrue (is_text_made kept line) → MayRunOut lines line
+seeing kept lines (Copy line) is place made = (place, hand_ends kept lines is made)
+seeing kept lines (Record line) is place made = (place, hand_ends kept lines is made)
+seeing kept lines (Version line) is place made = place
+seeing kept lines (Entry line) is place made = never made
+seeing kept lines (Signature line) is place made = never made
+seeing kept lines (End line) is place made = (place, hand_ends kept lines is made)
+
+pub ran_out_seeing : (row : ℕ) (kept : Kept) (lines : List Line) (line : Line) → row ≡ length lines + 2 → IsAt kept lines
+    → is_in_place_kept kept line ≡ true → IsTrue (is_text_made kept line) → MayRunOut lines line
+ran_out_seeing row kept lines line row_is is place made = seeing kept lines line is (in_place row kept lines line row_is is place) made
+
+-- memory ran out where a line that shows no flaw was kept
+keeping : (kept : Kept) (lines : List Line) (line : Line) → is_in_place lines line ≡ true → flaw_of_line lines line ≡ None
+    → IsTrue (is_kept_made kept.about kept.version line) → MayRunOut lines line
+keeping kept lines (Copy line) place none made = never made
+keeping kept lines (Record line) place none made = never made
+keeping kept lines (Version line) place none made = place
+keeping kept lines (Entry line) place none made = none
+keeping kept lines (Signature line) place none made = none
+keeping kept lines (End line) place none made = never made
+
+-- no more lines are of a kind than there are
+fewer : {A B : Type 0} (h : A → Option B) (xs : List A) → length (filter_map h xs) ≤ length xs
+fewer h [] = omega arith
+fewer {B = B} h (x ∷ xs) = by (h x) (fewer h xs)
+  where
+    by : (o : Option B) → length (filter_map h xs) ≤ length xs → length (cons_option o (filter_map h xs)) ≤ length (x ∷ xs)
+    by None few = omega (arith, few)
+    by (Some y) few = omega (arith, few)
+
+few : (lines : List Line) (line : Line) → count_of line (counts_of lines) ≤ length lines
+few lines (Copy line) = omega arith
+few lines (Record line) = fewer record_in lines
+few lines (Version line) = fewer version_in lines
+few lines (Entry line) = fewer entry_in lines
+few lines (Signature line) = fewer signature_in lines
+few lines (End line) = omega arith
+
+few_kept : (kept : Kept) (lines : List Line) (line : Line) → IsAt kept lines → count_of line kept.counts ≤ length lines
+few_kept kept lines line is = subst (λ (one : Kept). count_of line one.counts ≤ length lines) (sym is.kept_is) (few lines line)
+
+kept_fault : (row : ℕ) (kept more : Kept) (lines : List Line) (line : Line) (fault : CheckFault) → row < 2 ^ 64
+    → row ≡ length lines + 2 → IsAt kept lines → is_in_place lines line ≡ true → flaw_of_line lines line ≡ None
+    → IsKeepFault kept line fault → IsTaken lines line more (Err fault)
+kept_fault row kept more lines line (Flawed _) held row_is is place none why = absurd why
+kept_fault row kept more lines line Read held row_is is place none why =
+    absurd (why (omega (arith, held, row_is, few_kept kept lines line is)))
+kept_fault row kept more lines line (Memory _) held row_is is place none why = keeping kept lines line place none why
 
 -- what keeping a line comes to
 pub taken_by : (row : ℕ) (kept more : Kept) (lines : List Line) (line : Line) (result : Result (Unit {0}) CheckFault)
-    → row ≡ length lines + 2 → IsAt kept lines → is_in_place_kept kept line ≡ true → IsReasoned line
-    → flaw_kept row kept line ≡ None → OnOk result (more ≡ kept_with row kept line) → IfErr result IsNoFlaw
+    → row < 2 ^ 64 → row ≡ length lines + 2 → IsAt kept lines → is_in_place_kept kept line ≡ true → IsReasoned line
+    → flaw_kept row kept line ≡ None → OnOk result (more ≡ kept_with row kept line) → IfErr result (IsKeepFault kept line)
     → IsTaken lines line more result
-taken_by row kept more lines line (Ok _) row_is is place reasoned none made fault =
+taken_by row kept more lines line (Ok _) held row_is is place reasoned none made fault =
     taken row kept more lines line row_is is place reasoned none made
-taken_by row kept more lines line (Err e) row_is is place reasoned none made fault = told_nothing lines line more e fault
-
--- what a line in its place shows
-pub told_shown : (row : ℕ) (kept more : Kept) (lines : List Line) (line : Line) (fault : CheckFault) → row ≡ length lines + 2 → IsAt kept lines
-    → is_in_place_kept kept line ≡ true → IsShown (flaw_kept row kept line) (Err fault) → IsTaken lines line more (Err fault)
-told_shown row kept more lines line (Flawed told) row_is is place shown = told_flaw row kept lines line row_is is place ∙ shown
-told_shown row kept more lines line Read row_is is place shown = tt
-told_shown row kept more lines line (Memory _) row_is is place shown = tt
+taken_by row kept more lines line (Err e) held row_is is place reasoned none made fault =
+    kept_fault row kept more lines line e held row_is is (in_place row kept lines line row_is is place)
+    (told_flaw row kept lines line row_is is place ∙ none) fault
 
 -- the end of the input
 end_kind : (last : Option Line) → is_some_and is_end_kind (option_map kind_of last) ≡ is_some_and is_end last
@@ -818,12 +868,10 @@ verdict_at_end kept lines is =
 pub ended_at_end : (kept : Kept) → is_some_and is_end_kind kept.last ≡ true → verdict_kept kept ≡ Ok kept.counts
 ended_at_end kept ends = λ i. if ends i then Ok kept.counts else Err (unwrap_or (flaw_of_version_kept kept) flaw.NoEnd)
 
-pub shown_at_end : (kept : Kept) (fault : CheckFault) → is_some_and is_end_kind kept.last ≡ false
-    → IsShown (flaw_of_version_kept kept) (Err fault) → IsAnswer (verdict_kept kept) (Err fault)
-shown_at_end kept (Flawed told) more shown =
+pub shown_at_end : (kept : Kept) (first : Flaw) → is_some_and is_end_kind kept.last ≡ false
+    → flaw_of_version_kept kept ≡ Some first → verdict_kept kept ≡ Err first
+shown_at_end kept first more shown =
     λ i. if more i then Ok kept.counts else Err (unwrap_or (shown i) flaw.NoEnd)
-shown_at_end kept Read more shown = tt
-shown_at_end kept (Memory _) more shown = tt
 
 pub none_at_end : (kept : Kept) → is_some_and is_end_kind kept.last ≡ false → flaw_of_version_kept kept ≡ None
     → verdict_kept kept ≡ Err flaw.NoEnd

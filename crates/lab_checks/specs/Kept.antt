@@ -1,12 +1,12 @@
 -- What a check keeps of the lines that came, and what it tells by that alone. What the lines
 -- themselves show is said in lab_rows, `Copies.antt`; `IsAt` ties the two.
-use Rattle.std.specs.Prelude.{◌≡◌, ◌⊎◌, ℕ, ◌+◌, Bool, true, false, not, ◌&&◌, if◌then◌else◌, List, [], ◌∷◌, ◌++◌, length, Option, Some, None, option_map, Result, Ok, Err, unwrap_or}
+use Rattle.std.specs.Prelude.{◌≡◌, ◌⊎◌, ℕ, ◌+◌, ◌^◌, ◌<◌, Bool, true, false, not, ◌&&◌, IsTrue, if◌then◌else◌, List, [], ◌∷◌, ◌++◌, length, Option, Some, None, IsSome, is_some, option_map, Result, Ok, Err, unwrap_or}
 use Rattle.std.specs.List.{before_last}
 use Rattle.std.specs.Str.{bytes_eq}
 use Rattle.lab_versions.specs.Origins.{AmendsUnlessFirst}
 use Rattle.lab_items.specs.Reading.{◌>>=◌}
 use Rattle.lab_seal.specs.Seals.{seal_of}
-use Rattle.lab_rows.specs.Copies.{Told, lab_of, was_asked, is_later_record, is_first_version, are_same_counts, is_some_and, is_none_or, is_of_version, is_version, last_of, last_record, last_told, counts_of, flaw_of_line}
+use Rattle.lab_rows.specs.Copies.{Told, lab_of, was_asked, is_later_record, is_first_version, are_same_counts, is_some_and, is_none_or, is_of_version, is_version, last_of, last_record, last_told, counts_of, is_in_place, flaw_of_line}
 use Rattle.lab_rows.specs.declared.flaws.Flaw.{Flaw}
 use Rattle.lab_rows.specs.declared.flaws.Flaw.TheVariants as flaw
 use Rattle.lab_rows.specs.declared.lines.CopyLine.{CopyLine}
@@ -18,7 +18,7 @@ use Rattle.lab_rows.specs.declared.lines.Line.TheVariants.{Copy, Record, Version
 use Rattle.lab_rows.specs.declared.lines.RecordLine.{RecordLine}
 use Rattle.lab_rows.specs.declared.lines.SignatureLine.{SignatureLine}
 use Rattle.lab_rows.specs.declared.lines.VersionLine.{VersionLine}
-use Rattle.lab_checks_versions.specs.Places.{counts_with, is_first_line}
+use Rattle.lab_checks_versions.specs.Places.{count_of, counts_with, is_first_line}
 use Rattle.lab_checks_versions.specs.Hands.{hand_of, amendment_behind, begun, with_entry, with_signature, has_numbers, is_next, flaw_of_hand}
 use Rattle.lab_checks_versions.specs.declared.hands.VersionAtHand.{VersionAtHand}
 use Rattle.lab_checks_versions.specs.declared.faults.CheckFault.{CheckFault}
@@ -185,11 +185,49 @@ pub record IsAt (kept : Kept) (lines : List Line) : Type 0 where
   pub begins : (lines ≡ []) ⊎ BeginsWithCopy lines
   pub has_version : HasVersion lines
 
+-- ---- what is made of a line, and so may run out of memory
+
+-- to find what a line in its place shows: the text of the version at hand, whose rows have come
+abbrev pub is_text_made : Kept → Line → Bool
+is_text_made kept (Entry line) = false
+is_text_made kept (Signature line) = false
+is_text_made kept line = is_some kept.version
+
+-- to keep it: a version at hand, or a row or a signature more of one
+abbrev pub is_kept_made : Option RecordLine → Option VersionAtHand → Line → Bool
+is_kept_made about version (Version line) = is_some about
+is_kept_made about version (Entry line) = is_some version
+is_kept_made about version (Signature line) = is_some version
+is_kept_made about version _ = false
+
+-- the same of lines: a line out of its place isn't told so, nor a signature that shows a flaw, nor
+-- a line of another kind behind which no version's rows end
+abbrev pub MayRunOut : List Line → Line → Type 0
+MayRunOut lines (Version line) = is_in_place lines (Version line) ≡ true
+MayRunOut lines (Entry line) = flaw_of_line lines (Entry line) ≡ None
+MayRunOut lines (Signature line) = flaw_of_line lines (Signature line) ≡ None
+MayRunOut lines line = (is_in_place lines line ≡ true) × (ends_in_version lines ≡ true)
+
 -- ---- what the code answers
 
--- a line that shows no flaw was taken, and else its flaw was told
+-- the fault of keeping a line tells no flaw: there are more lines of its kind than any copy has, or
+-- memory ran out where something is made
+abbrev pub IsKeepFault : Kept → Line → CheckFault → Type 0
+IsKeepFault kept line (Flawed _) = ⊥
+IsKeepFault kept line Read = ¬ (count_of line kept.counts + 1 < 2 ^ 64)
+IsKeepFault kept line (Memory _) = IsTrue (is_kept_made kept.about kept.version line)
+
+-- a line that shows no flaw was taken, and else its flaw was told; nothing is read here, and memory
+-- runs out only where something is made
 abbrev pub IsTaken : List Line → Line → Kept → Result (Unit {0}) CheckFault → Type 0
 IsTaken lines line kept (Ok _) = (flaw_of_line lines line ≡ None) × IsAt kept (lines ++ (line ∷ []))
 IsTaken lines line kept (Err (Flawed told)) = flaw_of_line lines line ≡ Some told
-IsTaken lines line kept (Err Read) = Unit {0}
-IsTaken lines line kept (Err (Memory _)) = Unit {0}
+IsTaken lines line kept (Err Read) = ⊥
+IsTaken lines line kept (Err (Memory _)) = MayRunOut lines line
+
+-- at the end of the input nothing is read, and memory runs out only where there is a version at
+-- hand, whose text is made
+abbrev pub IsEndFault : Kept → CheckFault → Type 0
+IsEndFault kept (Flawed _) = Unit {0}
+IsEndFault kept Read = ⊥
+IsEndFault kept (Memory _) = IsSome kept.version

@@ -1,13 +1,13 @@
 //! What is kept of the lines so far, and what it tells of the next one.
-ghost use Rattle.std.specs.Prelude.{◌≡◌, ◌+◌, List, None, Some, IfErr, OnOk, length, option_map};
+ghost use Rattle.std.specs.Prelude.{◌≡◌, ◌+◌, List, None, Some, IfErr, IfOk, IsSome, IsTrue, OnErr, OnOk, length, option_map};
 ghost use Rattle.std.specs.Str.{bytes_eq};
 ghost use Rattle.lab_versions.specs.Origins.{AmendsUnlessFirst};
 ghost use Rattle.lab_rows.specs.Copies.{is_first_version, is_some_and};
 ghost use Rattle.lab_rows.specs.declared.lines.Line.{Line};
-ghost use Rattle.lab_checks_versions.specs.Faults.{IsAnswer, IsNoFlaw, IsShown};
+ghost use Rattle.lab_checks_versions.specs.Faults.{IsAnswer};
 ghost use Rattle.lab_lines.specs.Lines.{IsReasoned};
 ghost use Rattle.lab_checks_versions.specs.Hands.{amendment_behind, begun, has_numbers, with_entry, with_signature};
-ghost use Rattle.lab_checks.specs.Kept.{IsAt, IsTaken, MayBegin, edition_by, flaw_kept, flaw_of_signature_kept, flaw_of_version_kept, has_kept_numbers, is_in_place_kept, is_next_record, is_version_behind, kept_none, kept_with, may_come, verdict_kept, with_parts};
+ghost use Rattle.lab_checks.specs.Kept.{IsAt, IsEndFault, IsKeepFault, IsTaken, MayBegin, edition_by, flaw_kept, flaw_of_signature_kept, flaw_of_version_kept, has_kept_numbers, is_in_place_kept, is_kept_made, is_next_record, is_text_made, is_version_behind, kept_none, kept_with, may_come, verdict_kept, with_parts};
 ghost use Rattle.lab_checks_versions.specs.declared.hands.VersionAtHand.{VersionAtHand};
 ghost use Rattle.lab_lines.specs.Kinds.{is_end_kind};
 
@@ -84,19 +84,26 @@ impl Kept {
         if !self.is_in_place(&line) {
             return Err(CheckFault::Flawed(Flaw::Order(row)));
         }
-        self.check(alloc, row, &line)?;
-        self.keep(alloc, row, line)
+        match self.check(alloc, row, &line) {
+            Ok(None) => self.keep(alloc, row, line),
+            Ok(Some(flaw)) => Err(CheckFault::Flawed(flaw)),
+            Err(fault) => Err(CheckFault::Memory(fault)),
+        }
     }
 
     /// What is found at the end of the input.
     pub fn finish(&self, alloc: Global) -> Result<Counts, CheckFault>
-        ensures { IsAnswer (verdict_kept self.now) result }
+        ensures value { IsAnswer (verdict_kept self.now) result }
+        ensures fault { IfErr result (IsEndFault self.now) }
     {
         if self.has_ended() {
             return Ok(self.counts);
         }
-        self.check_version(alloc)?;
-        Err(CheckFault::Flawed(Flaw::NoEnd))
+        match self.check_version(alloc) {
+            Ok(None) => Err(CheckFault::Flawed(Flaw::NoEnd)),
+            Ok(Some(flaw)) => Err(CheckFault::Flawed(flaw)),
+            Err(fault) => Err(CheckFault::Memory(fault)),
+        }
     }
 
     // ---- order
@@ -187,39 +194,41 @@ impl Kept {
 
     // ---- flaws
 
-    // Finds what a line shows that is in its place.
-    fn check(&self, alloc: Global, row: u64, line: &Line) -> Result<(), CheckFault>
-        ensures { IsShown (flaw_kept row self.now line.now) result }
+    // What a line shows that is in its place.
+    fn check(&self, alloc: Global, row: u64, line: &Line) -> Result<Option<Flaw>, OutOfMemory>
+        ensures value { IfOk result (λ shown. shown ≡ flaw_kept row self.now line.now) }
+        ensures memory { OnErr result (IsTrue (is_text_made self.now line.now)) }
     {
         match line {
-            Line::Entry(_) => Ok(()),
-            Line::Signature(line) => self.check_signature(row, line),
+            Line::Entry(_) => Ok(None),
+            Line::Signature(line) => Ok(self.check_signature(row, line)),
             Line::Copy(_) | Line::Record(_) | Line::Version(_) | Line::End(_) => {
                 self.check_version(alloc)
             }
         }
     }
 
-    // Finds what is wrong with the version at hand, where there is one.
-    fn check_version(&self, alloc: Global) -> Result<(), CheckFault>
-        ensures { IsShown (flaw_of_version_kept self.now) result }
+    // What is wrong with the version at hand, where there is one.
+    fn check_version(&self, alloc: Global) -> Result<Option<Flaw>, OutOfMemory>
+        ensures value { IfOk result (λ shown. shown ≡ flaw_of_version_kept self.now) }
+        ensures memory { OnErr result (IsSome self.now.version) }
     {
         match &self.version {
             Some(version) => version.check(alloc),
-            None => Ok(()),
+            None => Ok(None),
         }
     }
 
-    fn check_signature(&self, row: u64, line: &SignatureLine) -> Result<(), CheckFault>
-        ensures { IsShown (flaw_of_signature_kept row self.now.version line.now) result }
+    fn check_signature(&self, row: u64, line: &SignatureLine) -> Option<Flaw>
+        ensures { result ≡ flaw_of_signature_kept row self.now.version line.now }
     {
         if !self.has_digest(&line.parts.version) {
-            return Err(CheckFault::Flawed(Flaw::Digest(row)));
+            return Some(Flaw::Digest(row));
         }
         if seal(&line.parts).bytes() != line.seal.bytes() {
-            return Err(CheckFault::Flawed(Flaw::Seal(row)));
+            return Some(Flaw::Seal(row));
         }
-        Ok(())
+        None
     }
 
     // Whether the digest is that in the row of the version at hand.
@@ -239,9 +248,12 @@ impl Kept {
     fn keep(&mut self, alloc: Global, row: u64, line: Line) -> Result<(), CheckFault>
         requires { MayBegin self.old.version line }
         ensures kept { OnOk result (self.new ≡ kept_with row self.old line) }
-        ensures fault { IfErr result IsNoFlaw }
+        ensures fault { IfErr result (IsKeepFault self.old line) }
     {
-        self.counts = counts_with(&line, self.counts)?;
+        let Some(counts) = counts_with(&line, self.counts) else {
+            return Err(CheckFault::Read);
+        };
+        self.counts = counts;
         self.last = Some(Kind::of(&line));
         self.keep_parts(alloc, row, line)?;
         Ok(())
@@ -250,7 +262,9 @@ impl Kept {
     // Keeps the line's own parts.
     fn keep_parts(&mut self, alloc: Global, row: u64, line: Line) -> Result<(), OutOfMemory>
         requires { MayBegin self.old.version line }
-        ensures { OnOk result (self.new ≡ with_parts row self.old line) }
+        ensures kept { OnOk result (self.new ≡ with_parts row self.old line) }
+        ensures memory { OnErr result (IsTrue
+            (is_kept_made self.old.about self.old.version line)) }
     {
         match line {
             Line::Copy(line) => {
@@ -292,28 +306,31 @@ impl Kept {
         line: VersionLine,
     ) -> Result<(), OutOfMemory>
         requires { AmendsUnlessFirst line.number (amendment_behind self.old.version line) }
-        ensures { OnOk result (self.new ≡ record self.old {
+        ensures kept { OnOk result (self.new ≡ record self.old {
           version = option_map
               (λ about. begun row about self.old.version line) self.old.about;
         }) }
+        ensures memory { OnErr result (IsSome self.old.about) }
     {
         self.version = begin(alloc, row, &self.about, &self.version, line)?;
         Ok(())
     }
 
     fn keep_entry(&mut self, alloc: Global, line: EntryLine) -> Result<(), OutOfMemory>
-        ensures { OnOk result (self.new ≡ record self.old {
+        ensures kept { OnOk result (self.new ≡ record self.old {
           version = option_map (with_entry line.row) self.old.version;
         }) }
+        ensures memory { OnErr result (IsSome self.old.version) }
     {
         enter(&mut self.version, alloc, line.row)
     }
 
     fn keep_signature(&mut self, line: SignatureLine) -> Result<(), OutOfMemory>
-        ensures { OnOk result (self.new ≡ record self.old {
+        ensures kept { OnOk result (self.new ≡ record self.old {
           version = option_map
               (with_signature line.parts.person line.parts.meaning) self.old.version;
         }) }
+        ensures memory { OnErr result (IsSome self.old.version) }
     {
         let parts = line.parts;
         sign(&mut self.version, parts.person, parts.meaning)

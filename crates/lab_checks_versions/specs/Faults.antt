@@ -8,20 +8,13 @@ use Rattle.lab_rows.specs.declared.lines.Counts.{Counts}
 use Rattle.lab_checks_versions.specs.declared.faults.CheckFault.{CheckFault}
 use Rattle.lab_checks_versions.specs.declared.faults.CheckFault.TheVariants.{Flawed, Read, Memory}
 
--- yes, with the counts, or the first flaw; that the input failed, or memory ran out, says nothing
--- of the copy
+-- yes, with the counts, or the first flaw; that the input failed says nothing of the copy, nor that
+-- memory ran out: the reader of CSV makes what holds a row before it looks at one
 abbrev pub IsAnswer : Result Counts Flaw → Result Counts CheckFault → Type 0
 IsAnswer verdict (Ok counts) = verdict ≡ Ok counts
 IsAnswer verdict (Err (Flawed flaw)) = verdict ≡ Err flaw
 IsAnswer verdict (Err Read) = Unit {0}
 IsAnswer verdict (Err (Memory _)) = Unit {0}
-
--- yes where there is no flaw, and else the flaw; other faults say nothing
-abbrev pub IsShown : Option Flaw → Result (Unit {0}) CheckFault → Type 0
-IsShown shown (Ok _) = shown ≡ None
-IsShown shown (Err (Flawed told)) = shown ≡ Some told
-IsShown shown (Err Read) = Unit {0}
-IsShown shown (Err (Memory _)) = Unit {0}
 
 -- a fault that says nothing of the copy
 abbrev pub IsNoFlaw : CheckFault → Type 0

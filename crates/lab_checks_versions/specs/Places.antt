@@ -1,6 +1,6 @@
 -- What a line tells of its place by itself, and how many lines there are with it; what it tells
 -- beside one other is said in lab_rows, `Copies.antt`.
-use Rattle.std.specs.Prelude.{◌+◌, Bool, false, nat_le}
+use Rattle.std.specs.Prelude.{ℕ, ◌+◌, Bool, false, nat_le}
 use Rattle.lab_rows.specs.declared.lines.Counts.{Counts}
 use Rattle.lab_rows.specs.declared.lines.Line.{Line}
 use Rattle.lab_rows.specs.declared.lines.Line.TheVariants.{Copy, Record, Version, Entry, Signature}
@@ -9,6 +9,14 @@ use Rattle.lab_rows.specs.declared.lines.Line.TheVariants.{Copy, Record, Version
 abbrev pub is_first_line : Line → Bool
 is_first_line (Copy line) = nat_le line.from line.to
 is_first_line _ = false
+
+-- how many lines there are of a line's kind, where an end row tells of them
+abbrev pub count_of : Line → Counts → ℕ
+count_of (Record _) counts = counts.records
+count_of (Version _) counts = counts.versions
+count_of (Entry _) counts = counts.entries
+count_of (Signature _) counts = counts.signatures
+count_of _ counts = 0
 
 -- how many lines of each kind there are after a line
 abbrev pub counts_with : Line → Counts → Counts

@@ -1,15 +1,13 @@
 //! The version at hand: what is kept of a version while its rows come, and how it is found sound.
-ghost use Rattle.std.specs.Prelude.{◌≡◌, IfOk, OnOk, map, option_map};
+ghost use Rattle.std.specs.Prelude.{◌≡◌, IfOk, IsSome, OnErr, OnOk, map, option_map};
 ghost use Rattle.std.specs.List.{list_any};
 ghost use Rattle.std.specs.Str.{bytes_eq};
 ghost use Rattle.lab_versions.specs.Origins.{AmendsUnlessFirst};
 ghost use Rattle.lab_versions.specs.declared.rows.EntryRow.{EntryRow};
 ghost use Rattle.lab_rows.specs.Copies.{wants_approval};
 ghost use Rattle.lab_checks_versions.specs.Hands.{amendment_behind, amendment_by, begun, with_entry, with_row, with_signature, has_numbers, is_next, has_digest_at_hand, has_signatures_at_hand, has_persons_at_hand, flaw_of_hand};
-ghost use Rattle.lab_checks_versions.specs.Faults.{IsShown};
 ghost use Rattle.lab_checks_versions.specs.declared.hands.VersionAtHand.{VersionAtHand};
 
-use crate::CheckFault;
 use lab_names::Series;
 use lab_rows::{
     Digest, EntryRow, Flaw, Format, Meaning, Note, Ordinal, OutOfMemory, PersonCode, RecordLine,
@@ -119,17 +117,17 @@ impl VersionAtHand {
             && self.state.is_settled()
     }
 
-    /// Finds what is wrong with the version, once its rows have come.
-    pub fn check(&self, alloc: Global) -> Result<(), CheckFault>
-        ensures { IsShown (flaw_of_hand self.now) result }
+    /// What is wrong with the version, once its rows have come. Its text is made to find it.
+    pub fn check(&self, alloc: Global) -> Result<Option<Flaw>, OutOfMemory>
+        ensures { IfOk result (λ shown. shown ≡ flaw_of_hand self.now) }
     {
         if !self.has_digest(alloc)? {
-            return Err(CheckFault::Flawed(Flaw::Digest(self.row)));
+            return Ok(Some(Flaw::Digest(self.row)));
         }
         if !(self.has_signatures() && self.has_persons()) {
-            return Err(CheckFault::Flawed(Flaw::OnePerson(self.row)));
+            return Ok(Some(Flaw::OnePerson(self.row)));
         }
-        Ok(())
+        Ok(None)
     }
 
     // Whether the digest in the row is that of the version's text.
@@ -184,8 +182,9 @@ pub fn begin(
     line: VersionLine,
 ) -> Result<Option<VersionAtHand>, OutOfMemory>
     requires { AmendsUnlessFirst line.number (amendment_behind before.now line) }
-    ensures { IfOk result (λ version. version
+    ensures value { IfOk result (λ version. version
         ≡ option_map (λ about. begun row about before.now line) about.now) }
+    ensures memory { OnErr result (IsSome about.now) }
 {
     match about {
         Some(about) => Ok(Some(VersionAtHand::begin(alloc, row, about, before, line)?)),
@@ -199,7 +198,8 @@ pub fn enter(
     alloc: Global,
     row: EntryRow,
 ) -> Result<(), OutOfMemory>
-    ensures { OnOk result (version.new ≡ option_map (with_entry row) version.old) }
+    ensures kept { OnOk result (version.new ≡ option_map (with_entry row) version.old) }
+    ensures memory { OnErr result (IsSome version.old) }
 {
     match version {
         Some(version) => version.enter(alloc, row),
@@ -213,7 +213,9 @@ pub fn sign(
     person: PersonCode,
     meaning: Meaning,
 ) -> Result<(), OutOfMemory>
-    ensures { OnOk result (version.new ≡ option_map (with_signature person meaning) version.old) }
+    ensures kept { OnOk result (version.new
+        ≡ option_map (with_signature person meaning) version.old) }
+    ensures memory { OnErr result (IsSome version.old) }
 {
     match version {
         Some(version) => version.sign(person, meaning),

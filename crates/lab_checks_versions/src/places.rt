@@ -1,10 +1,8 @@
 //! What a line tells of its place by itself, or beside one other.
-ghost use Rattle.std.specs.Prelude.{◌≡◌, ◌+◌, IfOk, IfErr};
+ghost use Rattle.std.specs.Prelude.{◌≡◌, ◌+◌, ◌<◌, ◌^◌, SomeIff};
 ghost use Rattle.lab_rows.specs.Copies.{lab_of, was_asked, is_first_version, are_same_counts};
-ghost use Rattle.lab_checks_versions.specs.Faults.{IsNoFlaw};
-ghost use Rattle.lab_checks_versions.specs.Places.{counts_with, is_first_line};
+ghost use Rattle.lab_checks_versions.specs.Places.{count_of, counts_with, is_first_line};
 
-use crate::faults::CheckFault;
 use lab_rows::{CopyLine, Counts, LabCode, Line, Ordinal, RecordLine, VersionLine};
 
 /// The laboratory of a line.
@@ -57,38 +55,28 @@ pub fn are_same_counts(counts: &Counts, told: &Counts) -> bool
         && counts.signatures == told.signatures
 }
 
-/// The numbers of lines after the line. Where they don't fit, there are more rows than any copy has.
-pub fn counts_with(line: &Line, counts: Counts) -> Result<Counts, CheckFault>
-    ensures value { IfOk result (λ more. more ≡ counts_with line.now counts) }
-    ensures fault { IfErr result IsNoFlaw }
+/// The numbers of lines after the line. None where there are more of its kind than any copy has.
+pub fn counts_with(line: &Line, counts: Counts) -> Option<Counts>
+    ensures { SomeIff result (count_of line.now counts + 1 < 2 ^ 64)
+        (counts_with line.now counts) }
 {
     match line {
-        Line::Record(_) => Ok(Counts {
-            records: one_more(counts.records)?,
+        Line::Record(_) => Some(Counts {
+            records: counts.records.checked_add(1)?,
             ..counts
         }),
-        Line::Version(_) => Ok(Counts {
-            versions: one_more(counts.versions)?,
+        Line::Version(_) => Some(Counts {
+            versions: counts.versions.checked_add(1)?,
             ..counts
         }),
-        Line::Entry(_) => Ok(Counts {
-            entries: one_more(counts.entries)?,
+        Line::Entry(_) => Some(Counts {
+            entries: counts.entries.checked_add(1)?,
             ..counts
         }),
-        Line::Signature(_) => Ok(Counts {
-            signatures: one_more(counts.signatures)?,
+        Line::Signature(_) => Some(Counts {
+            signatures: counts.signatures.checked_add(1)?,
             ..counts
         }),
-        Line::Copy(_) | Line::End(_) => Ok(counts),
-    }
-}
-
-fn one_more(count: u64) -> Result<u64, CheckFault>
-    ensures value { IfOk result (λ more. more ≡ count + 1) }
-    ensures fault { IfErr result IsNoFlaw }
-{
-    match count.checked_add(1) {
-        Some(more) => Ok(more),
-        None => Err(CheckFault::Read),
+        Line::Copy(_) | Line::End(_) => Some(counts),
     }
 }

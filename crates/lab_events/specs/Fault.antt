@@ -2,6 +2,9 @@
 use Rattle.std.specs.Prelude.{List, ℕ, codes, ◌++◌}
 use Rattle.lab_desk_faults.specs.declared.faults.RunFault.{RunFault}
 use Rattle.lab_desk_faults.specs.declared.faults.RunFault.TheVariants.{Memory as RunMemory, Write}
+use Rattle.lab_kept.specs.Faults.{storage_entry}
+use Rattle.lab_messages.specs.Sending.{read_fault_word, write_fault_word}
+use Rattle.lab_names.specs.Faults.{memory_entry}
 use Rattle.lab_names.specs.declared.faults.NameFault.{NameFault}
 use Rattle.lab_names.specs.declared.faults.NameFault.TheVariants.{BadName, Memory as NoMemory}
 use Rattle.lab_events.specs.declared.fault.ReplayFault.{ReplayFault}
@@ -10,10 +13,10 @@ use Rattle.lab_events.specs.declared.fault.ReplayFault.TheVariants.{BadEvent, Re
 -- the fault's word
 abbrev pub fault_word : ReplayFault → List ℕ
 fault_word BadEvent = codes "bad_event"
-fault_word ReadFault = codes "read_fault"
-fault_word WriteFault = codes "write_fault"
-fault_word Storage = codes "storage"
-fault_word Memory = codes "memory"
+fault_word ReadFault = read_fault_word
+fault_word WriteFault = write_fault_word
+fault_word Storage = storage_entry.word
+fault_word Memory = memory_entry.word
 
 -- the line that tells it
 abbrev pub fault_line : ReplayFault → List ℕ

@@ -2,21 +2,25 @@
 ghost use Rattle.std.specs.Prelude.{◌≡◌, IfOk};
 ghost use Rattle.csv.specs.Records.{fields_of};
 ghost use Rattle.lab_rows.specs.Copies.{is_approval, is_of_edition, is_older};
-ghost use Rattle.lab_rows.specs.Reading.{copy_line, record_line, version_line, entry_line, signature_line, end_line, line_of};
-ghost use Rattle.lab_fields.specs.Fields.{HasReasonUnlessFirst, columns_in};
-ghost use Rattle.lab_lines.specs.Lines.{IsRead, IsReasoned, line_at};
+ghost use Rattle.lab_rows.specs.declared.lines.Line.TheVariants.{Signature, Version};
+ghost use Rattle.lab_rows.specs.Reading.{copy_line, record_line, version_line, entry_line, signature_line, end_line};
+ghost use Rattle.lab_fields.specs.Fields.{HasReasonUnlessFirst, columns_in, meaning_of};
+ghost use Rattle.lab_lines.specs.Lines.{IsRead, IsReasoned, line_at, line_by, within};
+ghost use Rattle.lab_lines_versions.specs.Parts.{signature_of, version_of};
 
 use crate::columns::row_fields;
 use crate::faults::RowFault;
 use crate::parts::{copy_parts, end_parts, record_parts};
 use csv::ByteRecord;
 use lab_fields::RowFields;
-use lab_fields::fields::{is_word, own_meaning, own_person, own_reason};
+use lab_fields::fields::{MeaningParts, is_word, own_meaning, own_person, own_reason};
 use lab_items::fields::own;
-use lab_lines_versions::{entry_parts, signature_parts, version_parts};
+use lab_lines_versions::{
+    SignatureParts, VersionRowParts, entry_parts, signature_parts, version_parts,
+};
 use lab_names::{Keys, LabCodes, Names, Notes, PersonCodes, Units};
 use lab_rows::{
-    CopyLine, Edition, EndLine, EntryLine, EntryRow, Format, Line, Meaning, RecordLine, SealParts,
+    CopyLine, Edition, EndLine, EntryLine, EntryRow, Format, Line, RecordLine, SealParts,
     SignatureLine, State, VersionLine,
 };
 use std::alloc::Global;
@@ -26,51 +30,16 @@ pub fn read_line(alloc: Global, edition: Edition, row: &ByteRecord) -> Result<Li
     ensures value { IsRead (line_at edition (fields_of row.now)) result }
     ensures reasoned { IfOk result IsReasoned }
 {
-    let Some(columns) = row_fields(row) else {
-        return Err(RowFault::BadRow);
-    };
-    let line = line_of(alloc, &columns)?;
-    if is_of_edition(edition, &line) {
-        Ok(line)
-    } else {
-        Err(RowFault::BadRow)
+    match row_fields(row) {
+        Some(columns) => line_by(alloc, edition, &columns),
+        None => Err(RowFault::BadRow),
     }
-}
-
-// Whether a copy of the edition may have the line.
-fn is_of_edition(edition: Edition, line: &Line) -> bool
-    ensures { result ≡ is_of_edition edition line.now }
-{
-    match edition {
-        Edition::Two => true,
-        Edition::One => match line {
-            Line::Version(line) => is_older(line.format, line.state),
-            Line::Signature(line) => !is_approval(&line.parts.meaning),
-            Line::Copy(_) | Line::Record(_) | Line::Entry(_) | Line::End(_) => true,
-        },
-    }
-}
-
-// Whether the older rules know the format and the state.
-fn is_older(format: Format, state: State) -> bool
-    ensures { result ≡ is_older format state }
-{
-    match format {
-        Format::Two { .. } => false,
-        Format::One => !matches!(state, State::Reviewed),
-    }
-}
-
-fn is_approval(meaning: &Meaning) -> bool
-    ensures { result ≡ is_approval meaning.now }
-{
-    matches!(meaning, Meaning::Approval)
 }
 
 // What a row stands for, by its kind.
 #[tactic(auto, unfolding(lab_rows::specs::Reading::line_of))]
-fn line_of(alloc: Global, row: &RowFields<'_>) -> Result<Line, RowFault>
-    ensures value { IsRead (line_of (columns_in row.now)) result }
+fn line_by(alloc: Global, edition: Edition, row: &RowFields<'_>) -> Result<Line, RowFault>
+    ensures value { IsRead (line_by edition (columns_in row.now)) result }
     ensures reasoned { IfOk result IsReasoned }
 {
     if is_word(row.kind, "copy") {
@@ -78,11 +47,11 @@ fn line_of(alloc: Global, row: &RowFields<'_>) -> Result<Line, RowFault>
     } else if is_word(row.kind, "record") {
         Ok(Line::Record(record_line(alloc, row)?))
     } else if is_word(row.kind, "version") {
-        Ok(Line::Version(version_line(alloc, row)?))
+        Ok(Line::Version(version_line(alloc, edition, row)?))
     } else if is_word(row.kind, "entry") {
         Ok(Line::Entry(entry_line(alloc, row)?))
     } else if is_word(row.kind, "signature") {
-        Ok(Line::Signature(signature_line(alloc, row)?))
+        Ok(Line::Signature(signature_line(alloc, edition, row)?))
     } else if is_word(row.kind, "end") {
         Ok(Line::End(end_line(alloc, row)?))
     } else {
@@ -122,13 +91,21 @@ fn record_line(alloc: Global, row: &RowFields<'_>) -> Result<RecordLine, RowFaul
     })
 }
 
-fn version_line(alloc: Global, row: &RowFields<'_>) -> Result<VersionLine, RowFault>
-    ensures value { IsRead (version_line (columns_in row.now)) result }
+fn version_line(
+    alloc: Global,
+    edition: Edition,
+    row: &RowFields<'_>,
+) -> Result<VersionLine, RowFault>
+    ensures value { IsRead (within edition (λ line. Version line)
+        (version_line (columns_in row.now))) result }
     ensures reasoned { IfOk result (λ line. HasReasonUnlessFirst line.number line.reason) }
 {
     let Some(parts) = version_parts(row) else {
         return Err(RowFault::BadRow);
     };
+    if !has_version(edition, &parts) {
+        return Err(RowFault::BadRow);
+    }
     Ok(VersionLine {
         lab: own::<LabCodes>(alloc, parts.lab)?,
         record_number: parts.record_number,
@@ -140,6 +117,26 @@ fn version_line(alloc: Global, row: &RowFields<'_>) -> Result<VersionLine, RowFa
         reason: own_reason(alloc, parts.reason)?,
         digest: parts.digest,
     })
+}
+
+// Whether a copy of the edition may have the version.
+fn has_version(edition: Edition, parts: &VersionRowParts<'_>) -> bool
+    ensures { result ≡ is_of_edition edition (Version (version_of parts.now)) }
+{
+    match edition {
+        Edition::Two => true,
+        Edition::One => is_older(parts.format, parts.state),
+    }
+}
+
+// Whether the older rules know the format and the state.
+fn is_older(format: Format, state: State) -> bool
+    ensures { result ≡ is_older format state }
+{
+    match format {
+        Format::Two { .. } => false,
+        Format::One => !matches!(state, State::Reviewed),
+    }
 }
 
 fn entry_line(alloc: Global, row: &RowFields<'_>) -> Result<EntryLine, RowFault>
@@ -163,12 +160,20 @@ fn entry_line(alloc: Global, row: &RowFields<'_>) -> Result<EntryLine, RowFault>
     })
 }
 
-fn signature_line(alloc: Global, row: &RowFields<'_>) -> Result<SignatureLine, RowFault>
-    ensures { IsRead (signature_line (columns_in row.now)) result }
+fn signature_line(
+    alloc: Global,
+    edition: Edition,
+    row: &RowFields<'_>,
+) -> Result<SignatureLine, RowFault>
+    ensures { IsRead (within edition (λ line. Signature line)
+        (signature_line (columns_in row.now))) result }
 {
     let Some(parts) = signature_parts(row) else {
         return Err(RowFault::BadRow);
     };
+    if !has_signature(edition, &parts) {
+        return Err(RowFault::BadRow);
+    }
     Ok(SignatureLine {
         record_number: parts.record_number,
         version: parts.version,
@@ -182,6 +187,22 @@ fn signature_line(alloc: Global, row: &RowFields<'_>) -> Result<SignatureLine, R
         },
         seal: parts.seal,
     })
+}
+
+// Whether a copy of the edition may have the signature.
+fn has_signature(edition: Edition, parts: &SignatureParts<'_>) -> bool
+    ensures { result ≡ is_of_edition edition (Signature (signature_of parts.now)) }
+{
+    match edition {
+        Edition::Two => true,
+        Edition::One => !is_approval(parts.meaning),
+    }
+}
+
+fn is_approval(meaning: MeaningParts<'_>) -> bool
+    ensures { result ≡ is_approval (meaning_of meaning.entry) }
+{
+    matches!(meaning, MeaningParts::Approval)
 }
 
 fn end_line(alloc: Global, row: &RowFields<'_>) -> Result<EndLine, RowFault>

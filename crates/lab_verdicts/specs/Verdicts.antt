@@ -3,6 +3,8 @@
 -- system's own (docs/REFUSALS.md).
 use Rattle.std.specs.Prelude.{◌≡◌, ◌<◌, ℕ, List, ◌++◌, [], length, take, codes, decimal, Option, Some, None, Result, Ok, Err}
 use Rattle.std.specs.Io.KnownBytes.{Keeps, Appends}
+use Rattle.lab_names.specs.Faults.{memory_entry}
+use Rattle.lab_messages.specs.Sending.{read_fault_word, write_fault_word}
 use Rattle.lab_messages.specs.declared.sending.WriteFault.{WriteFault as Untold}
 use Rattle.lab_rows.specs.Flaws.{flaw_entry, flaw_row}
 use Rattle.lab_rows.specs.declared.flaws.Flaw.{Flaw}
@@ -43,9 +45,9 @@ IsFound verdict line status = (line ≡ verdict_line verdict) × (status ≡ ver
 -- ---- what stops a check
 
 abbrev pub stop_word : StopFault → List ℕ
-stop_word Read = codes "read_fault"
-stop_word Write = codes "write_fault"
-stop_word Memory = codes "memory"
+stop_word Read = read_fault_word
+stop_word Write = write_fault_word
+stop_word Memory = memory_entry.word
 
 abbrev pub stop_line : StopFault → List ℕ
 stop_line fault = codes "labdesk: " ++ stop_word fault ++ codes "\n"

@@ -14,7 +14,7 @@ returns-then-not-branch g c = λ found all.
     subst (λ (was : Bool). ReadRecord g.R.Read.remaining c.loop-number.rows c.read_row.new.rows was (fields_of c.read_row.new.row))
     c.if-not-branch.true (c.in_ok-read_row.ensures.reads before.trim before.ready) in
     next_none g.R.Read.remaining found c.loop-number.rows c.read_row.new.rows (fields_of c.read_row.new.row) c.loop-number.kept
-    c.loop-number.number before.config (before.left found all) read c.finish.result c.finish.ensures
+    c.loop-number.number before.config (before.left found all) read c.finish.result c.finish.ensures.value
 
 pub returns-in_err-take-in-Ok : goal.returns-in_err-take-in-Ok
 returns-in_err-take-in-Ok g c =
