@@ -39,3 +39,8 @@ some_pass p (first ∷ others) zero one inside here passes =
     rw first_passes (omega arith)
 some_pass p (first ∷ others) (suc k) one inside here passes =
     longer (p first) first (filter p others) (some_pass p others k one (omega arith) here passes)
+
+-- what holds anyhow holds where there is an error
+pub on_any : {T E P : Type 0} (r : Result T E) → P → OnErr r P
+on_any (Ok value) holds = tt
+on_any (Err error) holds = holds
