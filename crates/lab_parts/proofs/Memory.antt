@@ -1,5 +1,5 @@
 -- Where memory ran out, something was to be copied.
-use Rattle.std.proofs.Common.{ℕ, ◌≡◌, ◌⊎◌, ◌<◌, ◌+◌, zero, suc, Bool, true, false, cond, refl, subst, List, [], ◌∷◌, Option, Some, None, Result, Ok, Err, length, get_or, inl, inr, arith}
+use Rattle.std.proofs.Common.{ℕ, ◌≡◌, ◌⊎◌, ◌<◌, zero, suc, Bool, true, false, cond, refl, subst, List, [], ◌∷◌, Option, Some, None, Result, Ok, Err, length, get_or, inl, inr, arith}
 use Rattle.std.specs.Prelude.{IsErr, IsSome, OnErr, filter}
 use Rattle.lab_access.specs.declared.sessions.Session.{Session}
 use Rattle.lab_kept.specs.declared.labs.Lab.{Lab}
