@@ -78,7 +78,7 @@ fn joined(rt: &(impl Abort + AllocGlobal), mut most: Slice, mut rest: Slice) -> 
 
 fn assert_lab(rt: &(impl Abort + AllocGlobal), lab: &Lab, wanted: &str) {
     let told = lab_text(rt.alloc(), lab).expect(rt, "memory");
-    assert!(rt; told.as_str() == wanted);
+    assert_eq!(rt; told.as_str(), wanted);
     drop(told);
 }
 
