@@ -167,7 +167,10 @@ fn founded_beside(
         drop(newborn);
         return Ok(None);
     }
-    Ok(Some(founded(alloc, newborn)?))
+    match founded(alloc, newborn) {
+        Ok(lab) => Ok(Some(lab)),
+        Err(error) => Err(error),
+    }
 }
 
 /// The laboratory that is founded.

@@ -33,5 +33,6 @@ returns-clause-memory c =
     let there = found_at (has_number c.args.number) records place c.index-records-place.result found c.index-records-place.is
     ∙ ap (λ (kept : Record). Some kept) c.index-records-place.is in
     on_err_weaker c.enter.result
-    (λ (some : IsSome (last_of (get_or records place c.index-records-place.result).versions)). ap (λ (kept : Option Record). is_some (option_and_then (λ one. last_of one.versions) kept))
+    (λ (some : IsSome (last_of (get_or records place c.index-records-place.result).versions)).
+    ap (λ (kept : Option Record). is_some (option_and_then (λ one. last_of one.versions) kept))
     there ∙ some) c.enter.ensures.memory

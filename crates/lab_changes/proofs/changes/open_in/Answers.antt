@@ -32,5 +32,6 @@ returns-clause-memory c =
     let found : position (has_number c.args.number) records ≡ Some place = cc in
     let there = found_at (has_number c.args.number) records place c.index-records-place.result found c.index-records-place.is in
     on_err_weaker c.open.result
-    (λ (same : c.open.new.kept ≡ get_or records place c.index-records-place.result). ap (λ (kept : Option Record). is_some kept) there)
+    (λ (same : c.open.new.kept ≡ get_or records place c.index-records-place.result).
+    ap (λ (kept : Option Record). is_some kept) there)
     c.open.ensures.err

@@ -33,5 +33,6 @@ returns-clause-memory c =
     let there = found_at (has_number c.args.number) records place c.index-records-place.result found c.index-records-place.is
     ∙ ap (λ (kept : Record). Some kept) c.index-records-place.is in
     on_err_weaker c.sign.result
-    (λ (some : IsSome (version_of (get_or records place c.index-records-place.result).versions c.args.version)). ap (λ (kept : Option Record). is_some (option_and_then (λ one. version_of one.versions c.args.version) kept))
+    (λ (some : IsSome (version_of (get_or records place c.index-records-place.result).versions c.args.version)).
+    ap (λ (kept : Option Record). is_some (option_and_then (λ one. version_of one.versions c.args.version) kept))
     there ∙ some) c.sign.ensures.memory
