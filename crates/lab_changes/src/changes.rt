@@ -1,7 +1,10 @@
 //! The changes that are made of a laboratory in memory. Where memory runs out, the laboratory is as before.
-ghost use Rattle.std.specs.Prelude.{◌≡◌, ◌++◌, ◌∷◌, [], OnOk, OnErr};
-ghost use Rattle.lab_access.specs.Sessions.{session_after, sessions_after};
+ghost use Rattle.std.specs.Prelude.{◌≡◌, ◌++◌, ◌∷◌, [], option_and_then, IsSome, IsTrue, OnOk, OnErr};
+ghost use Rattle.lab_access.specs.Persons.{has_code};
+ghost use Rattle.lab_access.specs.Sessions.{has_token, session_after, sessions_after};
 ghost use Rattle.lab_kept.specs.Changes.{change, added_person, added_form, with_person, with_session, in_record, entered_in, opened_in, signed_in};
+ghost use Rattle.lab_kept.specs.Lookups.{last_of, record_of, version_of};
+ghost use Rattle.lab_changes.specs.Makes.{makes};
 
 use lab_kept::{
     Change, Closing, EntryRow, FormVersion, Lab, Ordinal, OutOfMemory, Person, PersonCode, Record,
@@ -14,11 +17,12 @@ use lab_places::{
 use std::alloc::Global;
 use std::mem;
 
-/// Makes the change of the laboratory, by copies of what it brings. The only error is out of memory; the laboratory is then as
-/// before.
+/// Makes the change of the laboratory, by copies of what it brings. The only error is out of memory, where something is made; the
+/// laboratory is then as before.
 pub fn change(alloc: Global, lab: &mut Lab, one: &Change) -> Result<(), OutOfMemory>
     ensures ok { OnOk result (lab.new ≡ change lab.old one.now) }
     ensures err { OnErr result (lab.new ≡ lab.old) }
+    ensures memory { OnErr result (IsTrue (makes lab.old one.now)) }
 {
     match one {
         Change::Last(last) => {
@@ -87,10 +91,12 @@ fn set_person(
 ) -> Result<(), OutOfMemory>
     ensures ok { OnOk result (persons.new ≡ with_person person.now persons.old) }
     ensures err { OnErr result (persons.new ≡ persons.old) }
+    ensures memory { OnErr result (IsTrue (has_code persons.old person.now.code)) }
 {
-    let person = person.copy()?;
-    let before = mem::replace(persons, Series::new(alloc));
-    *persons = with_person(before, person);
+    let mut list = mem::replace(persons, Series::new(alloc)).into_vec();
+    let done = set_person_in(&mut list, person);
+    *persons = Series::from_vec(list);
+    done?;
     Ok(())
 }
 
@@ -125,10 +131,12 @@ fn set_session(
 ) -> Result<(), OutOfMemory>
     ensures ok { OnOk result (sessions.new ≡ with_session session.now sessions.old) }
     ensures err { OnErr result (sessions.new ≡ sessions.old) }
+    ensures memory { OnErr result (IsTrue (has_token sessions.old session.now.token)) }
 {
-    let session = session.copy()?;
-    let before = mem::replace(sessions, Series::new(alloc));
-    *sessions = with_session(before, session);
+    let mut list = mem::replace(sessions, Series::new(alloc)).into_vec();
+    let done = set_session_in(&mut list, session);
+    *sessions = Series::from_vec(list);
+    done?;
     Ok(())
 }
 
@@ -169,8 +177,9 @@ fn add_row(
 ) -> Result<(), OutOfMemory>
     ensures ok { OnOk result (records.new ≡ in_record number (entered_in row.now) records.old) }
     ensures err { OnErr result (records.new ≡ records.old) }
+    ensures memory { OnErr result (IsSome
+        (option_and_then (λ kept. last_of kept.versions) (record_of records.old number))) }
 {
-    let row = row.copy()?;
     let mut list = mem::replace(records, Series::new(alloc)).into_vec();
     let done = enter_in(&mut list, alloc, number, row);
     *records = Series::from_vec(list);
@@ -186,8 +195,8 @@ fn open_version(
 ) -> Result<(), OutOfMemory>
     ensures ok { OnOk result (records.new ≡ in_record number (opened_in version.now) records.old) }
     ensures err { OnErr result (records.new ≡ records.old) }
+    ensures memory { OnErr result (IsSome (record_of records.old number)) }
 {
-    let version = version.copy()?;
     let mut list = mem::replace(records, Series::new(alloc)).into_vec();
     let done = open_in(&mut list, number, version);
     *records = Series::from_vec(list);
@@ -205,8 +214,9 @@ fn add_signature(
     ensures ok { OnOk result
         (records.new ≡ in_record number (signed_in version signature.now) records.old) }
     ensures err { OnErr result (records.new ≡ records.old) }
+    ensures memory { OnErr result (IsSome
+        (option_and_then (λ kept. version_of kept.versions version) (record_of records.old number))) }
 {
-    let signature = signature.copy()?;
     let mut list = mem::replace(records, Series::new(alloc)).into_vec();
     let done = sign_in(&mut list, alloc, number, version, signature);
     *records = Series::from_vec(list);
@@ -214,28 +224,32 @@ fn add_signature(
     Ok(())
 }
 
-/// The person takes the place of the one of the same code.
-fn with_person(persons: Series<Person>, person: Person) -> Series<Person>
-    ensures { result ≡ with_person person persons }
+/// A copy of the person takes the place of the one of the same code.
+fn set_person_in(persons: &mut [Person], person: &Person) -> Result<(), OutOfMemory>
+    ensures ok { OnOk result (persons.new ≡ with_person person.now persons.old) }
+    ensures err { OnErr result (persons.new ≡ persons.old) }
+    ensures memory { OnErr result (IsTrue (has_code persons.old person.now.code)) }
 {
-    let mut list = persons.into_vec();
-    let Some(place) = place_of_person(&list, &person.code) else {
-        return Series::from_vec(list);
+    let Some(place) = place_of_person(persons, &person.code) else {
+        return Ok(());
     };
-    list[place] = person;
-    Series::from_vec(list)
+    let person = person.copy()?;
+    persons[place] = person;
+    Ok(())
 }
 
-/// The session takes the place of the one of the same token.
-fn with_session(sessions: Series<Session>, session: Session) -> Series<Session>
-    ensures { result ≡ with_session session sessions }
+/// A copy of the session takes the place of the one of the same token.
+fn set_session_in(sessions: &mut [Session], session: &Session) -> Result<(), OutOfMemory>
+    ensures ok { OnOk result (sessions.new ≡ with_session session.now sessions.old) }
+    ensures err { OnErr result (sessions.new ≡ sessions.old) }
+    ensures memory { OnErr result (IsTrue (has_token sessions.old session.now.token)) }
 {
-    let mut list = sessions.into_vec();
-    let Some(place) = place_of_session(&list, &session.token) else {
-        return Series::from_vec(list);
+    let Some(place) = place_of_session(sessions, &session.token) else {
+        return Ok(());
     };
-    list[place] = session;
-    Series::from_vec(list)
+    let session = session.copy()?;
+    sessions[place] = session;
+    Ok(())
 }
 
 /// The sessions after some of the person's are closed.
@@ -267,15 +281,17 @@ fn close_one(session: &mut Session, person: &PersonCode, closing: &Closing)
     }
 }
 
-/// The row is added to the last version of the record of the number.
+/// A copy of the row is added to the last version of the record of the number.
 fn enter_in(
     records: &mut [Record],
     alloc: Global,
     number: Ordinal,
-    row: EntryRow,
+    row: &EntryRow,
 ) -> Result<(), OutOfMemory>
-    ensures ok { OnOk result (records.new ≡ in_record number (entered_in row) records.old) }
+    ensures ok { OnOk result (records.new ≡ in_record number (entered_in row.now) records.old) }
     ensures err { OnErr result (records.new ≡ records.old) }
+    ensures memory { OnErr result (IsSome
+        (option_and_then (λ kept. last_of kept.versions) (record_of records.old number))) }
 {
     let Some(place) = place_of_record(records, number) else {
         return Ok(());
@@ -283,10 +299,11 @@ fn enter_in(
     enter(&mut records[place], alloc, row)
 }
 
-/// The version is added to the record of the number.
-fn open_in(records: &mut [Record], number: Ordinal, version: Version) -> Result<(), OutOfMemory>
-    ensures ok { OnOk result (records.new ≡ in_record number (opened_in version) records.old) }
+/// A copy of the version is added to the record of the number.
+fn open_in(records: &mut [Record], number: Ordinal, version: &Version) -> Result<(), OutOfMemory>
+    ensures ok { OnOk result (records.new ≡ in_record number (opened_in version.now) records.old) }
     ensures err { OnErr result (records.new ≡ records.old) }
+    ensures memory { OnErr result (IsSome (record_of records.old number)) }
 {
     let Some(place) = place_of_record(records, number) else {
         return Ok(());
@@ -294,17 +311,19 @@ fn open_in(records: &mut [Record], number: Ordinal, version: Version) -> Result<
     open(&mut records[place], version)
 }
 
-/// The signature is added to the version of a number of the record of the number.
+/// A copy of the signature is added to the version of a number of the record of the number.
 fn sign_in(
     records: &mut [Record],
     alloc: Global,
     number: Ordinal,
     version: Ordinal,
-    signature: Signature,
+    signature: &Signature,
 ) -> Result<(), OutOfMemory>
     ensures ok { OnOk result
-        (records.new ≡ in_record number (signed_in version signature) records.old) }
+        (records.new ≡ in_record number (signed_in version signature.now) records.old) }
     ensures err { OnErr result (records.new ≡ records.old) }
+    ensures memory { OnErr result (IsSome
+        (option_and_then (λ kept. version_of kept.versions version) (record_of records.old number))) }
 {
     let Some(place) = place_of_record(records, number) else {
         return Ok(());

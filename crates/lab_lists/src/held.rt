@@ -1,5 +1,5 @@
 //! One laboratory in memory, with the changes that are still to be made of it.
-ghost use Rattle.std.specs.Prelude.{◌≡◌, ◌-◌, [], length, OnOk, OnErr, IfOk};
+ghost use Rattle.std.specs.Prelude.{◌≡◌, ◌-◌, ◌<◌, [], length, OnOk, OnErr, IfOk};
 ghost use Rattle.lab_kept.specs.Changes.{changed};
 ghost use Rattle.lab_kept.specs.Parts.{part};
 ghost use Rattle.lab_lists.specs.Lists.{has_code};
@@ -75,10 +75,11 @@ impl Held {
     }
 }
 
-/// Makes the changes that are left, as far as there is memory for them.
+/// Makes the changes that are left, as far as there is memory for them. The only error is out of memory, where some are left.
 fn settle(alloc: Global, lab: &mut Lab, left: &mut Vec<Change>) -> Result<(), OutOfMemory>
     ensures same { changed lab.new left.new.items ≡ changed lab.old left.old.items }
     ensures ok { OnOk result (left.new.items ≡ []) }
+    ensures memory { OnErr result (0 < length left.old.items) }
 {
     for _ in 0..left.len() {
         make_first(alloc, lab, left)?;
@@ -90,6 +91,7 @@ fn settle(alloc: Global, lab: &mut Lab, left: &mut Vec<Change>) -> Result<(), Ou
 fn make_first(alloc: Global, lab: &mut Lab, left: &mut Vec<Change>) -> Result<(), OutOfMemory>
     ensures same { changed lab.new left.new.items ≡ changed lab.old left.old.items }
     ensures ok { OnOk result (length left.new.items ≡ length left.old.items - 1) }
+    ensures memory { OnErr result (0 < length left.old.items) }
 {
     if left.is_empty() {
         return Ok(());

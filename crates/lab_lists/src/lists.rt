@@ -1,5 +1,5 @@
 //! The plain keeper: laboratories in memory.
-ghost use Rattle.std.specs.Prelude.{◌≡◌, [], ◌∷◌, None, option_copied, position, IfOk, OnOk, OnErr};
+ghost use Rattle.std.specs.Prelude.{◌≡◌, [], ◌∷◌, None, is_none, is_some, option_copied, position, IfOk, IfSome, IsSome, OnOk, OnErr};
 ghost use Rattle.lab_kept.specs.declared.trails.Deed.TheVariants.{Found};
 ghost use Rattle.lab_kept.specs.Births.{newborn_lab};
 ghost use Rattle.lab_kept.specs.Changes.{added_person};
@@ -76,11 +76,9 @@ impl Keeper for Lists {
 
     fn found(&mut self, newborn: Newborn) -> Result<(), PlacingFault> {
         let alloc = *self.labs.allocator();
-        if held_of(&self.labs, &newborn.code).is_some() {
-            drop(newborn);
+        let Some(lab) = founded_beside(&self.labs, alloc, newborn)? else {
             return Err(PlacingFault::LabExists);
-        }
-        let lab = founded(alloc, newborn)?;
+        };
         self.labs.push(Held::new(alloc, lab))?;
         Ok(())
     }
@@ -113,7 +111,7 @@ fn place_of(labs: &[Held], code: &LabCode) -> Option<usize>
     labs.iter().position(|held| held.has_code(code))
 }
 
-/// The part of the laboratory of the code that is needed, where there is one.
+/// The part of the laboratory of the code that is needed, where there is one. The only error is out of memory, where there is.
 fn part_in(
     labs: &mut Vec<Held>,
     alloc: Global,
@@ -122,6 +120,7 @@ fn part_in(
 ) -> Result<Option<Slice>, OutOfMemory>
     ensures part { IfOk result (λ found.
         found ≡ part_of need.now (lab_of labs.old.items code.now)) }
+    ensures memory { OnErr result (IsSome (lab_of labs.old.items code.now)) }
     ensures same { labs.new.items ≡ labs.old.items }
 {
     let Some(place) = place_of(labs, code) else {
@@ -132,7 +131,7 @@ fn part_in(
     Ok(Some(slice))
 }
 
-/// Makes the changes of the laboratory of the code, where there is one.
+/// Makes the changes of the laboratory of the code, where there is one. The only error is out of memory, where there is.
 fn apply_in(
     labs: &mut Vec<Held>,
     alloc: Global,
@@ -143,6 +142,7 @@ fn apply_in(
         (lab_of labs.new.items)) }
     ensures place { OnOk result (ChangesInPlace labs.old.items labs.new.items code.now changes) }
     ensures err { OnErr result (labs.new.items ≡ labs.old.items) }
+    ensures memory { OnErr result (IsSome (lab_of labs.old.items code.now)) }
 {
     let Some(place) = place_of(labs, code) else {
         return Ok(());
@@ -150,6 +150,27 @@ fn apply_in(
     let held = &mut labs[place];
     held.apply(alloc, changes)?;
     Ok(())
+}
+
+/// The laboratory that is founded, where there is none of its code. The only error is out of memory, where there is none.
+fn founded_beside(
+    labs: &[Held],
+    alloc: Global,
+    newborn: Newborn,
+) -> Result<Option<Lab>, OutOfMemory>
+    ensures lab { IfOk result (λ found. IfSome found (λ lab. lab ≡ newborn_lab newborn)) }
+    ensures alone { IfOk result (λ found.
+        is_some (lab_of labs.now newborn.code) ≡ is_none found) }
+    ensures memory { OnErr result (lab_of labs.now newborn.code ≡ None) }
+{
+    if held_of(labs, &newborn.code).is_some() {
+        drop(newborn);
+        return Ok(None);
+    }
+    match founded(alloc, newborn) {
+        Ok(lab) => Ok(Some(lab)),
+        Err(error) => Err(error),
+    }
 }
 
 /// The laboratory that is founded.

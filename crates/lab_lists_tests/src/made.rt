@@ -1,5 +1,5 @@
 //! What a laboratory and changes are made of.
-use lab_kept::{Change, Moment, Newborn, Password, Person, Roles, Series};
+use lab_kept::{Change, Moment, Newborn, Password, Person, Role, Roles, Series};
 use lab_names::{Rule, Text};
 use std::process::Abort;
 
@@ -12,17 +12,43 @@ fn moment(rt: &impl Abort, seconds: i64) -> Moment {
     Moment::from_seconds(seconds).expect(rt, "a moment")
 }
 
-fn person(rt: &(impl Abort + AllocGlobal), code: &str) -> Person {
+fn person(rt: &(impl Abort + AllocGlobal), code: &str, name: &str, roles: Roles) -> Person {
     Person {
-        roles: Roles::none(),
+        roles,
         retired: false,
         failures: 0,
         locked: None,
         password: Password::Unset,
         ask: None,
         code: text(rt, code),
-        name: text(rt, "Somebody"),
+        name: text(rt, name),
     }
+}
+
+fn ann(rt: &(impl Abort + AllocGlobal)) -> Person {
+    let mut ann = person(rt, "ann", "Ann Roe", Roles::none().with(Role::Analyst));
+    ann.failures = 1;
+    ann
+}
+
+fn cid(rt: &(impl Abort + AllocGlobal)) -> Person {
+    let roles = Roles::none().with(Role::Reviewer).with(Role::Inspector);
+    let mut cid = person(rt, "cid", "Cid Lee", roles);
+    cid.failures = 4;
+    cid
+}
+
+fn dan(rt: &(impl Abort + AllocGlobal)) -> Person {
+    let mut dan = person(rt, "dan", "Dan Poe", Roles::none().with(Role::Manager));
+    dan.retired = true;
+    dan
+}
+
+fn eve(rt: &(impl Abort + AllocGlobal)) -> Person {
+    let mut eve = person(rt, "eve", "Eve Ng", Roles::none().with(Role::Administrator));
+    eve.failures = 5;
+    eve.locked = Some(moment(rt, 450));
+    eve
 }
 
 /// The laboratory aqua, whose founders come in another order than that of their codes.
@@ -31,9 +57,9 @@ pub(crate) fn newborn(rt: &(impl Abort + AllocGlobal), name: &str) -> Newborn {
         moment: moment(rt, 500),
         code: text(rt, "aqua"),
         name: text(rt, name),
-        first: person(rt, "eve"),
-        second: person(rt, "ann"),
-        third: person(rt, "dan"),
+        first: eve(rt),
+        second: ann(rt),
+        third: dan(rt),
     }
 }
 
@@ -43,7 +69,7 @@ pub(crate) fn changes(rt: &(impl Abort + AllocGlobal)) -> Series<Change> {
     for change in [
         Change::Last(moment(rt, 1200)),
         Change::Strays(4),
-        Change::PersonAdded(person(rt, "cid")),
+        Change::PersonAdded(cid(rt)),
     ] {
         changes.push(change).expect(rt, "memory");
     }

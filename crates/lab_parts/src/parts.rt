@@ -1,5 +1,5 @@
 //! The part of a laboratory that is needed, as copies.
-ghost use Rattle.std.specs.Prelude.{◌≡◌, ◌++◌, ◌∷◌, [], Ok, IfOk, OnOk, length, option_and_then, option_copied};
+ghost use Rattle.std.specs.Prelude.{◌≡◌, ◌⊎◌, ◌<◌, ◌++◌, ◌∷◌, [], Ok, IfOk, IsErr, IsSome, OnErr, OnOk, length, option_and_then, option_copied};
 ghost use Rattle.lab_kept.specs.Lookups.{session_at, person_at, caller_of, is_within, records_within, rows_within};
 ghost use Rattle.lab_kept.specs.Parts.{part, counts_of, form_meant, record_meant, persons_meant, records_meant, rows_meant};
 
@@ -33,7 +33,8 @@ struct Listed {
     trail: Series<TrailRow>,
 }
 
-/// The part of the laboratory that is needed, as copies. The only error is out of memory.
+/// The part of the laboratory that is needed, as copies. The only error is out of memory; its code and its name are copied in any
+/// case, and all else only where it is found.
 pub fn part(alloc: Global, lab: &Lab, need: &Need) -> Result<Slice, OutOfMemory>
     ensures { IfOk result (λ slice. slice ≡ part need.now lab.now) }
 {
@@ -59,13 +60,14 @@ pub fn part(alloc: Global, lab: &Lab, need: &Need) -> Result<Slice, OutOfMemory>
     })
 }
 
-/// Two values, where both are made.
+/// Two values, where both are made. Memory ran out only where it did for one of them.
 fn both<A: Drop, B: Drop>(
     one: Result<A, OutOfMemory>,
     other: Result<B, OutOfMemory>,
 ) -> Result<(A, B), OutOfMemory>
     ensures one { IfOk result (λ pair. one ≡ Ok pair.0) }
     ensures other { IfOk result (λ pair. other ≡ Ok pair.1) }
+    ensures memory { OnErr result (IsErr one ⊎ IsErr other) }
 {
     let one = one?;
     let other = other?;
@@ -89,10 +91,21 @@ fn callers_of(lab: &Lab, token: &Option<Digest>) -> Result<Callers, OutOfMemory>
         both.session ≡ option_and_then (session_at lab.now) token.now) }
     ensures caller { IfOk result (λ both.
         both.caller ≡ caller_of lab.now (option_and_then (session_at lab.now) token.now)) }
+    ensures memory { OnErr result (IsSome (option_and_then (session_at lab.now) token.now)) }
 {
     let found = session(lab, token);
-    let (session, caller) = both(found.map(Session::copy).transpose(), caller(lab, found))?;
+    let (session, caller) = both(session_copied(found), caller(lab, found))?;
     Ok(Callers { session, caller })
+}
+
+fn session_copied(found: Option<&Session>) -> Result<Option<Session>, OutOfMemory>
+    ensures copy { IfOk result (λ copy. copy ≡ option_copied found.entry) }
+    ensures memory { OnErr result (IsSome (option_copied found.entry)) }
+{
+    match found {
+        Some(session) => Ok(Some(session.copy()?)),
+        None => Ok(None),
+    }
 }
 
 fn session<'a>(lab: &'a Lab, token: &Option<Digest>) -> Option<&'a Session>
@@ -105,7 +118,9 @@ fn session<'a>(lab: &'a Lab, token: &Option<Digest>) -> Option<&'a Session>
 }
 
 fn caller(lab: &Lab, session: Option<&Session>) -> Result<Option<Person>, OutOfMemory>
-    ensures { IfOk result (λ caller. caller ≡ caller_of lab.now (option_copied session.entry)) }
+    ensures caller { IfOk result
+        (λ caller. caller ≡ caller_of lab.now (option_copied session.entry)) }
+    ensures memory { OnErr result (IsSome (caller_of lab.now (option_copied session.entry))) }
 {
     match session {
         Some(session) => person(lab, &session.person),
@@ -114,7 +129,8 @@ fn caller(lab: &Lab, session: Option<&Session>) -> Result<Option<Person>, OutOfM
 }
 
 fn person(lab: &Lab, code: &PersonCode) -> Result<Option<Person>, OutOfMemory>
-    ensures { IfOk result (λ person. person ≡ person_at lab.now code.now) }
+    ensures person { IfOk result (λ person. person ≡ person_at lab.now code.now) }
+    ensures memory { OnErr result (IsSome (person_at lab.now code.now)) }
 {
     match person_of(lab.persons.as_slice(), code) {
         Some(person) => Ok(Some(person.copy()?)),
@@ -129,11 +145,14 @@ fn named_in(lab: &Lab, need: &Need) -> Result<Named, OutOfMemory>
         named.form ≡ option_and_then (form_meant lab.now) need.now.form) }
     ensures filed { IfOk result (λ named.
         named.filed ≡ option_and_then (record_meant lab.now) need.now.filed) }
+    ensures memory { OnErr result (IsSome (option_and_then (person_at lab.now) need.now.person)
+        ⊎ IsSome (option_and_then (form_meant lab.now) need.now.form)
+        ⊎ IsSome (option_and_then (record_meant lab.now) need.now.filed)) }
 {
     let person = person_named(lab, &need.person);
     let form = form_named(lab, &need.form);
     let filed = record_named(lab, &need.filed);
-    let ((person, form), filed) = both(both(person, form), filed)?;
+    let (person, (form, filed)) = both(person, both(form, filed))?;
     Ok(Named {
         person,
         form,
@@ -142,7 +161,9 @@ fn named_in(lab: &Lab, need: &Need) -> Result<Named, OutOfMemory>
 }
 
 fn person_named(lab: &Lab, code: &Option<PersonCode>) -> Result<Option<Person>, OutOfMemory>
-    ensures { IfOk result (λ person. person ≡ option_and_then (person_at lab.now) code.now) }
+    ensures person { IfOk result
+        (λ person. person ≡ option_and_then (person_at lab.now) code.now) }
+    ensures memory { OnErr result (IsSome (option_and_then (person_at lab.now) code.now)) }
 {
     match code {
         Some(code) => person(lab, code),
@@ -151,7 +172,8 @@ fn person_named(lab: &Lab, code: &Option<PersonCode>) -> Result<Option<Person>, 
 }
 
 fn form_named(lab: &Lab, wanted: &Option<FormWanted>) -> Result<Option<FormVersion>, OutOfMemory>
-    ensures { IfOk result (λ form. form ≡ option_and_then (form_meant lab.now) wanted.now) }
+    ensures form { IfOk result (λ form. form ≡ option_and_then (form_meant lab.now) wanted.now) }
+    ensures memory { OnErr result (IsSome (option_and_then (form_meant lab.now) wanted.now)) }
 {
     match wanted {
         Some(wanted) => form(lab, wanted),
@@ -160,7 +182,9 @@ fn form_named(lab: &Lab, wanted: &Option<FormWanted>) -> Result<Option<FormVersi
 }
 
 fn record_named(lab: &Lab, wanted: &Option<RecordWanted>) -> Result<Option<Record>, OutOfMemory>
-    ensures { IfOk result (λ kept. kept ≡ option_and_then (record_meant lab.now) wanted.now) }
+    ensures kept { IfOk result
+        (λ kept. kept ≡ option_and_then (record_meant lab.now) wanted.now) }
+    ensures memory { OnErr result (IsSome (option_and_then (record_meant lab.now) wanted.now)) }
 {
     match wanted {
         Some(wanted) => filed(lab, wanted),
@@ -169,36 +193,59 @@ fn record_named(lab: &Lab, wanted: &Option<RecordWanted>) -> Result<Option<Recor
 }
 
 fn form(lab: &Lab, wanted: &FormWanted) -> Result<Option<FormVersion>, OutOfMemory>
-    ensures { IfOk result (λ form. form ≡ form_meant lab.now wanted.now) }
+    ensures form { IfOk result (λ form. form ≡ form_meant lab.now wanted.now) }
+    ensures memory { OnErr result (IsSome (form_meant lab.now wanted.now)) }
 {
     let forms = lab.forms.as_slice();
-    let found = match wanted {
-        FormWanted::Last { code } => last_form(forms, code),
-        FormWanted::Exact { code, version } => exact_form(forms, code, *version),
-    };
-    found.map(FormVersion::copy).transpose()
+    match wanted {
+        FormWanted::Last { code } => form_copied(last_form(forms, code)),
+        FormWanted::Exact { code, version } => form_copied(exact_form(forms, code, *version)),
+    }
+}
+
+fn form_copied(found: Option<&FormVersion>) -> Result<Option<FormVersion>, OutOfMemory>
+    ensures copy { IfOk result (λ copy. copy ≡ option_copied found.entry) }
+    ensures memory { OnErr result (IsSome (option_copied found.entry)) }
+{
+    match found {
+        Some(form) => Ok(Some(form.copy()?)),
+        None => Ok(None),
+    }
 }
 
 fn filed(lab: &Lab, wanted: &RecordWanted) -> Result<Option<Record>, OutOfMemory>
-    ensures { IfOk result (λ kept. kept ≡ record_meant lab.now wanted.now) }
+    ensures kept { IfOk result (λ kept. kept ≡ record_meant lab.now wanted.now) }
+    ensures memory { OnErr result (IsSome (record_meant lab.now wanted.now)) }
 {
     let records = lab.records.as_slice();
-    let found = match wanted {
-        RecordWanted::Numbered { number } => record_of(records, *number),
-        RecordWanted::About { form, sample } => record_about(records, form, sample),
-    };
-    found.map(Record::copy).transpose()
+    match wanted {
+        RecordWanted::Numbered { number } => record_copied(record_of(records, *number)),
+        RecordWanted::About { form, sample } => record_copied(record_about(records, form, sample)),
+    }
+}
+
+fn record_copied(found: Option<&Record>) -> Result<Option<Record>, OutOfMemory>
+    ensures copy { IfOk result (λ copy. copy ≡ option_copied found.entry) }
+    ensures memory { OnErr result (IsSome (option_copied found.entry)) }
+{
+    match found {
+        Some(kept) => Ok(Some(kept.copy()?)),
+        None => Ok(None),
+    }
 }
 
 fn listed_in(lab: &Lab, alloc: Global, list: &Option<ListWanted>) -> Result<Listed, OutOfMemory>
     ensures persons { IfOk result (λ listed. listed.persons ≡ persons_meant lab.now list.now) }
     ensures records { IfOk result (λ listed. listed.records ≡ records_meant lab.now list.now) }
     ensures trail { IfOk result (λ listed. listed.trail ≡ rows_meant lab.now list.now) }
+    ensures memory { OnErr result ((0 < length (persons_meant lab.now list.now))
+        ⊎ (0 < length (records_meant lab.now list.now))
+        ⊎ (0 < length (rows_meant lab.now list.now))) }
 {
     let persons = persons_listed(lab, alloc, list);
     let records = records_listed(lab, alloc, list);
     let trail = rows_listed(lab, alloc, list);
-    let ((persons, records), trail) = both(both(persons, records), trail)?;
+    let (persons, (records, trail)) = both(persons, both(records, trail))?;
     Ok(Listed {
         persons,
         records,
@@ -211,12 +258,23 @@ fn persons_listed(
     alloc: Global,
     list: &Option<ListWanted>,
 ) -> Result<Series<Person>, OutOfMemory>
-    ensures { IfOk result (λ persons. persons ≡ persons_meant lab.now list.now) }
+    ensures persons { IfOk result (λ persons. persons ≡ persons_meant lab.now list.now) }
+    ensures memory { OnErr result (0 < length (persons_meant lab.now list.now)) }
 {
     match list {
-        Some(ListWanted::Persons) => Ok(lab.persons.clone()?),
+        Some(ListWanted::Persons) => persons_copied(alloc, &lab.persons),
         _ => Ok(Series::new(alloc)),
     }
+}
+
+fn persons_copied(alloc: Global, persons: &Series<Person>) -> Result<Series<Person>, OutOfMemory>
+    ensures copy { IfOk result (λ copy. copy ≡ persons.now) }
+    ensures memory { OnErr result (0 < length persons.now) }
+{
+    if persons.as_slice().is_empty() {
+        return Ok(Series::new(alloc));
+    }
+    Ok(persons.clone()?)
 }
 
 fn records_listed(
@@ -224,7 +282,8 @@ fn records_listed(
     alloc: Global,
     list: &Option<ListWanted>,
 ) -> Result<Series<Record>, OutOfMemory>
-    ensures { IfOk result (λ records. records ≡ records_meant lab.now list.now) }
+    ensures records { IfOk result (λ records. records ≡ records_meant lab.now list.now) }
+    ensures memory { OnErr result (0 < length (records_meant lab.now list.now)) }
 {
     match list {
         Some(ListWanted::Records { from, to }) => {
@@ -239,7 +298,8 @@ fn rows_listed(
     alloc: Global,
     list: &Option<ListWanted>,
 ) -> Result<Series<TrailRow>, OutOfMemory>
-    ensures { IfOk result (λ trail. trail ≡ rows_meant lab.now list.now) }
+    ensures trail { IfOk result (λ trail. trail ≡ rows_meant lab.now list.now) }
+    ensures memory { OnErr result (0 < length (rows_meant lab.now list.now)) }
 {
     match list {
         Some(ListWanted::Trail { from, to }) => {
@@ -256,7 +316,8 @@ fn records_within(
     from: Ordinal,
     to: Ordinal,
 ) -> Result<Series<Record>, OutOfMemory>
-    ensures { IfOk result (λ list. list ≡ records_within from to records.now) }
+    ensures list { IfOk result (λ list. list ≡ records_within from to records.now) }
+    ensures memory { OnErr result (0 < length (records_within from to records.now)) }
 {
     let mut list = Series::new(alloc);
     match add_records_within(&mut list, records, from, to) {
@@ -275,7 +336,8 @@ fn add_records_within(
     from: Ordinal,
     to: Ordinal,
 ) -> Result<(), OutOfMemory>
-    ensures { OnOk result (list.new ≡ list.old ++ records_within from to records.now) }
+    ensures list { OnOk result (list.new ≡ list.old ++ records_within from to records.now) }
+    ensures memory { OnErr result (0 < length (records_within from to records.now)) }
 {
     for kept in records {
         if is_within(kept.number, from, to) {
@@ -300,7 +362,8 @@ fn rows_within(
     from: Ordinal,
     to: Ordinal,
 ) -> Result<Series<TrailRow>, OutOfMemory>
-    ensures { IfOk result (λ list. list ≡ rows_within from to trail.now) }
+    ensures list { IfOk result (λ list. list ≡ rows_within from to trail.now) }
+    ensures memory { OnErr result (0 < length (rows_within from to trail.now)) }
 {
     let mut list = Series::new(alloc);
     match add_rows_within(&mut list, trail, from, to) {
@@ -319,7 +382,8 @@ fn add_rows_within(
     from: Ordinal,
     to: Ordinal,
 ) -> Result<(), OutOfMemory>
-    ensures { OnOk result (list.new ≡ list.old ++ rows_within from to trail.now) }
+    ensures list { OnOk result (list.new ≡ list.old ++ rows_within from to trail.now) }
+    ensures memory { OnErr result (0 < length (rows_within from to trail.now)) }
 {
     for row in trail {
         if is_within(row.number, from, to) {

@@ -1,8 +1,9 @@
 //! Where persons, sessions and records stand in their lists, and what is done to one record.
-ghost use Rattle.std.specs.Prelude.{◌≡◌, ◌≤◌, bytes_eq, length, position, OnOk, OnErr};
+ghost use Rattle.std.specs.Prelude.{◌≡◌, ◌≤◌, bytes_eq, is_some, length, position, IsSome, OnOk, OnErr};
 ghost use Rattle.std.specs.List.{position_or_len};
-ghost use Rattle.lab_kept.specs.Lookups.{has_number, is_numbered};
-ghost use Rattle.lab_kept.specs.Lookups.{comes_before};
+ghost use Rattle.lab_access.specs.Persons.{has_code};
+ghost use Rattle.lab_access.specs.Sessions.{has_token};
+ghost use Rattle.lab_kept.specs.Lookups.{comes_before, has_number, is_numbered, last_of, version_of};
 ghost use Rattle.lab_kept.specs.Changes.{in_last, in_version, with_row, with_signature, entered_in, opened_in, signed_in};
 
 use lab_kept::{
@@ -14,8 +15,15 @@ use std::alloc::Global;
 use std::cmp::Ordering;
 use std::mem;
 
-/// Where the person of the code stands.
+/// Where the person of the code stands, if somebody has it.
 pub fn place_of_person(persons: &[Person], code: &PersonCode) -> Option<usize>
+    ensures place { result ≡ position (λ one. bytes_eq one.code code.now) persons.now }
+    ensures found { is_some result ≡ has_code persons.now code.now }
+{
+    first_of_code(persons, code)
+}
+
+fn first_of_code(persons: &[Person], code: &PersonCode) -> Option<usize>
     ensures { result ≡ position (λ one. bytes_eq one.code code.now) persons.now }
 {
     persons
@@ -78,8 +86,15 @@ pub fn place_of_version(versions: &[Version], number: Ordinal) -> Option<usize>
         .position(|version| version.origin.number() == number)
 }
 
-/// Where the session of the token stands.
+/// Where the session of the token stands, if there is one.
 pub fn place_of_session(sessions: &[Session], token: &Digest) -> Option<usize>
+    ensures place { result ≡ position (λ one. bytes_eq one.token token.now) sessions.now }
+    ensures found { is_some result ≡ has_token sessions.now token.now }
+{
+    first_of_token(sessions, token)
+}
+
+fn first_of_token(sessions: &[Session], token: &Digest) -> Option<usize>
     ensures { result ≡ position (λ one. bytes_eq one.token token.now) sessions.now }
 {
     sessions.iter().position(|one| one.token == *token)
@@ -92,10 +107,12 @@ pub fn place_of_record(records: &[Record], number: Ordinal) -> Option<usize>
     records.iter().position(|kept| kept.number == number)
 }
 
-/// A row more in the last version. The only error is out of memory; the record is then as before.
-pub fn enter(kept: &mut Record, alloc: Global, row: EntryRow) -> Result<(), OutOfMemory>
-    ensures ok { OnOk result (kept.new ≡ entered_in row kept.old) }
+/// A copy of the row more in the last version. The only error is out of memory, where there is a version; the record is then as
+/// before.
+pub fn enter(kept: &mut Record, alloc: Global, row: &EntryRow) -> Result<(), OutOfMemory>
+    ensures ok { OnOk result (kept.new ≡ entered_in row.now kept.old) }
     ensures err { OnErr result (kept.new ≡ kept.old) }
+    ensures memory { OnErr result (IsSome (last_of kept.old.versions)) }
 {
     let mut versions = mem::replace(&mut kept.versions, Series::new(alloc)).into_vec();
     let done = enter_last(&mut versions, alloc, row);
@@ -104,24 +121,27 @@ pub fn enter(kept: &mut Record, alloc: Global, row: EntryRow) -> Result<(), OutO
     Ok(())
 }
 
-/// A version more. The only error is out of memory; the record is then as before.
-pub fn open(kept: &mut Record, version: Version) -> Result<(), OutOfMemory>
-    ensures ok { OnOk result (kept.new ≡ opened_in version kept.old) }
+/// A copy of the version more. The only error is out of memory, in any case; the record is then as before.
+pub fn open(kept: &mut Record, version: &Version) -> Result<(), OutOfMemory>
+    ensures ok { OnOk result (kept.new ≡ opened_in version.now kept.old) }
     ensures err { OnErr result (kept.new ≡ kept.old) }
 {
+    let version = version.copy()?;
     kept.versions.push(version)?;
     Ok(())
 }
 
-/// A signature more in the version of the number. The only error is out of memory; the record is then as before.
+/// A copy of the signature more in the version of the number. The only error is out of memory, where there is that version; the
+/// record is then as before.
 pub fn sign(
     kept: &mut Record,
     alloc: Global,
     number: Ordinal,
-    signature: Signature,
+    signature: &Signature,
 ) -> Result<(), OutOfMemory>
-    ensures ok { OnOk result (kept.new ≡ signed_in number signature kept.old) }
+    ensures ok { OnOk result (kept.new ≡ signed_in number signature.now kept.old) }
     ensures err { OnErr result (kept.new ≡ kept.old) }
+    ensures memory { OnErr result (IsSome (version_of kept.old.versions number)) }
 {
     let mut versions = mem::replace(&mut kept.versions, Series::new(alloc)).into_vec();
     let done = sign_in(&mut versions, number, signature);
@@ -131,9 +151,10 @@ pub fn sign(
 }
 
 /// A row more in the last of the versions.
-fn enter_last(versions: &mut [Version], alloc: Global, row: EntryRow) -> Result<(), OutOfMemory>
-    ensures ok { OnOk result (versions.new ≡ in_last (with_row row) versions.old) }
+fn enter_last(versions: &mut [Version], alloc: Global, row: &EntryRow) -> Result<(), OutOfMemory>
+    ensures ok { OnOk result (versions.new ≡ in_last (with_row row.now) versions.old) }
     ensures err { OnErr result (versions.new ≡ versions.old) }
+    ensures memory { OnErr result (IsSome (last_of versions.old)) }
 {
     let count = versions.len();
     if count == 0 {
@@ -143,10 +164,11 @@ fn enter_last(versions: &mut [Version], alloc: Global, row: EntryRow) -> Result<
 }
 
 /// A row more.
-fn enter_version(version: &mut Version, alloc: Global, row: EntryRow) -> Result<(), OutOfMemory>
-    ensures ok { OnOk result (version.new ≡ with_row row version.old) }
+fn enter_version(version: &mut Version, alloc: Global, row: &EntryRow) -> Result<(), OutOfMemory>
+    ensures ok { OnOk result (version.new ≡ with_row row.now version.old) }
     ensures err { OnErr result (version.new ≡ version.old) }
 {
+    let row = row.copy()?;
     let mut rows = mem::replace(&mut version.rows, EntryRows::new(Vec::new(alloc))).into_rows();
     let done = rows.push(row);
     version.rows = EntryRows::new(rows);
@@ -158,11 +180,12 @@ fn enter_version(version: &mut Version, alloc: Global, row: EntryRow) -> Result<
 fn sign_in(
     versions: &mut [Version],
     number: Ordinal,
-    signature: Signature,
+    signature: &Signature,
 ) -> Result<(), OutOfMemory>
     ensures ok { OnOk result
-        (versions.new ≡ in_version number (with_signature signature) versions.old) }
+        (versions.new ≡ in_version number (with_signature signature.now) versions.old) }
     ensures err { OnErr result (versions.new ≡ versions.old) }
+    ensures memory { OnErr result (IsSome (version_of versions.old number)) }
 {
     let Some(place) = place_of_version(versions, number) else {
         return Ok(());
@@ -171,10 +194,11 @@ fn sign_in(
 }
 
 /// A signature more.
-fn sign_version(version: &mut Version, signature: Signature) -> Result<(), OutOfMemory>
-    ensures ok { OnOk result (version.new ≡ with_signature signature version.old) }
+fn sign_version(version: &mut Version, signature: &Signature) -> Result<(), OutOfMemory>
+    ensures ok { OnOk result (version.new ≡ with_signature signature.now version.old) }
     ensures err { OnErr result (version.new ≡ version.old) }
 {
+    let signature = signature.copy()?;
     version.signatures.push(signature)?;
     Ok(())
 }

@@ -1,11 +1,11 @@
 -- A list is changed in the place where the search ended.
-use Rattle.std.proofs.Common.{◌≡◌, Some, None, sym, subst}
-use Rattle.std.specs.Prelude.{position, slice_set}
+use Rattle.std.proofs.Common.{◌≡◌, Option, Some, None, sym, ap, subst}
+use Rattle.std.specs.Prelude.{is_some, position, slice_set}
 use Rattle.lab_kept.specs.declared.labs.Lab.{Lab}
 use Rattle.lab_kept.specs.Changes.{changed}
 use Rattle.lab_kept.specs.Worlds.{Changes}
 use Rattle.lab_lists.specs.Lists.{has_code, lab_of, ChangesInPlace}
-use Rattle.lab_lists.proofs.Listing.{stands_at, changed_meaning, unchanged_meaning, changed_in_place, not_placed}
+use Rattle.lab_lists.proofs.Listing.{stands_at, changed_meaning, unchanged_meaning, changed_in_place, not_placed, on_any}
 use Rattle.lab_lists.proofs.lists.apply_in.Goals as goal
 
 pub returns-in_default-clause-changed : goal.returns-in_default-clause-changed
@@ -40,3 +40,12 @@ returns-clause-place c =
     c.in_ok-apply.ensures.ok in
     subst (λ (one : Lab). ChangesInPlace labs (slice_set labs place one) code c.args.changes)
     (sym made) (changed_in_place labs code place lab c.args.changes stood)
+
+pub returns-in_err-apply-clause-memory : goal.returns-in_err-apply-clause-memory
+returns-in_err-apply-clause-memory c =
+    let labs = c.args.labs.now.items in
+    let code = c.args.code.now in
+    let place = c.in-Some.place in
+    let ended : position (has_code code) labs ≡ Some place = cc in
+    let stood = stands_at labs code place c.index_mut-held.result.now ended c.index_mut-held.ensures.value in
+    on_any c.from_residual.result (ap (λ (found : Option Lab). is_some found) stood.found)

@@ -14,7 +14,7 @@ returns-clause-ok c =
     let some = c.if-count-eq0.false in
     let long : length versions ≡ place + 1 = omega arith in
     on_ok_weaker c.enter_version.result
-    (λ (made : c.enter_version.new.version ≡ with_row c.args.row (get_or versions place c.index-versions-count.result)). ap (λ (next : Version). slice_set versions place next)
-    (made ∙ ap (with_row c.args.row) (sym c.index-versions-count.is))
-    ∙ sym (in_last_at (with_row c.args.row) versions place c.index-versions-count.result long
+    (λ (made : c.enter_version.new.version ≡ with_row c.args.row.now (get_or versions place c.index-versions-count.result)). ap (λ (next : Version). slice_set versions place next)
+    (made ∙ ap (with_row c.args.row.now) (sym c.index-versions-count.is))
+    ∙ sym (in_last_at (with_row c.args.row.now) versions place c.index-versions-count.result long
     c.index-versions-count.is)) c.enter_version.ensures.ok
