@@ -5,7 +5,7 @@ use Rattle.serde_json.specs.Data.{Data}
 use Rattle.lab_members.specs.declared.refusals.BodyFault.{BodyFault}
 use Rattle.lab_members.specs.declared.refusals.BodyFault.TheVariants.{Refused, Memory}
 use Rattle.lab_members.specs.Values.{json_of, JsonFaultFits}
-use Rattle.lab_members.specs.Readings.{Reading, Faulty}
+use Rattle.lab_members.specs.Readings.{Reading, FaultyInTurn}
 use Rattle.lab_bodies.specs.Bodies.{read_from, body_named, BodyFaultFits}
 use Rattle.lab_members.proofs.ValueLemmas.{some_byte}
 
@@ -14,13 +14,13 @@ pub body_read : {A : Type 0} (says : Data → Reading A) (body : List ℕ) (d : 
 unfolding body_named
 body_read says body d x is read = ap (read_from says) is ∙ read
 
-pub body_fault : {A : Type 0} (says : Data → Reading A) (body : List ℕ) (d : Data) (fault : BodyFault) → json_of body ≡ Some d → Faulty (says d) fault → BodyFaultFits says body fault
+pub body_fault : {A : Type 0} (says : Data → Reading A) (body : List ℕ) (d : Data) (fault : BodyFault) → json_of body ≡ Some d → FaultyInTurn (says d) fault → BodyFaultFits says body fault
 unfolding body_named
 body_fault says body d (Refused refusal) is faulty = ap (read_from says) is ∙ faulty
 body_fault says body d Memory is faulty = some_byte body d is
 
 -- whatever fault comes of JSON fits the body
-pub body_faults : {A B : Type 0} (says : Data → Reading A) (body : List ℕ) (d : Data) (r : Result B BodyFault) → json_of body ≡ Some d → IfErr r (Faulty (says d)) → IfErr r (BodyFaultFits says body)
+pub body_faults : {A B : Type 0} (says : Data → Reading A) (body : List ℕ) (d : Data) (r : Result B BodyFault) → json_of body ≡ Some d → IfErr r (FaultyInTurn (says d)) → IfErr r (BodyFaultFits says body)
 body_faults says body d (Ok x) is faulty = faulty
 body_faults says body d (Err fault) is faulty = body_fault says body d fault is faulty
 
