@@ -1,5 +1,5 @@
 -- What comes of a whole body, by what comes of its JSON.
-use Rattle.std.proofs.Common.{◌≡◌, ◌∙◌, ℕ, List, Some, Result, Ok, Err, refl, ap}
+use Rattle.std.proofs.Common.{◌≡◌, ◌∙◌, ◌<◌, ℕ, List, length, Option, Some, None, Result, Ok, Err, refl, ap}
 use Rattle.std.specs.Prelude.{IfErr}
 use Rattle.serde_json.specs.Data.{Data}
 use Rattle.lab_members.specs.declared.refusals.BodyFault.{BodyFault}
@@ -29,5 +29,14 @@ pub no_json : {A : Type 0} (says : Data → Reading A) (body : List ℕ) (fault 
 unfolding body_named
 no_json says body (Refused refusal) (is, none) = rw (none, is) refl
 no_json says body Memory came = came
+
+-- a body that names something has some byte
+named_by : {A : Type 0} (says : Data → Reading A) (body : List ℕ) (found : Option Data) (x : A) → json_of body ≡ found → read_from says found ≡ Ok x → 0 < length body
+named_by says body None x is read = absurd (cc)
+named_by says body (Some d) x is read = some_byte body d is
+
+pub byte_named : {A : Type 0} (says : Data → Reading A) (body : List ℕ) (x : A) → body_named says body ≡ Ok x → 0 < length body
+unfolding body_named
+byte_named says body x is = named_by says body (json_of body) x refl is
 
 pub ruleset of_body = (body_read, body_fault, no_json)
