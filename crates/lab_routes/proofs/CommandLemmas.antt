@@ -1,5 +1,5 @@
 -- What is asked, by what the command of the route comes to.
-use Rattle.std.proofs.Common.{◌≡◌, ℕ, List, Option, Some, None, Result, Ok, Err, IsOk, ap, refl, sym, subst, ◌∙◌, ◌⊎◌, inl, inr}
+use Rattle.std.proofs.Common.{◌≡◌, ℕ, List, Option, Some, None, Result, Ok, Err, ap, refl, ◌∙◌, inl}
 use Rattle.std.specs.Prelude.{IfOk, IfErr, option_map}
 use Rattle.std.specs.Option.{ok_or}
 use Rattle.lab_heads.specs.Requests.{RequestParts}
@@ -10,7 +10,7 @@ use Rattle.lab_routes.specs.declared.refusals.RouteRefusal.{RouteRefusal}
 use Rattle.lab_routes.specs.declared.refusals.RouteRefusal.TheVariants.{Body}
 use Rattle.lab_routes.specs.declared.refusals.RouteFault.{RouteFault}
 use Rattle.lab_routes.specs.declared.refusals.RouteFault.TheVariants.{Refused, Memory}
-use Rattle.lab_routes.specs.Commands.{ranged, FaultFits, PostsBytes, PostsBytesTo, instruction_of, asked_of, asked_at, destination_in, command_asked, RouteFaultFits}
+use Rattle.lab_routes.specs.Commands.{ranged, FaultFits, PostsBytes, instruction_of, asked_of, asked_at, destination_in, command_asked, RouteFaultFits}
 use Rattle.lab_routes.specs.Routes.{Destination}
 use Rattle.lab_routes.specs.declared.commands.Asked.{Asked}
 
