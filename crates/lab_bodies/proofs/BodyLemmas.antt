@@ -14,13 +14,15 @@ pub body_read : {A : Type 0} (says : Data → Reading A) (body : List ℕ) (d : 
 unfolding body_named
 body_read says body d x is read = ap (read_from says) is ∙ read
 
-pub body_fault : {A : Type 0} (says : Data → Reading A) (body : List ℕ) (d : Data) (fault : BodyFault) → json_of body ≡ Some d → FaultyInTurn (says d) fault → BodyFaultFits says body fault
+pub body_fault : {A : Type 0} (says : Data → Reading A) (body : List ℕ) (d : Data) (fault : BodyFault) → json_of body ≡ Some d
+    → FaultyInTurn (says d) fault → BodyFaultFits says body fault
 unfolding body_named
 body_fault says body d (Refused refusal) is faulty = ap (read_from says) is ∙ faulty
 body_fault says body d Memory is faulty = some_byte body d is
 
 -- whatever fault comes of JSON fits the body
-pub body_faults : {A B : Type 0} (says : Data → Reading A) (body : List ℕ) (d : Data) (r : Result B BodyFault) → json_of body ≡ Some d → IfErr r (FaultyInTurn (says d)) → IfErr r (BodyFaultFits says body)
+pub body_faults : {A B : Type 0} (says : Data → Reading A) (body : List ℕ) (d : Data) (r : Result B BodyFault) → json_of body ≡ Some d
+    → IfErr r (FaultyInTurn (says d)) → IfErr r (BodyFaultFits says body)
 body_faults says body d (Ok x) is faulty = faulty
 body_faults says body d (Err fault) is faulty = body_fault says body d fault is faulty
 
@@ -31,7 +33,8 @@ no_json says body (Refused refusal) (is, none) = rw (none, is) refl
 no_json says body Memory came = came
 
 -- a body that names something has some byte
-named_by : {A : Type 0} (says : Data → Reading A) (body : List ℕ) (found : Option Data) (x : A) → json_of body ≡ found → read_from says found ≡ Ok x → 0 < length body
+named_by : {A : Type 0} (says : Data → Reading A) (body : List ℕ) (found : Option Data) (x : A) → json_of body ≡ found
+    → read_from says found ≡ Ok x → 0 < length body
 named_by says body None x is read = absurd (cc)
 named_by says body (Some d) x is read = some_byte body d is
 

@@ -52,7 +52,8 @@ fn founding_behind(
 ) -> Result<Founding, BodyFault>
     ensures read { IfOk result
         (λ founding. founding_behind first second third (view value.now) ≡ Ok founding) }
-    ensures fault { IfErr result (FaultyInTurn (founding_behind first second third (view value.now))) }
+    ensures fault { IfErr result
+        (FaultyInTurn (founding_behind first second third (view value.now))) }
 {
     match named_at::<Names>(alloc, value, "name") {
         Ok(name) => Ok(Founding {

@@ -26,17 +26,20 @@ first_fault r next (Refused refusal) is = then_err r next refusal is
 first_fault r next Memory is = is
 
 -- and so is a fault behind what was read
-pub next_fault : {A B : Type 0} (r : Reading A) (next : A → Reading B) (x : A) (fault : BodyFault) → r ≡ Ok x → FaultyInTurn (next x) fault → FaultyInTurn (then_read r next) fault
+pub next_fault : {A B : Type 0} (r : Reading A) (next : A → Reading B) (x : A) (fault : BodyFault) → r ≡ Ok x → FaultyInTurn (next x) fault
+    → FaultyInTurn (then_read r next) fault
 next_fault r next x (Refused refusal) is faulty = then_ok r next x is ∙ faulty
 next_fault r next x Memory is faulty = faulty
 
 -- the exit of a `?` answers the fault that it met
-pub exit_fault : {A B : Type 0} (r : Result B BodyFault) (reading : Reading A) (fault : BodyFault) → IsErrAnd r (λ met. met ≡ fault) → FaultyInTurn reading fault → IfErr r (FaultyInTurn reading)
+pub exit_fault : {A B : Type 0} (r : Result B BodyFault) (reading : Reading A) (fault : BodyFault) → IsErrAnd r (λ met. met ≡ fault)
+    → FaultyInTurn reading fault → IfErr r (FaultyInTurn reading)
 exit_fault (Ok x) reading fault is faulty = absurd is
 exit_fault (Err met) reading fault is faulty = rw is faulty
 
 -- or the refusal that it met, as a fault
-pub exit_refused : {A B : Type 0} (r : Result B BodyFault) (reading : Reading A) (refusal : BodyRefusal) → IsErrAnd r (λ met. met ≡ Refused refusal) → reading ≡ Err refusal → IfErr r (FaultyInTurn reading)
+pub exit_refused : {A B : Type 0} (r : Result B BodyFault) (reading : Reading A) (refusal : BodyRefusal) → IsErrAnd r (λ met. met ≡ Refused refusal)
+    → reading ≡ Err refusal → IfErr r (FaultyInTurn reading)
 exit_refused (Ok x) reading refusal is refused = absurd is
 exit_refused (Err met) reading refusal is refused = rw is refused
 

@@ -45,13 +45,13 @@ pub asks_it : (lab : List ℕ) (token : Option (List ℕ)) (found : Result Comma
 asks_it lab token found given (Ok asks) is asks_that = ap (asked_of lab token) is ∙ asks_that
 asks_it lab token found given (Err fault) is asks_that = tt
 
-pub asks_unmade : (makes : Type 0) (lab : List ℕ) (token : Option (List ℕ)) (found : Result Command RouteRefusal) (given : Command) (r : Result Asked RouteFault) → found ≡ Ok given
-    → IfErr r (λ fault. fault ≡ Memory) → IfErr r (FaultFits makes (asked_of lab token found))
+pub asks_unmade : (makes : Type 0) (lab : List ℕ) (token : Option (List ℕ)) (found : Result Command RouteRefusal) (given : Command) (r : Result Asked RouteFault)
+    → found ≡ Ok given → IfErr r (λ fault. fault ≡ Memory) → IfErr r (FaultFits makes (asked_of lab token found))
 asks_unmade makes lab token found given (Ok asks) is faulty = tt
 asks_unmade makes lab token found given (Err fault) is faulty = rw faulty (inl (rw is refl))
 
-pub asks_nothing : (makes : Type 0) (lab : List ℕ) (token : Option (List ℕ)) (found : Result Command RouteRefusal) (fault : RouteFault) → FaultFits makes found fault
-    → FaultFits makes (asked_of lab token found) fault
+pub asks_nothing : (makes : Type 0) (lab : List ℕ) (token : Option (List ℕ)) (found : Result Command RouteRefusal) (fault : RouteFault)
+    → FaultFits makes found fault → FaultFits makes (asked_of lab token found) fault
 asks_nothing makes lab token found (Refused refusal) is = ap (asked_of lab token) is
 asks_nothing makes lab token (Ok given) Memory is = inl refl
 asks_nothing makes lab token (Err refusal) Memory is = is

@@ -107,8 +107,8 @@ abbrev pub PostsBytesTo : Result Destination RouteRefusal → List ℕ → Type 
 PostsBytesTo (Err refusal) body = ⊥
 PostsBytesTo (Ok to) body = PostsBytes to.route body
 
--- something is made of a request: it is known what it asks, whose laboratory and text are copied, or
--- a body with a byte is posted, which is read into memory
+-- something is made of a request: it is known what it asks, whose laboratory and text are copied;
+-- or a body with a byte is posted, which is read into memory
 abbrev pub MakesSomething : RequestParts → Type 0
 MakesSomething request =
     IsOk (command_asked request) ⊎ PostsBytesTo (destination_in request) request.body

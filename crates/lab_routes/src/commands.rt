@@ -179,8 +179,8 @@ fn asked_of(
     }
 }
 
-// What a request asks where it goes. Its command is found before its laboratory's code is copied, so a bad query or an
-// empty body is never told as out of memory.
+// What a request asks where it goes. Its command is found before its laboratory's code is copied,
+// so a bad query or an empty body is never told as out of memory.
 #[tactic(auto, using(crate::proofs::CommandLemmas::asking))]
 fn asked_at(
     alloc: Global,
@@ -208,7 +208,7 @@ fn asked_at(
 /// - `NoRoute` where the path is of no laboratory whose code reads, or no place in one;
 /// - else `Method` where the place has other methods;
 /// - else `Body` where the query or the body that the command has is refused;
-/// - that memory ran out, where it is known what the request asks, or where a body with a byte is posted.
+/// - that memory ran out, where it is known what the request asks, or a body with a byte is posted.
 pub fn command_of(alloc: Global, parts: &RequestParts<'_>) -> Result<Asked, RouteFault>
     ensures asks { IfOk result (λ asks. command_asked (parts_shown parts.now) ≡ Ok asks) }
     ensures fault { IfErr result (RouteFaultFits (parts_shown parts.now)) }
