@@ -10,7 +10,7 @@ use Rattle.lab_routes.specs.declared.refusals.RouteRefusal.{RouteRefusal}
 use Rattle.lab_routes.specs.declared.refusals.RouteRefusal.TheVariants.{Body}
 use Rattle.lab_routes.specs.declared.refusals.RouteFault.{RouteFault}
 use Rattle.lab_routes.specs.declared.refusals.RouteFault.TheVariants.{Refused, Memory}
-use Rattle.lab_routes.specs.Commands.{ranged, FaultFits, PostsBytes, instruction_of, asked_of, asked_at, destination_in, command_asked, RouteFaultFits}
+use Rattle.lab_routes.specs.Commands.{ranged, FaultFits, PostsBytes, asked_of, asked_at, destination_in, command_asked, RouteFaultFits}
 use Rattle.lab_routes.specs.Routes.{Destination}
 use Rattle.lab_routes.specs.declared.commands.Asked.{Asked}
 

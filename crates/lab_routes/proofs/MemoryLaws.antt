@@ -1,5 +1,5 @@
 -- What is never told as out of memory: that a request goes nowhere, that what it reads is refused, that an empty body is.
-use Rattle.std.proofs.Common.{◌≡◌, ◌∙◌, ◌⊎◌, inl, inr, ℕ, List, [], Result, Ok, Err, IsOk, sym, ap, subst, arith}
+use Rattle.std.proofs.Common.{◌≡◌, ◌∙◌, inl, inr, ℕ, List, [], Result, Ok, Err, IsOk, sym, ap, subst, arith}
 use Rattle.std.specs.Prelude.{is_ok, ⊤}
 use Rattle.std.proofs.lemmas.Bool.{false≢true}
 use Rattle.lab_heads.specs.Requests.{RequestParts}

@@ -1,10 +1,9 @@
 -- What bytes ask, by what their request asks.
-use Rattle.std.proofs.Common.{◌≡◌, ℕ, List, Result, Ok, Err, ap, ◌∙◌}
+use Rattle.std.proofs.Common.{◌≡◌, ℕ, List, Ok, Err, ap, ◌∙◌}
 use Rattle.lab_heads.specs.declared.refusals.HeadRefusal.{HeadRefusal}
 use Rattle.lab_heads.specs.Requests.{RequestParts, request_in}
 use Rattle.lab_routes.specs.declared.commands.Asked.{Asked}
 use Rattle.lab_routes.specs.declared.refusals.RouteFault.{RouteFault}
-use Rattle.lab_routes.specs.declared.refusals.RouteRefusal.{RouteRefusal}
 use Rattle.lab_routes.specs.declared.refusals.RouteFault.TheVariants as routes
 use Rattle.lab_routes.specs.Commands.{command_asked, RouteFaultFits}
 use Rattle.lab_wire.specs.declared.refusals.RequestRefusal.TheVariants.{Head, Route}
