@@ -1,5 +1,5 @@
 //! The body of a form, and of its fields, whose kinds decide which members they have.
-ghost use Rattle.std.specs.Prelude.{◌≡◌, Ok, IfOk, IfErr, codes, find, ◌∷◌, [], false};
+ghost use Rattle.std.specs.Prelude.{◌≡◌, Ok, IfOk, IfErr, OnErr, IsSome, codes, find, ◌∷◌, [], false};
 ghost use Rattle.std.specs.List.{list_all};
 ghost use Rattle.std.specs.Option.{option_map_or, unwrap_or};
 ghost use Rattle.serde_json.specs.Find.{as_bool, as_str};
@@ -191,6 +191,7 @@ impl Element<OfForm> for Name {
 fn bound_at(alloc: Global, value: &Value, name: &str) -> Result<Option<Bound>, BodyFault>
     ensures read { IfOk result (λ bound. at as_str name.now (view value.now) ≡ bound) }
     ensures fault { IfErr result (λ fault. fault ≡ Memory) }
+    ensures memory { OnErr result (IsSome (at as_str name.now (view value.now))) }
 {
     match str_at(value, name) {
         Some(text) => match String::from_str(alloc, text) {

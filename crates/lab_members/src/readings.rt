@@ -1,6 +1,7 @@
 //! What is read at the names of a body whose shape was seen: each reading answers what stands there, or why it doesn't
 //! read. Text is copied once it is known to read, so no refusal is told as out of memory.
-ghost use Rattle.std.specs.Prelude.{◌≡◌, Ok, IfOk, IfErr, string_bytes};
+ghost use Rattle.std.specs.Prelude.{◌≡◌, Ok, IfOk, IfErr, OnErr, IsSome, string_bytes};
+ghost use Rattle.serde_json.specs.Find.{as_str};
 ghost use Rattle.serde_json.specs.View.{view};
 ghost use Rattle.lab_members.specs.Members.{at, whole_in, ordinal_in, digest_in, roles_in};
 ghost use Rattle.lab_members.specs.Readings.{Faulty, wanted, admitted, text_at, named_at, named_if_at};
@@ -36,7 +37,7 @@ pub fn named_at<R: Rule>(alloc: Global, value: &Value, name: &str) -> Result<Tex
     }
 }
 
-/// The same, where there is one.
+/// The same, where there is one. Where there is none, that is no fault, and nothing is made.
 pub fn named_if_at<R: Rule>(
     alloc: Global,
     value: &Value,
@@ -45,6 +46,7 @@ pub fn named_if_at<R: Rule>(
     ensures read { IfOk result
         (λ named. named_if_at R.admits name.now (view value.now) ≡ Ok named) }
     ensures fault { IfErr result (Faulty (named_if_at R.admits name.now (view value.now))) }
+    ensures memory { OnErr result (IsSome (at as_str name.now (view value.now))) }
 {
     match members::str_at(value, name) {
         Some(text) => match admitted::<R>(alloc, text) {
