@@ -2,7 +2,7 @@
 ghost use Rattle.std.specs.Prelude.{◌≡◌, Ok, IfOk, IfErr};
 ghost use Rattle.serde_json.specs.View.{view};
 ghost use Rattle.lab_bodies.specs.Accounts.{opening_named, closing_named, password_named, enrolment_named, roles_named, person_named, issue_named, confirmation_named, retirement_named, unlocking_named};
-ghost use Rattle.lab_members.specs.Readings.{Faulty};
+ghost use Rattle.lab_members.specs.Readings.{FaultyInTurn};
 
 use lab_machine::Command;
 use lab_members::{
@@ -30,7 +30,7 @@ const PERSON: [Member; 1] = [must!("code", Text)];
 #[tactic(auto, using(lab_members::proofs::ReadingLemmas::in_turn), unfolding(crate::specs::Accounts::opening_named))]
 pub fn opening(alloc: Global, value: &Value) -> Result<Command, BodyFault>
     ensures read { IfOk result (λ command. opening_named (view value.now) ≡ Ok command) }
-    ensures fault { IfErr result (Faulty (opening_named (view value.now))) }
+    ensures fault { IfErr result (FaultyInTurn (opening_named (view value.now))) }
 {
     if !has_members(value, &OPENING) {
         return Err(BodyFault::Refused(BodyRefusal::BadBody));
@@ -42,12 +42,11 @@ pub fn opening(alloc: Global, value: &Value) -> Result<Command, BodyFault>
 
 /// The session is closed.
 #[tactic(auto, using(lab_members::proofs::ReadingLemmas::in_turn), unfolding(crate::specs::Accounts::closing_named))]
-pub fn closing(value: &Value) -> Result<Command, BodyFault>
-    ensures read { IfOk result (λ command. closing_named (view value.now) ≡ Ok command) }
-    ensures fault { IfErr result (Faulty (closing_named (view value.now))) }
+pub fn closing(value: &Value) -> Result<Command, BodyRefusal>
+    ensures { result ≡ closing_named (view value.now) }
 {
     if !has_members(value, &[]) {
-        return Err(BodyFault::Refused(BodyRefusal::BadBody));
+        return Err(BodyRefusal::BadBody);
     }
     Ok(Command::Close)
 }
@@ -56,7 +55,7 @@ pub fn closing(value: &Value) -> Result<Command, BodyFault>
 #[tactic(auto, using(lab_members::proofs::ReadingLemmas::in_turn), unfolding(crate::specs::Accounts::password_named))]
 pub fn password(alloc: Global, value: &Value) -> Result<Command, BodyFault>
     ensures read { IfOk result (λ command. password_named (view value.now) ≡ Ok command) }
-    ensures fault { IfErr result (Faulty (password_named (view value.now))) }
+    ensures fault { IfErr result (FaultyInTurn (password_named (view value.now))) }
 {
     if !has_members(value, &PASSWORD) {
         return Err(BodyFault::Refused(BodyRefusal::BadBody));
@@ -70,7 +69,7 @@ pub fn password(alloc: Global, value: &Value) -> Result<Command, BodyFault>
 #[tactic(auto, using(lab_members::proofs::ReadingLemmas::in_turn), unfolding(crate::specs::Accounts::enrolment_named))]
 pub fn enrolment(alloc: Global, value: &Value) -> Result<Command, BodyFault>
     ensures read { IfOk result (λ command. enrolment_named (view value.now) ≡ Ok command) }
-    ensures fault { IfErr result (Faulty (enrolment_named (view value.now))) }
+    ensures fault { IfErr result (FaultyInTurn (enrolment_named (view value.now))) }
 {
     if !has_members(value, &ENROLMENT) {
         return Err(BodyFault::Refused(BodyRefusal::BadBody));
@@ -85,7 +84,7 @@ pub fn enrolment(alloc: Global, value: &Value) -> Result<Command, BodyFault>
 #[tactic(auto, using(lab_members::proofs::ReadingLemmas::in_turn), unfolding(crate::specs::Accounts::roles_named))]
 pub fn setting_roles(alloc: Global, value: &Value) -> Result<Command, BodyFault>
     ensures read { IfOk result (λ command. roles_named (view value.now) ≡ Ok command) }
-    ensures fault { IfErr result (Faulty (roles_named (view value.now))) }
+    ensures fault { IfErr result (FaultyInTurn (roles_named (view value.now))) }
 {
     if !has_members(value, &ROLES) {
         return Err(BodyFault::Refused(BodyRefusal::BadBody));
@@ -98,7 +97,7 @@ pub fn setting_roles(alloc: Global, value: &Value) -> Result<Command, BodyFault>
 #[tactic(auto, using(lab_members::proofs::ReadingLemmas::in_turn), unfolding(crate::specs::Accounts::person_named))]
 fn person(alloc: Global, value: &Value) -> Result<PersonCode, BodyFault>
     ensures read { IfOk result (λ code. person_named (view value.now) ≡ Ok code) }
-    ensures fault { IfErr result (Faulty (person_named (view value.now))) }
+    ensures fault { IfErr result (FaultyInTurn (person_named (view value.now))) }
 {
     if !has_members(value, &PERSON) {
         return Err(BodyFault::Refused(BodyRefusal::BadBody));
@@ -110,7 +109,7 @@ fn person(alloc: Global, value: &Value) -> Result<PersonCode, BodyFault>
 #[tactic(auto, using(lab_members::proofs::ReadingLemmas::in_turn), unfolding(crate::specs::Accounts::issue_named))]
 pub fn issue(alloc: Global, value: &Value) -> Result<Command, BodyFault>
     ensures read { IfOk result (λ command. issue_named (view value.now) ≡ Ok command) }
-    ensures fault { IfErr result (Faulty (issue_named (view value.now))) }
+    ensures fault { IfErr result (FaultyInTurn (issue_named (view value.now))) }
 {
     let code = person(alloc, value)?;
     Ok(Command::AskIssue { code })
@@ -120,7 +119,7 @@ pub fn issue(alloc: Global, value: &Value) -> Result<Command, BodyFault>
 #[tactic(auto, using(lab_members::proofs::ReadingLemmas::in_turn), unfolding(crate::specs::Accounts::confirmation_named))]
 pub fn confirmation(alloc: Global, value: &Value) -> Result<Command, BodyFault>
     ensures read { IfOk result (λ command. confirmation_named (view value.now) ≡ Ok command) }
-    ensures fault { IfErr result (Faulty (confirmation_named (view value.now))) }
+    ensures fault { IfErr result (FaultyInTurn (confirmation_named (view value.now))) }
 {
     let code = person(alloc, value)?;
     Ok(Command::ConfirmIssue { code })
@@ -130,7 +129,7 @@ pub fn confirmation(alloc: Global, value: &Value) -> Result<Command, BodyFault>
 #[tactic(auto, using(lab_members::proofs::ReadingLemmas::in_turn), unfolding(crate::specs::Accounts::retirement_named))]
 pub fn retirement(alloc: Global, value: &Value) -> Result<Command, BodyFault>
     ensures read { IfOk result (λ command. retirement_named (view value.now) ≡ Ok command) }
-    ensures fault { IfErr result (Faulty (retirement_named (view value.now))) }
+    ensures fault { IfErr result (FaultyInTurn (retirement_named (view value.now))) }
 {
     let code = person(alloc, value)?;
     Ok(Command::Retire { code })
@@ -140,7 +139,7 @@ pub fn retirement(alloc: Global, value: &Value) -> Result<Command, BodyFault>
 #[tactic(auto, using(lab_members::proofs::ReadingLemmas::in_turn), unfolding(crate::specs::Accounts::unlocking_named))]
 pub fn unlocking(alloc: Global, value: &Value) -> Result<Command, BodyFault>
     ensures read { IfOk result (λ command. unlocking_named (view value.now) ≡ Ok command) }
-    ensures fault { IfErr result (Faulty (unlocking_named (view value.now))) }
+    ensures fault { IfErr result (FaultyInTurn (unlocking_named (view value.now))) }
 {
     let code = person(alloc, value)?;
     Ok(Command::Unlock { code })

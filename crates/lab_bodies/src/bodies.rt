@@ -1,7 +1,7 @@
 //! What a whole body names, from its bytes: the command that is posted, or the founding.
 ghost use Rattle.std.specs.Prelude.{◌≡◌, Ok, IfOk, IfErr};
 ghost use Rattle.serde_json.specs.View.{view};
-ghost use Rattle.lab_members.specs.Readings.{Faulty};
+ghost use Rattle.lab_members.specs.Readings.{FaultyInTurn};
 ghost use Rattle.lab_bodies.specs.Foundings.{founding_named};
 ghost use Rattle.lab_bodies.specs.Bodies.{body_named, post_named, BodyFaultFits};
 
@@ -83,11 +83,14 @@ pub fn founding_of(alloc: Global, body: &[u8]) -> Result<Founding, BodyFault>
 // The command that JSON names, by what is posted.
 fn posted(alloc: Global, post: Post, value: &Value) -> Result<Command, BodyFault>
     ensures read { IfOk result (λ command. post_named post (view value.now) ≡ Ok command) }
-    ensures fault { IfErr result (Faulty (post_named post (view value.now))) }
+    ensures fault { IfErr result (FaultyInTurn (post_named post (view value.now))) }
 {
     match post {
         Post::Open => accounts::opening(alloc, value),
-        Post::Close => accounts::closing(value),
+        Post::Close => match accounts::closing(value) {
+            Ok(command) => Ok(command),
+            Err(refusal) => Err(BodyFault::Refused(refusal)),
+        },
         Post::ChangePassword => accounts::password(alloc, value),
         Post::Enrol => accounts::enrolment(alloc, value),
         Post::AskIssue => accounts::issue(alloc, value),

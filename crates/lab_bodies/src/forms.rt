@@ -1,5 +1,5 @@
 //! The body of a form, and of its fields, whose kinds decide which members they have.
-ghost use Rattle.std.specs.Prelude.{◌≡◌, Ok, IfOk, IfErr, codes, find, ◌∷◌, [], false};
+ghost use Rattle.std.specs.Prelude.{◌≡◌, Ok, IfOk, IfErr, OnErr, IsSome, codes, find, ◌∷◌, [], false};
 ghost use Rattle.std.specs.List.{list_all};
 ghost use Rattle.std.specs.Option.{option_map_or, unwrap_or};
 ghost use Rattle.serde_json.specs.Find.{as_bool, as_str};
@@ -9,7 +9,7 @@ ghost use Rattle.lab_bodies.specs.declared.forms.Sort.TheVariants.{Choice, Date,
 ghost use Rattle.lab_members.specs.declared.refusals.BodyFault.TheVariants.{Memory};
 ghost use Rattle.lab_members.specs.Members.{at, elements_at, has_members};
 ghost use Rattle.lab_bodies.specs.Forms.{sort_word, names_sort, sort_of, sort_in, field_members, is_field_body, is_form_body, number_read, text_read, choices_read, kind_read, form_reading, form_read, form_named};
-ghost use Rattle.lab_members.specs.Readings.{Faulty};
+ghost use Rattle.lab_members.specs.Readings.{FaultyInTurn};
 
 use lab_forms::{Bound, Choices, Field, Form, Kind};
 use lab_machine::Command;
@@ -191,6 +191,7 @@ impl Element<OfForm> for Name {
 fn bound_at(alloc: Global, value: &Value, name: &str) -> Result<Option<Bound>, BodyFault>
     ensures read { IfOk result (λ bound. at as_str name.now (view value.now) ≡ bound) }
     ensures fault { IfErr result (λ fault. fault ≡ Memory) }
+    ensures memory { OnErr result (IsSome (at as_str name.now (view value.now))) }
 {
     match str_at(value, name) {
         Some(text) => match String::from_str(alloc, text) {
@@ -204,7 +205,7 @@ fn bound_at(alloc: Global, value: &Value, name: &str) -> Result<Option<Bound>, B
 #[tactic(auto, using(lab_members::proofs::ReadingLemmas::in_turn))]
 fn number(alloc: Global, value: &Value) -> Result<Kind, BodyFault>
     ensures read { IfOk result (λ kind. number_read (view value.now) ≡ Ok kind) }
-    ensures fault { IfErr result (Faulty (number_read (view value.now))) }
+    ensures fault { IfErr result (FaultyInTurn (number_read (view value.now))) }
 {
     let unit = named_at::<Units>(alloc, value, "unit")?;
     let decimals = wanted(whole_at(value, "decimals"))?;
@@ -219,9 +220,8 @@ fn number(alloc: Global, value: &Value) -> Result<Kind, BodyFault>
 }
 
 #[tactic(auto, using(lab_members::proofs::ReadingLemmas::in_turn))]
-fn text(value: &Value) -> Result<Kind, BodyFault>
-    ensures read { IfOk result (λ kind. text_read (view value.now) ≡ Ok kind) }
-    ensures fault { IfErr result (Faulty (text_read (view value.now))) }
+fn text(value: &Value) -> Result<Kind, BodyRefusal>
+    ensures { result ≡ text_read (view value.now) }
 {
     let size = wanted(whole_at(value, "size"))?;
     Ok(Kind::Text { size })
@@ -230,7 +230,7 @@ fn text(value: &Value) -> Result<Kind, BodyFault>
 #[tactic(auto, using(lab_members::proofs::ReadingLemmas::in_turn))]
 fn choices(alloc: Global, value: &Value) -> Result<Kind, BodyFault>
     ensures read { IfOk result (λ kind. choices_read (view value.now) ≡ Ok kind) }
-    ensures fault { IfErr result (Faulty (choices_read (view value.now))) }
+    ensures fault { IfErr result (FaultyInTurn (choices_read (view value.now))) }
 {
     let Some(elements) = elements_at(value, "choices") else {
         return Err(BodyFault::Refused(BodyRefusal::BadBody));
@@ -243,11 +243,14 @@ fn choices(alloc: Global, value: &Value) -> Result<Kind, BodyFault>
 
 fn kind(alloc: Global, value: &Value, sort: Sort) -> Result<Kind, BodyFault>
     ensures read { IfOk result (λ kind. kind_read sort (view value.now) ≡ Ok kind) }
-    ensures fault { IfErr result (Faulty (kind_read sort (view value.now))) }
+    ensures fault { IfErr result (FaultyInTurn (kind_read sort (view value.now))) }
 {
     match sort {
         Sort::Number => number(alloc, value),
-        Sort::Text => text(value),
+        Sort::Text => match text(value) {
+            Ok(kind) => Ok(kind),
+            Err(refusal) => Err(BodyFault::Refused(refusal)),
+        },
         Sort::Choice => choices(alloc, value),
         Sort::Date => Ok(Kind::Date),
         Sort::YesNo => Ok(Kind::YesNo),
@@ -275,13 +278,12 @@ impl Element<OfForm> for Field {
     }
 }
 
-fn made(fields: Vec<Field>, approval: bool) -> Result<Form, BodyFault>
-    ensures read { IfOk result (λ form. form_reading (form_made fields.items approval) ≡ Ok form) }
-    ensures fault { IfErr result (Faulty (form_reading (form_made fields.items approval))) }
+fn made(fields: Vec<Field>, approval: bool) -> Result<Form, BodyRefusal>
+    ensures { result ≡ form_reading (form_made fields.items approval) }
 {
     match Form::make(fields, approval) {
         Ok(form) => Ok(form),
-        Err(refusal) => Err(BodyFault::Refused(BodyRefusal::Form(refusal))),
+        Err(refusal) => Err(BodyRefusal::Form(refusal)),
     }
 }
 
@@ -295,7 +297,7 @@ fn approval(value: &Value) -> bool
 #[tactic(auto, using(lab_members::proofs::ReadingLemmas::in_turn), unfolding(crate::specs::Forms::form_read))]
 fn form_read(alloc: Global, value: &Value) -> Result<Command, BodyFault>
     ensures read { IfOk result (λ command. form_read (view value.now) ≡ Ok command) }
-    ensures fault { IfErr result (Faulty (form_read (view value.now))) }
+    ensures fault { IfErr result (FaultyInTurn (form_read (view value.now))) }
 {
     let code = named_at::<Keys>(alloc, value, "form")?;
     let Some(elements) = elements_at(value, "fields") else {
@@ -310,7 +312,7 @@ fn form_read(alloc: Global, value: &Value) -> Result<Command, BodyFault>
 #[tactic(auto, using(lab_members::proofs::ReadingLemmas::in_turn), unfolding(crate::specs::Forms::form_named))]
 pub fn form(alloc: Global, value: &Value) -> Result<Command, BodyFault>
     ensures read { IfOk result (λ command. form_named (view value.now) ≡ Ok command) }
-    ensures fault { IfErr result (Faulty (form_named (view value.now))) }
+    ensures fault { IfErr result (FaultyInTurn (form_named (view value.now))) }
 {
     if !is_form_body(value) {
         return Err(BodyFault::Refused(BodyRefusal::BadBody));

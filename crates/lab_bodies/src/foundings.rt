@@ -2,7 +2,7 @@
 ghost use Rattle.std.specs.Prelude.{◌≡◌, Ok, Some, IfOk, IfErr, map};
 ghost use Rattle.serde_json.specs.View.{view};
 ghost use Rattle.lab_bodies.specs.Foundings.{is_founding_body, founder_read, founding_behind, founding_of_three, founding_by, founding_named};
-ghost use Rattle.lab_members.specs.Readings.{Faulty};
+ghost use Rattle.lab_members.specs.Readings.{FaultyInTurn};
 
 use lab_machine::{Founder, Founding};
 use lab_members::{
@@ -30,7 +30,7 @@ fn is_founding_body(value: &Value) -> bool
 #[tactic(auto, using(lab_members::proofs::ReadingLemmas::in_turn), unfolding(crate::specs::Foundings::founder_read))]
 fn founder(alloc: Global, value: &Value) -> Result<Founder, BodyFault>
     ensures read { IfOk result (λ founder. founder_read (view value.now) ≡ Ok founder) }
-    ensures fault { IfErr result (Faulty (founder_read (view value.now))) }
+    ensures fault { IfErr result (FaultyInTurn (founder_read (view value.now))) }
 {
     let code = named_at::<PersonCodes>(alloc, value, "code")?;
     let name = named_at::<Names>(alloc, value, "name")?;
@@ -52,7 +52,8 @@ fn founding_behind(
 ) -> Result<Founding, BodyFault>
     ensures read { IfOk result
         (λ founding. founding_behind first second third (view value.now) ≡ Ok founding) }
-    ensures fault { IfErr result (Faulty (founding_behind first second third (view value.now))) }
+    ensures fault { IfErr result
+        (FaultyInTurn (founding_behind first second third (view value.now))) }
 {
     match named_at::<Names>(alloc, value, "name") {
         Ok(name) => Ok(Founding {
@@ -81,7 +82,7 @@ fn founding_of_three(
 ) -> Result<Founding, BodyFault>
     ensures read { IfOk result (λ founding. founding_of_three (view one.now) (view two.now)
         (view three.now) (view value.now) ≡ Ok founding) }
-    ensures fault { IfErr result (Faulty (founding_of_three (view one.now) (view two.now)
+    ensures fault { IfErr result (FaultyInTurn (founding_of_three (view one.now) (view two.now)
         (view three.now) (view value.now))) }
 {
     let first = founder(alloc, one)?;
@@ -94,7 +95,7 @@ fn founding_by(alloc: Global, values: &[Value], value: &Value) -> Result<Foundin
     ensures read { IfOk result
         (λ founding. founding_by (Some (map view values.now)) (view value.now) ≡ Ok founding) }
     ensures fault { IfErr result
-        (Faulty (founding_by (Some (map view values.now)) (view value.now))) }
+        (FaultyInTurn (founding_by (Some (map view values.now)) (view value.now))) }
 {
     let [first, second, third] = values else {
         return Err(BodyFault::Refused(BodyRefusal::BadBody));
@@ -106,7 +107,7 @@ fn founding_by(alloc: Global, values: &[Value], value: &Value) -> Result<Foundin
 #[tactic(auto, using(lab_members::proofs::ReadingLemmas::in_turn), unfolding(crate::specs::Foundings::founding_named))]
 pub fn founding(alloc: Global, value: &Value) -> Result<Founding, BodyFault>
     ensures read { IfOk result (λ founding. founding_named (view value.now) ≡ Ok founding) }
-    ensures fault { IfErr result (Faulty (founding_named (view value.now))) }
+    ensures fault { IfErr result (FaultyInTurn (founding_named (view value.now))) }
 {
     if !is_founding_body(value) {
         return Err(BodyFault::Refused(BodyRefusal::BadBody));

@@ -4,7 +4,7 @@ ghost use Rattle.std.specs.List.{list_any};
 ghost use Rattle.serde_json.specs.View.{view};
 ghost use Rattle.lab_forms.specs.Words.{has_text_twice};
 ghost use Rattle.lab_bodies_records.specs.Records.{record_named, entry_named, is_amendment_body, item_key, different, altered_read, amendment_named};
-ghost use Rattle.lab_members.specs.Readings.{Faulty};
+ghost use Rattle.lab_members.specs.Readings.{FaultyInTurn};
 
 use lab_forms::FormRefusal;
 use lab_machine::Command;
@@ -43,7 +43,7 @@ const AMENDMENT: [Member; 3] = [
 #[tactic(auto, using(lab_members::proofs::ReadingLemmas::in_turn), unfolding(crate::specs::Records::record_named))]
 pub fn record(alloc: Global, value: &Value) -> Result<Command, BodyFault>
     ensures read { IfOk result (λ command. record_named (view value.now) ≡ Ok command) }
-    ensures fault { IfErr result (Faulty (record_named (view value.now))) }
+    ensures fault { IfErr result (FaultyInTurn (record_named (view value.now))) }
 {
     if !has_members(value, &RECORD) {
         return Err(BodyFault::Refused(BodyRefusal::BadBody));
@@ -78,7 +78,7 @@ impl Element<OfRecords> for Item {
 #[tactic(auto, using(lab_members::proofs::ReadingLemmas::in_turn), unfolding(crate::specs::Records::entry_named))]
 pub fn entry(alloc: Global, value: &Value) -> Result<Command, BodyFault>
     ensures read { IfOk result (λ command. entry_named (view value.now) ≡ Ok command) }
-    ensures fault { IfErr result (Faulty (entry_named (view value.now))) }
+    ensures fault { IfErr result (FaultyInTurn (entry_named (view value.now))) }
 {
     if !has_members(value, &ENTRY) {
         return Err(BodyFault::Refused(BodyRefusal::BadBody));
@@ -117,12 +117,11 @@ fn has_key_twice(items: &[Item]) -> bool
     false
 }
 
-fn different(items: Vec<Item>) -> Result<Altered, BodyFault>
-    ensures read { IfOk result (λ altered. different items.items ≡ Ok altered) }
-    ensures fault { IfErr result (Faulty (different items.items)) }
+fn different(items: Vec<Item>) -> Result<Altered, BodyRefusal>
+    ensures { result ≡ different items.items }
 {
     if has_key_twice(&items) {
-        return Err(BodyFault::Refused(BodyRefusal::Form(FormRefusal::KeyTwice)));
+        return Err(BodyRefusal::Form(FormRefusal::KeyTwice));
     }
     Ok(Altered::from_vec(items))
 }
@@ -130,20 +129,23 @@ fn different(items: Vec<Item>) -> Result<Altered, BodyFault>
 #[tactic(auto, using(lab_members::proofs::ReadingLemmas::in_turn), unfolding(crate::specs::Records::altered_read))]
 fn altered(alloc: Global, value: &Value) -> Result<Altered, BodyFault>
     ensures read { IfOk result (λ altered. altered_read (view value.now) ≡ Ok altered) }
-    ensures fault { IfErr result (Faulty (altered_read (view value.now))) }
+    ensures fault { IfErr result (FaultyInTurn (altered_read (view value.now))) }
 {
     let Some(elements) = elements_at(value, "altered") else {
         return Err(BodyFault::Refused(BodyRefusal::BadBody));
     };
     let items = each_of::<OfRecords, Item>(alloc, elements)?;
-    different(items)
+    match different(items) {
+        Ok(altered) => Ok(altered),
+        Err(refusal) => Err(BodyFault::Refused(refusal)),
+    }
 }
 
 /// A record is amended.
 #[tactic(auto, using(lab_members::proofs::ReadingLemmas::in_turn), unfolding(crate::specs::Records::amendment_named))]
 pub fn amendment(alloc: Global, value: &Value) -> Result<Command, BodyFault>
     ensures read { IfOk result (λ command. amendment_named (view value.now) ≡ Ok command) }
-    ensures fault { IfErr result (Faulty (amendment_named (view value.now))) }
+    ensures fault { IfErr result (FaultyInTurn (amendment_named (view value.now))) }
 {
     if !is_amendment_body(value) {
         return Err(BodyFault::Refused(BodyRefusal::BadBody));

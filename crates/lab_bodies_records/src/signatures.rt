@@ -4,7 +4,7 @@ ghost use Rattle.lab_bodies_records.specs.declared.signatures.Meant.TheVariants.
 ghost use Rattle.serde_json.specs.View.{view};
 ghost use Rattle.lab_members.specs.Members.{has_members};
 ghost use Rattle.lab_bodies_records.specs.Signatures.{meant_word, names_meant, meant_of, meant_in, signature_members, is_signature_body, signing_read, signature_by, signature_read, signature_named};
-ghost use Rattle.lab_members.specs.Readings.{Faulty};
+ghost use Rattle.lab_members.specs.Readings.{FaultyInTurn};
 
 use lab_machine::Command;
 use lab_members::{
@@ -113,7 +113,7 @@ fn is_signature_body(value: &Value) -> bool
 #[tactic(auto, using(lab_members::proofs::ReadingLemmas::in_turn))]
 fn signing(alloc: Global, value: &Value, meant: Meant) -> Result<Signing, BodyFault>
     ensures read { IfOk result (λ signing. signing_read meant (view value.now) ≡ Ok signing) }
-    ensures fault { IfErr result (Faulty (signing_read meant (view value.now))) }
+    ensures fault { IfErr result (FaultyInTurn (signing_read meant (view value.now))) }
 {
     match meant {
         Meant::Authorship => Ok(Signing::Authorship),
@@ -138,7 +138,7 @@ fn signature_by(
 ) -> Result<Command, BodyFault>
     ensures read { IfOk result (λ command. signature_by number version digest meant
         (view value.now) ≡ Ok command) }
-    ensures fault { IfErr result (Faulty (signature_by number version digest meant
+    ensures fault { IfErr result (FaultyInTurn (signature_by number version digest meant
         (view value.now))) }
 {
     let password = typed_at(alloc, value, "password")?;
@@ -157,7 +157,7 @@ fn signature_by(
 #[tactic(auto, using(lab_members::proofs::ReadingLemmas::in_turn), unfolding(crate::specs::Signatures::signature_read))]
 fn signature_read(alloc: Global, value: &Value) -> Result<Command, BodyFault>
     ensures read { IfOk result (λ command. signature_read (view value.now) ≡ Ok command) }
-    ensures fault { IfErr result (Faulty (signature_read (view value.now))) }
+    ensures fault { IfErr result (FaultyInTurn (signature_read (view value.now))) }
 {
     let number = wanted(ordinal_at(value, "record"))?;
     let version = wanted(ordinal_at(value, "version"))?;
@@ -170,7 +170,7 @@ fn signature_read(alloc: Global, value: &Value) -> Result<Command, BodyFault>
 #[tactic(auto, using(lab_members::proofs::ReadingLemmas::in_turn), unfolding(crate::specs::Signatures::signature_named))]
 pub fn signature(alloc: Global, value: &Value) -> Result<Command, BodyFault>
     ensures read { IfOk result (λ command. signature_named (view value.now) ≡ Ok command) }
-    ensures fault { IfErr result (Faulty (signature_named (view value.now))) }
+    ensures fault { IfErr result (FaultyInTurn (signature_named (view value.now))) }
 {
     if !is_signature_body(value) {
         return Err(BodyFault::Refused(BodyRefusal::BadBody));

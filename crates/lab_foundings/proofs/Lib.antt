@@ -1,2 +1,3 @@
 pub mod Bearing
+mod Bodies
 mod KnownValues

@@ -1,7 +1,9 @@
 //! What a founding's body bears, and the line that answers a founding.
 
-ghost use Rattle.std.specs.Prelude.{◌≡◌, ◌⊎◌, IfOk, IfErr, None, Ok, true, false, option_map};
+ghost use Rattle.std.specs.Prelude.{◌≡◌, ◌<◌, ◌⊎◌, length, IfOk, IfErr, None, Ok, true, false, option_map};
 ghost use Rattle.lab_kept.specs.Births.{newborn_lab};
+ghost use Rattle.lab_kept.specs.declared.faults.PlacingFault.TheVariants.{Memory};
+ghost use Rattle.lab_foundings.specs.declared.faults.FoundFault.TheVariants.{Placing};
 ghost use Rattle.lab_foundings.specs.Faults.{found_fault_entry, is_taken, FoundFaultFits};
 ghost use Rattle.lab_foundings.specs.Foundings.{IsNewborn, founding_in, founded_line, refused_line, memory_line, shown};
 
@@ -23,6 +25,8 @@ pub fn newborn_of(
         IsNewborn lab.now tick.now (founding_in body.now) (newborn_lab newborn)) }
     // The keeper wasn't asked, so neither that the laboratory exists nor the store is a fault:
     ensures fault { IfErr result (FoundFaultFits ⊥ ⊥ lab.now tick.now (founding_in body.now)) }
+    // An empty body is refused, which takes no memory:
+    ensures memory { IfErr result (λ fault. fault ≡ Placing Memory → 0 < length body.now) }
 {
     match founding_of(alloc, body) {
         Ok(founding) => Ok(bear(lab.copy()?, founding, tick)?),

@@ -7,7 +7,7 @@ use Rattle.serde_json.specs.View.{view}
 use Rattle.serde_json.specs.declared.value.Value.{Value}
 use Rattle.lab_members.specs.declared.refusals.BodyFault.{BodyFault}
 use Rattle.lab_members.specs.declared.refusals.BodyFault.TheVariants.{Refused, Memory}
-use Rattle.lab_members.specs.Readings.{Reading, then_read, Faulty}
+use Rattle.lab_members.specs.Readings.{Reading, then_read, FaultyInTurn}
 use Rattle.lab_members.specs.Parts.{each_read}
 
 -- two lists are read one after the other
@@ -49,8 +49,8 @@ each_more says values i value xs x inside is read this =
 -- the first fault of an element is that of the list
 pub each_fault : {A : Type 0} (says : Data → Reading A) (values : List Value) (i : ℕ) (value : Value) (xs : List A) (fault : BodyFault)
     → i < length values → value ≡ get_or values i value
-    → each_read says (map view (take i values)) ≡ Ok xs → Faulty (says (view value)) fault
-    → Faulty (each_read says (map view values)) fault
+    → each_read says (map view (take i values)) ≡ Ok xs → FaultyInTurn (says (view value)) fault
+    → FaultyInTurn (each_read says (map view values)) fault
 each_fault says values i value xs Memory inside is read this = this
 each_fault says values i value xs (Refused refusal) inside is read this =
     let rest : drop i values ≡ value ∷ drop (i + 1) values = rw add-one (drop-cons values i value inside ∙ ap (λ y. y ∷ drop (suc i) values) (sym is)) in

@@ -1,6 +1,6 @@
 -- How the members of a body are read, one after the other: the first that doesn't read is the
 -- refusal. That a member is there and of its kind was seen before.
-use Rattle.std.specs.Prelude.{◌≡◌, ℕ, List, Bool, Option, Some, None, Result, Ok, Err, if◌then◌else◌, ⊤}
+use Rattle.std.specs.Prelude.{◌≡◌, ℕ, List, Bool, Option, Some, None, Result, Ok, Err, IsOk, if◌then◌else◌, ⊤}
 use Rattle.serde_json.specs.Data.{Data}
 use Rattle.serde_json.specs.Find.{as_str}
 use Rattle.lab_members.specs.declared.refusals.BodyRefusal.{BodyRefusal}
@@ -47,7 +47,15 @@ named_if_at admits name d = admitted_if admits (at as_str name d)
 abbrev pub shaped : {A : Type 0} → Bool → Reading A → Reading A
 shaped is_shaped reading = if is_shaped then reading else Err BadBody
 
--- the faults of reading what says so: its refusal, or out of memory
+-- The faults of one reading: its refusal; out of memory only where it reads, since a text is copied
+-- once it is known that it reads.
 abbrev pub Faulty : {A : Type 0} → Reading A → BodyFault → Type 0
 Faulty reading (Refused refusal) = reading ≡ Err refusal
-Faulty reading Memory = ⊤
+Faulty reading Memory = IsOk reading
+
+-- The faults of several readings, one after the other: the refusal that comes first, or out of
+-- memory. An earlier member is copied before a later one is read, so memory may run out where a
+-- later one would be refused.
+abbrev pub FaultyInTurn : {A : Type 0} → Reading A → BodyFault → Type 0
+FaultyInTurn reading (Refused refusal) = reading ≡ Err refusal
+FaultyInTurn reading Memory = ⊤

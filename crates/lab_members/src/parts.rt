@@ -2,7 +2,7 @@
 ghost use Rattle.std.specs.Prelude.{◌≡◌, Ok, map, IfOk, IfErr};
 ghost use Rattle.serde_json.specs.Data.{Data};
 ghost use Rattle.serde_json.specs.View.{view};
-ghost use Rattle.lab_members.specs.Readings.{Reading, Faulty, text_at};
+ghost use Rattle.lab_members.specs.Readings.{Reading, Faulty, FaultyInTurn, text_at};
 ghost use Rattle.lab_members.specs.Parts.{each_read};
 
 use crate::readings::text_at;
@@ -30,13 +30,13 @@ pub trait Element<G>: Sized + Drop {
     /// Reads a value.
     fn read(alloc: Global, value: &Value) -> Result<Self, BodyFault>
         ensures read { IfOk result (λ it. says (view value.now) ≡ Ok it) }
-        ensures fault { IfErr result (Faulty (says (view value.now))) };
+        ensures fault { IfErr result (FaultyInTurn (says (view value.now))) };
 }
 
 /// Reads each value of a list.
 pub fn each_of<G, T: Element<G>>(alloc: Global, values: &[Value]) -> Result<Vec<T>, BodyFault>
     ensures read { IfOk result (λ list. each_read T.says (map view values.now) ≡ Ok list.items) }
-    ensures fault { IfErr result (Faulty (each_read T.says (map view values.now))) }
+    ensures fault { IfErr result (FaultyInTurn (each_read T.says (map view values.now))) }
 {
     let mut list = Vec::new(alloc);
     for value in values {

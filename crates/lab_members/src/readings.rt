@@ -1,6 +1,7 @@
 //! What is read at the names of a body whose shape was seen: each reading answers what stands there, or why it doesn't
-//! read.
-ghost use Rattle.std.specs.Prelude.{◌≡◌, Ok, IfOk, IfErr, string_bytes};
+//! read. Text is copied once it is known to read, so no refusal is told as out of memory.
+ghost use Rattle.std.specs.Prelude.{◌≡◌, Ok, IfOk, IfErr, OnErr, IsSome, string_bytes};
+ghost use Rattle.serde_json.specs.Find.{as_str};
 ghost use Rattle.serde_json.specs.View.{view};
 ghost use Rattle.lab_members.specs.Members.{at, whole_in, ordinal_in, digest_in, roles_in};
 ghost use Rattle.lab_members.specs.Readings.{Faulty, wanted, admitted, text_at, named_at, named_if_at};
@@ -25,28 +26,18 @@ pub fn admitted<R: Rule>(alloc: Global, text: &str) -> Result<Text<R>, BodyFault
     }
 }
 
-fn wanted_str_at<'v>(value: &'v Value, name: &str) -> Result<&'v str, BodyFault>
-    ensures read { IfOk result (λ text. text_at name.now (view value.now) ≡ Ok text.now) }
-    ensures fault { IfErr result (Faulty (text_at name.now (view value.now))) }
-{
-    match members::str_at(value, name) {
-        Some(text) => Ok(text),
-        None => Err(BodyFault::Refused(BodyRefusal::BadBody)),
-    }
-}
-
 /// The text at a name, which a rule admits.
 pub fn named_at<R: Rule>(alloc: Global, value: &Value, name: &str) -> Result<Text<R>, BodyFault>
     ensures read { IfOk result (λ named. named_at R.admits name.now (view value.now) ≡ Ok named) }
     ensures fault { IfErr result (Faulty (named_at R.admits name.now (view value.now))) }
 {
-    match wanted_str_at(value, name) {
-        Ok(text) => admitted::<R>(alloc, text),
-        Err(fault) => Err(fault),
+    match members::str_at(value, name) {
+        Some(text) => admitted::<R>(alloc, text),
+        None => Err(BodyFault::Refused(BodyRefusal::BadBody)),
     }
 }
 
-/// The same, where there is one.
+/// The same, where there is one. Where there is none, that is no fault, and nothing is made.
 pub fn named_if_at<R: Rule>(
     alloc: Global,
     value: &Value,
@@ -55,6 +46,7 @@ pub fn named_if_at<R: Rule>(
     ensures read { IfOk result
         (λ named. named_if_at R.admits name.now (view value.now) ≡ Ok named) }
     ensures fault { IfErr result (Faulty (named_if_at R.admits name.now (view value.now))) }
+    ensures memory { OnErr result (IsSome (at as_str name.now (view value.now))) }
 {
     match members::str_at(value, name) {
         Some(text) => match admitted::<R>(alloc, text) {
@@ -71,23 +63,22 @@ pub fn text_at(alloc: Global, value: &Value, name: &str) -> Result<String, BodyF
         (λ text. text_at name.now (view value.now) ≡ Ok (string_bytes text)) }
     ensures fault { IfErr result (Faulty (text_at name.now (view value.now))) }
 {
-    match wanted_str_at(value, name) {
-        Ok(text) => match String::from_str(alloc, text) {
+    match members::str_at(value, name) {
+        Some(text) => match String::from_str(alloc, text) {
             Ok(text) => Ok(text),
             Err(_) => Err(BodyFault::Memory),
         },
-        Err(fault) => Err(fault),
+        None => Err(BodyFault::Refused(BodyRefusal::BadBody)),
     }
 }
 
 /// What has to be there.
-pub fn wanted<T: Drop>(found: Option<T>) -> Result<T, BodyFault>
-    ensures read { IfOk result (λ value. wanted found ≡ Ok value) }
-    ensures fault { IfErr result (Faulty (wanted found)) }
+pub fn wanted<T: Drop>(found: Option<T>) -> Result<T, BodyRefusal>
+    ensures { result ≡ wanted found }
 {
     match found {
         Some(value) => Ok(value),
-        None => Err(BodyFault::Refused(BodyRefusal::BadBody)),
+        None => Err(BodyRefusal::BadBody),
     }
 }
 

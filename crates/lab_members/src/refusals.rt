@@ -20,26 +20,29 @@ pub enum BodyRefusal {
 }
 
 impl BodyRefusal {
+    fn entry(&self) -> (Option<u32>, &'static str)
+        ensures number { result.0 ≡ Some (body_entry self.now).number }
+        ensures word { result.1.now ≡ (body_entry self.now).word }
+    {
+        match self {
+            BodyRefusal::BadBody => (Some(88), "bad_body"),
+            BodyRefusal::BadName => (Some(1), "bad_name"),
+            BodyRefusal::Form(refusal) => (refusal.number(), refusal.word()),
+        }
+    }
+
     /// The number by which it is known.
     pub fn number(&self) -> Option<u32>
         ensures { result ≡ Some (body_entry self.now).number }
     {
-        match self {
-            BodyRefusal::BadBody => Some(88),
-            BodyRefusal::BadName => Some(1),
-            BodyRefusal::Form(refusal) => refusal.number(),
-        }
+        self.entry().0
     }
 
     /// The word by which it is known.
     pub fn word(&self) -> &'static str
         ensures { result.now ≡ (body_entry self.now).word }
     {
-        match self {
-            BodyRefusal::BadBody => "bad_body",
-            BodyRefusal::BadName => "bad_name",
-            BodyRefusal::Form(refusal) => refusal.word(),
-        }
+        self.entry().1
     }
 }
 
@@ -53,24 +56,28 @@ pub enum BodyFault {
 }
 
 impl BodyFault {
+    fn entry(&self) -> (Option<u32>, &'static str)
+        ensures number { result.0 ≡ Some (body_fault_entry self.now).number }
+        ensures word { result.1.now ≡ (body_fault_entry self.now).word }
+    {
+        match self {
+            BodyFault::Refused(refusal) => (refusal.number(), refusal.word()),
+            BodyFault::Memory => (OutOfMemory.number(), OutOfMemory.word()),
+        }
+    }
+
     /// The number by which it is known.
     pub fn number(&self) -> Option<u32>
         ensures { result ≡ Some (body_fault_entry self.now).number }
     {
-        match self {
-            BodyFault::Refused(refusal) => refusal.number(),
-            BodyFault::Memory => OutOfMemory.number(),
-        }
+        self.entry().0
     }
 
     /// The word by which it is known.
     pub fn word(&self) -> &'static str
         ensures { result.now ≡ (body_fault_entry self.now).word }
     {
-        match self {
-            BodyFault::Refused(refusal) => refusal.word(),
-            BodyFault::Memory => OutOfMemory.word(),
-        }
+        self.entry().1
     }
 }
 
@@ -82,6 +89,16 @@ impl fmt::Display for BodyFault {
 
     fn fmt<W: fmt::Write>(&self, f: &mut fmt::Formatter<W>) -> fmt::Result {
         f.write_str(self.word())
+    }
+}
+
+impl From<BodyRefusal> for BodyFault {
+    ghost use Rattle.lab_members.specs.declared.refusals.BodyFault.TheVariants.{Refused};
+
+    ghost from_gives = { λ refusal e. e ≡ Refused refusal };
+
+    fn from(refusal: BodyRefusal) -> BodyFault {
+        BodyFault::Refused(refusal)
     }
 }
 

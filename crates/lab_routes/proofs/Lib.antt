@@ -1,5 +1,6 @@
 pub mod CommandLemmas
 pub mod KnownValues
+pub mod MemoryLaws
 pub mod NumberLemmas
 pub mod Parts
 pub mod PathLemmas

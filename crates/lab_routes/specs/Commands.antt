@@ -1,7 +1,7 @@
 -- What an accepted request asks of which laboratory: its route first, then the query or the body
 -- that the route's command has. A query elsewhere is passed over, and so is the body of what is
 -- read.
-use Rattle.std.specs.Prelude.{◌≡◌, ℕ, List, IsTrue, IsSome, IsOk, ⊤, Option, Some, None, Result, Ok, Err}
+use Rattle.std.specs.Prelude.{◌≡◌, ◌<◌, ◌⊎◌, ℕ, List, length, IsTrue, IsSome, IsOk, ⊤, Option, Some, None, Result, Ok, Err}
 use Rattle.std.specs.Str.Parse.{digits_value}
 use Rattle.lab_machine.specs.declared.commands.Command.{Command}
 use Rattle.lab_machine.specs.declared.commands.Command.TheVariants as command
@@ -65,10 +65,16 @@ Admitted Version place =
     IsSome (ordinal_in (segment_at 1 place)) × IsSome (ordinal_in (segment_at 3 place))
 Admitted _ place = ⊤
 
--- the faults of finding something: the refusal that comes of it, or out of memory
-abbrev pub FaultFits : {A : Type 0} → Result A RouteRefusal → RouteFault → Type 0
-FaultFits found (Refused refusal) = found ≡ Err refusal
-FaultFits found Memory = ⊤
+-- a body with a byte is posted at the route: JSON is read into memory before it is known to be bad
+abbrev pub PostsBytes : Route → List ℕ → Type 0
+PostsBytes (Posted post) body = 0 < length body
+PostsBytes _ body = ⊥
+
+-- the faults of finding something: the refusal that comes of it; out of memory only where something
+-- is found, which is copied, or where bytes are read into memory
+abbrev pub FaultFits : {A : Type 0} → Type 0 → Result A RouteRefusal → RouteFault → Type 0
+FaultFits reads found (Refused refusal) = found ≡ Err refusal
+FaultFits reads found Memory = IsOk found ⊎ reads
 
 -- ---- what is asked
 
@@ -96,8 +102,20 @@ destination_in request = destination_of request.method request.target
 unfoldable pub command_asked : RequestParts → Result Asked RouteRefusal
 command_asked request = asked_at request (destination_in request)
 
--- The faults of reading it: the refusal that comes of it; out of memory only where the request goes
--- somewhere, so that it never hides that there is no such place, or no such method at it.
+-- a body with a byte is posted where the request goes
+abbrev pub PostsBytesTo : Result Destination RouteRefusal → List ℕ → Type 0
+PostsBytesTo (Err refusal) body = ⊥
+PostsBytesTo (Ok to) body = PostsBytes to.route body
+
+-- something is made of a request: it is known what it asks, whose laboratory and text are copied;
+-- or a body with a byte is posted, which is read into memory
+abbrev pub MakesSomething : RequestParts → Type 0
+MakesSomething request =
+    IsOk (command_asked request) ⊎ PostsBytesTo (destination_in request) request.body
+
+-- The faults of reading it: the refusal that comes of it; out of memory only where something is
+-- made, so that it never hides that there is no such place, no such method at it, that the query is
+-- bad, or that an empty body is.
 abbrev pub RouteFaultFits : RequestParts → RouteFault → Type 0
 RouteFaultFits request (Refused refusal) = command_asked request ≡ Err refusal
-RouteFaultFits request Memory = IsOk (destination_in request)
+RouteFaultFits request Memory = MakesSomething request

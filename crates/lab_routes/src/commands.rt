@@ -1,5 +1,5 @@
 //! What a request asks where it goes: the command of its route, with the query or the body that the command has.
-ghost use Rattle.std.specs.Prelude.{◌≡◌, Ok, Err, IfOk, IfErr, IsTrue, IsSome};
+ghost use Rattle.std.specs.Prelude.{◌≡◌, ◌<◌, Ok, Err, IfOk, IfErr, IsTrue, IsSome, length, option_map};
 ghost use Rattle.lab_names.specs.Names.{is_key, is_lab_code};
 ghost use Rattle.lab_heads.specs.Requests.{parts_shown};
 ghost use Rattle.lab_bodies.specs.Bodies.{post_named, body_named};
@@ -8,7 +8,7 @@ ghost use Rattle.lab_routes.specs.declared.refusals.RouteFault.TheVariants.{Memo
 ghost use Rattle.lab_routes.specs.Numbers.{ordinal_in};
 ghost use Rattle.lab_routes.specs.Paths.{segment_at};
 ghost use Rattle.lab_routes.specs.Queries.{range_in};
-ghost use Rattle.lab_routes.specs.Commands.{number_at, ranged, by_body, command_at, Admitted, FaultFits, asked_of, command_asked, RouteFaultFits};
+ghost use Rattle.lab_routes.specs.Commands.{number_at, by_body, command_at, Admitted, PostsBytes, FaultFits, asked_of, command_asked, RouteFaultFits};
 
 use crate::numbers::ordinal_in;
 use crate::paths::segment_at;
@@ -84,52 +84,47 @@ fn version(place: &str) -> Command
 }
 
 // Records from a number to a number.
-fn records(query: &str) -> Result<Command, RouteFault>
-    ensures read { IfOk result (λ command. ranged ReadRecords (range_in query.now) ≡ Ok command) }
-    ensures fault { IfErr result (FaultFits (ranged ReadRecords (range_in query.now))) }
+fn records(query: &str) -> Option<Command>
+    ensures { result ≡ option_map (λ range. ReadRecords range.from range.to)
+        (range_in query.now) }
 {
-    match range_in(query) {
-        Some(range) => Ok(Command::ReadRecords {
-            from: range.from,
-            to: range.to,
-        }),
-        None => Err(BAD_QUERY),
-    }
+    let range = range_in(query)?;
+    Some(Command::ReadRecords {
+        from: range.from,
+        to: range.to,
+    })
 }
 
 // Rows of the trail from a number to a number.
-fn trail(query: &str) -> Result<Command, RouteFault>
-    ensures read { IfOk result (λ command. ranged ReadTrail (range_in query.now) ≡ Ok command) }
-    ensures fault { IfErr result (FaultFits (ranged ReadTrail (range_in query.now))) }
+fn trail(query: &str) -> Option<Command>
+    ensures { result ≡ option_map (λ range. ReadTrail range.from range.to)
+        (range_in query.now) }
 {
-    match range_in(query) {
-        Some(range) => Ok(Command::ReadTrail {
-            from: range.from,
-            to: range.to,
-        }),
-        None => Err(BAD_QUERY),
-    }
+    let range = range_in(query)?;
+    Some(Command::ReadTrail {
+        from: range.from,
+        to: range.to,
+    })
 }
 
 // A copy of records from a number to a number.
-fn copy(query: &str) -> Result<Command, RouteFault>
-    ensures read { IfOk result (λ command. ranged TakeCopy (range_in query.now) ≡ Ok command) }
-    ensures fault { IfErr result (FaultFits (ranged TakeCopy (range_in query.now))) }
+fn copy(query: &str) -> Option<Command>
+    ensures { result ≡ option_map (λ range. TakeCopy range.from range.to)
+        (range_in query.now) }
 {
-    match range_in(query) {
-        Some(range) => Ok(Command::TakeCopy {
-            from: range.from,
-            to: range.to,
-        }),
-        None => Err(BAD_QUERY),
-    }
+    let range = range_in(query)?;
+    Some(Command::TakeCopy {
+        from: range.from,
+        to: range.to,
+    })
 }
 
 // What a body names.
 fn posted(alloc: Global, post: Post, body: &[u8]) -> Result<Command, RouteFault>
     ensures read { IfOk result (λ command.
         by_body (body_named (post_named post) body.now) ≡ Ok command) }
-    ensures fault { IfErr result (FaultFits (by_body (body_named (post_named post) body.now))) }
+    ensures fault { IfErr result (FaultFits (0 < length body.now)
+        (by_body (body_named (post_named post) body.now))) }
 {
     match command_in(alloc, post, body) {
         Ok(command) => Ok(command),
@@ -139,13 +134,13 @@ fn posted(alloc: Global, post: Post, body: &[u8]) -> Result<Command, RouteFault>
 }
 
 // The command of a route at a place, with its query and its body.
-#[tactic(auto, unfolding(crate::specs::Commands::command_at))]
+#[tactic(auto, using(crate::proofs::CommandLemmas::finding), unfolding(crate::specs::Commands::command_at))]
 fn command_at(alloc: Global, to: &Destination<'_>, body: &[u8]) -> Result<Command, RouteFault>
     requires { Admitted to.now.route to.now.place.now }
     ensures read { IfOk result (λ command.
         command_at to.now.route to.now.place.now to.now.query.now body.now ≡ Ok command) }
-    ensures fault { IfErr result
-        (FaultFits (command_at to.now.route to.now.place.now to.now.query.now body.now)) }
+    ensures fault { IfErr result (FaultFits (PostsBytes to.now.route body.now)
+        (command_at to.now.route to.now.place.now to.now.query.now body.now)) }
 {
     match to.route {
         Route::Card => Ok(Command::Card),
@@ -153,41 +148,40 @@ fn command_at(alloc: Global, to: &Destination<'_>, body: &[u8]) -> Result<Comman
         Route::Form => form(alloc, to.place),
         Route::Record => Ok(record(to.place)),
         Route::Version => Ok(version(to.place)),
-        Route::Records => records(to.query),
-        Route::Trail => trail(to.query),
-        Route::Copy => copy(to.query),
+        Route::Records => records(to.query).ok_or(BAD_QUERY),
+        Route::Trail => trail(to.query).ok_or(BAD_QUERY),
+        Route::Copy => copy(to.query).ok_or(BAD_QUERY),
         Route::Posted(post) => posted(alloc, post, body),
     }
 }
 
-// What a request asks of the laboratory where it goes.
-#[tactic(auto, using(crate::proofs::CommandLemmas::asking))]
+// What is asked of the laboratory of the code, by a command that is known.
 fn asked_of(
     alloc: Global,
-    lab: LabCode,
+    lab: &str,
     token: Option<Token>,
-    to: &Destination<'_>,
-    body: &[u8],
+    command: Command,
 ) -> Result<Asked, RouteFault>
-    requires { Admitted to.now.route to.now.place.now }
-    ensures asks { IfOk result (λ asks. asked_of lab token
-        (command_at to.now.route to.now.place.now to.now.query.now body.now) ≡ Ok asks) }
-    ensures fault { IfErr result (FaultFits (asked_of lab token
-        (command_at to.now.route to.now.place.now to.now.query.now body.now))) }
+    requires { IsTrue (is_lab_code lab.now) }
+    ensures asks { IfOk result (λ asks. asked_of lab.now token (Ok command) ≡ Ok asks) }
+    ensures fault { IfErr result (λ fault. fault ≡ Memory) }
 {
-    match command_at(alloc, to, body) {
-        Ok(command) => Ok(Asked {
+    match LabCode::parse(alloc, lab) {
+        Ok(lab) => Ok(Asked {
             lab,
             instruction: Instruction { token, command },
         }),
-        Err(fault) => {
-            drop(lab);
-            Err(fault)
+        Err(NameFault::Memory(_)) => {
+            drop(command);
+            Err(RouteFault::Memory)
         }
+        Err(NameFault::BadName) => unreachable!(),
     }
 }
 
-// What a request asks where it goes.
+// What a request asks where it goes. Its command is found before its laboratory's code is copied,
+// so a bad query or an empty body is never told as out of memory.
+#[tactic(auto, using(crate::proofs::CommandLemmas::asking))]
 fn asked_at(
     alloc: Global,
     token: Option<Token>,
@@ -198,13 +192,13 @@ fn asked_at(
     requires segments { Admitted to.now.route to.now.place.now }
     ensures asks { IfOk result (λ asks. asked_of to.now.lab.now token
         (command_at to.now.route to.now.place.now to.now.query.now body.now) ≡ Ok asks) }
-    ensures fault { IfErr result (FaultFits (asked_of to.now.lab.now token
+    ensures fault { IfErr result (FaultFits (PostsBytes to.now.route body.now)
+        (asked_of to.now.lab.now token
         (command_at to.now.route to.now.place.now to.now.query.now body.now))) }
 {
-    match LabCode::parse(alloc, to.lab) {
-        Ok(lab) => asked_of(alloc, lab, token, to, body),
-        Err(NameFault::Memory(_)) => Err(RouteFault::Memory),
-        Err(NameFault::BadName) => unreachable!(),
+    match command_at(alloc, to, body) {
+        Ok(command) => asked_of(alloc, to.lab, token, command),
+        Err(fault) => Err(fault),
     }
 }
 
@@ -214,8 +208,7 @@ fn asked_at(
 /// - `NoRoute` where the path is of no laboratory whose code reads, or no place in one;
 /// - else `Method` where the place has other methods;
 /// - else `Body` where the query or the body that the command has is refused;
-/// - that memory ran out, at any request that goes somewhere.
-
+/// - that memory ran out, where it is known what the request asks, or a body with a byte is posted.
 pub fn command_of(alloc: Global, parts: &RequestParts<'_>) -> Result<Asked, RouteFault>
     ensures asks { IfOk result (λ asks. command_asked (parts_shown parts.now) ≡ Ok asks) }
     ensures fault { IfErr result (RouteFaultFits (parts_shown parts.now)) }

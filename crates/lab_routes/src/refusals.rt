@@ -45,26 +45,29 @@ pub enum RouteRefusal {
 }
 
 impl RouteRefusal {
+    fn entry(&self) -> (Option<u32>, &'static str)
+        ensures number { result.0 ≡ Some (route_entry self.now).number }
+        ensures word { result.1.now ≡ (route_entry self.now).word }
+    {
+        match self {
+            RouteRefusal::NoRoute => (Some(86), "no_route"),
+            RouteRefusal::Method(_) => (Some(87), "method"),
+            RouteRefusal::Body(refusal) => (refusal.number(), refusal.word()),
+        }
+    }
+
     /// The number by which it is known.
     pub fn number(&self) -> Option<u32>
         ensures { result ≡ Some (route_entry self.now).number }
     {
-        match self {
-            RouteRefusal::NoRoute => Some(86),
-            RouteRefusal::Method(_) => Some(87),
-            RouteRefusal::Body(refusal) => refusal.number(),
-        }
+        self.entry().0
     }
 
     /// The word by which it is known.
     pub fn word(&self) -> &'static str
         ensures { result.now ≡ (route_entry self.now).word }
     {
-        match self {
-            RouteRefusal::NoRoute => "no_route",
-            RouteRefusal::Method(_) => "method",
-            RouteRefusal::Body(refusal) => refusal.word(),
-        }
+        self.entry().1
     }
 }
 
@@ -78,24 +81,28 @@ pub enum RouteFault {
 }
 
 impl RouteFault {
+    fn entry(&self) -> (Option<u32>, &'static str)
+        ensures number { result.0 ≡ Some (route_fault_entry self.now).number }
+        ensures word { result.1.now ≡ (route_fault_entry self.now).word }
+    {
+        match self {
+            RouteFault::Refused(refusal) => (refusal.number(), refusal.word()),
+            RouteFault::Memory => (OutOfMemory.number(), OutOfMemory.word()),
+        }
+    }
+
     /// The number by which it is known.
     pub fn number(&self) -> Option<u32>
         ensures { result ≡ Some (route_fault_entry self.now).number }
     {
-        match self {
-            RouteFault::Refused(refusal) => refusal.number(),
-            RouteFault::Memory => OutOfMemory.number(),
-        }
+        self.entry().0
     }
 
     /// The word by which it is known.
     pub fn word(&self) -> &'static str
         ensures { result.now ≡ (route_fault_entry self.now).word }
     {
-        match self {
-            RouteFault::Refused(refusal) => refusal.word(),
-            RouteFault::Memory => OutOfMemory.word(),
-        }
+        self.entry().1
     }
 }
 

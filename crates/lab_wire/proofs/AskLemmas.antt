@@ -1,27 +1,20 @@
 -- What bytes ask, by what their request asks.
-use Rattle.std.proofs.Common.{◌≡◌, ℕ, List, Result, Ok, Err, ap, ◌∙◌}
-use Rattle.std.specs.Prelude.{IsOk}
+use Rattle.std.proofs.Common.{◌≡◌, ℕ, List, Ok, Err, ap, ◌∙◌}
 use Rattle.lab_heads.specs.declared.refusals.HeadRefusal.{HeadRefusal}
 use Rattle.lab_heads.specs.Requests.{RequestParts, request_in}
 use Rattle.lab_routes.specs.declared.commands.Asked.{Asked}
 use Rattle.lab_routes.specs.declared.refusals.RouteFault.{RouteFault}
-use Rattle.lab_routes.specs.declared.refusals.RouteRefusal.{RouteRefusal}
-use Rattle.lab_routes.specs.Routes.{Destination}
 use Rattle.lab_routes.specs.declared.refusals.RouteFault.TheVariants as routes
-use Rattle.lab_routes.specs.Commands.{destination_in, command_asked, RouteFaultFits}
+use Rattle.lab_routes.specs.Commands.{command_asked, RouteFaultFits}
 use Rattle.lab_wire.specs.declared.refusals.RequestRefusal.TheVariants.{Head, Route}
 use Rattle.lab_wire.specs.declared.refusals.RequestFault.{RequestFault}
 use Rattle.lab_wire.specs.declared.refusals.RequestFault.TheVariants.{Refused, Memory}
-use Rattle.lab_wire.specs.Asked.{of_route, of_request, asked, destination_asked, RequestFaultFits}
+use Rattle.lab_wire.specs.Asked.{of_route, of_request, asked, RequestFaultFits}
 
 pub asks_of_request : (bytes : List ℕ) (parts : RequestParts) (asks : Asked) → request_in bytes ≡ Ok parts
     → command_asked parts ≡ Ok asks → asked bytes ≡ Ok asks
 unfolding asked
 asks_of_request bytes parts asks is says = ap (of_request command_asked) is ∙ ap of_route says
-
-goes_somewhere : (found : Result Destination RouteRefusal) → IsOk found → IsOk (of_route found)
-goes_somewhere (Ok to) is = is
-goes_somewhere (Err refusal) is = is
 
 -- the fault of a request's route, as the wire's
 abbrev pub fault_shown : RouteFault → RequestFault
@@ -30,9 +23,9 @@ fault_shown routes.Memory = Memory
 
 pub fault_of_route : (bytes : List ℕ) (parts : RequestParts) (fault : RouteFault) → request_in bytes ≡ Ok parts
     → RouteFaultFits parts fault → RequestFaultFits bytes (fault_shown fault)
-unfolding asked destination_asked
+unfolding asked
 fault_of_route bytes parts (routes.Refused refusal) is says = ap (of_request command_asked) is ∙ ap of_route says
-fault_of_route bytes parts routes.Memory is says = rw is (goes_somewhere (destination_in parts) says)
+fault_of_route bytes parts routes.Memory is says = rw is says
 
 pub fault_of_head : (bytes : List ℕ) (refusal : HeadRefusal) → request_in bytes ≡ Err refusal → asked bytes ≡ Err (Head refusal)
 unfolding asked

@@ -15,13 +15,12 @@
 --   bad_body          range_in                       lab_routes: Queries
 --   bad_body, bad_name, and what is wrong with a form or with keys
 --                     body_named                     lab_bodies: Bodies
-use Rattle.std.specs.Prelude.{◌≡◌, ℕ, List, IsOk, Result, Ok, Err}
+use Rattle.std.specs.Prelude.{◌≡◌, ℕ, List, Result, Ok, Err}
 use Rattle.lab_heads.specs.declared.refusals.HeadRefusal.{HeadRefusal}
 use Rattle.lab_heads.specs.Requests.{RequestParts, request_in}
 use Rattle.lab_routes.specs.declared.refusals.RouteRefusal.{RouteRefusal}
 use Rattle.lab_routes.specs.declared.commands.Asked.{Asked}
-use Rattle.lab_routes.specs.Routes.{Destination}
-use Rattle.lab_routes.specs.Commands.{destination_in, command_asked}
+use Rattle.lab_routes.specs.Commands.{command_asked, MakesSomething}
 use Rattle.lab_wire.specs.declared.refusals.RequestRefusal.{RequestRefusal}
 use Rattle.lab_wire.specs.declared.refusals.RequestRefusal.TheVariants.{Head, Route}
 use Rattle.lab_wire.specs.declared.refusals.RequestFault.{RequestFault}
@@ -42,13 +41,15 @@ of_request says (Err refusal) = Err (Head refusal)
 unfoldable pub asked : List ℕ → Result Asked RequestRefusal
 asked bytes = of_request command_asked (request_in bytes)
 
--- where they go
-unfoldable pub destination_asked : List ℕ → Result Destination RequestRefusal
-destination_asked bytes = of_request destination_in (request_in bytes)
+-- something is made of a request, where there is one
+abbrev pub MakesOf : Result RequestParts HeadRefusal → Type 0
+MakesOf (Ok request) = MakesSomething request
+MakesOf (Err refusal) = ⊥
 
 -- The faults of reading what is asked: the refusal that comes of it; out of memory only where the
--- bytes are a whole request that goes somewhere, so that it never hides what is wrong with a head,
--- a length, a path or a method.
+-- bytes are a whole request of which something is made: it is known what it asks, or it posts a
+-- body with a byte. So it never hides what is wrong with a head, a length, a path, a method or a
+-- query, nor that a posted body is empty.
 abbrev pub RequestFaultFits : List ℕ → RequestFault → Type 0
 RequestFaultFits bytes (Refused refusal) = asked bytes ≡ Err refusal
-RequestFaultFits bytes Memory = IsOk (destination_asked bytes)
+RequestFaultFits bytes Memory = MakesOf (request_in bytes)

@@ -15,7 +15,7 @@ use std::alloc::Global;
 /// - `Route(NoRoute)` where its path is of no laboratory whose code reads, or no place in one;
 /// - `Route(Method)` where the place has other methods;
 /// - `Route(Body)` where the query or the body that the command has is refused;
-/// - that memory ran out, at any request that goes somewhere.
+/// - that memory ran out, where it is known what the request asks, or it posts a body with a byte.
 pub fn ask(alloc: Global, bytes: &[u8]) -> Result<Asked, RequestFault>
     ensures asks { IfOk result (λ asks. asked bytes.now ≡ Ok asks) }
     ensures fault { IfErr result (RequestFaultFits bytes.now) }
