@@ -2,5 +2,5 @@ pub mod Staying
 pub mod Keeping
 pub mod Retaining
 pub mod Releasing
-pub mod Events
+pub mod Lasting
 pub mod Running

@@ -1,6 +1,6 @@
 -- What was decided on the part that was loaded is the step of the laboratory, and its changes fit.
 -- The rows rest over the load, and then they move by the changes that were built.
-use Rattle.std.proofs.Common.{sym, ◌∙◌, subst}
+use Rattle.std.proofs.Common.{sym, ◌∙◌, [], inl, subst}
 use Rattle.std.specs.Prelude.{◌≡◌, List, Ok, IfOk}
 use Rattle.std.proofs.lemmas.Bool.{false≢true}
 use Rattle.lab_kept.specs.declared.changes.Change.{Change}
@@ -13,7 +13,7 @@ use Rattle.lab_outcomes.specs.Deciding.{decided}
 use Rattle.lab_wire.specs.declared.replies.Answer.TheVariants.{Replied}
 use Rattle.lab_wire.specs.Replies.{reply_text}
 use Rattle.lab_runs.specs.Requests.{Builds, Steps}
-use Rattle.lab_requests.proofs.Deciding.{builds, none_there, idle_none, fits_there, made_steps, on_ok, either}
+use Rattle.lab_requests.proofs.Deciding.{builds, none_there, idle_none, none_changed, none_stepped, ends_on, fits_there, made_steps, on_ok, on_ok_all, either}
 use Rattle.lab_requests.proofs.requests.answer_asked.Given.{Over}
 use Rattle.lab_requests.proofs.requests.answer_asked.Goals.{After-answer_on}
 use Rattle.lab_requests.proofs.requests.answer_asked.Goals as goal
@@ -114,10 +114,35 @@ returns-in-Ok-Some-clause-does g c = λ within honest reached.
       reached = made.reached;
     }
 
+pub returns-in-Ok-Some-clause-ends : goal.returns-in-Ok-Some-clause-ends
+returns-in-Ok-Some-clause-ends g c = ends_on (g.S.Keeper.world c.args.keeper.now)
+    (g.S.Keeper.world c.load_needed.new.keeper) (g.S.Keeper.world c.answer_on.new.keeper)
+    (g.S.Keeper.rests c.args.keeper.now c.load_needed.new.keeper)
+    (g.S.Keeper.rests c.load_needed.new.keeper c.answer_on.new.keeper)
+    (g.S.Keeper.rests c.args.keeper.now c.answer_on.new.keeper) _ c.answer_on.result
+    c.in-Ok-Some.ensures.loads c.answer_on.ensures.applies.ends (g.met.S.Keeper.rests_on _ _ _)
+
 -- ---- where there is no laboratory of the code
 
-pub returns-in-Ok-None-clause-durable : goal.returns-in-Ok-None-clause-durable
-returns-in-Ok-None-clause-durable g c = λ within busy honest reached.
+pub returns-in-Ok-None-clause-does : goal.returns-in-Ok-None-clause-does
+returns-in-Ok-None-clause-does g c = λ within honest reached.
+    let loads = c.in-Ok-None.ensures.loads in
+    let live = (loads.lives honest reached).1 in
     let none = none_there _ c.args.tick.now c.args.asked.instruction
     (sym c.in-Ok-None.field-0-is ∙ c.in-Ok-None.ensures.part honest reached) in
-    absurd (false≢true (sym busy ∙ idle_none _ c.args.tick.now c.args.asked.instruction none))
+    let changed = none_changed _ c.args.tick.now c.args.asked.instruction none in
+    record {
+      after = on_ok_all c.no_such_lab.result (none_stepped c.args.asked.lab c.args.tick.now
+          c.args.asked.instruction _ _ none (loads.same honest reached live));
+      rows = on_ok_all c.no_such_lab.result (record {
+        changes = [];
+        fit = changed.0;
+        after = changed.1;
+        moved = g.met.S.Keeper.rests_unchanged _ _ _ (loads.rows honest reached live);
+      });
+      crash = λ live held left. inl (loads.crash honest reached live held left);
+      safe = loads.safe honest reached;
+      durable = λ busy. absurd (false≢true (sym busy
+          ∙ idle_none _ c.args.tick.now c.args.asked.instruction none));
+      reached = loads.reached honest reached;
+    }

@@ -1,4 +1,4 @@
-use Rattle.lab_runs.proofs.Events.{still_stays}
+use Rattle.lab_runs.proofs.Lasting.{still_stays}
 use Rattle.lab_serving.proofs.serving.serve_connection.Goals as goal
 
 pub returns-in_default-clause-stays : goal.returns-in_default-clause-stays

@@ -5,7 +5,7 @@ use Rattle.std.proofs.lemmas.Result.{err_from_is_err_and}
 use Rattle.lab_serving.specs.Texts.{listening_line}
 use Rattle.lab_serving.specs.Visits.{Visit}
 use Rattle.lab_serving.proofs.TextLemmas.{printed_all}
-use Rattle.lab_runs.proofs.Events.{stays_first, stays_after}
+use Rattle.lab_runs.proofs.Lasting.{stays_first, stays_after}
 use Rattle.lab_serving.proofs.VisitLemmas.{so_far_more, so_far_none, unserved}
 use Rattle.lab_serving.proofs.serving.serve_over.Goals as goal
 

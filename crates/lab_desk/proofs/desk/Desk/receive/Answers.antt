@@ -6,7 +6,7 @@ use Rattle.lab_receptions.specs.Receptions.{IsReception}
 use Rattle.lab_wire.specs.Asked.{asked}
 use Rattle.lab_wire.specs.declared.refusals.RequestRefusal.TheVariants.{Head}
 use Rattle.lab_desk.specs.Serving.{AreAsked, Serves}
-use Rattle.lab_runs.proofs.Events.{still_stays}
+use Rattle.lab_runs.proofs.Lasting.{still_stays}
 use Rattle.lab_desk.proofs.Receiving.{handled_by, exhausted, refused_by, asked_as, refused_as, some_asked, told_known, told_refused}
 use Rattle.lab_desk.proofs.desk.Desk.receive.Goals as goal
 
