@@ -78,8 +78,8 @@ OnUnhandled (Err Read) P = P
 OnUnhandled (Err (Interim sent)) P = P
 OnUnhandled (Err (Reply sent)) P = Unit {0}
 
--- what serving left, however it ended: what the reader had was handled, where it came; bytes that ask
--- nothing were told so, whatever the keeper; and what stays true of all that is kept
+-- what serving left, however it ended: what the reader had was handled, where it came; bytes that
+-- ask nothing were told so, whatever the keeper; and what stays true of all that is kept
 pub record Serves (known : Option (List ℕ)) (old new : World) (tick : Tick) (rests : Type 0)
     (moves : List ℕ → List Change → Type 0) (reply : List ℕ)
     (result : Result (Unit {0}) ServeFault) : Type 0 where

@@ -1,5 +1,5 @@
-//! The body of a founding, requests, and all that a run of them, or serving them, writes over a keeper that refuses, by docs/HTTP.md
-//! and docs/FORMATS.md.
+//! The body of a founding, requests, and all that a run of them, or serving them, writes over a
+//! keeper that refuses, by docs/HTTP.md and docs/FORMATS.md.
 
 pub(crate) const BODY: &[u8] =
     b"{\"founders\":[{\"code\":\"ann\",\"name\":\"N\",\"password\":\"twelve bytes\"},\
@@ -39,8 +39,8 @@ pub(crate) const ANSWERS: &[u8] = b"founded aqua\nrefused 90 memory\nrefused 64 
 /// A head that isn't in the grammar: it asks nothing, so the keeper isn't called.
 pub(crate) const NO_HEAD: &[u8] = b"x\r\n\r\n";
 
-/// The card of no laboratory is told so, as is that no memory was there; then the head is refused; and the card is told so again, and
-/// that the store refused.
+/// That there is no laboratory, that no memory was there, that the head is none, that there is no
+/// laboratory again, and that the store refused.
 pub(crate) const SERVED: &[u8] =
     b"HTTP/1.1 404 Not Found\r\nDate: Thu, 01 Jan 1970 00:01:40 GMT\r\n\
     Content-Type: application/json\r\nContent-Length: 35\r\nConnection: close\r\n\r\n\

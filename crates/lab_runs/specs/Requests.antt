@@ -72,9 +72,9 @@ pub record MovesBy (meaning : Meaning) (tick : Tick) (asked : Asked)
       (step (meaning asked.lab) tick asked.instruction).after
   pub moved : moves asked.lab changes
 
--- what was asked was done, or failed: the laboratory that is named took its step, in rows that moved
--- by it; a crash leaves what was there or what the step makes, and once it is written, where there
--- was anything to write, that alone
+-- what was asked was done, or failed: the laboratory that is named took its step, in rows that
+-- moved by it; a crash leaves what was there or what the step makes, and once it is written, where
+-- there was anything to write, that alone
 pub record DoesStep {A : Type 0} (old new : World) (tick : Tick) (asked : Asked)
     (moves : List ℕ → List Change → Type 0) (result : Result A KeeperFault) : Type 0 where
   pub after : OnOk result (Steps tick (Ok asked) old.meaning new.meaning)
