@@ -1,6 +1,6 @@
 -- What is decided on the part of a laboratory is its step, and what is made of what was loaded is
 -- made of what was there.
-use Rattle.std.proofs.Common.{◌≡◌, ◌≢◌, ℕ, true, List, [], ◌∷◌, Option, Some, None, Result, Ok, Err, refl, sym, ◌∙◌, ap, subst, inl, inr}
+use Rattle.std.proofs.Common.{rules, ◌≡◌, ◌≢◌, ℕ, true, List, [], ◌∷◌, Option, Some, None, Result, Ok, Err, refl, sym, ◌∙◌, ap, subst, inl, inr}
 use Rattle.std.specs.Prelude.{◌⊎◌, IsTrue, IsFalse, IfErr, OnOk, OnErr}
 use Rattle.lab_names.specs.declared.tick.Tick.{Tick}
 use Rattle.lab_kept.specs.declared.labs.Lab.{Lab}
@@ -102,17 +102,6 @@ pub on_ok_all : {A F P : Type 0} (result : Result A F) → P → OnOk result P
 on_ok_all (Ok value) holds = holds
 on_ok_all (Err fault) holds = tt
 
-on_err : {A F P Q : Type 0} (result : Result A F) → (P → Q) → OnErr result P → OnErr result Q
-on_err (Ok value) then holds = tt
-on_err (Err fault) then holds = then holds
-
--- a store that may refuse may have done so before
-fault_on : {A : Type 0} {may might : Type 0} (result : Result A KeeperFault) → (may → might) →
-    IfErr result (KeeperFaultFits may) → IfErr result (KeeperFaultFits might)
-fault_on (Ok value) wider fits = tt
-fault_on (Err Storage) wider fits = wider fits
-fault_on (Err Memory) wider fits = tt
-
 -- where there is no laboratory of the code its step is none
 pub none_stepped : (code : List ℕ) (tick : Tick) (instruction : Instruction) (old new : Meaning) →
     old code ≡ None → SameMeaning old new →
@@ -133,24 +122,24 @@ none_changed (Some lab) tick instruction none = absurd (cc)
 pub ends_on : {A B : Type 0} (old mid new : World) (rests rested both : Type 0) (value : B)
     (result : Result A KeeperFault) → Loads old mid rests (Ok value) →
     Ends mid new rested result → (rests → rested → both) → Ends old new both result
-ends_on old mid new rests rested both value result loads ends on = record {
-  err = λ honest reached. on_err result (λ left live code.
-      left live code ∙ loads.same (ends.passes.honest honest) reached
-      (ends.passes.live honest live) code)
-      (ends.err honest (loads.reached (ends.passes.honest honest) reached));
-  rows_err = λ honest reached. on_err result (λ rows live.
-      on (loads.rows (ends.passes.honest honest) reached (ends.passes.live honest live))
-      (rows live)) (ends.rows_err honest (loads.reached (ends.passes.honest honest) reached));
-  lives = λ honest reached. on_ok result
-      (λ live. ((loads.lives (ends.passes.honest honest) reached).0, live.1))
-      (ends.lives honest (loads.reached (ends.passes.honest honest) reached));
-  fault = fault_on result loads.passes.refusing ends.fault;
-  passes = record {
-    honest = λ honest. loads.passes.honest (ends.passes.honest honest);
-    live = λ honest live. loads.passes.live (ends.passes.honest honest)
-        (ends.passes.live honest live);
-    refusing = λ may. loads.passes.refusing (ends.passes.refusing may);
-  };
+ends_on old mid new rests rested both value (Ok one) loads ends on = search rules
+ends_on old mid new rests rested both value (Err Storage) loads ends on = record {
+  err = λ honest reached live code. ends.err honest
+      (loads.reached (ends.passes.honest honest) reached) live code
+      ∙ loads.same (ends.passes.honest honest) reached (ends.passes.live honest live) code;
+  rows_err = search rules;
+  lives = search rules;
+  fault = search rules;
+  passes = search rules;
+}
+ends_on old mid new rests rested both value (Err Memory) loads ends on = record {
+  err = λ honest reached live code. ends.err honest
+      (loads.reached (ends.passes.honest honest) reached) live code
+      ∙ loads.same (ends.passes.honest honest) reached (ends.passes.live honest live) code;
+  rows_err = search rules;
+  lives = search rules;
+  fault = search rules;
+  passes = search rules;
 }
 
 -- what a crash left, or what was made
