@@ -1,14 +1,14 @@
 -- What is decided on the part of a laboratory is its step, and what is made of what was loaded is
 -- made of what was there.
 use Rattle.std.proofs.Common.{rules, ◌≡◌, ◌≢◌, ℕ, true, List, [], ◌∷◌, Option, Some, None, Result, Ok, Err, refl, sym, ◌∙◌, ap, subst, inl, inr}
-use Rattle.std.specs.Prelude.{◌⊎◌, IsTrue, IsFalse, IfErr, OnOk, OnErr}
+use Rattle.std.specs.Prelude.{◌⊎◌, IsTrue, IsFalse, OnOk}
 use Rattle.lab_names.specs.declared.tick.Tick.{Tick}
 use Rattle.lab_kept.specs.declared.labs.Lab.{Lab}
 use Rattle.lab_kept.specs.declared.needs.Slice.{Slice}
 use Rattle.lab_kept.specs.declared.changes.Change.{Change}
 use Rattle.lab_kept.specs.Changes.{ChangesFit, changed_in}
 use Rattle.lab_kept.specs.Parts.{part, part_of}
-use Rattle.lab_kept.specs.Worlds.{World, Meaning, SameMeaning, SetsOne, Changes, KeeperFaultFits}
+use Rattle.lab_kept.specs.Worlds.{World, Meaning, SameMeaning, SetsOne, Changes}
 use Rattle.lab_kept.specs.declared.faults.KeeperFault.{KeeperFault}
 use Rattle.lab_kept.specs.declared.faults.KeeperFault.TheVariants.{Storage, Memory}
 use Rattle.lab_machine.specs.declared.commands.Instruction.{Instruction}
