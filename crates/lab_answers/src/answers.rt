@@ -2,9 +2,8 @@
 //! the part that was loaded, what the machine decides, built whole before the keeper makes the
 //! changes, which is the last thing.
 
-ghost use Rattle.std.specs.Prelude.{◌≡◌, ◌≢◌, [], IfOk, IfErr, OnOk, OnErr};
-ghost use Rattle.lab_kept.specs.Changes.{ChangesFit};
-ghost use Rattle.lab_kept.specs.Worlds.{Changes as MadeOf, Passes, Given, Lives, Leaves, Quiet, CommitsAs, IsDurable, StaysSafe, KeeperFaultFits};
+ghost use Rattle.std.specs.Prelude.{◌≡◌, IfOk, IfErr};
+ghost use Rattle.lab_answers.specs.Calls.{Applies};
 ghost use Rattle.lab_outcomes.specs.Deciding.{decided};
 ghost use Rattle.lab_wire.specs.declared.replies.Answer.TheVariants.{Replied};
 ghost use Rattle.lab_wire.specs.Replies.{reply_text};
@@ -41,51 +40,9 @@ pub fn answer_on<S: Keeper>(
 ) -> Result<Vec<u8>, KeeperFault>
     ensures reply { IfOk result (λ reply. reply.items ≡ reply_text tick.now
         (Replied (decided slice tick.now asked.instruction.command).reply)) }
-
-    // Where the changes fit:
-    ensures changed { ChangesFit ((S.world keeper.old).meaning asked.lab)
-        (decided slice tick.now asked.instruction.command).changes →
-        Given (S.world keeper.old) (S.world keeper.new)
-        (OnOk result (MadeOf asked.lab
-        (decided slice tick.now asked.instruction.command).changes
-        (S.world keeper.old).meaning (S.world keeper.new).meaning)) }
-    ensures rows { ChangesFit ((S.world keeper.old).meaning asked.lab)
-        (decided slice tick.now asked.instruction.command).changes →
-        Given (S.world keeper.old) (S.world keeper.new)
-        (OnOk result (S.moves keeper.old keeper.new asked.lab
-        (decided slice tick.now asked.instruction.command).changes)) }
-    ensures crash { ChangesFit ((S.world keeper.old).meaning asked.lab)
-        (decided slice tick.now asked.instruction.command).changes →
-        Given (S.world keeper.old) (S.world keeper.new)
-        (CommitsAs (MadeOf asked.lab (decided slice tick.now asked.instruction.command).changes)
-        (S.world keeper.old) (S.world keeper.new)) }
-    ensures safe { ChangesFit ((S.world keeper.old).meaning asked.lab)
-        (decided slice tick.now asked.instruction.command).changes →
-        Given (S.world keeper.old) (S.world keeper.new)
-        (StaysSafe (S.world keeper.old) (S.world keeper.new)) }
-    ensures durable { ChangesFit ((S.world keeper.old).meaning asked.lab)
-        (decided slice tick.now asked.instruction.command).changes →
-        (decided slice tick.now asked.instruction.command).changes ≢ [] →
-        Given (S.world keeper.old) (S.world keeper.new)
-        (OnOk result (IsDurable (S.world keeper.new))) }
-    ensures reached { ChangesFit ((S.world keeper.old).meaning asked.lab)
-        (decided slice tick.now asked.instruction.command).changes →
-        Given (S.world keeper.old) (S.world keeper.new) (S.world keeper.new).is_reached }
-
-    // Whatever they are:
-    ensures err { Given (S.world keeper.old) (S.world keeper.new)
-        (OnErr result (Leaves (S.world keeper.old) (S.world keeper.new))) }
-    ensures rows_err { Given (S.world keeper.old) (S.world keeper.new)
-        (OnErr result ((S.world keeper.new).is_live → S.rests keeper.old keeper.new)) }
-    ensures lives { Given (S.world keeper.old) (S.world keeper.new)
-        (OnOk result (Lives (S.world keeper.old) (S.world keeper.new))) }
-    ensures fault { IfErr result (KeeperFaultFits (S.world keeper.old).may_refuse) }
-    ensures quiet { (decided slice tick.now asked.instruction.command).changes ≡ [] →
-        Given (S.world keeper.old) (S.world keeper.new)
-        (Quiet (S.world keeper.old) (S.world keeper.new)) }
-    ensures reached_err { Given (S.world keeper.old) (S.world keeper.new)
-        (OnErr result (S.world keeper.new).is_reached) }
-    ensures passes { Passes (S.world keeper.old) (S.world keeper.new) }
+    ensures applies { Applies asked.lab (decided slice tick.now asked.instruction.command).changes
+        (S.world keeper.old) (S.world keeper.new) (S.rests keeper.old keeper.new)
+        (S.moves keeper.old keeper.new) result }
 {
     let Asked { lab, instruction } = asked;
     let built = build(alloc, slice, tick, instruction)?;

@@ -1,6 +1,6 @@
 -- What was received is handled: a request by the desk, bytes that are none by their refusal, and both
 -- by the reply for lack of memory; and what went out, put together.
-use Rattle.std.proofs.Common.{◌≡◌, ◌++◌, inl, inr, ℕ, Bool, true, false, List, Option, Some, None, Ok, Err, refl, sym, ap}
+use Rattle.std.proofs.Common.{◌≡◌, ◌++◌, inl, inr, ℕ, Bool, true, false, List, Option, Some, None, Ok, Err, refl, sym, ◌∙◌, ap}
 use Rattle.std.specs.Prelude.{IsTrue, IsFalse, IfSome}
 use Rattle.std.specs.Io.KnownBytes.{Appends}
 use Rattle.std.proofs.KnownBytes.{Appends-trans}
@@ -19,7 +19,7 @@ use Rattle.lab_wire.specs.declared.replies.Answer.TheVariants.{Refused}
 use Rattle.lab_wire.specs.Asked.{asked, of_request}
 use Rattle.lab_wire.specs.Replies.{reply_text, memory_text}
 use Rattle.lab_runs.specs.Requests.{Asks, MovesFor, RefusesRequest, Steps, TakesRequest, is_idle_request}
-use Rattle.lab_desk.specs.Serving.{AreAsked, IsHandled}
+use Rattle.lab_desk.specs.Serving.{AreAsked, IsHandled, IsNobodysReply, IsNobodysReplyTo}
 
 -- ---- what is asked
 
@@ -107,6 +107,23 @@ refused_by world tick refusal rests moves reply true rested told memory = record
 }
 refused_by world tick refusal rests moves reply false rested told memory =
     exhausted world tick (Err refusal) rests moves reply rested (memory refl)
+
+-- ---- what bytes that ask nothing are told
+
+-- their refusal, or that there was no memory for it
+pub told_refused : (tick : Tick) (refusal : RequestRefusal) (reply : List ℕ) (taken : Bool) →
+    (taken ≡ true → reply ≡ reply_text tick (Refused refusal)) →
+    (taken ≡ false → reply ≡ memory_text) → IsNobodysReply tick (Err refusal) reply
+told_refused tick refusal reply true told memory = λ other is.
+    let same : refusal ≡ other = cc in
+    inl (told refl ∙ ap (λ (one : RequestRefusal). reply_text tick (Refused one)) same)
+told_refused tick refusal reply false told memory = λ other is. inr (memory refl)
+
+-- the reader's bytes are told what is told to what they ask
+pub told_known : (known : Option (List ℕ)) (tick : Tick) (asks : Asks) (reply : List ℕ) →
+    AreAsked known asks → IsNobodysReply tick asks reply → IsNobodysReplyTo known tick reply
+told_known None tick asks reply are told = tt
+told_known (Some bytes) tick asks reply are told = λ refusal is. told refusal (are ∙ is)
 
 -- ---- what went out
 

@@ -5,10 +5,14 @@ use Rattle.std.specs.Prelude.{◌≡◌, ◌⊎◌, ◌<◌, ◌++◌, ℕ, List
 use Rattle.std.specs.Io.KnownBytes.{Appends}
 use Rattle.lab_names.specs.declared.tick.Tick.{Tick}
 use Rattle.lab_kept.specs.declared.changes.Change.{Change}
-use Rattle.lab_kept.specs.Worlds.{World, CommitsAs, IsDurable, Quiet, StaysSafe}
+use Rattle.lab_kept.specs.Worlds.{World, CommitsAs, Given, IsDurable, Passes, Quiet, StaysSafe}
+use Rattle.lab_wire.specs.declared.refusals.RequestRefusal.{RequestRefusal}
+use Rattle.lab_wire.specs.declared.replies.Answer.TheVariants.{Refused}
 use Rattle.lab_wire.specs.Asked.{asked}
+use Rattle.lab_wire.specs.Replies.{reply_text, memory_text}
 use Rattle.lab_desk_faults.specs.declared.faults.ServeFault.{ServeFault}
 use Rattle.lab_desk_faults.specs.declared.faults.ServeFault.TheVariants.{Read, Interim, Reply}
+use Rattle.lab_runs.specs.Keeping.{AreWithin, Stays}
 use Rattle.lab_runs.specs.Requests.{Asks, MovesFor, RefusesRequest, Steps, TakesRequest, is_idle_request}
 
 -- ---- what was handled
@@ -47,6 +51,17 @@ pub record HandlesRequest (known : Option (List ℕ)) (old new : World) (tick : 
   pub asked_are : AreAsked known asks
   pub handled : IsHandled old new tick asks rests moves reply
 
+-- the reply to bytes that ask nothing: that of their refusal, or that for lack of memory
+abbrev pub IsNobodysReply : Tick → Asks → List ℕ → Type 0
+IsNobodysReply tick asks reply =
+    (refusal : RequestRefusal) → asks ≡ Err refusal →
+    (reply ≡ reply_text tick (Refused refusal)) ⊎ (reply ≡ memory_text)
+
+-- so it is of the bytes that the reader had, where they are known
+abbrev pub IsNobodysReplyTo : Option (List ℕ) → Tick → List ℕ → Type 0
+IsNobodysReplyTo None tick reply = Unit {0}
+IsNobodysReplyTo (Some bytes) tick reply = IsNobodysReply tick (asked bytes) reply
+
 -- ---- how serving ended
 
 -- a fact on a request that was handled: it was served whole, or the writer failed within the reply
@@ -62,6 +77,17 @@ OnUnhandled (Ok _) P = Unit {0}
 OnUnhandled (Err Read) P = P
 OnUnhandled (Err (Interim sent)) P = P
 OnUnhandled (Err (Reply sent)) P = Unit {0}
+
+-- what serving left, however it ended: what the reader had was handled, where it came; bytes that
+-- ask nothing were told so, whatever the keeper; and what stays true of all that is kept
+pub record Serves (known : Option (List ℕ)) (old new : World) (tick : Tick) (rests : Type 0)
+    (moves : List ℕ → List Change → Type 0) (reply : List ℕ)
+    (result : Result (Unit {0}) ServeFault) : Type 0 where
+  pub handled : AreWithin old →
+      Given old new (OnHandled result (HandlesRequest known old new tick rests moves reply))
+  pub nobodys : OnHandled result (IsNobodysReplyTo known tick reply)
+  pub stays : AreWithin old → Given old new (Stays old new)
+  pub passes : Passes old new
 
 -- ---- what went out
 

@@ -1,15 +1,16 @@
 //! The desk: one body for every keeper.
 
-ghost use Rattle.std.specs.Prelude.{◌≡◌, ◌⊎◌, ◌≤◌, length, vec_capacity, [], true, false, Ok, Err, IsTrue, IsFalse, IsSome, IfOk, IfErr, OnOk, OnErr, option_map};
+ghost use Rattle.std.specs.Prelude.{◌≡◌, ◌≤◌, length, vec_capacity, [], true, false, Ok, Err, IsTrue, IsFalse, IsSome, IfOk, IfErr, OnOk, OnErr, option_map};
 ghost use Rattle.lab_kept.specs.Worlds.{Passes, Given, Leaves, Lives, Quiet, CommitsAs, IsDurable, StaysSafe};
 ghost use Rattle.lab_wire.specs.declared.refusals.RequestRefusal.{RequestRefusal as OneRefusal};
 ghost use Rattle.lab_wire.specs.declared.replies.Answer.TheVariants.{Refused as RefusedAnswer};
 ghost use Rattle.lab_wire.specs.Asked.{asked};
 ghost use Rattle.lab_wire.specs.Replies.{reply_text, memory_text};
 ghost use Rattle.lab_runs.specs.Requests.{TakesRequest, RefusesRequest, TellsFault, MovesFor, Steps, is_idle_request};
-ghost use Rattle.lab_runs.specs.Keeping.{AreWithin, AreReleasing, KeptFrom};
+ghost use Rattle.lab_runs.specs.Keeping.{AreWithin, AreReleasing, KeptFrom, Stays};
 ghost use Rattle.lab_foundings.specs.Foundings.{founding_in, Founds, Births, TakesFounding, RefusesFounding, shown};
 ghost use Rattle.lab_foundings.specs.Faults.{FoundFaultFits, OnBody, OnKept, OnUncommitted};
+ghost use Rattle.lab_desk.specs.Serving.{IsNobodysReply};
 
 use lab_foundings::{FoundFault, Line, founded, newborn_of, unfounded};
 use lab_kept::{Keeper, KeeperFault};
@@ -98,9 +99,7 @@ impl<S: Keeper + Drop> Desk<S> {
         // Bytes that ask nothing:
         ensures untouched { (refusal : OneRefusal) → asked bytes.now ≡ Err refusal →
             self.new.keeper ≡ self.old.keeper }
-        ensures nobodys { (refusal : OneRefusal) → asked bytes.now ≡ Err refusal →
-            (self.new.reply ≡ reply_text tick.now (RefusedAnswer refusal)) ⊎
-            (self.new.reply ≡ memory_text) }
+        ensures nobodys { IsNobodysReply tick.now (asked bytes.now) self.new.reply }
 
         // What a crash may leave:
         ensures crash { AreWithin (S.world self.old.keeper) →
@@ -262,16 +261,8 @@ impl<S: Keeper + Drop> Desk<S> {
             (result.taken ≡ false →
             RefusesFounding (S.world self.old.keeper) (S.world self.new.keeper) lab.now tick.now
             (founding_in body.now) (shown (option_map (λ line. line.items) result.text))) }
-        ensures within { AreWithin (S.world self.old.keeper) →
-            Given (S.world self.old.keeper) (S.world self.new.keeper)
-            (AreWithin (S.world self.new.keeper)) }
-        ensures releasing { AreReleasing (S.world self.old.keeper) →
-            Given (S.world self.old.keeper) (S.world self.new.keeper)
-            (AreReleasing (S.world self.new.keeper)) }
-        ensures keeps { Given (S.world self.old.keeper) (S.world self.new.keeper)
-            (KeptFrom (S.world self.old.keeper) (S.world self.new.keeper)) }
-        ensures reached { Given (S.world self.old.keeper) (S.world self.new.keeper)
-            (S.world self.new.keeper).is_reached }
+        ensures stays { Given (S.world self.old.keeper) (S.world self.new.keeper)
+            (Stays (S.world self.old.keeper) (S.world self.new.keeper)) }
         ensures passes { Passes (S.world self.old.keeper) (S.world self.new.keeper) }
     {
         let Ok(line) = founded(self.alloc, lab) else {

@@ -4,7 +4,7 @@
 ghost use Rattle.std.specs.Prelude.{◌≡◌, ℕ, List, [], ◌∷◌, IfOk, IfErr};
 ghost use Rattle.std.specs.Io.KnownBytes.{Keeps};
 ghost use Rattle.lab_kept.specs.Worlds.{Passes, Given};
-ghost use Rattle.lab_runs.specs.Keeping.{AreWithin, AreReleasing, KeptFrom, RetainedFrom, ReleasedFrom};
+ghost use Rattle.lab_runs.specs.Keeping.{AreWithin, AreReleasing, RetainedFrom, ReleasedFrom, Stays};
 ghost use Rattle.lab_runs.specs.Runs.{IsRun, Runs, RunsCut, Sends};
 ghost use Rattle.lab_desk_faults.specs.Faults.{IfWrite, IfMemory};
 
@@ -91,19 +91,9 @@ impl<S: Keeper + Drop> Desk<S> {
             × IsRun (S.world self.old.keeper) (S.world self.new.keeper)
             (record { event = event.now; taken = result.taken; answer = answer } ∷ [])
             × Sends answer result.sent (W.contents writer.old) (W.contents writer.new)) }
-        ensures within { AreWithin (S.world self.old.keeper) →
+        ensures stays { AreWithin (S.world self.old.keeper) →
             Given (S.world self.old.keeper) (S.world self.new.keeper)
-            (AreWithin (S.world self.new.keeper)) }
-        ensures releasing { AreWithin (S.world self.old.keeper) →
-            AreReleasing (S.world self.old.keeper) →
-            Given (S.world self.old.keeper) (S.world self.new.keeper)
-            (AreReleasing (S.world self.new.keeper)) }
-        ensures keeps { AreWithin (S.world self.old.keeper) →
-            Given (S.world self.old.keeper) (S.world self.new.keeper)
-            (KeptFrom (S.world self.old.keeper) (S.world self.new.keeper)) }
-        ensures reached { AreWithin (S.world self.old.keeper) →
-            Given (S.world self.old.keeper) (S.world self.new.keeper)
-            (S.world self.new.keeper).is_reached }
+            (Stays (S.world self.old.keeper) (S.world self.new.keeper)) }
         ensures passes { Passes (S.world self.old.keeper) (S.world self.new.keeper) }
     {
         match event {

@@ -3,9 +3,7 @@
 
 ghost use Rattle.std.specs.Prelude.{◌≡◌, IfSome, OnErr};
 ghost use Rattle.lab_heads.specs.Interims.{interim_text};
-ghost use Rattle.lab_kept.specs.Worlds.{Passes, Given, StaysSafe};
-ghost use Rattle.lab_runs.specs.Keeping.{AreWithin, AreReleasing, KeptFrom};
-ghost use Rattle.lab_desk.specs.Serving.{HandlesRequest, OnHandled, OnUnhandled, GreetsBy, Writes};
+ghost use Rattle.lab_desk.specs.Serving.{OnUnhandled, GreetsBy, Serves, Writes};
 
 use crate::desk::Desk;
 use lab_desk_faults::ServeFault;
@@ -32,35 +30,13 @@ impl<S: Keeper + Drop> Desk<S> {
         writer: &mut W,
         tick: &Tick,
     ) -> Result<(), ServeFault>
-        ensures handled { AreWithin (S.world self.old.keeper) →
-            Given (S.world self.old.keeper) (S.world self.new.keeper)
-            (OnHandled result (HandlesRequest (R.remaining reader.old)
-            (S.world self.old.keeper) (S.world self.new.keeper) tick.now
-            (S.rests self.old.keeper self.new.keeper) (S.moves self.old.keeper self.new.keeper)
-            self.new.reply)) }
+        ensures serves { Serves (R.remaining reader.old) (S.world self.old.keeper)
+            (S.world self.new.keeper) tick.now (S.rests self.old.keeper self.new.keeper)
+            (S.moves self.old.keeper self.new.keeper) self.new.reply result }
         ensures written { IfSome (R.remaining reader.old) (λ bytes.
             Writes (interim_text bytes) self.new.reply result
             (W.contents writer.old) (W.contents writer.new)) }
         ensures untouched { OnUnhandled result (self.new ≡ self.old) }
-
-        // What stays true, whatever came:
-        ensures within { AreWithin (S.world self.old.keeper) →
-            Given (S.world self.old.keeper) (S.world self.new.keeper)
-            (AreWithin (S.world self.new.keeper)) }
-        ensures releasing { AreWithin (S.world self.old.keeper) →
-            AreReleasing (S.world self.old.keeper) →
-            Given (S.world self.old.keeper) (S.world self.new.keeper)
-            (AreReleasing (S.world self.new.keeper)) }
-        ensures keeps { AreWithin (S.world self.old.keeper) →
-            Given (S.world self.old.keeper) (S.world self.new.keeper)
-            (KeptFrom (S.world self.old.keeper) (S.world self.new.keeper)) }
-        ensures reached { AreWithin (S.world self.old.keeper) →
-            Given (S.world self.old.keeper) (S.world self.new.keeper)
-            (S.world self.new.keeper).is_reached }
-        ensures safe { AreWithin (S.world self.old.keeper) →
-            Given (S.world self.old.keeper) (S.world self.new.keeper)
-            (StaysSafe (S.world self.old.keeper) (S.world self.new.keeper)) }
-        ensures passes { Passes (S.world self.old.keeper) (S.world self.new.keeper) }
     {
         self.receive(reader, writer, tick)?;
         match write_reply(writer, self.reply()) {
@@ -76,34 +52,12 @@ impl<S: Keeper + Drop> Desk<S> {
         writer: &mut W,
         tick: &Tick,
     ) -> Result<(), ServeFault>
-        ensures handled { AreWithin (S.world self.old.keeper) →
-            Given (S.world self.old.keeper) (S.world self.new.keeper)
-            (OnHandled result (HandlesRequest (R.remaining reader.old)
-            (S.world self.old.keeper) (S.world self.new.keeper) tick.now
-            (S.rests self.old.keeper self.new.keeper) (S.moves self.old.keeper self.new.keeper)
-            self.new.reply)) }
+        ensures serves { Serves (R.remaining reader.old) (S.world self.old.keeper)
+            (S.world self.new.keeper) tick.now (S.rests self.old.keeper self.new.keeper)
+            (S.moves self.old.keeper self.new.keeper) self.new.reply result }
         ensures interim { IfSome (R.remaining reader.old) (λ bytes.
             GreetsBy (interim_text bytes) result (W.contents writer.old) (W.contents writer.new)) }
         ensures untouched { OnErr result (self.new ≡ self.old) }
-
-        // What stays true, whatever came:
-        ensures within { AreWithin (S.world self.old.keeper) →
-            Given (S.world self.old.keeper) (S.world self.new.keeper)
-            (AreWithin (S.world self.new.keeper)) }
-        ensures releasing { AreWithin (S.world self.old.keeper) →
-            AreReleasing (S.world self.old.keeper) →
-            Given (S.world self.old.keeper) (S.world self.new.keeper)
-            (AreReleasing (S.world self.new.keeper)) }
-        ensures keeps { AreWithin (S.world self.old.keeper) →
-            Given (S.world self.old.keeper) (S.world self.new.keeper)
-            (KeptFrom (S.world self.old.keeper) (S.world self.new.keeper)) }
-        ensures reached { AreWithin (S.world self.old.keeper) →
-            Given (S.world self.old.keeper) (S.world self.new.keeper)
-            (S.world self.new.keeper).is_reached }
-        ensures safe { AreWithin (S.world self.old.keeper) →
-            Given (S.world self.old.keeper) (S.world self.new.keeper)
-            (StaysSafe (S.world self.old.keeper) (S.world self.new.keeper)) }
-        ensures passes { Passes (S.world self.old.keeper) (S.world self.new.keeper) }
     {
         match read_request(self.alloc(), reader, writer) {
             Ok(request) => {

@@ -4,8 +4,7 @@ use Rattle.std.specs.Io.KnownBytes.{Keeps}
 use Rattle.lab_messages.specs.declared.sending.WriteFault.{WriteFault as Untold}
 use Rattle.lab_kept.specs.declared.changes.Change.{Change}
 use Rattle.lab_kept.specs.Worlds.{World, Given}
-use Rattle.lab_runs.specs.Keeping.{AreWithin}
-use Rattle.lab_serving.specs.Staying.{StaysOn}
+use Rattle.lab_runs.specs.Keeping.{AreWithin, StaysOn}
 use Rattle.lab_serving.specs.Tasks.{IsServing}
 use Rattle.lab_outside.specs.declared.faults.ServerFault.TheVariants.{Read, Write, Memory}
 use Rattle.lab_shelves.specs.declared.faults.TaskFault.{TaskFault}

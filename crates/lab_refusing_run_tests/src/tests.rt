@@ -1,6 +1,6 @@
-//! What foundings and requests get of a keeper that refuses.
-use crate::texts::{ANSWERS, BODY, CARD, CEDAR_CARD, OPEN};
-use lab_desk::{Desk, Event, LabCode, RunFault, Series, Tick};
+//! What foundings and requests get of a keeper that refuses, in a run and over connections.
+use crate::texts::{ANSWERS, BODY, CARD, CEDAR_CARD, NO_HEAD, OPEN, SERVED};
+use lab_desk::{Desk, Event, LabCode, RunFault, Series, ServeFault, Tick};
 use lab_lists::Lists;
 use lab_names::Moment;
 use lab_refusing::Moody;
@@ -87,4 +87,30 @@ fn what_is_refused_is_told_so_and_changes_nothing(rt: HostRuntime) {
     let taken = ended.expect(&rt, "a run");
     assert!(rt; taken.as_slice() == TAKEN.as_slice());
     assert!(rt; written.as_slice() == ANSWERS);
+}
+
+// Five requests, each over a connection of its own.
+const REQUESTS: [&[u8]; 5] = [CEDAR_CARD, CEDAR_CARD, NO_HEAD, CEDAR_CARD, CEDAR_CARD];
+
+// One of them is served, without clauses, for the same reason.
+fn serve(
+    desk: &mut Desk<Moody>,
+    request: &[u8],
+    written: &mut Vec<u8>,
+    tick: &Tick,
+) -> Result<(), ServeFault> {
+    let mut reader = request;
+    desk.serve_one(&mut reader, written, tick)
+}
+
+#[test]
+fn what_is_served_tells_memory_and_storage_by_turns(rt: HostRuntime) {
+    let tick = tick(&rt, 100);
+    let mut desk = moody_desk(&rt);
+    let mut written = Vec::new(rt.alloc());
+    for request in REQUESTS {
+        assert!(rt; serve(&mut desk, request, &mut written, &tick) == Ok(()));
+    }
+    drop(desk);
+    assert!(rt; written.as_slice() == SERVED);
 }

@@ -1,5 +1,5 @@
-//! The body of a founding, requests, and all that a run of them writes over a keeper that refuses, by docs/HTTP.md and
-//! docs/FORMATS.md.
+//! The body of a founding, requests, and all that a run of them, or serving them, writes over a
+//! keeper that refuses, by docs/HTTP.md and docs/FORMATS.md.
 
 pub(crate) const BODY: &[u8] =
     b"{\"founders\":[{\"code\":\"ann\",\"name\":\"N\",\"password\":\"twelve bytes\"},\
@@ -35,3 +35,25 @@ pub(crate) const ANSWERS: &[u8] = b"founded aqua\nrefused 90 memory\nrefused 64 
     HTTP/1.1 404 Not Found\r\nDate: Thu, 01 Jan 1970 00:01:40 GMT\r\n\
     Content-Type: application/json\r\nContent-Length: 35\r\nConnection: close\r\n\r\n\
     {\"error\":\"no_such_lab\",\"number\":40}";
+
+/// A head that isn't in the grammar: it asks nothing, so the keeper isn't called.
+pub(crate) const NO_HEAD: &[u8] = b"x\r\n\r\n";
+
+/// That there is no laboratory, that no memory was there, that the head is none, that there is no
+/// laboratory again, and that the store refused.
+pub(crate) const SERVED: &[u8] =
+    b"HTTP/1.1 404 Not Found\r\nDate: Thu, 01 Jan 1970 00:01:40 GMT\r\n\
+    Content-Type: application/json\r\nContent-Length: 35\r\nConnection: close\r\n\r\n\
+    {\"error\":\"no_such_lab\",\"number\":40}\
+    HTTP/1.1 503 Service Unavailable\r\n\
+    Content-Type: application/json\r\nContent-Length: 30\r\nConnection: close\r\n\r\n\
+    {\"error\":\"memory\",\"number\":90}\
+    HTTP/1.1 400 Bad Request\r\nDate: Thu, 01 Jan 1970 00:01:40 GMT\r\n\
+    Content-Type: application/json\r\nContent-Length: 32\r\nConnection: close\r\n\r\n\
+    {\"error\":\"bad_head\",\"number\":80}\
+    HTTP/1.1 404 Not Found\r\nDate: Thu, 01 Jan 1970 00:01:40 GMT\r\n\
+    Content-Type: application/json\r\nContent-Length: 35\r\nConnection: close\r\n\r\n\
+    {\"error\":\"no_such_lab\",\"number\":40}\
+    HTTP/1.1 503 Service Unavailable\r\nDate: Thu, 01 Jan 1970 00:01:40 GMT\r\n\
+    Content-Type: application/json\r\nContent-Length: 31\r\nConnection: close\r\n\r\n\
+    {\"error\":\"storage\",\"number\":63}";

@@ -2,9 +2,8 @@
 
 ghost use Rattle.std.specs.Prelude.{◌≡◌, List, [], IfOk, IfErr, IfSome};
 ghost use Rattle.lab_kept.specs.Worlds.{Passes, Given};
-ghost use Rattle.lab_runs.specs.Keeping.{AreWithin};
+ghost use Rattle.lab_runs.specs.Keeping.{AreWithin, StaysOn};
 ghost use Rattle.lab_rehearsals.specs.Rehearsals.{Forwards, IsFounded, IsServedAt, IsUnfounded, card_request, rehearsal_tick};
-ghost use Rattle.lab_serving.specs.Staying.{StaysOn};
 ghost use Rattle.lab_serving.specs.Texts.{IsPrinted};
 ghost use Rattle.lab_serving.specs.Visits.{AreVisits, Visit};
 

@@ -1,6 +1,6 @@
 -- What is decided on the part of a laboratory is its step, and what is made of what was loaded is
 -- made of what was there.
-use Rattle.std.proofs.Common.{◌≡◌, ◌≢◌, ℕ, true, List, [], ◌∷◌, Option, Some, None, Result, Ok, Err, refl, sym, ◌∙◌, ap, subst, inl, inr}
+use Rattle.std.proofs.Common.{rules, ◌≡◌, ◌≢◌, ℕ, true, List, [], ◌∷◌, Option, Some, None, Result, Ok, Err, refl, sym, ◌∙◌, ap, subst, inl, inr}
 use Rattle.std.specs.Prelude.{◌⊎◌, IsTrue, IsFalse, OnOk}
 use Rattle.lab_names.specs.declared.tick.Tick.{Tick}
 use Rattle.lab_kept.specs.declared.labs.Lab.{Lab}
@@ -8,14 +8,18 @@ use Rattle.lab_kept.specs.declared.needs.Slice.{Slice}
 use Rattle.lab_kept.specs.declared.changes.Change.{Change}
 use Rattle.lab_kept.specs.Changes.{ChangesFit, changed_in}
 use Rattle.lab_kept.specs.Parts.{part, part_of}
-use Rattle.lab_kept.specs.Worlds.{Meaning, SetsOne, Changes}
+use Rattle.lab_kept.specs.Worlds.{World, Meaning, SameMeaning, SetsOne, Changes}
+use Rattle.lab_kept.specs.declared.faults.KeeperFault.{KeeperFault}
+use Rattle.lab_kept.specs.declared.faults.KeeperFault.TheVariants.{Storage, Memory}
 use Rattle.lab_machine.specs.declared.commands.Instruction.{Instruction}
+use Rattle.lab_machine.specs.Machine.{step}
 use Rattle.lab_machine.specs.Needs.{need_of}
 use Rattle.lab_laws.specs.Asking.{IsCommandFormed}
 use Rattle.lab_outcomes.specs.Deciding.{decided}
 use Rattle.lab_decisions_laws.proofs.Passing.{decided_is}
 use Rattle.lab_wire.specs.declared.replies.Answer.TheVariants.{Replied}
 use Rattle.lab_wire.specs.Replies.{reply_text}
+use Rattle.lab_answers.specs.Calls.{Ends, Loads}
 use Rattle.lab_runs.specs.Requests.{changes_for, is_none, is_idle, Builds}
 
 -- a change is none where there is no change
@@ -92,6 +96,51 @@ made_steps code changes after old mid held same is made = record {
 pub on_ok : {A F P Q : Type 0} (result : Result A F) → (P → Q) → OnOk result P → OnOk result Q
 on_ok (Ok value) then holds = then holds
 on_ok (Err fault) then holds = tt
+
+-- and what holds anyway
+pub on_ok_all : {A F P : Type 0} (result : Result A F) → P → OnOk result P
+on_ok_all (Ok value) holds = holds
+on_ok_all (Err fault) holds = tt
+
+-- where there is no laboratory of the code its step is none
+pub none_stepped : (code : List ℕ) (tick : Tick) (instruction : Instruction) (old new : Meaning) →
+    old code ≡ None → SameMeaning old new →
+    SetsOne code (step (old code) tick instruction).after old new
+none_stepped code tick instruction old new none same = record {
+  here = same code ∙ none
+      ∙ sym (ap (λ (lab : Option Lab). (step lab tick instruction).after) none);
+  others = λ other differs. same other;
+}
+
+-- and no change makes it
+pub none_changed : (lab : Option Lab) (tick : Tick) (instruction : Instruction) → lab ≡ None →
+    ChangesFit lab [] × (changed_in lab [] ≡ (step lab tick instruction).after)
+none_changed None tick instruction none = (tt, refl)
+none_changed (Some lab) tick instruction none = absurd (cc)
+
+-- a call after one that changed nothing ends for both as it ends by itself
+pub ends_on : {A B : Type 0} (old mid new : World) (rests rested both : Type 0) (value : B)
+    (result : Result A KeeperFault) → Loads old mid rests (Ok value) →
+    Ends mid new rested result → (rests → rested → both) → Ends old new both result
+ends_on old mid new rests rested both value (Ok one) loads ends on = search rules
+ends_on old mid new rests rested both value (Err Storage) loads ends on = record {
+  err = λ honest reached live code. ends.err honest
+      (loads.reached (ends.passes.honest honest) reached) live code
+      ∙ loads.same (ends.passes.honest honest) reached (ends.passes.live honest live) code;
+  rows_err = search rules;
+  lives = search rules;
+  fault = search rules;
+  passes = search rules;
+}
+ends_on old mid new rests rested both value (Err Memory) loads ends on = record {
+  err = λ honest reached live code. ends.err honest
+      (loads.reached (ends.passes.honest honest) reached) live code
+      ∙ loads.same (ends.passes.honest honest) reached (ends.passes.live honest live) code;
+  rows_err = search rules;
+  lives = search rules;
+  fault = search rules;
+  passes = search rules;
+}
 
 -- what a crash left, or what was made
 pub either : {P Q R S : Type 0} → (P → R) → (Q → S) → P ⊎ Q → R ⊎ S

@@ -1,14 +1,15 @@
 //! How a laboratory is asked over any keeper: its part is loaded, and it is answered by that, or
 //! where there is none, told so.
 
-ghost use Rattle.std.specs.Prelude.{◌≡◌, Some, Ok, IsTrue, IsFalse, IfOk, IfErr, OnOk, OnErr};
-ghost use Rattle.lab_kept.specs.Worlds.{Passes, Given, Lives, Leaves, Quiet, CommitsAs, IsDurable, StaysSafe, KeeperFaultFits};
+ghost use Rattle.std.specs.Prelude.{◌≡◌, Ok, IsTrue, IfOk};
+ghost use Rattle.lab_kept.specs.Worlds.{Given, Quiet};
 ghost use Rattle.lab_kept.specs.Parts.{part_of};
 ghost use Rattle.lab_laws.specs.Asking.{IsCommandFormed};
 ghost use Rattle.lab_machine.specs.Needs.{need_of};
 ghost use Rattle.lab_wire.specs.Replies.{reply_text};
+ghost use Rattle.lab_answers.specs.Calls.{Ends, Loads};
 ghost use Rattle.lab_runs.specs.Keeping.{AreWithin};
-ghost use Rattle.lab_runs.specs.Requests.{answer_to, is_idle, MovesBy, Steps};
+ghost use Rattle.lab_runs.specs.Requests.{answer_to, is_idle, DoesStep};
 
 use lab_answers::{answer_on, no_such_lab};
 use lab_decisions::formed;
@@ -28,20 +29,8 @@ fn load_needed<S: Keeper>(
     ensures part { Given (S.world keeper.old) (S.world keeper.new) (IfOk result (λ found. found
         ≡ part_of (need_of tick.now asked.now.instruction)
         ((S.world keeper.old).meaning asked.now.lab))) }
-    ensures same { Given (S.world keeper.old) (S.world keeper.new)
-        (Leaves (S.world keeper.old) (S.world keeper.new)) }
-    ensures rows { Given (S.world keeper.old) (S.world keeper.new)
-        ((S.world keeper.new).is_live → S.rests keeper.old keeper.new) }
-    ensures lives { Given (S.world keeper.old) (S.world keeper.new)
-        (OnOk result (Lives (S.world keeper.old) (S.world keeper.new))) }
-    ensures fault { IfErr result (KeeperFaultFits (S.world keeper.old).may_refuse) }
-    ensures crash { Given (S.world keeper.old) (S.world keeper.new)
-        (Quiet (S.world keeper.old) (S.world keeper.new)) }
-    ensures safe { Given (S.world keeper.old) (S.world keeper.new)
-        (StaysSafe (S.world keeper.old) (S.world keeper.new)) }
-    ensures reached { Given (S.world keeper.old) (S.world keeper.new)
-        (S.world keeper.new).is_reached }
-    ensures passes { Passes (S.world keeper.old) (S.world keeper.new) }
+    ensures loads { Loads (S.world keeper.old) (S.world keeper.new)
+        (S.rests keeper.old keeper.new) result }
 {
     let need = needs(tick, &asked.instruction)?;
     let loaded = keeper.load(&asked.lab, &need);
@@ -60,42 +49,17 @@ pub fn answer_asked<S: Keeper>(
     ensures reply { Given (S.world keeper.old) (S.world keeper.new) (IfOk result (λ reply.
         reply.items ≡ reply_text tick.now
         (answer_to (S.world keeper.old).meaning tick.now (Ok asked)))) }
-    ensures lives { Given (S.world keeper.old) (S.world keeper.new)
-        (OnOk result (Lives (S.world keeper.old) (S.world keeper.new))) }
-    ensures err { Given (S.world keeper.old) (S.world keeper.new)
-        (OnErr result (Leaves (S.world keeper.old) (S.world keeper.new))) }
-    ensures rows_err { Given (S.world keeper.old) (S.world keeper.new)
-        (OnErr result ((S.world keeper.new).is_live → S.rests keeper.old keeper.new)) }
-    ensures fault { IfErr result (KeeperFaultFits (S.world keeper.old).may_refuse) }
+    ensures ends { Ends (S.world keeper.old) (S.world keeper.new)
+        (S.rests keeper.old keeper.new) result }
     ensures quiet { IsTrue (is_idle ((S.world keeper.old).meaning asked.lab) tick.now
         asked.instruction) →
         Given (S.world keeper.old) (S.world keeper.new)
         (Quiet (S.world keeper.old) (S.world keeper.new)) }
-
     // Where every laboratory is within its limits:
-    ensures after { AreWithin (S.world keeper.old) →
+    ensures does { AreWithin (S.world keeper.old) →
         Given (S.world keeper.old) (S.world keeper.new)
-        (OnOk result (Steps tick.now (Ok asked) (S.world keeper.old).meaning
-        (S.world keeper.new).meaning)) }
-    ensures rows { AreWithin (S.world keeper.old) →
-        Given (S.world keeper.old) (S.world keeper.new)
-        (OnOk result (MovesBy (S.world keeper.old).meaning tick.now asked
-        (S.moves keeper.old keeper.new))) }
-    ensures crash { AreWithin (S.world keeper.old) →
-        Given (S.world keeper.old) (S.world keeper.new)
-        (CommitsAs (Steps tick.now (Ok asked)) (S.world keeper.old) (S.world keeper.new)) }
-    ensures safe { AreWithin (S.world keeper.old) →
-        Given (S.world keeper.old) (S.world keeper.new)
-        (StaysSafe (S.world keeper.old) (S.world keeper.new)) }
-    ensures durable { AreWithin (S.world keeper.old) →
-        IsFalse (is_idle ((S.world keeper.old).meaning asked.lab) tick.now
-        asked.instruction) →
-        Given (S.world keeper.old) (S.world keeper.new)
-        (OnOk result (IsDurable (S.world keeper.new))) }
-    ensures reached { AreWithin (S.world keeper.old) →
-        Given (S.world keeper.old) (S.world keeper.new)
-        (S.world keeper.new).is_reached }
-    ensures passes { Passes (S.world keeper.old) (S.world keeper.new) }
+        (DoesStep (S.world keeper.old) (S.world keeper.new) tick.now asked
+        (S.moves keeper.old keeper.new) result) }
 {
     formed(&asked.instruction.command);
     match load_needed(keeper, tick, &asked) {

@@ -9,7 +9,7 @@ use Rattle.lab_kept.specs.Changes.{SameSession}
 use Rattle.lab_kept.specs.Keeping.{Extends, IsPrefix, KeepsPersons, KeepsForms, KeepsRecord, Keeps}
 use Rattle.lab_kept.specs.Limits.{IsWithin}
 use Rattle.lab_kept.specs.Values.{version_state}
-use Rattle.lab_kept.specs.Worlds.{World, Meaning}
+use Rattle.lab_kept.specs.Worlds.{World, Meaning, StaysSafe}
 use Rattle.lab_laws.specs.Runs.{IsReleasing}
 use Rattle.lab_laws.specs.Stepping.{HoldsOf, WhereThere}
 
@@ -79,3 +79,24 @@ KeepsReleased old new =
 -- and in every laboratory that was there
 abbrev pub ReleasedFrom : World → World → Type 0
 ReleasedFrom old new = new.is_live → EachFollows KeepsReleased old.meaning new.meaning
+
+-- ---- all that stays true
+
+-- over one event
+pub record Stays (old new : World) : Type 0 where
+  pub within : AreWithin old → AreWithin new
+  pub releasing : AreReleasing old → AreReleasing new
+  pub keeps : KeptFrom old new
+  pub reached : new.is_reached
+  pub safe : StaysSafe old new
+
+-- over any number of them, from laboratories that are within their limits: each has all that was
+-- recorded, and what was released is as it was; and while no fault shuts the keeper, a crash leaves
+-- well-kept tables alone
+pub record StaysOn (old new : World) : Type 0 where
+  pub within : AreWithin new
+  pub releasing : AreReleasing old → AreReleasing new
+  pub retains : RetainedFrom old new
+  pub released : AreReleasing old → ReleasedFrom old new
+  pub reached : new.is_reached
+  pub safe : new.is_live → old.is_safe → new.is_safe

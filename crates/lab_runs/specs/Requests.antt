@@ -1,5 +1,5 @@
 -- What the desk does of a request: its reply, and what every laboratory is afterwards.
-use Rattle.std.specs.Prelude.{◌≡◌, ◌⊎◌, ◌↔◌, Bool, true, false, ℕ, List, [], ◌∷◌, Option, Some, None, Result, Ok, Err, IsOk, IsTrue}
+use Rattle.std.specs.Prelude.{◌≡◌, ◌⊎◌, ◌↔◌, Bool, true, false, ℕ, List, [], ◌∷◌, Option, Some, None, Result, Ok, Err, IsOk, IsTrue, IsFalse, OnOk}
 use Rattle.lab_names.specs.declared.tick.Tick.{Tick}
 use Rattle.lab_kept.specs.declared.changes.Change.{Change}
 use Rattle.lab_kept.specs.declared.labs.Lab.{Lab}
@@ -8,7 +8,7 @@ use Rattle.lab_kept.specs.declared.faults.KeeperFault.TheVariants.{Storage as St
 use Rattle.lab_kept.specs.Changes.{ChangesFit, changed_in}
 use Rattle.lab_kept.specs.Limits.{IsWithin}
 use Rattle.lab_kept.specs.Parts.{part}
-use Rattle.lab_kept.specs.Worlds.{World, Meaning, SameMeaning, SetsOne, Lives, Leaves}
+use Rattle.lab_kept.specs.Worlds.{World, Meaning, CommitsAs, IsDurable, SameMeaning, SetsOne, StaysSafe, Lives, Leaves}
 use Rattle.lab_machine.specs.declared.commands.Instruction.{Instruction}
 use Rattle.lab_machine.specs.Machine.{step}
 use Rattle.lab_machine.specs.Needs.{need_of}
@@ -71,6 +71,19 @@ pub record MovesBy (meaning : Meaning) (tick : Tick) (asked : Asked)
   pub after : changed_in (meaning asked.lab) changes ≡
       (step (meaning asked.lab) tick asked.instruction).after
   pub moved : moves asked.lab changes
+
+-- what was asked was done, or failed: the laboratory that is named took its step, in rows that
+-- moved by it; a crash leaves what was there or what the step makes, and once it is written, where
+-- there was anything to write, that alone
+pub record DoesStep {A : Type 0} (old new : World) (tick : Tick) (asked : Asked)
+    (moves : List ℕ → List Change → Type 0) (result : Result A KeeperFault) : Type 0 where
+  pub after : OnOk result (Steps tick (Ok asked) old.meaning new.meaning)
+  pub rows : OnOk result (MovesBy old.meaning tick asked moves)
+  pub crash : CommitsAs (Steps tick (Ok asked)) old new
+  pub safe : StaysSafe old new
+  pub durable : IsFalse (is_idle (old.meaning asked.lab) tick asked.instruction) →
+      OnOk result (IsDurable new)
+  pub reached : new.is_reached
 
 -- the rows after what bytes ask: at rest where they ask nothing, and else moved by the step
 abbrev pub MovesFor : Meaning → Tick → Asks → Type 0 → (List ℕ → List Change → Type 0) → Type 0

@@ -1,54 +1,12 @@
--- One connection more: what stays true is so over it, and it is handled after the others.
-use Rattle.std.proofs.Common.{arith, ◌≡◌, ◌+◌, length, ℕ, List, [], ◌∷◌, ◌++◌, map, Option, Some, None, Ok, Err, refl, sym, ap, subst, ◌∙◌, append_assoc}
+-- One connection more: it is handled after the others.
+use Rattle.std.proofs.Common.{◌≡◌, ◌+◌, length, ℕ, List, [], ◌∷◌, ◌++◌, map, Option, Some, None, Ok, Err, refl, sym, ap, subst, ◌∙◌, append_assoc}
 use Rattle.std.proofs.lemmas.List.{length-append, map-append}
 use Rattle.lab_kept.specs.declared.changes.Change.{Change}
 use Rattle.lab_kept.specs.Worlds.{World}
-use Rattle.lab_runs.specs.Keeping.{AreWithin}
-use Rattle.lab_runs.proofs.Keeping.{still_keeps}
-use Rattle.lab_runs.proofs.Releasing.{released_stay}
-use Rattle.lab_runs.proofs.Retaining.{retained_on, still_retained}
 use Rattle.lab_desk_faults.specs.declared.faults.ServeFault.TheVariants.{Read, Interim, Reply}
 use Rattle.lab_outside.specs.declared.faults.ConnectionFault.TheVariants.{Serving, Memory}
 use Rattle.lab_outside.specs.Sources.{Gives}
-use Rattle.lab_serving.specs.Staying.{Stays, StaysOn}
 use Rattle.lab_serving.specs.Visits.{AreGiven, AreVisits, Ending, IsVisit, OnUnserved, Visit}
-
--- ---- what stays true
-
--- of a keeper that was left alone
-pub stays_alone : (world : World) → AreWithin world → world.is_reached → Stays world world
-stays_alone world within reached = record {
-  within = within;
-  releasing = λ releasing. releasing;
-  keeps = still_keeps world;
-  reached = reached;
-  safe = λ live safe. safe;
-}
-
--- before the first connection
-pub stays_first : (world : World) → AreWithin world → world.is_reached → StaysOn world world
-stays_first world within reached = record {
-  within = within;
-  releasing = λ releasing. releasing;
-  retains = still_retained world;
-  released = λ releasing. released_stay world world (still_retained world) releasing;
-  reached = reached;
-  safe = λ live safe. safe;
-}
-
--- over one connection more
-pub stays_more : (old mid new : World) → (new.is_live → mid.is_live) → StaysOn old mid →
-    Stays mid new → StaysOn old new
-stays_more old mid new back so next =
-    let retains = retained_on old mid new back so.retains next.keeps in record {
-      within = next.within;
-      releasing = λ releasing. next.releasing (so.releasing releasing);
-      retains = retains;
-      released = λ releasing. released_stay old new retains
-          (next.releasing (so.releasing releasing));
-      reached = next.reached;
-      safe = λ live safe. next.safe (back live) (so.safe (back live) safe);
-    }
 
 -- ---- what sources give
 

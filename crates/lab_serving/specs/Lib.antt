@@ -1,4 +1,3 @@
 pub mod Texts
 pub mod Visits
-pub mod Staying
 pub mod Tasks

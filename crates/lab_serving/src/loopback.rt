@@ -2,8 +2,7 @@
 
 ghost use Rattle.std.specs.Prelude.{◌≡◌, IfErr};
 ghost use Rattle.lab_kept.specs.Worlds.{Passes, Given};
-ghost use Rattle.lab_runs.specs.Keeping.{AreWithin};
-ghost use Rattle.lab_serving.specs.Staying.{StaysOn};
+ghost use Rattle.lab_runs.specs.Keeping.{AreWithin, StaysOn};
 ghost use Rattle.lab_serving.specs.Tasks.{IsServing};
 ghost use Rattle.lab_serving.specs.Texts.{IsAnnounced};
 ghost use Rattle.lab_outside.specs.declared.faults.ServerFault.TheVariants.{Read as NoneListened};

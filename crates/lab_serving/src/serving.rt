@@ -3,9 +3,8 @@
 ghost use Rattle.std.specs.Prelude.{◌≡◌, List, OnOk, IfSome};
 ghost use Rattle.lab_heads.specs.Interims.{interim_text};
 ghost use Rattle.lab_kept.specs.Worlds.{Passes, Given};
-ghost use Rattle.lab_runs.specs.Keeping.{AreWithin};
+ghost use Rattle.lab_runs.specs.Keeping.{AreWithin, Stays, StaysOn};
 ghost use Rattle.lab_desk.specs.Serving.{HandlesRequest};
-ghost use Rattle.lab_serving.specs.Staying.{Stays, StaysOn};
 ghost use Rattle.lab_serving.specs.Texts.{IsPrinted, listening_line};
 ghost use Rattle.lab_serving.specs.Visits.{AreCounted, AreGiven, AreVisits, OnServed, OnUnserved, Sends, Visit};
 

@@ -4,9 +4,9 @@ use Rattle.lab_names.specs.declared.tick.Tick.{Tick}
 use Rattle.lab_kept.specs.declared.changes.Change.{Change}
 use Rattle.lab_kept.specs.Worlds.{World, Meaning, Passes, Given, Quiet, CommitsAs, IsDurable, StaysSafe}
 use Rattle.lab_wire.specs.declared.refusals.RequestRefusal.{RequestRefusal}
-use Rattle.lab_wire.specs.declared.replies.Answer.TheVariants.{Refused}
-use Rattle.lab_wire.specs.Replies.{reply_text, memory_text}
+use Rattle.lab_wire.specs.Replies.{memory_text}
 use Rattle.lab_desk.specs.Desk.{Served}
+use Rattle.lab_desk.specs.Serving.{IsNobodysReply}
 use Rattle.lab_runs.specs.Keeping.{AreWithin, AreReleasing, KeptFrom}
 use Rattle.lab_runs.specs.Requests.{Asks, TakesRequest, RefusesRequest, MovesFor, Steps, is_idle_request}
 use Rattle.lab_twins.specs.declared.desks.Twins.{Twins}
@@ -45,8 +45,7 @@ pub record IsHandled {S : Type 0} (world : S → World) (rests : S → S → Typ
   pub rows_refused : Given (world old.keeper) (world new.keeper) (is_taken ≡ false →
       (world new.keeper).is_live → rests old.keeper new.keeper)
   pub untouched : (refusal : RequestRefusal) → asks ≡ Err refusal → new.keeper ≡ old.keeper
-  pub nobodys : (refusal : RequestRefusal) → asks ≡ Err refusal →
-      (new.reply ≡ reply_text tick (Refused refusal)) ⊎ (new.reply ≡ memory_text)
+  pub nobodys : IsNobodysReply tick asks new.reply
 
 -- ---- two keepers
 

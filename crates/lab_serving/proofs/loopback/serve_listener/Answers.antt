@@ -1,4 +1,4 @@
-use Rattle.lab_serving.proofs.VisitLemmas.{stays_first}
+use Rattle.lab_runs.proofs.Lasting.{stays_first}
 use Rattle.lab_serving.proofs.loopback.serve_listener.Goals as goal
 
 pub returns-in_err-listening-clause-stays : goal.returns-in_err-listening-clause-stays

@@ -5,7 +5,8 @@ use Rattle.std.proofs.lemmas.Result.{err_from_is_err_and}
 use Rattle.lab_serving.specs.Texts.{listening_line}
 use Rattle.lab_serving.specs.Visits.{Visit}
 use Rattle.lab_serving.proofs.TextLemmas.{printed_all}
-use Rattle.lab_serving.proofs.VisitLemmas.{so_far_more, so_far_none, stays_first, stays_more, unserved}
+use Rattle.lab_runs.proofs.Lasting.{stays_first, stays_after}
+use Rattle.lab_serving.proofs.VisitLemmas.{so_far_more, so_far_none, unserved}
 use Rattle.lab_serving.proofs.serving.serve_over.Goals as goal
 
 pub returns-in_err-announce-clause-served : goal.returns-in_err-announce-clause-served
@@ -84,12 +85,9 @@ loop-preserved g c =
             (served.passes.live honest live);
         refusing = λ may. so.passes.refusing (served.passes.refusing may);
       };
-      stays = λ within honest reached.
-          let before = so.stays within (served.passes.honest honest) reached in
-          stays_more (g.S.Keeper.world c.args.desk.now.keeper)
+      stays = stays_after (g.S.Keeper.world c.args.desk.now.keeper)
           (g.S.Keeper.world c.loop.desk.keeper)
-          (g.S.Keeper.world c.serve_connection.new.desk.keeper) (served.passes.live honest)
-          before (served.stays before.within honest before.reached);
+          (g.S.Keeper.world c.serve_connection.new.desk.keeper) served.passes so.stays served.stays;
       so_far = λ within honest reached.
           let earlier = served.passes.honest honest in
           let before = so.stays within earlier reached in

@@ -1,7 +1,6 @@
 use Rattle.std.proofs.Common.{◌≤◌}
 use Rattle.lab_kept.specs.Worlds.{Passes, Given}
-use Rattle.lab_runs.specs.Keeping.{AreWithin}
-use Rattle.lab_serving.specs.Staying.{StaysOn}
+use Rattle.lab_runs.specs.Keeping.{AreWithin, StaysOn}
 use Rattle.lab_serving.proofs.VisitLemmas.{SoFar}
 use Rattle.lab_serving.proofs.serving.serve_over.Given as goal
 

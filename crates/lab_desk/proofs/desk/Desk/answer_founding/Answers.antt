@@ -1,7 +1,7 @@
 -- A founding was taken where a laboratory was founded, and where its refusal is told.
 use Rattle.lab_foundings.specs.Foundings.{founding_in}
 use Rattle.lab_foundings.proofs.Bearing.{takes_founded, takes_refused}
-use Rattle.lab_runs.proofs.Keeping.{still_keeps}
+use Rattle.lab_runs.proofs.Lasting.{still_stays}
 use Rattle.lab_desk.proofs.desk.Desk.answer_founding.Goals as goal
 use Rattle.lab_desk.proofs.desk.Desk.answer_founding.Goals.{in-Ok-found, in-Err}
 
@@ -21,6 +21,6 @@ returns-clause-taken g c = λ honest reached taken. elim c.match-found.branch [
       (c.found.ensures.err honest reached))
 ]
 
-pub returns-in_default-clause-keeps : goal.returns-in_default-clause-keeps
-returns-in_default-clause-keeps g c = λ honest reached.
-    still_keeps (g.S.Keeper.world c.args.self.now.keeper)
+pub returns-in_default-clause-stays : goal.returns-in_default-clause-stays
+returns-in_default-clause-stays g c = λ honest reached.
+    still_stays (g.S.Keeper.world c.args.self.now.keeper) reached

@@ -8,27 +8,27 @@ returns-in-Ok-clause-within g c = rw (c.keep.ensures.keeper, ← c.self.view_is)
     asked_within (g.S.Keeper.world c.self.inside.keeper)
     (g.S.Keeper.world c.answer_asked-answered.new.keeper) c.args.tick.now c.in-Ok.asked
     c.answer_asked-answered.result c.answer_asked-answered.ensures.formed
-    (c.answer_asked-answered.ensures.passes.live honest)
-    (c.answer_asked-answered.ensures.after within honest reached)
-    (c.answer_asked-answered.ensures.err honest reached) within)
+    (c.answer_asked-answered.ensures.ends.passes.live honest)
+    (c.answer_asked-answered.ensures.does within honest reached).after
+    (c.answer_asked-answered.ensures.ends.err honest reached) within)
 
 pub returns-in-Ok-clause-releasing : goal.returns-in-Ok-clause-releasing
 returns-in-Ok-clause-releasing g c = rw (c.keep.ensures.keeper, ← c.self.view_is) (λ within releasing honest reached.
     asked_releasing (g.S.Keeper.world c.self.inside.keeper)
     (g.S.Keeper.world c.answer_asked-answered.new.keeper) c.args.tick.now c.in-Ok.asked
     c.answer_asked-answered.result
-    (c.answer_asked-answered.ensures.passes.live honest)
-    (c.answer_asked-answered.ensures.after within honest reached)
-    (c.answer_asked-answered.ensures.err honest reached) releasing)
+    (c.answer_asked-answered.ensures.ends.passes.live honest)
+    (c.answer_asked-answered.ensures.does within honest reached).after
+    (c.answer_asked-answered.ensures.ends.err honest reached) releasing)
 
 pub returns-in-Ok-clause-keeps : goal.returns-in-Ok-clause-keeps
 returns-in-Ok-clause-keeps g c = rw (c.keep.ensures.keeper, ← c.self.view_is) (λ within honest reached.
     asked_keeps (g.S.Keeper.world c.self.inside.keeper)
     (g.S.Keeper.world c.answer_asked-answered.new.keeper) c.args.tick.now c.in-Ok.asked
     c.answer_asked-answered.result
-    (c.answer_asked-answered.ensures.passes.live honest)
-    (c.answer_asked-answered.ensures.after within honest reached)
-    (c.answer_asked-answered.ensures.err honest reached) within)
+    (c.answer_asked-answered.ensures.ends.passes.live honest)
+    (c.answer_asked-answered.ensures.does within honest reached).after
+    (c.answer_asked-answered.ensures.ends.err honest reached) within)
 
 pub returns-in-Err-Refused-clause-keeps : goal.returns-in-Err-Refused-clause-keeps
 returns-in-Err-Refused-clause-keeps g c = rw c.refuse.ensures.keeper (λ within honest reached.

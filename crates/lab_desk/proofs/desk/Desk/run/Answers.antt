@@ -2,19 +2,15 @@
 use Rattle.std.proofs.Common.{rules, ◌≡◌, ◌+◌, [], ◌∷◌, ◌++◌, length, subst, arith}
 use Rattle.std.proofs.lemmas.List.{take_all}
 use Rattle.lab_runs.specs.Runs.{Runs}
-use Rattle.lab_runs.proofs.Releasing.{released_stay}
-use Rattle.lab_runs.proofs.Retaining.{retained_on, still_retained}
+use Rattle.lab_runs.proofs.Lasting.{stays_first, stays_after}
 use Rattle.lab_runs.proofs.Running.{run_more, run_cut, runs_none}
 use Rattle.lab_desk.proofs.desk.Desk.run.Goals as goal
 
 pub loop-event-init : goal.loop-event-init
 loop-event-init g c = record {
   passes = search rules;
-  within = search rules;
-  releasing = search rules;
-  retains = λ within honest reached.
-      still_retained (g.S.Keeper.world c.args.self.now.keeper);
-  reached = search rules;
+  stays = λ within honest reached.
+      stays_first (g.S.Keeper.world c.args.self.now.keeper) within reached;
   counted = search rules;
   room = search rules;
   run = λ within honest reached.
@@ -25,47 +21,25 @@ loop-event-init g c = record {
 
 pub returns-in_default-clause-retains : goal.returns-in_default-clause-retains
 returns-in_default-clause-retains g c = λ within honest reached.
-    still_retained (g.S.Keeper.world c.args.self.now.keeper)
+    (stays_first (g.S.Keeper.world c.args.self.now.keeper) within reached).retains
 
 pub returns-in_default-clause-released : goal.returns-in_default-clause-released
 returns-in_default-clause-released g c = λ within releasing honest reached.
-    let world = g.S.Keeper.world c.args.self.now.keeper in
-    released_stay world world (still_retained world) releasing
+    (stays_first (g.S.Keeper.world c.args.self.now.keeper) within reached).released releasing
 
 pub loop-event-preserved : goal.loop-event-preserved
 loop-event-preserved g c = record {
   passes = search rules;
-  within = λ within honest reached.
-      let earlier = c.answer-answered.ensures.passes.honest honest in
-      c.answer-answered.ensures.within (c.loop-event.invariant.within within earlier reached) honest
-      (c.loop-event.invariant.reached within earlier reached);
-  releasing = λ within releasing honest reached.
-      let earlier = c.answer-answered.ensures.passes.honest honest in
-      c.answer-answered.ensures.releasing
-      (c.loop-event.invariant.within within earlier reached)
-      (c.loop-event.invariant.releasing within releasing earlier reached) honest
-      (c.loop-event.invariant.reached within earlier reached);
-  retains = λ within honest reached.
-      let earlier = c.answer-answered.ensures.passes.honest honest in
-      retained_on (g.S.Keeper.world c.args.self.now.keeper)
+  stays = stays_after (g.S.Keeper.world c.args.self.now.keeper)
       (g.S.Keeper.world c.loop-event.self.keeper)
       (g.S.Keeper.world c.answer-answered.new.self.keeper)
-      (c.answer-answered.ensures.passes.live honest)
-      (c.loop-event.invariant.retains within earlier reached)
-      (c.answer-answered.ensures.keeps
-      (c.loop-event.invariant.within within earlier reached) honest
-      (c.loop-event.invariant.reached within earlier reached));
-  reached = λ within honest reached.
-      let earlier = c.answer-answered.ensures.passes.honest honest in
-      c.answer-answered.ensures.reached (c.loop-event.invariant.within within earlier reached)
-      honest (c.loop-event.invariant.reached within earlier reached);
+      c.answer-answered.ensures.passes c.loop-event.invariant.stays c.answer-answered.ensures.stays;
   counted = search rules;
   room = search rules;
   run = λ within honest reached.
       let earlier = c.answer-answered.ensures.passes.honest honest in
-      let middle = c.loop-event.invariant.reached within earlier reached in
-      let here = c.answer-answered.ensures.answered
-      (c.loop-event.invariant.within within earlier reached) honest middle in
+      let before = c.loop-event.invariant.stays within earlier reached in
+      let here = c.answer-answered.ensures.answered before.within honest before.reached in
       let pushed : c.push.new.self.items
       ≡ c.loop-event.taken.items ++ c.answer-answered.result.taken ∷ [] = search rules in
       rw pushed (run_more _ _ _ c.args.events.now c.loop-event.event-index c.loop-event.taken.items
@@ -87,9 +61,8 @@ loop-event-preserved g c = record {
 pub returns-in-Err-clause-cut : goal.returns-in-Err-clause-cut
 returns-in-Err-clause-cut g c = λ within honest reached.
     let earlier = c.answer-answered.ensures.passes.honest honest in
-    let middle = c.loop-event.invariant.reached within earlier reached in
-    let here = c.answer-answered.ensures.answered
-    (c.loop-event.invariant.within within earlier reached) honest middle in
+    let before = c.loop-event.invariant.stays within earlier reached in
+    let here = c.answer-answered.ensures.answered before.within honest before.reached in
     let pushed : c.push.new.self.items
     ≡ c.loop-event.taken.items ++ c.answer-answered.result.taken ∷ [] = search rules in
     let counted : length c.push.new.self.items ≡ c.loop-event.event-index + 1 = search rules in
@@ -110,49 +83,38 @@ returns-in-Err-clause-cut g c = λ within honest reached.
 
 pub returns-in-Err-clause-within : goal.returns-in-Err-clause-within
 returns-in-Err-clause-within g c = λ within honest reached.
-    let earlier = c.answer-answered.ensures.passes.honest honest in
-    c.answer-answered.ensures.within (c.loop-event.invariant.within within earlier reached) honest
-    (c.loop-event.invariant.reached within earlier reached)
+    (stays_after (g.S.Keeper.world c.args.self.now.keeper)
+    (g.S.Keeper.world c.loop-event.self.keeper)
+    (g.S.Keeper.world c.answer-answered.new.self.keeper) c.answer-answered.ensures.passes
+    c.loop-event.invariant.stays c.answer-answered.ensures.stays within honest reached).within
 
 pub returns-in-Err-clause-releasing : goal.returns-in-Err-clause-releasing
 returns-in-Err-clause-releasing g c = λ within releasing honest reached.
-    let earlier = c.answer-answered.ensures.passes.honest honest in
-    c.answer-answered.ensures.releasing (c.loop-event.invariant.within within earlier reached)
-    (c.loop-event.invariant.releasing within releasing earlier reached) honest
-    (c.loop-event.invariant.reached within earlier reached)
+    (stays_after (g.S.Keeper.world c.args.self.now.keeper)
+    (g.S.Keeper.world c.loop-event.self.keeper)
+    (g.S.Keeper.world c.answer-answered.new.self.keeper) c.answer-answered.ensures.passes
+    c.loop-event.invariant.stays c.answer-answered.ensures.stays within honest reached).releasing releasing
 
 pub returns-in-Err-clause-retains : goal.returns-in-Err-clause-retains
 returns-in-Err-clause-retains g c = λ within honest reached.
-    let earlier = c.answer-answered.ensures.passes.honest honest in
-    retained_on (g.S.Keeper.world c.args.self.now.keeper)
+    (stays_after (g.S.Keeper.world c.args.self.now.keeper)
     (g.S.Keeper.world c.loop-event.self.keeper)
-    (g.S.Keeper.world c.answer-answered.new.self.keeper)
-    (c.answer-answered.ensures.passes.live honest)
-    (c.loop-event.invariant.retains within earlier reached)
-    (c.answer-answered.ensures.keeps (c.loop-event.invariant.within within earlier reached) honest
-    (c.loop-event.invariant.reached within earlier reached))
+    (g.S.Keeper.world c.answer-answered.new.self.keeper) c.answer-answered.ensures.passes
+    c.loop-event.invariant.stays c.answer-answered.ensures.stays within honest reached).retains
 
 pub returns-in-Err-clause-released : goal.returns-in-Err-clause-released
 returns-in-Err-clause-released g c = λ within releasing honest reached.
-    let earlier = c.answer-answered.ensures.passes.honest honest in
-    let middle = c.loop-event.invariant.reached within earlier reached in
-    let between = c.loop-event.invariant.within within earlier reached in
-    released_stay (g.S.Keeper.world c.args.self.now.keeper)
-    (g.S.Keeper.world c.answer-answered.new.self.keeper)
-    (retained_on (g.S.Keeper.world c.args.self.now.keeper)
+    (stays_after (g.S.Keeper.world c.args.self.now.keeper)
     (g.S.Keeper.world c.loop-event.self.keeper)
-    (g.S.Keeper.world c.answer-answered.new.self.keeper)
-    (c.answer-answered.ensures.passes.live honest)
-    (c.loop-event.invariant.retains within earlier reached)
-    (c.answer-answered.ensures.keeps between honest middle))
-    (c.answer-answered.ensures.releasing between
-    (c.loop-event.invariant.releasing within releasing earlier reached) honest middle)
+    (g.S.Keeper.world c.answer-answered.new.self.keeper) c.answer-answered.ensures.passes
+    c.loop-event.invariant.stays c.answer-answered.ensures.stays within honest reached).released releasing
 
 pub returns-in-Err-clause-reached : goal.returns-in-Err-clause-reached
 returns-in-Err-clause-reached g c = λ within honest reached.
-    let earlier = c.answer-answered.ensures.passes.honest honest in
-    c.answer-answered.ensures.reached (c.loop-event.invariant.within within earlier reached) honest
-    (c.loop-event.invariant.reached within earlier reached)
+    (stays_after (g.S.Keeper.world c.args.self.now.keeper)
+    (g.S.Keeper.world c.loop-event.self.keeper)
+    (g.S.Keeper.world c.answer-answered.new.self.keeper) c.answer-answered.ensures.passes
+    c.loop-event.invariant.stays c.answer-answered.ensures.stays within honest reached).reached
 
 pub returns-clause-alone : goal.returns-clause-alone
 returns-clause-alone g c = λ within honest reached.
@@ -162,10 +124,3 @@ returns-clause-alone g c = λ within honest reached.
     (g.W.Write.contents c.args.writer.now) (g.W.Write.contents c.loop-event.writer))
     (take_all c.loop-event.event-index c.args.events.now (omega arith))
     (c.loop-event.invariant.run within honest reached)
-
-pub returns-clause-released : goal.returns-clause-released
-returns-clause-released g c = λ within releasing honest reached.
-    released_stay (g.S.Keeper.world c.args.self.now.keeper)
-    (g.S.Keeper.world c.loop-event.self.keeper)
-    (c.loop-event.invariant.retains within honest reached)
-    (c.loop-event.invariant.releasing within releasing honest reached)

@@ -1,6 +1,6 @@
 use Rattle.std.proofs.Common.{◌≡◌, ◌≤◌, take, length, vec_capacity}
 use Rattle.lab_kept.specs.Worlds.{Passes, Given}
-use Rattle.lab_runs.specs.Keeping.{AreWithin, AreReleasing, RetainedFrom}
+use Rattle.lab_runs.specs.Keeping.{AreWithin, StaysOn}
 use Rattle.lab_runs.specs.Runs.{Runs}
 use Rattle.lab_desk.proofs.desk.Desk.run.Given as goal
 
@@ -8,19 +8,9 @@ use Rattle.lab_desk.proofs.desk.Desk.run.Given as goal
 abbrev pub invariant-loop-event : goal.invariant-loop-event
 invariant-loop-event g l = record {
   passes : Passes (g.S.Keeper.world l.fn.self.keeper) (g.S.Keeper.world l.self.keeper);
-  within : AreWithin (g.S.Keeper.world l.fn.self.keeper) →
+  stays : AreWithin (g.S.Keeper.world l.fn.self.keeper) →
       Given (g.S.Keeper.world l.fn.self.keeper) (g.S.Keeper.world l.self.keeper)
-      (AreWithin (g.S.Keeper.world l.self.keeper));
-  releasing : AreWithin (g.S.Keeper.world l.fn.self.keeper) →
-      AreReleasing (g.S.Keeper.world l.fn.self.keeper) →
-      Given (g.S.Keeper.world l.fn.self.keeper) (g.S.Keeper.world l.self.keeper)
-      (AreReleasing (g.S.Keeper.world l.self.keeper));
-  retains : AreWithin (g.S.Keeper.world l.fn.self.keeper) →
-      Given (g.S.Keeper.world l.fn.self.keeper) (g.S.Keeper.world l.self.keeper)
-      (RetainedFrom (g.S.Keeper.world l.fn.self.keeper) (g.S.Keeper.world l.self.keeper));
-  reached : AreWithin (g.S.Keeper.world l.fn.self.keeper) →
-      Given (g.S.Keeper.world l.fn.self.keeper) (g.S.Keeper.world l.self.keeper)
-      (g.S.Keeper.world l.self.keeper).is_reached;
+      (StaysOn (g.S.Keeper.world l.fn.self.keeper) (g.S.Keeper.world l.self.keeper));
   counted : length l.taken.items ≡ l.event-index;
   room : length l.events ≤ vec_capacity l.taken;
   run : AreWithin (g.S.Keeper.world l.fn.self.keeper) →
