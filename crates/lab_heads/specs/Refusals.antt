@@ -2,7 +2,7 @@
 -- of a reader's and of a writer's fault have no number: no reply can tell of them.
 use Rattle.std.specs.Prelude.{ℕ, List, codes, Option, Some, None}
 use Rattle.lab_names.specs.Faults.{Entry, memory_entry}
-use Rattle.lab_messages.specs.Sending.{write_fault_word}
+use Rattle.lab_messages.specs.Sending.{read_fault_word, write_fault_word}
 use Rattle.lab_heads.specs.declared.refusals.HeadRefusal.{HeadRefusal}
 use Rattle.lab_heads.specs.declared.refusals.HeadRefusal.TheVariants.{BadHead, HeadTooLong, TransferCoding, LengthWanted, BodyTooLong, ShortBody}
 use Rattle.lab_heads.specs.declared.refusals.HeadFault.{HeadFault}
@@ -24,6 +24,6 @@ head_fault_number Memory = Some memory_entry.number
 
 abbrev pub head_fault_word : HeadFault → List ℕ
 head_fault_word (Refused refusal) = (head_entry refusal).word
-head_fault_word Read = codes "read_fault"
+head_fault_word Read = read_fault_word
 head_fault_word (Write sent) = write_fault_word
 head_fault_word Memory = memory_entry.word

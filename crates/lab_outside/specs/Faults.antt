@@ -5,6 +5,7 @@ use Rattle.std.specs.Prelude.{◌≡◌, ◌<◌, ◌++◌, ℕ, List, Option, S
 use Rattle.std.specs.Io.KnownBytes.{Appends, Keeps}
 use Rattle.lab_names.specs.Faults.{memory_entry}
 use Rattle.lab_messages.specs.declared.sending.WriteFault.{WriteFault as Untold}
+use Rattle.lab_messages.specs.Sending.{read_fault_word, write_fault_word}
 use Rattle.lab_desk_faults.specs.declared.faults.ServeFault.{ServeFault}
 use Rattle.lab_desk_faults.specs.declared.faults.ServeFault.TheVariants.{Read as Unread, Interim, Reply}
 use Rattle.lab_foundings.specs.Faults.{found_fault_entry}
@@ -17,8 +18,8 @@ use Rattle.lab_outside.specs.declared.faults.RehearsalFault.TheVariants.{Foundin
 
 -- the word of a fault that stops a server
 abbrev pub server_fault_word : ServerFault → List ℕ
-server_fault_word Read = codes "read_fault"
-server_fault_word Write = codes "write_fault"
+server_fault_word Read = read_fault_word
+server_fault_word Write = write_fault_word
 server_fault_word Memory = memory_entry.word
 
 -- its number, where it has one
