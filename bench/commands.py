@@ -3,7 +3,7 @@
 
     bench/commands.py --check
 
-- its routes with those of crates/lab_routes: each stands once;
+- its routes with those of crates/lab_wire: each stands once;
 - number, word and status of each refusal with docs/REFUSALS.md, where it has a status of HTTP; and the steps of a table, which never go
   back;
 - the tables of docs/REFUSALS.md: each row has a word, a status, when it comes and what to do;
@@ -132,13 +132,13 @@ def request_of(command):
 
 
 def routes_differ(parts):
-    stated = re.findall(r'(gets|posts) \(codes "(.*)"\)', text_of("crates/lab_routes/specs/Routes.antt"))
+    stated = re.findall(r'(gets|posts) \(codes "(.*)"\)', text_of("crates/lab_wire/specs/Routes.antt"))
     wanted = [({"gets": "GET", "posts": "POST"}[method], place) for method, place in stated]
     there = [route for part in parts for route in part.routes]
     for method, place in sorted(set(wanted) | set(there)):
         counts = wanted.count((method, place)), there.count((method, place))
         if counts != (1, 1):
-            yield f"{method} {place} stands {counts[1]} times, and {counts[0]} times in crates/lab_routes"
+            yield f"{method} {place} stands {counts[1]} times, and {counts[0]} times in crates/lab_wire"
 
 
 def refusals_differ(parts):

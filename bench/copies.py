@@ -1,9 +1,9 @@
 #!/usr/bin/env python3
-"""Writes what lab_walks_tests compares: the lines of a short day, and the copy of the laboratory after it, which Python's csv writes
+"""Writes what lab_tests_lists compares: the lines of a short day, and the copy of the laboratory after it, which Python's csv writes
 by docs/COPIES.md of the laboratory of bench/laboratory.py, whose hashes are those of hashlib.
 
     bench/copies.py          prints the day's lines, then the copy of records 1 to 9 for hal, which is examples/copy.csv
-    bench/copies.py nobody   the same with a copy for nobody, as lab_walks_tests has it
+    bench/copies.py nobody   the same with a copy for nobody, as lab_tests_lists has it
     bench/copies.py 3 5      the copy of records 3 to 5 alone
 """
 import csv

@@ -1,5 +1,5 @@
 #!/usr/bin/env python3
-"""Writes the days that lab_days plays, crates/lab_days/stdin, and what it must print of them, crates/lab_days/stdout: the replies
+"""Writes the days that lab_tests_days plays, crates/lab_tests_days/stdin, and what it must print of them, crates/lab_tests_days/stdout: the replies
 and the laboratories of bench/laboratory.py, which is no part of the program and takes its hashes from Python's hashlib.
 
     bench/days.py            writes both files
@@ -840,7 +840,7 @@ def main():
         print("\n".join(day.asked))
         return 0
     day = days()
-    here = os.path.join(os.path.dirname(os.path.abspath(__file__)), "..", "crates", "lab_days")
+    here = os.path.join(os.path.dirname(os.path.abspath(__file__)), "..", "crates", "lab_tests_days")
     same = True
     for name, lines in (("stdin", day.asked), ("stdout", day.told)):
         text = "".join(one + "\n" for one in lines)

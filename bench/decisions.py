@@ -1,5 +1,5 @@
 #!/usr/bin/env python3
-"""Times decisions of lab_decisions on large parts of a laboratory and on ones ten times smaller.
+"""Times decisions of lab_records on large parts of a laboratory and on ones ten times smaller.
 
     bench/decisions.py LAB_DAYS    over that program
 

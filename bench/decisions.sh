@@ -4,4 +4,4 @@
 # has the cases. It takes some minutes, most of them to fill a record with 99 versions of 200 rows.
 set -euo pipefail
 root=$(cd "$(dirname "${BASH_SOURCE[0]}")/.." && pwd)
-python3 "$root/bench/decisions.py" "$("$root/bench/program" lab_days)"
+python3 "$root/bench/decisions.py" "$("$root/bench/program" lab_tests_days)"

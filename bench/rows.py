@@ -182,7 +182,7 @@ def literal(value):
 
 @functools.cache
 def schema():
-    with open(f"{ROOT}/crates/lab_files/src/texts.rt") as f:
+    with open(f"{ROOT}/crates/lab_store_files/src/texts.rt") as f:
         text = re.sub(r"\\\n *", "", f.read())
     made = re.findall(r'"(CREATE (?:TABLE|INDEX) .*?)";', text)
     assert len(made) == 13

@@ -7,7 +7,7 @@ library, through Python's sqlite3, for the same statements on its own copy of th
     bench/store.py --statements           lists what each request asks of the tables, and looks for texts that walk a table
 
 A file is founded and begun by `labdesk`, and then filled by bench/files.py. Of it there are two copies: over one `labdesk serve`
-answers, over the other the C library runs the statements that crates/lab_loading and crates/lab_commits run for the same requests,
+answers, over the other the C library runs the statements that crates/lab_store_load and crates/lab_store run for the same requests,
 with the texts of their sources, at the moments and with the values that the replies tell. In the end both have the same rows.
 
 A figure is the least of some rounds, by the request: on the wall, from one reply to the next, and the processor's time of the process
@@ -46,32 +46,32 @@ PASSWORDS = {code: password for code, _, password in FOUNDERS}
 
 # What each of them is for, and the function that has its text.
 SOURCES = {
-    "the laboratory": "lab_reading/labs lab_rows",
-    "the codes of its persons, to count them": "lab_accounts/persons all_code_rows",
-    "the session of the token, with its person's code": "lab_sessions/sessions session_rows",
-    "a person": "lab_accounts/persons person_rows",
-    "the record": "lab_reading/records record_rows",
-    "its form": "lab_form_versions/forms form_rows",
-    "the form's fields": "lab_form_versions/fields field_rows",
-    "the choices of a field": "lab_form_versions/choices name_rows",
-    "the record's versions, with their openers' codes": "lab_reading/versions version_rows",
-    "the entries of a version, with their persons' codes": "lab_reading/entries entry_rows",
-    "the signatures of a version, with their persons' codes": "lab_reading/signatures signature_rows",
-    "set the laboratory's last moment": "lab_writing/labs set_last",
-    "the id of a session": "lab_writing/named session_rows",
-    "the id of a person": "lab_writing/named person_rows",
-    "set a session": "lab_writing_sessions/sessions update_session",
-    "add a session": "lab_writing_sessions/sessions insert_session",
-    "set the count of sessions": "lab_writing_sessions/sessions set_sessions",
-    "set a person": "lab_writing_persons/persons update_person",
-    "the id and the current version of the record": "lab_filing_entries/named record_rows",
-    "the id of a version": "lab_filing_entries/named version_rows",
-    "the ids of the version's entries, to count them": "lab_filing_entries/places entry_rows",
-    "add an entry": "lab_filing_entries/entries insert_entry",
-    "the ids of the version's signatures, to count them": "lab_filing_entries/places signature_rows",
-    "add a signature": "lab_filing_entries/signatures insert_signature",
-    "add a row of the trail": "lab_writing/trails insert_told",
-    "set the count of the trail": "lab_writing/trails set_trail",
+    "the laboratory": "lab_store_read_records/labs lab_rows",
+    "the codes of its persons, to count them": "lab_store_read_people/persons all_code_rows",
+    "the session of the token, with its person's code": "lab_store_read_people/sessions session_rows",
+    "a person": "lab_store_read_people/persons person_rows",
+    "the record": "lab_store_read_records/records record_rows",
+    "its form": "lab_store_read_forms/forms form_rows",
+    "the form's fields": "lab_store_read_forms/fields field_rows",
+    "the choices of a field": "lab_store_read_forms/choices name_rows",
+    "the record's versions, with their openers' codes": "lab_store_read_records/versions version_rows",
+    "the entries of a version, with their persons' codes": "lab_store_read_records/entries entry_rows",
+    "the signatures of a version, with their persons' codes": "lab_store_read_records/signatures signature_rows",
+    "set the laboratory's last moment": "lab_store_write/labs set_last",
+    "the id of a session": "lab_store_write/named session_rows",
+    "the id of a person": "lab_store_write/named person_rows",
+    "set a session": "lab_store_write_people/sessions update_session",
+    "add a session": "lab_store_write_people/sessions insert_session",
+    "set the count of sessions": "lab_store_write_people/sessions set_sessions",
+    "set a person": "lab_store_write_people/persons update_person",
+    "the id and the current version of the record": "lab_store_write_records/named record_rows",
+    "the id of a version": "lab_store_write_records/named version_rows",
+    "the ids of the version's entries, to count them": "lab_store_write_records/entry_places entry_rows",
+    "add an entry": "lab_store_write_records/entries insert_entry",
+    "the ids of the version's signatures, to count them": "lab_store_write_records/entry_places signature_rows",
+    "add a signature": "lab_store_write_records/signatures insert_signature",
+    "add a row of the trail": "lab_store_write/trails insert_told",
+    "set the count of the trail": "lab_store_write/trails set_trail",
 }
 
 
@@ -87,7 +87,7 @@ TEXTS = {what: text_at(place) for what, place in SOURCES.items()}
 
 def schema():
     """The texts by which a file is made."""
-    source = (TOP / "crates/lab_files/src/texts.rt").read_text().replace("\\\n", "")
+    source = (TOP / "crates/lab_store_files/src/texts.rt").read_text().replace("\\\n", "")
     return [re.sub(" +", " ", text) for text in re.findall(r'"\s*(CREATE .*?)"', source, re.S)]
 
 
@@ -124,7 +124,7 @@ class Library:
         rows = self.all(what, *params)
         return rows[0] if rows else None
 
-    # What is read before anything is decided: crates/lab_loading, and the crates of readers below it.
+    # What is read before anything is decided: crates/lab_store_load, and the crates of readers below it.
 
     def load(self, lab, token=None, person=None, record=None):
         at = self.one("the laboratory", lab)[0]
@@ -146,7 +146,7 @@ class Library:
             self.all("the entries of a version, with their persons' codes", version[0])
             self.all("the signatures of a version, with their persons' codes", version[0])
 
-    # What is changed, by one commit: crates/lab_commits.
+    # What is changed, by one commit: crates/lab_store.
 
     @contextlib.contextmanager
     def commit(self, lab):

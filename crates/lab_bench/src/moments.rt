@@ -1,6 +1,6 @@
 //! Moments, read and printed.
 
-use lab_names::Moment;
+use lab_forms_texts::Moment;
 
 /// The seconds from one printed moment to the next.
 const STEP: i64 = 253_402;

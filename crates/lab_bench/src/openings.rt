@@ -1,10 +1,10 @@
 //! Sessions, opened; and the passwords alone that they are opened by.
 
 use anyhow::Result;
-use lab_names::{Moment, Tick};
+use lab_forms_texts::{Moment, Tick};
 use lab_people::{Opened, Password, Person, ROUNDS, Roles, open_session};
-use lab_samples::{both, text};
-use lab_seal::pbkdf2;
+use lab_seal_versions::pbkdf2;
+use lab_tests_samples::{both, text};
 use std::alloc::Global;
 
 const PASSWORD: &str = "dan password 1";

@@ -2,8 +2,8 @@
 
 use anyhow::Result;
 use lab_forms::Form;
-use lab_names::{Key, Unit};
-use lab_samples::{both, form, text};
+use lab_forms_texts::{Key, Unit};
+use lab_tests_samples::{both, form, text};
 use std::alloc::Global;
 
 // Texts of values, one that is out of range, and one that is no number.

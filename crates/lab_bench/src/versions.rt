@@ -1,10 +1,10 @@
 //! Texts of versions of so many rows, written, read and hashed; and rounds of PBKDF2.
 
 use anyhow::{Result, bail};
-use lab_names::OutOfMemory;
-use lab_samples::{made_of, version, version_text};
-use lab_seal::{VersionParts, digest, pbkdf2, write_version};
-use lab_versions_read::{TextFault, read_version};
+use lab_forms_texts::OutOfMemory;
+use lab_seal::{TextFault, read_version};
+use lab_seal_versions::{VersionParts, digest, pbkdf2, write_version};
+use lab_tests_samples::{made_of, version, version_text};
 use std::alloc::Global;
 
 /// Writes the version's text so often, and answers the sum of the texts' lengths.

@@ -3,7 +3,7 @@ use crate::openings::{open_sessions, stretch_passwords};
 use crate::values::read_values;
 use crate::versions::{digest_versions, read_versions, stretch, write_versions};
 use anyhow::Result;
-use lab_samples::version_text;
+use lab_tests_samples::version_text;
 use std::alloc::Global;
 use std::io::Print;
 

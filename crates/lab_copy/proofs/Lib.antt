@@ -1,2 +1,5 @@
-pub mod KnownValues
-pub mod SendLemmas
+pub mod CheckLemmas
+pub mod KeptLemmas
+pub mod KnownChecks
+pub mod KnownVersionChecks
+pub mod ReadLemmas

@@ -1,1 +1,6 @@
-pub mod Outs
+pub mod Checks
+pub mod Faults
+pub mod Hands
+pub mod Kept
+pub mod Left
+pub mod Places

@@ -1,28 +1,32 @@
-//! Why a copy didn't go out whole.
+//! Why a copy wasn't found sound.
 ghost use Rattle.std.specs.Prelude.{◌≡◌};
-ghost use Rattle.lab_copy.specs.Outs.{fault_word, fault_number};
+ghost use Rattle.lab_copy.specs.Faults.{fault_number, fault_word};
 
-use lab_rows::OutOfMemory;
+use lab_copy_rows::{Flaw, OutOfMemory};
 use std::fmt;
 use thiserror::Error;
 
-/// Why a copy didn't go out whole. The front of its text went out.
+/// Why a copy wasn't found sound.
 #[derive(Clone, Copy, Debug, PartialEq, Eq, Error)]
-pub enum CopyOutFault {
-    /// The writer failed, or took no byte.
-    Write,
-    /// There was no memory for the bytes of a row.
+pub enum CheckFault {
+    /// The copy has a flaw, the first one that is told.
+    Flawed(Flaw),
+    /// The reader failed, was asked more than 1,000,000,000,000,000 times, or its rows didn't end within
+    /// 1,000,000,000,000.
+    Read,
+    /// There was no memory for a version and its rows.
     Memory(OutOfMemory),
 }
 
-impl CopyOutFault {
-    /// The fault's number: none where the writer failed, since no reply can tell of it.
+impl CheckFault {
+    /// The fault's number: none where the reader failed, since no reply can tell of it.
     pub fn number(&self) -> Option<u32>
         ensures { result ≡ fault_number self.now }
     {
         match self {
-            CopyOutFault::Write => None,
-            CopyOutFault::Memory(fault) => fault.number(),
+            CheckFault::Flawed(flaw) => Some(flaw.number()),
+            CheckFault::Read => None,
+            CheckFault::Memory(fault) => fault.number(),
         }
     }
 
@@ -31,15 +35,16 @@ impl CopyOutFault {
         ensures { result.now ≡ fault_word self.now }
     {
         match self {
-            CopyOutFault::Write => "write_fault",
-            CopyOutFault::Memory(fault) => fault.word(),
+            CheckFault::Flawed(flaw) => flaw.word(),
+            CheckFault::Read => "read_fault",
+            CheckFault::Memory(fault) => fault.word(),
         }
     }
 }
 
-impl fmt::Display for CopyOutFault {
+impl fmt::Display for CheckFault {
     ghost use Rattle.std.specs.Prelude.{Some};
-    ghost use Rattle.lab_copy.specs.Outs.{fault_word};
+    ghost use Rattle.lab_copy.specs.Faults.{fault_word};
 
     ghost output = { λ fault. Some (fault_word fault) };
 
@@ -48,13 +53,13 @@ impl fmt::Display for CopyOutFault {
     }
 }
 
-impl From<OutOfMemory> for CopyOutFault {
+impl From<OutOfMemory> for CheckFault {
     ghost use Rattle.std.specs.Prelude.{◌≡◌};
-    ghost use Rattle.lab_copy.specs.declared.faults.CopyOutFault.TheVariants.{Memory};
+    ghost use Rattle.lab_copy.specs.declared.faults.CheckFault.TheVariants.{Memory};
 
     ghost from_gives = { λ fault e. e ≡ Memory fault };
 
-    fn from(fault: OutOfMemory) -> CopyOutFault {
-        CopyOutFault::Memory(fault)
+    fn from(fault: OutOfMemory) -> CheckFault {
+        CheckFault::Memory(fault)
     }
 }

@@ -1,10 +1,18 @@
-//! Writing inspection copies: rows as CSV, sent whole or row by row.
+//! Checking inspection copies, row by row: order, digests, seals and signers (21 CFR 11.10(b)). The
+//! writing of copies is passed on.
 #![tactic(auto)]
 
+mod asks;
+mod checks;
 mod faults;
-mod outs;
-mod sending;
+mod hands;
+mod kept;
+mod places;
 
-pub use faults::CopyOutFault;
-pub use lab_rows::{CopyLine, CopyRow, Counts, OutOfMemory};
-pub use outs::{CopyOut, write_copy};
+pub use checks::check_copy;
+pub use faults::CheckFault;
+pub use hands::{VersionAtHand, begin, enter, sign};
+pub use lab_copy_rows::{Counts, Flaw, OutOfMemory};
+pub use places::{
+    are_same_counts, counts_with, is_first_line, is_first_version, lab_of, was_asked,
+};

@@ -1,2 +1,5 @@
-mod KnownValues
+pub mod Agreeing
+mod KnownRuns
+pub mod KnownTwins
+pub mod OwnEvents
 pub mod Receiving

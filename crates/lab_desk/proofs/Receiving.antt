@@ -5,20 +5,20 @@ use Rattle.std.specs.Prelude.{IsTrue, IsFalse, IfSome}
 use Rattle.std.specs.Io.KnownBytes.{Appends}
 use Rattle.std.proofs.KnownBytes.{Appends-trans}
 use Rattle.std.proofs.lemmas.Bool.{false≢true}
-use Rattle.lab_names.specs.declared.tick.Tick.{Tick}
-use Rattle.lab_kept.specs.declared.changes.Change.{Change}
-use Rattle.lab_kept.specs.Worlds.{World, CommitsAs, IsDurable, Quiet, StaysSafe}
-use Rattle.lab_heads.specs.declared.refusals.HeadRefusal.{HeadRefusal}
-use Rattle.lab_heads.specs.declared.refusals.HeadRefusal.TheVariants.{BadHead}
-use Rattle.lab_heads.specs.declared.refusals.HeadFault.TheVariants.{Refused as RefusedHead}
-use Rattle.lab_receptions.specs.Receptions.{IsReception}
-use Rattle.lab_routes.specs.Commands.{command_asked}
+use Rattle.lab_forms_texts.specs.declared.tick.Tick.{Tick}
+use Rattle.lab_records_kept.specs.declared.changes.Change.{Change}
+use Rattle.lab_records_kept.specs.Worlds.{World, CommitsAs, IsDurable, Quiet, StaysSafe}
+use Rattle.lab_wire_heads.specs.declared.refusals.HeadRefusal.{HeadRefusal}
+use Rattle.lab_wire_heads.specs.declared.refusals.HeadRefusal.TheVariants.{BadHead}
+use Rattle.lab_wire_heads.specs.declared.refusals.HeadFault.TheVariants.{Refused as RefusedHead}
+use Rattle.lab_wire_received.specs.Receptions.{IsReception}
+use Rattle.lab_wire.specs.Commands.{command_asked}
 use Rattle.lab_wire.specs.declared.refusals.RequestRefusal.{RequestRefusal}
 use Rattle.lab_wire.specs.declared.refusals.RequestRefusal.TheVariants.{Head}
 use Rattle.lab_wire.specs.declared.replies.Answer.TheVariants.{Refused}
 use Rattle.lab_wire.specs.Asked.{asked, of_request}
 use Rattle.lab_wire.specs.Replies.{reply_text, memory_text}
-use Rattle.lab_runs.specs.Requests.{Asks, MovesFor, RefusesRequest, Steps, TakesRequest, is_idle_request}
+use Rattle.lab_desk_runs.specs.Requests.{Asks, MovesFor, RefusesRequest, Steps, TakesRequest, is_idle_request}
 use Rattle.lab_desk.specs.Serving.{AreAsked, IsHandled, IsNobodysReply, IsNobodysReplyTo}
 
 -- ---- what is asked

@@ -1,2 +1,3 @@
 pub mod Desk
 pub mod Serving
+pub mod Twins

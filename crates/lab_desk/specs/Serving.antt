@@ -3,17 +3,17 @@
 -- RFC 9112, section 9).
 use Rattle.std.specs.Prelude.{◌≡◌, ◌⊎◌, ◌<◌, ◌++◌, ℕ, List, [], Option, Some, None, Result, Ok, Err, IsTrue, IsFalse, length, take}
 use Rattle.std.specs.Io.KnownBytes.{Appends}
-use Rattle.lab_names.specs.declared.tick.Tick.{Tick}
-use Rattle.lab_kept.specs.declared.changes.Change.{Change}
-use Rattle.lab_kept.specs.Worlds.{World, CommitsAs, Given, IsDurable, Passes, Quiet, StaysSafe}
+use Rattle.lab_forms_texts.specs.declared.tick.Tick.{Tick}
+use Rattle.lab_records_kept.specs.declared.changes.Change.{Change}
+use Rattle.lab_records_kept.specs.Worlds.{World, CommitsAs, Given, IsDurable, Passes, Quiet, StaysSafe}
 use Rattle.lab_wire.specs.declared.refusals.RequestRefusal.{RequestRefusal}
 use Rattle.lab_wire.specs.declared.replies.Answer.TheVariants.{Refused}
 use Rattle.lab_wire.specs.Asked.{asked}
 use Rattle.lab_wire.specs.Replies.{reply_text, memory_text}
-use Rattle.lab_desk_faults.specs.declared.faults.ServeFault.{ServeFault}
-use Rattle.lab_desk_faults.specs.declared.faults.ServeFault.TheVariants.{Read, Interim, Reply}
-use Rattle.lab_runs.specs.Keeping.{AreWithin, Stays}
-use Rattle.lab_runs.specs.Requests.{Asks, MovesFor, RefusesRequest, Steps, TakesRequest, is_idle_request}
+use Rattle.lab_desk_foundings.specs.declared.run_faults.ServeFault.{ServeFault}
+use Rattle.lab_desk_foundings.specs.declared.run_faults.ServeFault.TheVariants.{Read, Interim, Reply}
+use Rattle.lab_desk_runs.specs.Keeping.{AreWithin, Stays}
+use Rattle.lab_desk_runs.specs.Requests.{Asks, MovesFor, RefusesRequest, Steps, TakesRequest, is_idle_request}
 
 -- ---- what was handled
 

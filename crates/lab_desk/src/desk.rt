@@ -1,22 +1,22 @@
 //! The desk: one body for every keeper.
 
 ghost use Rattle.std.specs.Prelude.{◌≡◌, ◌≤◌, length, vec_capacity, [], true, false, Ok, Err, IsTrue, IsFalse, IsSome, IfOk, IfErr, OnOk, OnErr, option_map};
-ghost use Rattle.lab_kept.specs.Worlds.{Passes, Given, Leaves, Lives, Quiet, CommitsAs, IsDurable, StaysSafe};
+ghost use Rattle.lab_records_kept.specs.Worlds.{Passes, Given, Leaves, Lives, Quiet, CommitsAs, IsDurable, StaysSafe};
 ghost use Rattle.lab_wire.specs.declared.refusals.RequestRefusal.{RequestRefusal as OneRefusal};
 ghost use Rattle.lab_wire.specs.declared.replies.Answer.TheVariants.{Refused as RefusedAnswer};
 ghost use Rattle.lab_wire.specs.Asked.{asked};
 ghost use Rattle.lab_wire.specs.Replies.{reply_text, memory_text};
-ghost use Rattle.lab_runs.specs.Requests.{TakesRequest, RefusesRequest, TellsFault, MovesFor, Steps, is_idle_request};
-ghost use Rattle.lab_runs.specs.Keeping.{AreWithin, AreReleasing, KeptFrom, Stays};
-ghost use Rattle.lab_foundings.specs.Foundings.{founding_in, Founds, Births, TakesFounding, RefusesFounding, shown};
-ghost use Rattle.lab_foundings.specs.Faults.{FoundFaultFits, OnBody, OnKept, OnUncommitted};
+ghost use Rattle.lab_desk_runs.specs.Requests.{TakesRequest, RefusesRequest, TellsFault, MovesFor, Steps, is_idle_request};
+ghost use Rattle.lab_desk_runs.specs.Keeping.{AreWithin, AreReleasing, KeptFrom, Stays};
+ghost use Rattle.lab_desk_foundings.specs.Foundings.{founding_in, Founds, Births, TakesFounding, RefusesFounding, shown};
+ghost use Rattle.lab_desk_foundings.specs.Faults.{FoundFaultFits, OnBody, OnKept, OnUncommitted};
 ghost use Rattle.lab_desk.specs.Serving.{IsNobodysReply};
 
-use lab_foundings::{FoundFault, Line, founded, newborn_of, unfounded};
-use lab_kept::{Keeper, KeeperFault};
-use lab_names::{LabCode, OutOfMemory, Tick};
-use lab_requests::answer_asked;
-use lab_runs::Event;
+use lab_desk_foundings::{FoundFault, Line, founded, newborn_of, unfounded};
+use lab_desk_requests::answer_asked;
+use lab_desk_runs::Event;
+use lab_forms_texts::{LabCode, OutOfMemory, Tick};
+use lab_records_kept::{Keeper, KeeperFault};
 use lab_wire::{Answer, RequestFault, RequestRefusal, ask, memory_reply, reply_bytes};
 use std::alloc::Global;
 use std::marker::Model;

@@ -1,16 +1,20 @@
-//! The desk: requests and foundings in, reply bytes out, over any keeper of laboratories. Each
-//! laboratory's answers and rows are those of its own small machine, run over its own events alone.
+//! The desk: requests and foundings in, reply bytes out, over any keeper of laboratories. Each laboratory's
+//! answers and rows are those of its own small machine, run over its own events alone, so two desks
+//! that agree on a laboratory answer alike.
 #![tactic(auto)]
 
 mod desk;
+mod desks;
 mod runs;
 mod serving;
+mod twin_runs;
 
-pub use crate::desk::Desk;
-pub use lab_desk_faults::{RunFault, ServeFault};
-pub use lab_foundings::FoundFault;
-pub use lab_kept::{Keeper, PlacingFault};
-pub use lab_machine::BirthRefusal;
-pub use lab_members::BodyRefusal;
-pub use lab_names::{LabCode, OutOfMemory, Series, Tick};
-pub use lab_runs::Event;
+pub use desk::Desk;
+pub use desks::{Twins, twin};
+pub use lab_desk_foundings::{FoundFault, RunFault, ServeFault};
+pub use lab_desk_runs::Event;
+pub use lab_forms_texts::{LabCode, OutOfMemory, Series, Tick};
+pub use lab_records_kept::{Keeper, PlacingFault};
+pub use lab_records_machine::BirthRefusal;
+pub use lab_wire_members::BodyRefusal;
+pub use twin_runs::equal_events_get_equal_answers;

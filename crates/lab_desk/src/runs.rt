@@ -3,16 +3,16 @@
 
 ghost use Rattle.std.specs.Prelude.{◌≡◌, ℕ, List, [], ◌∷◌, IfOk, IfErr};
 ghost use Rattle.std.specs.Io.KnownBytes.{Keeps};
-ghost use Rattle.lab_kept.specs.Worlds.{Passes, Given};
-ghost use Rattle.lab_runs.specs.Keeping.{AreWithin, AreReleasing, RetainedFrom, ReleasedFrom, Stays};
-ghost use Rattle.lab_runs.specs.Runs.{IsRun, Runs, RunsCut, Sends};
-ghost use Rattle.lab_desk_faults.specs.Faults.{IfWrite, IfMemory};
+ghost use Rattle.lab_records_kept.specs.Worlds.{Passes, Given};
+ghost use Rattle.lab_desk_runs.specs.Keeping.{AreWithin, AreReleasing, RetainedFrom, ReleasedFrom, Stays};
+ghost use Rattle.lab_desk_runs.specs.Runs.{IsRun, Runs, RunsCut, Sends};
+ghost use Rattle.lab_desk_foundings.specs.RunFaults.{IfWrite, IfMemory};
 
 use crate::desk::Desk;
-use lab_desk_faults::RunFault;
-use lab_kept::Keeper;
-use lab_messages::{WriteFault, write_reply};
-use lab_runs::Event;
+use lab_desk_foundings::RunFault;
+use lab_desk_runs::Event;
+use lab_records_kept::Keeper;
+use lab_wire_heads::{WriteFault, write_reply};
 use std::io::Write;
 
 /// How one event was answered.

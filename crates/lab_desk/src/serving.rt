@@ -2,17 +2,16 @@
 //! to any writer.
 
 ghost use Rattle.std.specs.Prelude.{◌≡◌, IfSome, OnErr};
-ghost use Rattle.lab_heads.specs.Interims.{interim_text};
+ghost use Rattle.lab_wire_heads.specs.Interims.{interim_text};
 ghost use Rattle.lab_desk.specs.Serving.{OnUnhandled, GreetsBy, Serves, Writes};
 
 use crate::desk::Desk;
-use lab_desk_faults::ServeFault;
-use lab_heads::HeadFault;
-use lab_kept::Keeper;
-use lab_messages::write_reply;
-use lab_names::Tick;
-use lab_receptions::read_request;
+use lab_desk_foundings::ServeFault;
+use lab_forms_texts::Tick;
+use lab_records_kept::Keeper;
 use lab_wire::RequestRefusal;
+use lab_wire_heads::{HeadFault, write_reply};
+use lab_wire_received::read_request;
 use std::io::{Read, Write};
 
 impl<S: Keeper + Drop> Desk<S> {

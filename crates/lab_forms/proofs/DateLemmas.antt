@@ -4,7 +4,7 @@ use Rattle.std.proofs.lemmas.Int.{to_z_pos}
 use Rattle.std.proofs.lemmas.Bool.Decides.{nat_tests}
 use Rattle.jiff_core.specs.Calendar.{IsDate}
 use Rattle.jiff_core.proofs.SignedLemmas.{signed_arith}
-use Rattle.lab_names.specs.Calendar.{days_in_month}
+use Rattle.lab_forms_texts.specs.Calendar.{days_in_month}
 use Rattle.lab_forms.specs.Dates.{is_calendar_day}
 
 -- the rules of a calendar's day, one by one

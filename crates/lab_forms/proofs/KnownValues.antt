@@ -7,7 +7,7 @@ use Rattle.lab_forms.specs.declared.faults.FormRefusal.TheVariants.{NoFields, Ke
 use Rattle.lab_forms.specs.Numbers.{is_number, amount, without_comparison, is_digits, number_of, is_unsigned_number, millionths_of, without_sign}
 use Rattle.lab_forms.specs.Dates.{is_date, is_calendar_day}
 use Rattle.lab_forms.specs.Forms.{form_refusal, value_refusal}
-use Rattle.lab_names.specs.Names.{is_note}
+use Rattle.lab_forms_texts.specs.Names.{is_note}
 use Rattle.std.specs.Str.{is_utf8, chars}
 use lib.Utf8.{encode}
 

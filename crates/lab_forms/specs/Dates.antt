@@ -1,8 +1,8 @@
 -- Dates as texts: YYYY-MM-DD (ISO 8601-1:2019, 5.2.2.1, as RFC 3339 has it in section 5.6), of the
 -- proleptic Gregorian calendar, from the year 0001 to the year 9999.
 use Rattle.std.specs.Prelude.{ℕ, Bool, ◌&&◌, ◌==◌, nat_le, List, length, slice_index, slice_range}
-use Rattle.lab_names.specs.Calendar.{days_in_month}
-use Rattle.lab_names.specs.Names.{hyphen}
+use Rattle.lab_forms_texts.specs.Calendar.{days_in_month}
+use Rattle.lab_forms_texts.specs.Names.{hyphen}
 use Rattle.lab_forms.specs.Numbers.{is_digits, number_of}
 
 -- the year, the month and the day of the month as the text writes them

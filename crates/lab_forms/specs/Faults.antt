@@ -1,7 +1,7 @@
 -- The numbers and words by which the interface of the laboratories tells what was wrong with a form
 -- or a value.
 use Rattle.std.specs.Prelude.{codes}
-use Rattle.lab_names.specs.Faults.{Entry, memory_entry}
+use Rattle.lab_forms_texts.specs.Faults.{Entry, memory_entry}
 use Rattle.lab_forms.specs.declared.faults.FormRefusal.{FormRefusal}
 use Rattle.lab_forms.specs.declared.faults.FormRefusal.TheVariants.{NoFields, KeyTwice, TooManyFields, BadField, NoSuchField, BadValue, WrongUnit, OutOfRange}
 use Rattle.lab_forms.specs.declared.faults.FormFault.{FormFault}

@@ -1,7 +1,7 @@
 //! Why a form was not made, or a value not read. Each refusal has a number and a word, by which the interface tells it.
 ghost use Rattle.std.specs.Prelude.{◌≡◌, Some};
 
-use lab_names::OutOfMemory;
+use lab_forms_texts::OutOfMemory;
 use std::fmt;
 use thiserror::Error;
 

@@ -10,7 +10,7 @@ use crate::kinds::Kind;
 use crate::values::Value;
 use crate::words::{Worded, has_word_twice};
 use crate::{FormFault, FormRefusal};
-use lab_names::{Key, Name, NameFault, Note, OutOfMemory, Unit};
+use lab_forms_texts::{Key, Name, NameFault, Note, OutOfMemory, Unit};
 use std::alloc::{AllocError, Global};
 use std::marker::Model;
 

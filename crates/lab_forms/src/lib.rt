@@ -12,7 +12,7 @@ mod words;
 pub use faults::{FormFault, FormRefusal};
 pub use forms::{Field, Form};
 pub use kinds::{Bound, Choices, Kind};
-pub use lab_names::{
+pub use lab_forms_texts::{
     Key, LabCode, Moment, MomentFault, Name, NameFault, Note, OutOfMemory, PersonCode, Tick, Unit,
 };
 pub use values::Value;

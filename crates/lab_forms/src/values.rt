@@ -3,7 +3,7 @@ ghost use Rattle.std.specs.Prelude.{◌≡◌, IfOk, nat_eq};
 ghost use Rattle.std.specs.Cmp.Lexicographic.{pointwise, nat_list_eq_equiv};
 ghost use Rattle.std.specs.Cmp.{partial_equiv_from_equiv};
 
-use lab_names::{Note, OutOfMemory};
+use lab_forms_texts::{Note, OutOfMemory};
 use std::alloc::AllocError;
 use std::marker::Model;
 

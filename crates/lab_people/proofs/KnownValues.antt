@@ -1,11 +1,11 @@
 -- Values from outside, so that a wrong rule in the definitions does not check: enrolments, and asks to the second.
 use Rattle.std.proofs.Common.{◌≡◌, ℕ, List, refl, true, false, Option, Some, None, Err}
 use Rattle.std.specs.Prelude.{codes}
-use Rattle.lab_names.specs.declared.tick.Tick.{Tick}
-use Rattle.lab_access.specs.declared.persons.Person.{Person}
-use Rattle.lab_access.specs.declared.persons.Ask.{Ask}
-use Rattle.lab_access.specs.declared.roles.Roles.{Roles}
-use Rattle.lab_access.specs.declared.refusals.PeopleRefusal.TheVariants.{CodeTaken, LabFull, OwnIssue, IssueOpen, SamePerson, NoIssue, NoSuchPerson}
+use Rattle.lab_forms_texts.specs.declared.tick.Tick.{Tick}
+use Rattle.lab_people_access.specs.declared.persons.Person.{Person}
+use Rattle.lab_people_access.specs.declared.persons.Ask.{Ask}
+use Rattle.lab_people_access.specs.declared.roles.Roles.{Roles}
+use Rattle.lab_people_access.specs.declared.refusals.PeopleRefusal.TheVariants.{CodeTaken, LabFull, OwnIssue, IssueOpen, SamePerson, NoIssue, NoSuchPerson}
 use Rattle.lab_people.specs.Accounts.{enrolling, retiring}
 use Rattle.lab_people.specs.Issues.{asking, confirming}
 

@@ -3,25 +3,25 @@ use Rattle.std.proofs.Common.{◌≡◌, ◌≢◌, ◌<◌, ◌+◌, ℕ, suc, 
 use Rattle.std.specs.Prelude.{bytes_eq, option_and_then, is_some}
 use Rattle.std.proofs.lemmas.Slice.Eq.{bytes_eq-Decides}
 use Rattle.std.proofs.lemmas.Bool.Decides.{nat_tests}
-use Rattle.lab_names.specs.declared.tick.Tick.{Tick}
-use Rattle.lab_names.specs.Ordinals.{ordinal_of}
-use Rattle.lab_access.specs.declared.roles.Roles.{Roles}
-use Rattle.lab_access.specs.declared.persons.Person.{Person}
-use Rattle.lab_access.specs.declared.persons.Ask.{Ask}
-use Rattle.lab_access.specs.declared.sessions.Session.{Session}
-use Rattle.lab_access.specs.declared.sessions.Closing.TheVariants.{All}
-use Rattle.lab_access.specs.declared.openings.Opened.{Opened}
-use Rattle.lab_access.specs.declared.refusals.Failure.{Failure}
-use Rattle.lab_access.specs.declared.refusals.Failure.TheVariants.{Counted, Locking, AlreadyLocked, Stray}
-use Rattle.lab_access.specs.declared.refusals.PeopleFault.TheVariants.{Refused}
-use Rattle.lab_access.specs.declared.refusals.PeopleRefusal.{PeopleRefusal}
-use Rattle.lab_access.specs.declared.refusals.PeopleRefusal.TheVariants.{RandomRepeated, CodeTaken, LabFull, OwnIssue, SamePerson, NoSuchPerson}
-use Rattle.lab_access.specs.Refusals.{failure_person, failure_closing}
-use Rattle.lab_access.specs.Passwords.{is_set, accepts}
-use Rattle.lab_access.specs.Persons.{person_of, is_locked, unlocked_person, stands, standing_ask}
-use Rattle.lab_access.specs.Sessions.{session_of, closed_session, sessions_after}
-use Rattle.lab_access.specs.Attempts.{failure_count, counted_person, locked_person, failure_of, attempt_by, attempt_of, is_own_code, signing_attempt}
-use Rattle.lab_access.specs.Openings.{new_opening, numbered_opening, opening_by, opening, token_digest}
+use Rattle.lab_forms_texts.specs.declared.tick.Tick.{Tick}
+use Rattle.lab_forms_texts.specs.Ordinals.{ordinal_of}
+use Rattle.lab_people_access.specs.declared.roles.Roles.{Roles}
+use Rattle.lab_people_access.specs.declared.persons.Person.{Person}
+use Rattle.lab_people_access.specs.declared.persons.Ask.{Ask}
+use Rattle.lab_people_access.specs.declared.sessions.Session.{Session}
+use Rattle.lab_people_access.specs.declared.sessions.Closing.TheVariants.{All}
+use Rattle.lab_people_access.specs.declared.openings.Opened.{Opened}
+use Rattle.lab_people_access.specs.declared.refusals.Failure.{Failure}
+use Rattle.lab_people_access.specs.declared.refusals.Failure.TheVariants.{Counted, Locking, AlreadyLocked, Stray}
+use Rattle.lab_people_access.specs.declared.refusals.PeopleFault.TheVariants.{Refused}
+use Rattle.lab_people_access.specs.declared.refusals.PeopleRefusal.{PeopleRefusal}
+use Rattle.lab_people_access.specs.declared.refusals.PeopleRefusal.TheVariants.{RandomRepeated, CodeTaken, LabFull, OwnIssue, SamePerson, NoSuchPerson}
+use Rattle.lab_people_access.specs.Refusals.{failure_person, failure_closing}
+use Rattle.lab_people_access.specs.Passwords.{is_set, accepts}
+use Rattle.lab_people_access.specs.Persons.{person_of, is_locked, unlocked_person, stands, standing_ask}
+use Rattle.lab_people_access.specs.Sessions.{session_of, closed_session, sessions_after}
+use Rattle.lab_people_access.specs.Attempts.{failure_count, counted_person, locked_person, failure_of, attempt_by, attempt_of, is_own_code, signing_attempt}
+use Rattle.lab_people_access.specs.Openings.{new_opening, numbered_opening, opening_by, opening, token_digest}
 use Rattle.lab_people.specs.Accounts.{newcomer, enrolling, person_meant, meant_then, retiring}
 use Rattle.lab_people.specs.Issues.{with_one_time_word, confirming_of}
 use Rattle.lab_people.specs.declared.accounts.Effect.{Effect}

@@ -5,18 +5,18 @@ use Rattle.std.proofs.lemmas.Slice.Eq.{bytes_eq-Decides}
 use Rattle.std.proofs.lemmas.List.{take_at, drop_at}
 use Rattle.hex.specs.Hex.{encode_lower, lower_digits}
 use Rattle.hex.proofs.HexLemmas.{length-encode_with}
-use Rattle.lab_names.specs.declared.tick.Tick.{Tick}
-use Rattle.lab_secrets.specs.Words.{big_endian, half_of, one_time_word}
-use Rattle.lab_secrets.specs.Pbkdf2.{pbkdf2_block}
-use Rattle.lab_secrets.specs.Verifiers.{verifier_of, is_verified}
-use Rattle.lab_secrets.specs.declared.verifiers.VerifierParts.{VerifierParts}
-use Rattle.lab_access.specs.declared.passwords.Password.TheVariants.{OneTime}
-use Rattle.lab_access.specs.declared.persons.Person.{Person}
-use Rattle.lab_access.specs.declared.persons.Ask.{Ask}
-use Rattle.lab_access.specs.declared.refusals.PeopleRefusal.{PeopleRefusal}
-use Rattle.lab_access.specs.declared.refusals.PeopleRefusal.TheVariants.{NoSuchPerson, OwnIssue, IssueOpen, SamePerson}
-use Rattle.lab_access.specs.Passwords.{are_verified, serves, accepts}
-use Rattle.lab_access.specs.Persons.{stands, standing_ask}
+use Rattle.lab_forms_texts.specs.declared.tick.Tick.{Tick}
+use Rattle.lab_seal_hashes.specs.Words.{big_endian, half_of, one_time_word}
+use Rattle.lab_seal_hashes.specs.Pbkdf2.{pbkdf2_block}
+use Rattle.lab_seal_hashes.specs.Verifiers.{verifier_of, is_verified}
+use Rattle.lab_seal_hashes.specs.declared.verifiers.VerifierParts.{VerifierParts}
+use Rattle.lab_people_access.specs.declared.passwords.Password.TheVariants.{OneTime}
+use Rattle.lab_people_access.specs.declared.persons.Person.{Person}
+use Rattle.lab_people_access.specs.declared.persons.Ask.{Ask}
+use Rattle.lab_people_access.specs.declared.refusals.PeopleRefusal.{PeopleRefusal}
+use Rattle.lab_people_access.specs.declared.refusals.PeopleRefusal.TheVariants.{NoSuchPerson, OwnIssue, IssueOpen, SamePerson}
+use Rattle.lab_people_access.specs.Passwords.{are_verified, serves, accepts}
+use Rattle.lab_people_access.specs.Persons.{stands, standing_ask}
 use Rattle.lab_people.specs.Accounts.{person_meant, meant_then}
 use Rattle.lab_people.specs.Issues.{half_verifier, is_anothers, new_ask, with_ask, asking, with_one_time_word, confirming_of, confirming}
 use Rattle.lab_people.specs.declared.issues.Issued.{Issued}

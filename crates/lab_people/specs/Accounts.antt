@@ -1,21 +1,21 @@
 -- What is done to persons' accounts, by themselves and by administrators (21 CFR 11.100(a), a code
 -- "shall not be reused by, or reassigned to, anyone else", and 11.300(a)).
 use Rattle.std.specs.Prelude.{ℕ, Bool, true, false, not, nat_le, List, Option, Some, None, is_some, Result, Ok, Err, bytes_eq, if◌then◌else◌}
-use Rattle.lab_names.specs.declared.tick.Tick.{Tick}
-use Rattle.lab_secrets.specs.Words.{salt_of}
-use Rattle.lab_access.specs.declared.roles.Roles.{Roles}
-use Rattle.lab_access.specs.declared.passwords.Password.TheVariants.{Unset}
-use Rattle.lab_access.specs.declared.persons.Person.{Person}
-use Rattle.lab_access.specs.declared.sessions.Session.{Session}
-use Rattle.lab_access.specs.declared.sessions.Closing.TheVariants.{Nothing, All, Others}
-use Rattle.lab_access.specs.declared.refusals.Failure.{Failure}
-use Rattle.lab_access.specs.declared.refusals.PeopleFault.{PeopleFault}
-use Rattle.lab_access.specs.declared.refusals.PeopleFault.TheVariants.{Failed, Refused}
-use Rattle.lab_access.specs.declared.refusals.PeopleRefusal.{PeopleRefusal}
-use Rattle.lab_access.specs.declared.refusals.PeopleRefusal.TheVariants.{BadPassword, SamePassword, CodeTaken, LabFull, OwnIssue, NoSuchPerson}
-use Rattle.lab_access.specs.Attempts.{attempt_of}
-use Rattle.lab_access.specs.Passwords.{is_password, chosen_password}
-use Rattle.lab_access.specs.Persons.{person_limit, unlocked_person}
+use Rattle.lab_forms_texts.specs.declared.tick.Tick.{Tick}
+use Rattle.lab_seal_hashes.specs.Words.{salt_of}
+use Rattle.lab_people_access.specs.declared.roles.Roles.{Roles}
+use Rattle.lab_people_access.specs.declared.passwords.Password.TheVariants.{Unset}
+use Rattle.lab_people_access.specs.declared.persons.Person.{Person}
+use Rattle.lab_people_access.specs.declared.sessions.Session.{Session}
+use Rattle.lab_people_access.specs.declared.sessions.Closing.TheVariants.{Nothing, All, Others}
+use Rattle.lab_people_access.specs.declared.refusals.Failure.{Failure}
+use Rattle.lab_people_access.specs.declared.refusals.PeopleFault.{PeopleFault}
+use Rattle.lab_people_access.specs.declared.refusals.PeopleFault.TheVariants.{Failed, Refused}
+use Rattle.lab_people_access.specs.declared.refusals.PeopleRefusal.{PeopleRefusal}
+use Rattle.lab_people_access.specs.declared.refusals.PeopleRefusal.TheVariants.{BadPassword, SamePassword, CodeTaken, LabFull, OwnIssue, NoSuchPerson}
+use Rattle.lab_people_access.specs.Attempts.{attempt_of}
+use Rattle.lab_people_access.specs.Passwords.{is_password, chosen_password}
+use Rattle.lab_people_access.specs.Persons.{person_limit, unlocked_person}
 use Rattle.lab_people.specs.declared.accounts.PasswordChanged.{PasswordChanged}
 use Rattle.lab_people.specs.declared.accounts.Effect.{Effect}
 

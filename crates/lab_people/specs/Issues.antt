@@ -3,18 +3,18 @@
 -- individuals").
 use Rattle.std.specs.Prelude.{ℕ, Bool, false, not, List, Option, Some, None, Result, Ok, Err, bytes_eq, if◌then◌else◌}
 use Rattle.hex.specs.Hex.{encode_lower}
-use Rattle.lab_names.specs.declared.tick.Tick.{Tick}
-use Rattle.lab_secrets.specs.Words.{half_of, salt_of}
-use Rattle.lab_secrets.specs.Verifiers.{verifier_of}
-use Rattle.lab_secrets.specs.declared.verifiers.VerifierParts.{VerifierParts}
-use Rattle.lab_access.specs.declared.passwords.Password.TheVariants.{OneTime}
-use Rattle.lab_access.specs.declared.persons.Person.{Person}
-use Rattle.lab_access.specs.declared.persons.Ask.{Ask}
-use Rattle.lab_access.specs.declared.sessions.Closing.TheVariants.{Nothing, All}
-use Rattle.lab_access.specs.declared.refusals.PeopleRefusal.{PeopleRefusal}
-use Rattle.lab_access.specs.declared.refusals.PeopleRefusal.TheVariants.{IssueOpen, SamePerson, NoIssue}
-use Rattle.lab_access.specs.Passwords.{new_rounds}
-use Rattle.lab_access.specs.Persons.{standing_ask}
+use Rattle.lab_forms_texts.specs.declared.tick.Tick.{Tick}
+use Rattle.lab_seal_hashes.specs.Words.{half_of, salt_of}
+use Rattle.lab_seal_hashes.specs.Verifiers.{verifier_of}
+use Rattle.lab_seal_hashes.specs.declared.verifiers.VerifierParts.{VerifierParts}
+use Rattle.lab_people_access.specs.declared.passwords.Password.TheVariants.{OneTime}
+use Rattle.lab_people_access.specs.declared.persons.Person.{Person}
+use Rattle.lab_people_access.specs.declared.persons.Ask.{Ask}
+use Rattle.lab_people_access.specs.declared.sessions.Closing.TheVariants.{Nothing, All}
+use Rattle.lab_people_access.specs.declared.refusals.PeopleRefusal.{PeopleRefusal}
+use Rattle.lab_people_access.specs.declared.refusals.PeopleRefusal.TheVariants.{IssueOpen, SamePerson, NoIssue}
+use Rattle.lab_people_access.specs.Passwords.{new_rounds}
+use Rattle.lab_people_access.specs.Persons.{standing_ask}
 use Rattle.lab_people.specs.Accounts.{person_meant, meant_then}
 use Rattle.lab_people.specs.declared.issues.Issued.{Issued}
 

@@ -2,15 +2,15 @@
 -- that were given, refusals, and sessions that are closed.
 use Rattle.std.specs.Prelude.{◌≡◌, ◌≢◌, ℕ, true, false, List, [], ◌∷◌, length, Option, Some, None, option_and_then, Result, Ok, Err, if◌then◌else◌}
 use Rattle.std.specs.List.{AllByRecursion}
-use Rattle.lab_names.specs.declared.tick.Tick.{Tick}
-use Rattle.lab_access.specs.declared.persons.Person.{Person}
-use Rattle.lab_access.specs.declared.sessions.Session.{Session}
-use Rattle.lab_access.specs.declared.refusals.Failure.{Failure}
-use Rattle.lab_access.specs.declared.refusals.PeopleRefusal.{PeopleRefusal}
-use Rattle.lab_access.specs.declared.refusals.PeopleRefusal.TheVariants.{OwnIssue, NoSuchPerson}
-use Rattle.lab_access.specs.Passwords.{is_set, accepts}
-use Rattle.lab_access.specs.Attempts.{attempt_of}
-use Rattle.lab_access.specs.Refusals.{failure_person}
+use Rattle.lab_forms_texts.specs.declared.tick.Tick.{Tick}
+use Rattle.lab_people_access.specs.declared.persons.Person.{Person}
+use Rattle.lab_people_access.specs.declared.sessions.Session.{Session}
+use Rattle.lab_people_access.specs.declared.refusals.Failure.{Failure}
+use Rattle.lab_people_access.specs.declared.refusals.PeopleRefusal.{PeopleRefusal}
+use Rattle.lab_people_access.specs.declared.refusals.PeopleRefusal.TheVariants.{OwnIssue, NoSuchPerson}
+use Rattle.lab_people_access.specs.Passwords.{is_set, accepts}
+use Rattle.lab_people_access.specs.Attempts.{attempt_of}
+use Rattle.lab_people_access.specs.Refusals.{failure_person}
 use Rattle.lab_people.specs.Issues.{asking, confirming}
 use Rattle.lab_people.specs.declared.issues.Issued.{Issued}
 

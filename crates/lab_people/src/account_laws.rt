@@ -1,22 +1,22 @@
 //! Laws of accounts, which users rely on. Each function does nothing: its contract says the law, for all persons, sessions and
 //! moments.
 ghost use Rattle.std.specs.Prelude.{◌≡◌, ◌≢◌, ℕ, Bool, List, length, true, false, Option, Some, Ok, Err};
-ghost use Rattle.lab_names.specs.declared.tick.Tick.{Tick as AnyTick};
-ghost use Rattle.lab_access.specs.declared.persons.Person.{Person as AnyPerson};
-ghost use Rattle.lab_access.specs.declared.persons.Ask.{Ask as AnyAsk};
-ghost use Rattle.lab_access.specs.declared.sessions.Session.{Session as AnySession};
-ghost use Rattle.lab_access.specs.declared.openings.Opened.{Opened as AnyOpened};
-ghost use Rattle.lab_access.specs.declared.roles.Roles.{Roles as AnyRoles};
-ghost use Rattle.lab_access.specs.declared.sessions.Closing.{Closing as AnyClosing};
-ghost use Rattle.lab_access.specs.declared.refusals.Failure.TheVariants.{Stray};
-ghost use Rattle.lab_access.specs.declared.refusals.PeopleFault.TheVariants.{Failed};
-ghost use Rattle.lab_access.specs.declared.refusals.PeopleRefusal.TheVariants.{SamePerson, NoSuchPerson};
+ghost use Rattle.lab_forms_texts.specs.declared.tick.Tick.{Tick as AnyTick};
+ghost use Rattle.lab_people_access.specs.declared.persons.Person.{Person as AnyPerson};
+ghost use Rattle.lab_people_access.specs.declared.persons.Ask.{Ask as AnyAsk};
+ghost use Rattle.lab_people_access.specs.declared.sessions.Session.{Session as AnySession};
+ghost use Rattle.lab_people_access.specs.declared.openings.Opened.{Opened as AnyOpened};
+ghost use Rattle.lab_people_access.specs.declared.roles.Roles.{Roles as AnyRoles};
+ghost use Rattle.lab_people_access.specs.declared.sessions.Closing.{Closing as AnyClosing};
+ghost use Rattle.lab_people_access.specs.declared.refusals.Failure.TheVariants.{Stray};
+ghost use Rattle.lab_people_access.specs.declared.refusals.PeopleFault.TheVariants.{Failed};
+ghost use Rattle.lab_people_access.specs.declared.refusals.PeopleRefusal.TheVariants.{SamePerson, NoSuchPerson};
 ghost use Rattle.lab_people.specs.declared.accounts.Effect.{Effect as AnyEffect};
 ghost use Rattle.lab_people.specs.Laws.{IsNewCode, IsNewToken, IsRefused, AreClosed, own_refusal};
-ghost use Rattle.lab_access.specs.Persons.{person_of, stands};
-ghost use Rattle.lab_access.specs.Sessions.{is_live, session_of, session_after, sessions_after, touched_session, signed_session};
-ghost use Rattle.lab_access.specs.Attempts.{attempt_by, signing_attempt};
-ghost use Rattle.lab_access.specs.Openings.{opening, token_digest};
+ghost use Rattle.lab_people_access.specs.Persons.{person_of, stands};
+ghost use Rattle.lab_people_access.specs.Sessions.{is_live, session_of, session_after, sessions_after, touched_session, signed_session};
+ghost use Rattle.lab_people_access.specs.Attempts.{attempt_by, signing_attempt};
+ghost use Rattle.lab_people_access.specs.Openings.{opening, token_digest};
 ghost use Rattle.lab_people.specs.Accounts.{changing, with_new_password, enrolling, setting_roles, retiring, unlocking};
 ghost use Rattle.lab_people.specs.Issues.{asking, confirming};
 

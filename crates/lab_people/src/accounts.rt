@@ -2,9 +2,11 @@
 ghost use Rattle.std.specs.Prelude.{◌≡◌, option_copied};
 ghost use Rattle.lab_people.specs.Accounts.{changing, enrolling, person_meant, setting_roles, retiring, unlocking};
 
-use lab_access::{Closing, Password, PeopleFault, PeopleRefusal, Person, Roles, Session, attempt};
-use lab_names::{Name, PersonCode, Tick};
-use lab_secrets::salt;
+use lab_forms_texts::{Name, PersonCode, Tick};
+use lab_people_access::{
+    Closing, Password, PeopleFault, PeopleRefusal, Person, Roles, Session, attempt,
+};
+use lab_seal_hashes::salt;
 
 /// The most persons that a laboratory has.
 const PERSONS_LIMIT: u32 = 500;

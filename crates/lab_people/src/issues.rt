@@ -1,12 +1,12 @@
 //! One-time words, which two administrators give a person, each a half.
 ghost use Rattle.std.specs.Prelude.{◌≡◌};
-ghost use Rattle.lab_secrets.specs.Words.{half_of};
+ghost use Rattle.lab_seal_hashes.specs.Words.{half_of};
 ghost use Rattle.lab_people.specs.Issues.{half_verifier, asking, confirming};
 
 use crate::accounts::person_meant_by;
-use lab_access::{Ask, Closing, Password, PeopleRefusal, Person, ROUNDS};
-use lab_names::{PersonCode, Tick};
-use lab_secrets::{Half, Verifier, salt};
+use lab_forms_texts::{PersonCode, Tick};
+use lab_people_access::{Ask, Closing, Password, PeopleRefusal, Person, ROUNDS};
+use lab_seal_hashes::{Half, Verifier, salt};
 
 /// A half of a one-time word that was issued.
 #[derive(Drop)]

@@ -14,12 +14,14 @@ pub use account_laws::{
 };
 pub use accounts::{Effect, PasswordChanged, change_password, enrol, retire, set_roles, unlock};
 pub use issues::{Issued, ask_issue, confirm_issue};
-pub use lab_access::{
+pub use lab_forms_texts::{
+    Moment, MomentFault, Name, NameFault, Ordinal, OutOfMemory, PersonCode, Tick,
+};
+pub use lab_people_access::{
     Ask, Closing, Failure, Opened, Password, PeopleFault, PeopleRefusal, Person, ROUNDS, Role,
     Roles, Rule, Session, allowed, attempt, attempt_signing, live, open_session,
 };
-pub use lab_names::{Moment, MomentFault, Name, NameFault, Ordinal, OutOfMemory, PersonCode, Tick};
-pub use lab_secrets::{Digest, Half, Token, Verifier, VerifierParts, founder_salts, salt};
+pub use lab_seal_hashes::{Digest, Half, Token, Verifier, VerifierParts, founder_salts, salt};
 pub use password_laws::{
     a_lock_closes_all_sessions, a_lock_lasts_half_an_hour, an_attempt_leaves_a_lock,
     another_code_is_a_wrong_password, the_fifth_failure_locks, the_halves_make_the_word,

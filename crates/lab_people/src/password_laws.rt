@@ -2,19 +2,19 @@
 //! moments.
 ghost use Rattle.std.specs.Prelude.{◌≡◌, ◌≢◌, ℕ, Bool, ◌+◌, ◌<◌, List, [], ◌∷◌, ◌++◌, length, nat_lt, true, false, Option, Some, None, Ok, Err};
 ghost use Rattle.hex.specs.Hex.{encode_lower};
-ghost use Rattle.lab_names.specs.declared.tick.Tick.{Tick as AnyTick};
-ghost use Rattle.lab_secrets.specs.Words.{one_time_word};
-ghost use Rattle.lab_access.specs.declared.persons.Person.{Person as AnyPerson};
-ghost use Rattle.lab_access.specs.declared.sessions.Session.{Session as AnySession};
-ghost use Rattle.lab_access.specs.declared.refusals.Failure.{Failure as AnyFailure};
-ghost use Rattle.lab_access.specs.declared.refusals.Failure.TheVariants.{Locking, AlreadyLocked};
+ghost use Rattle.lab_forms_texts.specs.declared.tick.Tick.{Tick as AnyTick};
+ghost use Rattle.lab_seal_hashes.specs.Words.{one_time_word};
+ghost use Rattle.lab_people_access.specs.declared.persons.Person.{Person as AnyPerson};
+ghost use Rattle.lab_people_access.specs.declared.sessions.Session.{Session as AnySession};
+ghost use Rattle.lab_people_access.specs.declared.refusals.Failure.{Failure as AnyFailure};
+ghost use Rattle.lab_people_access.specs.declared.refusals.Failure.TheVariants.{Locking, AlreadyLocked};
 ghost use Rattle.lab_people.specs.declared.issues.Issued.{Issued as AnyIssued};
 ghost use Rattle.lab_people.specs.Laws.{Try, person_after, HasAccount, IsWrong, AreWrong, IsWordGiven, AreClosed};
-ghost use Rattle.lab_access.specs.Passwords.{accepts, serves};
-ghost use Rattle.lab_access.specs.Persons.{is_locked, unlocked_person};
-ghost use Rattle.lab_access.specs.Attempts.{attempt_by, attempt_of, signing_attempt, counted_person, locked_person};
-ghost use Rattle.lab_access.specs.Refusals.{failure_person, failure_closing};
-ghost use Rattle.lab_access.specs.Sessions.{sessions_after};
+ghost use Rattle.lab_people_access.specs.Passwords.{accepts, serves};
+ghost use Rattle.lab_people_access.specs.Persons.{is_locked, unlocked_person};
+ghost use Rattle.lab_people_access.specs.Attempts.{attempt_by, attempt_of, signing_attempt, counted_person, locked_person};
+ghost use Rattle.lab_people_access.specs.Refusals.{failure_person, failure_closing};
+ghost use Rattle.lab_people_access.specs.Sessions.{sessions_after};
 
 /// Law: wrong passwords that follow one another are counted, and the one with which five count locks. No earlier one does.
 pub fn the_fifth_failure_locks()

@@ -5,30 +5,30 @@ use Rattle.std.specs.Io.KnownBytes.{Keeps}
 use Rattle.std.proofs.lemmas.List.Elements.{All-nil}
 use Rattle.clap.specs.declared.error.kind.ErrorKind.TheVariants.{OutOfMemory}
 use Rattle.sqlite_trees.specs.declared.store.Store.{Ghosts}
-use Rattle.lab_names.specs.Faults.{memory_entry}
-use Rattle.lab_names.specs.Names.{is_lab_code}
-use Rattle.lab_messages.specs.declared.sending.WriteFault.{WriteFault as Untold}
-use Rattle.lab_kept.specs.declared.changes.Change.{Change}
-use Rattle.lab_kept.specs.Worlds.{World}
-use Rattle.lab_runs.specs.Runs.{IsAnswer}
-use Rattle.lab_events.specs.declared.fault.ReplayFault.TheVariants.{Memory as ReplayMemory}
-use Rattle.lab_events.specs.Event.{next_event}
-use Rattle.lab_events.specs.Replay.{BeginsWith, Stops, Tells as TellsReplay}
-use Rattle.lab_rows.specs.Copies.{verdict}
-use Rattle.lab_checks.specs.Checks.{rows_of}
-use Rattle.lab_verdicts.specs.declared.faults.StopFault.TheVariants.{Memory as StopMemory}
-use Rattle.lab_verdicts.specs.Verdicts.{IsCheck}
-use Rattle.lab_shelves.specs.Faults.{unopened_fault}
-use Rattle.lab_installations.specs.FileWorlds.{file_moves, file_places, file_rests, file_world}
-use Rattle.lab_shelves.specs.Files.{IsOpened, IsOurs}
-use Rattle.lab_installations.specs.Foundings.{Drawing}
-use Rattle.lab_replays.specs.Replays.{IsReplay, ReplaysFromNothing}
-use Rattle.lab_installations.specs.Serving.{ServesFile}
+use Rattle.lab_forms_texts.specs.Faults.{memory_entry}
+use Rattle.lab_forms_texts.specs.Names.{is_lab_code}
+use Rattle.lab_wire_heads.specs.declared.sending.WriteFault.{WriteFault as Untold}
+use Rattle.lab_records_kept.specs.declared.changes.Change.{Change}
+use Rattle.lab_records_kept.specs.Worlds.{World}
+use Rattle.lab_desk_runs.specs.Runs.{IsAnswer}
+use Rattle.lab_program_replay.specs.declared.fault.ReplayFault.TheVariants.{Memory as ReplayMemory}
+use Rattle.lab_program_replay.specs.Event.{next_event}
+use Rattle.lab_program_replay.specs.Replay.{BeginsWith, Stops, Tells as TellsReplay}
+use Rattle.lab_copy_rows.specs.Copies.{verdict}
+use Rattle.lab_copy.specs.Checks.{rows_of}
+use Rattle.lab_program_check.specs.declared.faults.StopFault.TheVariants.{Memory as StopMemory}
+use Rattle.lab_program_check.specs.Verdicts.{IsCheck}
+use Rattle.lab_program_shelves.specs.Faults.{unopened_fault}
+use Rattle.lab_program_files.specs.FileWorlds.{file_moves, file_places, file_rests, file_world}
+use Rattle.lab_program_shelves.specs.Files.{IsOpened, IsOurs}
+use Rattle.lab_program_files.specs.Foundings.{Drawing}
+use Rattle.lab_program_replay.specs.Replays.{IsReplay, ReplaysFromNothing}
+use Rattle.lab_program_files.specs.Serving.{ServesFile}
 use Rattle.lab_program.specs.CommandLine.{IsDone}
-use Rattle.lab_words_explained.specs.Explaining.{Stopped}
+use Rattle.lab_program_app.specs.Explaining.{Stopped}
 use Rattle.lab_program.specs.Laboratories.{IsCopiedIf, body_in}
 use Rattle.lab_program.proofs.UnbegunLemmas.{IsUnbegun, declines_task, never_begun, no_copying, no_founding, no_rehearsal, printed_none}
-use Rattle.lab_words.specs.Tasks.{Asked, founds, serves, copies, checks, replays, rehearses}
+use Rattle.lab_program_words.specs.Tasks.{Asked, founds, serves, copies, checks, replays, rehearses}
 
 -- ---- each task, not begun
 

@@ -2,9 +2,9 @@
 -- is no laboratory's code (docs/FORMATS.md).
 use Rattle.std.proofs.Common.{◌≡◌, refl, List, ℕ, codes, Some, None}
 use Rattle.std.specs.Prelude.{Option, Result}
-use Rattle.lab_names.specs.Names.{is_lab_code}
-use Rattle.lab_names.specs.declared.faults.NameFault.{NameFault}
-use Rattle.lab_messages.specs.declared.sending.WriteFault.{WriteFault as Untold}
+use Rattle.lab_forms_texts.specs.Names.{is_lab_code}
+use Rattle.lab_forms_texts.specs.declared.faults.NameFault.{NameFault}
+use Rattle.lab_wire_heads.specs.declared.sending.WriteFault.{WriteFault as Untold}
 use Rattle.lab_program.specs.Laboratories.{body_in, OfCode}
 
 pub known_bodies : (body_in None ≡ None) × (body_in (Some (codes "{}")) ≡ Some (codes "{}"))

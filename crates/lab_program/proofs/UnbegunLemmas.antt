@@ -4,20 +4,20 @@ use Rattle.std.proofs.Common.{◌≡◌, ℕ, List, [], Option, Some, None, Resu
 use Rattle.std.specs.Prelude.{IfSome}
 use Rattle.std.specs.Io.KnownBytes.{Appends, Keeps}
 use Rattle.std.proofs.KnownBytes.{Appends-kept, Appends-nil}
-use Rattle.lab_names.specs.Faults.{NameFaultFits, memory_entry, name_fault_entry}
-use Rattle.lab_names.specs.Names.{is_lab_code}
-use Rattle.lab_names.specs.declared.faults.NameFault.{NameFault}
-use Rattle.lab_names.specs.declared.faults.NameFault.TheVariants.{BadName, Memory as NoMemory}
-use Rattle.lab_messages.specs.declared.sending.WriteFault.{WriteFault as Untold}
-use Rattle.lab_kept.specs.declared.labs.Lab.{Lab}
-use Rattle.lab_kept.specs.Worlds.{World}
-use Rattle.lab_rehearsals.specs.Tasks.{FoundsBy, IsRehearsal}
-use Rattle.lab_outside.specs.declared.faults.RehearsalFault.TheVariants.{Server as RehearsalServer}
-use Rattle.lab_outside.specs.declared.faults.ServerFault.TheVariants.{Memory as ServerMemory}
-use Rattle.lab_shelves.specs.Faults.{Declines as DeclinesTask, unopened_fault}
-use Rattle.lab_installations.specs.Copying.{IsCopying}
-use Rattle.lab_installations.specs.Foundings.{Drawing, IsFounding}
-use Rattle.lab_words_explained.specs.Explaining.{Stopped}
+use Rattle.lab_forms_texts.specs.Faults.{NameFaultFits, memory_entry, name_fault_entry}
+use Rattle.lab_forms_texts.specs.Names.{is_lab_code}
+use Rattle.lab_forms_texts.specs.declared.faults.NameFault.{NameFault}
+use Rattle.lab_forms_texts.specs.declared.faults.NameFault.TheVariants.{BadName, Memory as NoMemory}
+use Rattle.lab_wire_heads.specs.declared.sending.WriteFault.{WriteFault as Untold}
+use Rattle.lab_records_kept.specs.declared.labs.Lab.{Lab}
+use Rattle.lab_records_kept.specs.Worlds.{World}
+use Rattle.lab_program_serve.specs.RehearseTask.{FoundsBy, IsRehearsal}
+use Rattle.lab_program_outside.specs.declared.faults.RehearsalFault.TheVariants.{Server as RehearsalServer}
+use Rattle.lab_program_outside.specs.declared.faults.ServerFault.TheVariants.{Memory as ServerMemory}
+use Rattle.lab_program_shelves.specs.Faults.{Declines as DeclinesTask, unopened_fault}
+use Rattle.lab_program_files.specs.Copying.{IsCopying}
+use Rattle.lab_program_files.specs.Foundings.{Drawing, IsFounding}
+use Rattle.lab_program_app.specs.Explaining.{Stopped}
 use Rattle.lab_program.specs.Laboratories.{Declines, OfCode, OfCodeIf}
 
 -- ---- of a code

@@ -1,17 +1,17 @@
 -- What `labdesk` does for words that ask for a task.
 use Rattle.std.specs.Prelude.{ℕ, List, Option, Result, IfSome, nat_le}
 use Rattle.sqlite_trees.specs.declared.store.Store.{Ghosts}
-use Rattle.lab_messages.specs.declared.sending.WriteFault.{WriteFault as Untold}
-use Rattle.lab_rows.specs.Copies.{verdict}
-use Rattle.lab_checks.specs.Checks.{rows_of}
-use Rattle.lab_verdicts.specs.Verdicts.{IsCheck}
-use Rattle.lab_installations.specs.FileWorlds.{file_moves, file_rests, file_world}
-use Rattle.lab_shelves.specs.Files.{IsOurs}
-use Rattle.lab_installations.specs.Foundings.{Drawing}
-use Rattle.lab_replays.specs.Replays.{IsReplay}
-use Rattle.lab_installations.specs.Serving.{ServesFile}
+use Rattle.lab_wire_heads.specs.declared.sending.WriteFault.{WriteFault as Untold}
+use Rattle.lab_copy_rows.specs.Copies.{verdict}
+use Rattle.lab_copy.specs.Checks.{rows_of}
+use Rattle.lab_program_check.specs.Verdicts.{IsCheck}
+use Rattle.lab_program_files.specs.FileWorlds.{file_moves, file_rests, file_world}
+use Rattle.lab_program_shelves.specs.Files.{IsOurs}
+use Rattle.lab_program_files.specs.Foundings.{Drawing}
+use Rattle.lab_program_replay.specs.Replays.{IsReplay}
+use Rattle.lab_program_files.specs.Serving.{ServesFile}
 use Rattle.lab_program.specs.Laboratories.{IsCopiedIf, IsFounded, IsRehearsed, body_in}
-use Rattle.lab_words.specs.Tasks.{Asked, founds, serves, copies, checks, replays, rehearses}
+use Rattle.lab_program_words.specs.Tasks.{Asked, founds, serves, copies, checks, replays, rehearses}
 
 module _ {S : Type 0} (disk : Ghosts S)
     (before after told_before told_after : Option (List ℕ)) (status : Result ℕ Untold) where

@@ -3,17 +3,17 @@ use Rattle.std.specs.Prelude.{ℕ, Bool, true, false, List, [], ◌∷◌, Optio
 use Rattle.std.specs.Io.KnownBytes.{Keeps}
 use Rattle.clap.specs.declared.error.kind.ErrorKind.TheVariants.{ValueValidation}
 use Rattle.sqlite_trees.specs.declared.store.Store.{Ghosts}
-use Rattle.lab_names.specs.Faults.{name_fault_entry}
-use Rattle.lab_names.specs.Names.{is_lab_code}
-use Rattle.lab_names.specs.declared.faults.NameFault.{NameFault}
-use Rattle.lab_messages.specs.declared.sending.WriteFault.{WriteFault as Untold}
-use Rattle.lab_outside.specs.Faults.{Tells}
-use Rattle.lab_rehearsals.specs.Tasks.{IsRehearsal}
-use Rattle.lab_shelves.specs.Files.{IsOpened, IsOurs}
-use Rattle.lab_installations.specs.Copying.{IsCopying}
-use Rattle.lab_installations.specs.FileWorlds.{file_places, file_rests, file_world}
-use Rattle.lab_installations.specs.Foundings.{Drawing, IsFounding}
-use Rattle.lab_words_explained.specs.Explaining.{IsExplained}
+use Rattle.lab_forms_texts.specs.Faults.{name_fault_entry}
+use Rattle.lab_forms_texts.specs.Names.{is_lab_code}
+use Rattle.lab_forms_texts.specs.declared.faults.NameFault.{NameFault}
+use Rattle.lab_wire_heads.specs.declared.sending.WriteFault.{WriteFault as Untold}
+use Rattle.lab_program_outside.specs.Faults.{Tells}
+use Rattle.lab_program_serve.specs.RehearseTask.{IsRehearsal}
+use Rattle.lab_program_shelves.specs.Files.{IsOpened, IsOurs}
+use Rattle.lab_program_files.specs.Copying.{IsCopying}
+use Rattle.lab_program_files.specs.FileWorlds.{file_places, file_rests, file_world}
+use Rattle.lab_program_files.specs.Foundings.{Drawing, IsFounding}
+use Rattle.lab_program_app.specs.Explaining.{IsExplained}
 
 -- the most bytes of a body
 abbrev pub body_limit : ℕ

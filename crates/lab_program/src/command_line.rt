@@ -2,21 +2,21 @@
 
 ghost use Rattle.std.specs.Prelude.{map};
 ghost use Rattle.clap.specs.Words.{fault_of};
-ghost use Rattle.lab_installations.specs.Foundings.{drawing_of};
-ghost use Rattle.lab_words_commands.specs.Apps.{labdesk_app};
+ghost use Rattle.lab_program_files.specs.Foundings.{drawing_of};
+ghost use Rattle.lab_program_app.specs.Apps.{labdesk_app};
 ghost use Rattle.lab_program.specs.CommandLine.{IsDone};
-ghost use Rattle.lab_words_explained.specs.Explaining.{IsExplained};
-ghost use Rattle.lab_words.specs.Tasks.{Asked, Asks, IsTask};
+ghost use Rattle.lab_program_app.specs.Explaining.{IsExplained};
+ghost use Rattle.lab_program_words.specs.Tasks.{Asked, Asks, IsTask};
 
 use crate::hosts::Host;
 use crate::laboratories::{copy_for, found_for, rehearse_for};
-use lab_installations::{Closing, Progress, Shelf, serve};
-use lab_messages::WriteFault;
-use lab_outside::{Chance, Clock};
-use lab_replays::replay;
-use lab_verdicts::check;
-use lab_words::{Task, task_of};
-use lab_words_explained::explain;
+use lab_program_app::explain;
+use lab_program_check::check;
+use lab_program_files::{Closing, Progress, Shelf, serve};
+use lab_program_outside::{Chance, Clock};
+use lab_program_replay::replay;
+use lab_program_words::{Task, task_of};
+use lab_wire_heads::WriteFault;
 use sqlite::Connection;
 use std::alloc::Global;
 use std::convert::AsStr;

@@ -1,19 +1,19 @@
 //! Tasks of one laboratory, which the words name by a text.
 
 ghost use Rattle.std.specs.Prelude.{◌≡◌, ℕ, pos, List, IsTrue, Err, nat_le};
-ghost use Rattle.lab_names.specs.Moment.{is_moment};
-ghost use Rattle.lab_names.specs.Ordinals.{is_ordinal};
-ghost use Rattle.lab_outside.specs.Faults.{Tells};
-ghost use Rattle.lab_installations.specs.Foundings.{drawing_of};
+ghost use Rattle.lab_forms_texts.specs.Moment.{is_moment};
+ghost use Rattle.lab_forms_texts.specs.Ordinals.{is_ordinal};
+ghost use Rattle.lab_program_outside.specs.Faults.{Tells};
+ghost use Rattle.lab_program_files.specs.Foundings.{drawing_of};
 ghost use Rattle.lab_program.specs.Laboratories.{IsCopied, IsCopiedIf, IsFounded, IsRehearsed, body_in};
 
 use crate::hosts::Host;
-use lab_installations::{Closing, Progress, Shelf, copy, found};
-use lab_messages::WriteFault;
-use lab_names::{LabCode, Moment, Ordinal};
-use lab_outside::{Chance, Clock, tell};
-use lab_rehearsals::rehearse;
-use lab_words_explained::explain_order;
+use lab_forms_texts::{LabCode, Moment, Ordinal};
+use lab_program_app::explain_order;
+use lab_program_files::{Closing, Progress, Shelf, copy, found};
+use lab_program_outside::{Chance, Clock, tell};
+use lab_program_serve::rehearse;
+use lab_wire_heads::WriteFault;
 use sqlite::Connection;
 use std::alloc::Global;
 use std::io::{Read, Write};

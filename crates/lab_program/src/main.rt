@@ -8,7 +8,7 @@ mod laboratories;
 
 use command_line::labdesk;
 use hosts::Host;
-use lab_installations::{HostShelf, SystemChance, SystemClock, TerminalProgress};
+use lab_program_files::{HostShelf, SystemChance, SystemClock, TerminalProgress};
 use std::io;
 use std::process::ExitCode;
 

@@ -1,2 +1,3 @@
-pub mod Seals
-pub mod States
+pub mod Faults
+pub mod Parts
+pub mod Reading

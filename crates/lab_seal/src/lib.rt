@@ -1,16 +1,11 @@
-//! The seals of signatures, and the states that signatures make. The names of `lab_versions`, whose texts are signed, are passed
-//! on.
+//! The text of a version as it is read: its items, its parts, and which bytes are the text of which version.
+//! The calls of the crates below that hash, sign and write are passed on.
 #![tactic(auto)]
 
-mod sealing;
-mod seals;
-mod states;
+mod faults;
+pub mod fields;
+pub mod parts;
+mod reading;
 
-pub use lab_versions::{
-    Amendment, Digest, EntryRow, EntryRows, Format, Half, Key, LabCode, Moment, Name, NameFault,
-    Note, Ordinal, Origin, OriginParts, OutOfMemory, PersonCode, Tick, Token, Unit, Verifier,
-    VerifierParts, VersionParts, digest, founder_salts, hmac, pbkdf2, salt, write_version,
-};
-pub use sealing::seal;
-pub use seals::{Meaning, Seal, SealParts};
-pub use states::{State, state_of};
+pub use faults::TextFault;
+pub use reading::{one_spelling, read_version};

@@ -3,24 +3,24 @@ use Rattle.std.proofs.Common.{◌≡◌, ℕ, List, Result, IsTrue, sym, subst, 
 use Rattle.sqlite_trees.specs.declared.store.Store.{Ghosts}
 use Rattle.sqlite.specs.Held.{Held, state}
 use Rattle.sqlite.specs.State.{State}
-use Rattle.lab_kept.specs.declared.births.Newborn.{Newborn}
-use Rattle.lab_kept.specs.declared.changes.Change.{Change}
-use Rattle.lab_kept.specs.declared.labs.Lab.{Lab}
-use Rattle.lab_kept.specs.Births.{newborn_lab}
-use Rattle.lab_kept.specs.Changes.{ChangesFit}
-use Rattle.lab_kept.specs.Worlds.{Meaning, SameMeaning, Changes, Places}
-use Rattle.lab_tables.specs.Rows.{Tables}
-use Rattle.lab_tables.specs.Meaning.{meaning}
-use Rattle.lab_tables.specs.WellKept.{IsWellKept, is_desk}
-use Rattle.lab_tables.specs.Held.{AreRising}
-use Rattle.lab_tables.specs.Ready.{IsReady}
-use Rattle.lab_tables_keeping.proofs.DeskStays.{desk_stays_at_placing}
-use Rattle.lab_tables_placing.proofs.Founded.{founded_is_placed}
-use Rattle.lab_tables_changes.specs.Steps.{AreMadeIfAny}
-use Rattle.lab_tables_changes.proofs.AllChanges.{rows_changed}
-use Rattle.lab_commits.specs.Commits.{Ends}
-use Rattle.lab_commits.specs.Commits as founding
-use Rattle.lab_commits.specs.Founding.{IsPlacedBy}
+use Rattle.lab_records_kept.specs.declared.births.Newborn.{Newborn}
+use Rattle.lab_records_kept.specs.declared.changes.Change.{Change}
+use Rattle.lab_records_kept.specs.declared.labs.Lab.{Lab}
+use Rattle.lab_records_kept.specs.Births.{newborn_lab}
+use Rattle.lab_records_kept.specs.Changes.{ChangesFit}
+use Rattle.lab_records_kept.specs.Worlds.{Meaning, SameMeaning, Changes, Places}
+use Rattle.lab_store_tables.specs.Rows.{Tables}
+use Rattle.lab_store_tables.specs.Meaning.{meaning}
+use Rattle.lab_store_tables.specs.WellKept.{IsWellKept, is_desk}
+use Rattle.lab_store_tables.specs.Held.{AreRising}
+use Rattle.lab_store_tables.specs.Ready.{IsReady}
+use Rattle.lab_store_laws.proofs.DeskStays.{desk_stays_at_placing}
+use Rattle.lab_store_laws.proofs.Founded.{founded_is_placed}
+use Rattle.lab_store_laws.specs.Steps.{AreMadeIfAny}
+use Rattle.lab_store_laws.proofs.AllChanges.{rows_changed}
+use Rattle.lab_store.specs.Commits.{Ends}
+use Rattle.lab_store.specs.Commits as founding
+use Rattle.lab_store.specs.Founding.{IsPlacedBy}
 
 pub changes_as : (code : List ℕ) (changes : List Change) (old made held : Meaning) → Changes code changes old made → SameMeaning made held → Changes code changes old held
 changes_as code changes old made held it same = record {

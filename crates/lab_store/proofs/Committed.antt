@@ -3,13 +3,13 @@ use Rattle.std.proofs.Common.{◌≡◌, ◌⊎◌, inl, inr, ℕ, List, Result,
 use Rattle.sqlite_trees.specs.Tree.{Trees}
 use Rattle.sqlite.specs.Effect.{Database}
 use Rattle.sqlite.specs.State.{State, HasCleanDisk}
-use Rattle.lab_kept.specs.Worlds.{Meaning, SameMeaning, Leaves, Lives, CommitsAs, StaysSafe}
-use Rattle.lab_tables.specs.Rows.{Tables, tables_in}
-use Rattle.lab_tables.specs.Meaning.{meaning}
-use Rattle.lab_tables.specs.WellKept.{IsWellKept}
-use Rattle.lab_tables.specs.Held.{AreRising}
-use Rattle.lab_tables.specs.Ready.{IsKept, IsReady, IsMadeBy, tables_of}
-use Rattle.lab_commits.specs.Commits.{Ends}
+use Rattle.lab_records_kept.specs.Worlds.{Meaning, SameMeaning, Leaves, Lives, CommitsAs, StaysSafe}
+use Rattle.lab_store_tables.specs.Rows.{Tables, tables_in}
+use Rattle.lab_store_tables.specs.Meaning.{meaning}
+use Rattle.lab_store_tables.specs.WellKept.{IsWellKept}
+use Rattle.lab_store_tables.specs.Held.{AreRising}
+use Rattle.lab_store_tables.specs.Ready.{IsKept, IsReady, IsMadeBy, tables_of}
+use Rattle.lab_store.specs.Commits.{Ends}
 use Rattle.lab_store.specs.StoreWorlds.{world_of, SameRows}
 
 -- by a step of well-kept tables that means this of the laboratories and leaves them well kept

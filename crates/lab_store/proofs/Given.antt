@@ -3,10 +3,10 @@ use Rattle.std.proofs.Common.{◌≡◌, IsTrue, ap}
 use Rattle.sqlite_trees.specs.declared.store.Store.{Ghosts}
 use Rattle.sqlite_trees.specs.Tree.{Trees}
 use Rattle.sqlite.specs.Held.{Held, state}
-use Rattle.lab_walks.specs.Resting.{IsRead}
-use Rattle.lab_tables.specs.Rows.{Tables}
-use Rattle.lab_tables.specs.Meaning.{meaning}
-use Rattle.lab_tables.specs.Ready.{PassesBy}
+use Rattle.lab_records_walks.specs.Resting.{IsRead}
+use Rattle.lab_store_tables.specs.Rows.{Tables}
+use Rattle.lab_store_tables.specs.Meaning.{meaning}
+use Rattle.lab_store_tables.specs.Ready.{PassesBy}
 use Rattle.lab_store.specs.StoreWorlds.{store_world, store_rests}
 use Rattle.lab_store.proofs.Settled.{rows_stay}
 use Rattle.lab_store.proofs.Turns.{world_passes, quiet_by, safe_by}

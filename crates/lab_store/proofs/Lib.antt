@@ -1,6 +1,11 @@
+mod After
+mod Applied
+mod Commits
+mod Committed
+mod Endings
+mod Given
+pub mod KnownCommits
+pub mod KnownStores
+mod Placed
 mod Settled
 mod Turns
-mod Committed
-mod Applied
-mod Given
-pub mod KnownValues

@@ -1,10 +1,10 @@
 -- What a call of the keeper promises, of what a call on its connection does.
 use Rattle.std.proofs.Common.{Result, Ok, Err, OnOk}
 use Rattle.sqlite.specs.State.{State, HasCleanDisk, IsUnchanged}
-use Rattle.lab_kept.specs.declared.faults.KeeperFault.{KeeperFault}
-use Rattle.lab_kept.specs.declared.faults.KeeperFault.TheVariants.{Storage, Memory}
-use Rattle.lab_kept.specs.Worlds.{Passes, Quiet, StaysSafe, Lives, KeeperFaultFits}
-use Rattle.lab_tables.specs.Ready.{IsReady, PassesBy}
+use Rattle.lab_records_kept.specs.declared.faults.KeeperFault.{KeeperFault}
+use Rattle.lab_records_kept.specs.declared.faults.KeeperFault.TheVariants.{Storage, Memory}
+use Rattle.lab_records_kept.specs.Worlds.{Passes, Quiet, StaysSafe, Lives, KeeperFaultFits}
+use Rattle.lab_store_tables.specs.Ready.{IsReady, PassesBy}
 use Rattle.lab_store.specs.StoreWorlds.{world_of}
 
 -- ---- a call that reads

@@ -1,2 +1,4 @@
-pub mod StoreWorlds
+pub mod Commits
+pub mod Founding
 pub mod StoreLaws
+pub mod StoreWorlds

@@ -5,13 +5,13 @@ use Rattle.std.proofs.lemmas.Slice.Eq.{bytes_eq-Decides}
 use Rattle.sqlite_rules.proofs.ListLemmas.{has_found}
 use Rattle.sqlite_trees.specs.Tree.{Trees}
 use Rattle.sqlite.specs.Effect.{Database}
-use Rattle.lab_kept.specs.declared.labs.Lab.{Lab}
-use Rattle.lab_kept.specs.declared.changes.Change.{Change}
-use Rattle.lab_kept.specs.Worlds.{Meaning, SameMeaning}
-use Rattle.lab_tables.specs.Rows.{LabRow, Tables, tables_in}
-use Rattle.lab_tables.specs.Meaning.{lab_in, has_code, meaning}
-use Rattle.lab_tables.specs.Ready.{IsKept}
-use Rattle.lab_tables_changes.specs.Steps.{AreMadeIfAny}
+use Rattle.lab_records_kept.specs.declared.labs.Lab.{Lab}
+use Rattle.lab_records_kept.specs.declared.changes.Change.{Change}
+use Rattle.lab_records_kept.specs.Worlds.{Meaning, SameMeaning}
+use Rattle.lab_store_tables.specs.Rows.{LabRow, Tables, tables_in}
+use Rattle.lab_store_tables.specs.Meaning.{lab_in, has_code, meaning}
+use Rattle.lab_store_tables.specs.Ready.{IsKept}
+use Rattle.lab_store_laws.specs.Steps.{AreMadeIfAny}
 
 own_code_by : (t : Tables) (code : List ℕ) (found : Option LabRow) (lab : Lab) →
     find (has_code code) t.labs ≡ found → option_map (lab_in t) found ≡ Some lab → lab.code ≡ code

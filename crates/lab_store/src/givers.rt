@@ -1,18 +1,18 @@
 //! How the rows of a record go out of the store, for an inspection copy.
 
 ghost use Rattle.std.specs.Prelude.{◌≡◌, ◌≤◌, IfErr, OnOk, option_to_list};
-ghost use Rattle.lab_copy.specs.Outs.{Sends};
-ghost use Rattle.lab_kept.specs.Worlds.{Given, Lives};
-ghost use Rattle.lab_names.specs.Ordinals.{last_ordinal};
-ghost use Rattle.lab_rows.specs.Csv.{csv_text};
-ghost use Rattle.lab_walks.specs.Faults.{CopyFaultFits};
-ghost use Rattle.lab_walks.specs.Resting.{IsRead};
-ghost use Rattle.lab_walks.specs.Walks.{counted_all, record_at, record_rows};
+ghost use Rattle.lab_copy_rows.specs.Outs.{Sends};
+ghost use Rattle.lab_records_kept.specs.Worlds.{Given, Lives};
+ghost use Rattle.lab_forms_texts.specs.Ordinals.{last_ordinal};
+ghost use Rattle.lab_copy_rows.specs.Csv.{csv_text};
+ghost use Rattle.lab_records_walks.specs.Faults.{CopyFaultFits};
+ghost use Rattle.lab_records_walks.specs.Resting.{IsRead};
+ghost use Rattle.lab_records_walks.specs.Walks.{counted_all, record_at, record_rows};
 
 use crate::store::Store;
-use lab_copy::CopyOut;
-use lab_names::{LabCode, Ordinal};
-use lab_walks::{CopyOutFault, RecordGiver};
+use lab_copy_rows::CopyOut;
+use lab_forms_texts::{LabCode, Ordinal};
+use lab_records_walks::{CopyOutFault, RecordGiver};
 use sqlite::Alter;
 use std::alloc::Global;
 use std::io::Write;

@@ -1,9 +1,17 @@
-//! Laboratories in the tables of a SQLite file, as a keeper: each call of the desk is one read, or one commit (21 CFR 11.10(c)
-//! and (e); ISO/IEC 17025:2017, 7.11.3 and 8.4.2).
+//! Laboratories in the tables of a SQLite file, as a keeper: each call of the desk is one read, or one
+//! commit, all of it or none (21 CFR 11.10(c) and (e); ISO/IEC 17025:2017, 7.11.3 and 8.4.2).
 #![tactic(auto)]
 
+mod applying;
+mod founding;
 mod givers;
+mod inside;
+mod places;
 mod store;
+mod tables;
 
+pub use applying::apply;
+pub use founding::found;
 pub use givers::OneVersionAtATime;
 pub use store::Store;
+pub use tables::Tables;

@@ -2,28 +2,28 @@
 
 ghost use Rattle.std.specs.Prelude.{◌≡◌, IfErr, OnOk, option_to_list};
 ghost use Rattle.sqlite.specs.Held.{state};
-ghost use Rattle.lab_copy.specs.Outs.{Sends};
-ghost use Rattle.lab_kept.specs.Worlds.{Given, Lives};
-ghost use Rattle.lab_rows.specs.Csv.{csv_text};
+ghost use Rattle.lab_copy_rows.specs.Outs.{Sends};
+ghost use Rattle.lab_records_kept.specs.Worlds.{Given, Lives};
+ghost use Rattle.lab_copy_rows.specs.Csv.{csv_text};
 ghost use Rattle.lab_store.specs.StoreWorlds.{store_rests, store_world};
-ghost use Rattle.lab_tables.specs.Ready.{IsAtRest};
-ghost use Rattle.lab_walks.specs.Faults.{CopyFaultFits};
-ghost use Rattle.lab_walks.specs.Resting.{IsRead};
-ghost use Rattle.lab_walks.specs.Walks.{counted_all, record_at, record_rows};
+ghost use Rattle.lab_store_tables.specs.Ready.{IsAtRest};
+ghost use Rattle.lab_records_walks.specs.Faults.{CopyFaultFits};
+ghost use Rattle.lab_records_walks.specs.Resting.{IsRead};
+ghost use Rattle.lab_records_walks.specs.Walks.{counted_all, record_at, record_rows};
 
-use lab_commits::{Tables, apply, found};
-use lab_copy::CopyOut;
-use lab_kept::{Change, Keeper, KeeperFault, Need, Newborn, PlacingFault, Series, Slice};
-use lab_loading::load;
-use lab_names::{LabCode, Ordinal};
-use lab_pages::give_record_at;
-use lab_walks::CopyOutFault;
+use crate::{Tables, apply, found};
+use lab_copy_rows::CopyOut;
+use lab_forms_texts::{LabCode, Ordinal};
+use lab_records_kept::{Change, Keeper, KeeperFault, Need, Newborn, PlacingFault, Series, Slice};
+use lab_records_walks::CopyOutFault;
+use lab_store_load::load;
+use lab_store_pages::give_record_at;
 use sqlite::{Alter, Connection};
 use std::alloc::Global;
 use std::io::Write;
 use std::marker::Model;
 
-/// The laboratories of a file, over a connection at rest that was created or opened by `lab_files`.
+/// The laboratories of a file, over a connection at rest that was created or opened by `lab_store_files`.
 pub struct Store<S: Alter> {
     tables: Tables<S>,
     alloc: Global,
@@ -41,7 +41,7 @@ impl<S: Alter + Drop> Drop for Store<S> {
 
 impl<S: Alter> Model for Store<S> {
     ghost use Rattle.sqlite.specs.Held.{Held, held_code, state};
-    ghost use Rattle.lab_tables.specs.Ready.{IsAtRest};
+    ghost use Rattle.lab_store_tables.specs.Ready.{IsAtRest};
 
     ghost Value = { Held S };
 
@@ -114,9 +114,9 @@ impl<S: Alter> Keeper for Store<S> {
     ghost use Rattle.std.specs.Prelude.{◌≡◌, refl};
     ghost use Rattle.std.proofs.Common.{◌∙◌, inl};
     ghost use Rattle.sqlite.specs.Held.{state};
-    ghost use Rattle.lab_tables.specs.Ready.{tables_of};
-    ghost use Rattle.lab_tables.specs.Placing.{PlacesLab};
-    ghost use Rattle.lab_tables_changes.specs.Steps.{AreMadeIfAny};
+    ghost use Rattle.lab_store_tables.specs.Ready.{tables_of};
+    ghost use Rattle.lab_store_tables.specs.Placing.{PlacesLab};
+    ghost use Rattle.lab_store_laws.specs.Steps.{AreMadeIfAny};
     ghost use Rattle.lab_store.specs.StoreWorlds.{world_of};
     ghost use Rattle.lab_store.specs.StoreLaws.{own_code, own_code_left, made_after_rest};
 

@@ -1,11 +1,11 @@
 -- What bytes ask, by what their request asks.
 use Rattle.std.proofs.Common.{◌≡◌, ℕ, List, Ok, Err, ap, ◌∙◌}
-use Rattle.lab_heads.specs.declared.refusals.HeadRefusal.{HeadRefusal}
-use Rattle.lab_heads.specs.Requests.{RequestParts, request_in}
-use Rattle.lab_routes.specs.declared.commands.Asked.{Asked}
-use Rattle.lab_routes.specs.declared.refusals.RouteFault.{RouteFault}
-use Rattle.lab_routes.specs.declared.refusals.RouteFault.TheVariants as routes
-use Rattle.lab_routes.specs.Commands.{command_asked, RouteFaultFits}
+use Rattle.lab_wire_heads.specs.declared.refusals.HeadRefusal.{HeadRefusal}
+use Rattle.lab_wire_heads.specs.Requests.{RequestParts, request_in}
+use Rattle.lab_wire.specs.declared.commands.Asked.{Asked}
+use Rattle.lab_wire.specs.declared.route_refusals.RouteFault.{RouteFault}
+use Rattle.lab_wire.specs.declared.route_refusals.RouteFault.TheVariants as routes
+use Rattle.lab_wire.specs.Commands.{command_asked, RouteFaultFits}
 use Rattle.lab_wire.specs.declared.refusals.RequestRefusal.TheVariants.{Head, Route}
 use Rattle.lab_wire.specs.declared.refusals.RequestFault.{RequestFault}
 use Rattle.lab_wire.specs.declared.refusals.RequestFault.TheVariants.{Refused, Memory}

@@ -1,3 +1,11 @@
 pub mod AskLemmas
-pub mod KnownValues
+pub mod CommandLemmas
+pub mod KnownRequests
+pub mod KnownRoutes
+pub mod MemoryLaws
+pub mod NumberLemmas
+pub mod Parts
+pub mod PathLemmas
+pub mod QueryLemmas
 pub mod ReplyLemmas
+pub mod TableLemmas

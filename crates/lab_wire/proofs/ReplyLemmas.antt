@@ -2,10 +2,10 @@
 -- of its parts.
 use Rattle.std.proofs.Common.{◌≡◌, ℕ, List, [], Some, false, refl}
 use Rattle.serde_json.specs.Written.{has_float}
-use Rattle.lab_names.specs.Faults.{Entry}
-use Rattle.lab_names.specs.declared.tick.Tick.{Tick}
-use Rattle.lab_messages.specs.Messages.{message_text}
-use Rattle.lab_replies_parts.specs.Refusals.{refused_data}
+use Rattle.lab_forms_texts.specs.Faults.{Entry}
+use Rattle.lab_forms_texts.specs.declared.tick.Tick.{Tick}
+use Rattle.lab_wire_heads.specs.Messages.{message_text}
+use Rattle.lab_wire_replies.specs.Refusals.{refused_data}
 use Rattle.lab_wire.specs.declared.replies.Answer.{Answer}
 use Rattle.lab_wire.specs.Statuses.{answer_status}
 use Rattle.lab_wire.specs.Replies.{answer_type, answer_text, further_fields, reply_text}

@@ -2,25 +2,25 @@
 -- those of the definitions named here, in this order, and the first that fails is the refusal (RFC
 -- 9112, sections 2 to 6; docs/HTTP.md has the same list):
 --
---   head_too_long     is_over_limits                 lab_heads: Heads
---   bad_head          head_of, keeps_host_rule       lab_heads: Heads
---   bad_head          is_repeated, of two fields     lab_heads: Lengths, head_checks
+--   head_too_long     is_over_limits                 lab_wire_heads: Heads
+--   bad_head          head_of, keeps_host_rule       lab_wire_heads: Heads
+--   bad_head          is_repeated, of two fields     lab_wire_heads: Lengths, head_checks
 --   transfer_coding   has_field                      the same
 --   bad_head          is_length_good                 the same
 --   length_wanted     is_post                        the same
 --   body_too_long     body_length                    the same
---   short_body        body_end                       lab_heads: Requests
---   no_route          behind, is_lab_code, is_place  lab_routes: Routes
---   method            row_of                         lab_routes: Routes
---   bad_body          range_in                       lab_routes: Queries
+--   short_body        body_end                       lab_wire_heads: Requests
+--   no_route          behind, is_lab_code, is_place  lab_wire: Routes
+--   method            row_of                         lab_wire: Routes
+--   bad_body          range_in                       lab_wire: Queries
 --   bad_body, bad_name, and what is wrong with a form or with keys
---                     body_named                     lab_bodies: Bodies
+--                     body_named                     lab_wire_bodies: Bodies
 use Rattle.std.specs.Prelude.{◌≡◌, ℕ, List, Result, Ok, Err}
-use Rattle.lab_heads.specs.declared.refusals.HeadRefusal.{HeadRefusal}
-use Rattle.lab_heads.specs.Requests.{RequestParts, request_in}
-use Rattle.lab_routes.specs.declared.refusals.RouteRefusal.{RouteRefusal}
-use Rattle.lab_routes.specs.declared.commands.Asked.{Asked}
-use Rattle.lab_routes.specs.Commands.{command_asked, MakesSomething}
+use Rattle.lab_wire_heads.specs.declared.refusals.HeadRefusal.{HeadRefusal}
+use Rattle.lab_wire_heads.specs.Requests.{RequestParts, request_in}
+use Rattle.lab_wire.specs.declared.route_refusals.RouteRefusal.{RouteRefusal}
+use Rattle.lab_wire.specs.declared.commands.Asked.{Asked}
+use Rattle.lab_wire.specs.Commands.{command_asked, MakesSomething}
 use Rattle.lab_wire.specs.declared.refusals.RequestRefusal.{RequestRefusal}
 use Rattle.lab_wire.specs.declared.refusals.RequestRefusal.TheVariants.{Head, Route}
 use Rattle.lab_wire.specs.declared.refusals.RequestFault.{RequestFault}

@@ -1,4 +1,10 @@
-pub mod Refusals
-pub mod Statuses
-pub mod Replies
 pub mod Asked
+pub mod Commands
+pub mod Numbers
+pub mod Paths
+pub mod Queries
+pub mod Refusals
+pub mod Replies
+pub mod RouteRefusals
+pub mod Routes
+pub mod Statuses

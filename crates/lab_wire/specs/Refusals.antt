@@ -1,7 +1,7 @@
 -- What the wire refuses: bytes that are no request, and requests that ask nothing.
-use Rattle.lab_names.specs.Faults.{Entry, memory_entry}
-use Rattle.lab_heads.specs.Refusals.{head_entry}
-use Rattle.lab_routes.specs.Refusals.{route_entry}
+use Rattle.lab_forms_texts.specs.Faults.{Entry, memory_entry}
+use Rattle.lab_wire_heads.specs.Refusals.{head_entry}
+use Rattle.lab_wire.specs.RouteRefusals.{route_entry}
 use Rattle.lab_wire.specs.declared.refusals.RequestRefusal.{RequestRefusal}
 use Rattle.lab_wire.specs.declared.refusals.RequestRefusal.TheVariants.{Head, Route}
 use Rattle.lab_wire.specs.declared.refusals.RequestFault.{RequestFault}

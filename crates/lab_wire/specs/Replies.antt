@@ -2,15 +2,15 @@
 -- the status may ask for a field (RFC 9110, sections 8.3, 10.2.1 and 11.6.1).
 use Rattle.std.specs.Prelude.{ℕ, List, [], ◌++◌, ◌==◌, codes, if◌then◌else◌, Some, None}
 use Rattle.serde_json.specs.Written.{compact_text}
-use Rattle.lab_names.specs.declared.tick.Tick.{Tick}
-use Rattle.lab_names.specs.Faults.{Entry, memory_entry}
-use Rattle.lab_kept.specs.Faults.{storage_entry}
-use Rattle.lab_replies_parts.specs.Refusals.{refused_data}
-use Rattle.lab_replies.specs.Replies.{Body as ReplyBody, Json, Csv, body_of, reply_text as body_text}
-use Rattle.lab_messages.specs.Messages.{line, message_text}
-use Rattle.lab_routes.specs.declared.refusals.RouteRefusal.{RouteRefusal}
-use Rattle.lab_routes.specs.declared.refusals.RouteRefusal.TheVariants.{NoRoute, Method, Body}
-use Rattle.lab_routes.specs.Refusals.{allowed_text}
+use Rattle.lab_forms_texts.specs.declared.tick.Tick.{Tick}
+use Rattle.lab_forms_texts.specs.Faults.{Entry, memory_entry}
+use Rattle.lab_records_kept.specs.Faults.{storage_entry}
+use Rattle.lab_wire_replies.specs.Refusals.{refused_data}
+use Rattle.lab_wire_replies.specs.Replies.{Body as ReplyBody, Json, Csv, body_of, reply_text as body_text}
+use Rattle.lab_wire_heads.specs.Messages.{line, message_text}
+use Rattle.lab_wire.specs.declared.route_refusals.RouteRefusal.{RouteRefusal}
+use Rattle.lab_wire.specs.declared.route_refusals.RouteRefusal.TheVariants.{NoRoute, Method, Body}
+use Rattle.lab_wire.specs.RouteRefusals.{allowed_text}
 use Rattle.lab_wire.specs.declared.refusals.RequestRefusal.{RequestRefusal}
 use Rattle.lab_wire.specs.declared.refusals.RequestRefusal.TheVariants.{Head, Route}
 use Rattle.lab_wire.specs.declared.replies.Answer.{Answer}

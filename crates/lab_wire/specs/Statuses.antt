@@ -3,18 +3,18 @@
 use Rattle.std.specs.Prelude.{ℕ}
 use Rattle.lab_forms.specs.declared.faults.FormRefusal.{FormRefusal}
 use Rattle.lab_forms.specs.declared.faults.FormRefusal.TheVariants.{NoFields, KeyTwice, TooManyFields, BadField, NoSuchField, BadValue, WrongUnit, OutOfRange}
-use Rattle.lab_access.specs.declared.refusals.PeopleRefusal.{PeopleRefusal}
-use Rattle.lab_access.specs.declared.refusals.PeopleRefusal.TheVariants.{Credentials, RandomRepeated, NoSession, PasswordDue, RoleWanted, BadPassword, SamePassword, CodeTaken, LabFull, OwnIssue, IssueOpen, SamePerson, NoIssue, NoSuchPerson}
-use Rattle.lab_rules.specs.declared.refusals.Refusal.{Refusal}
-use Rattle.lab_rules.specs.declared.refusals.Refusal.TheVariants as rules
-use Rattle.lab_members.specs.declared.refusals.BodyRefusal.{BodyRefusal}
-use Rattle.lab_members.specs.declared.refusals.BodyRefusal.TheVariants as bodies
-use Rattle.lab_heads.specs.declared.refusals.HeadRefusal.{HeadRefusal}
-use Rattle.lab_heads.specs.declared.refusals.HeadRefusal.TheVariants.{BadHead, HeadTooLong, TransferCoding, LengthWanted, BodyTooLong, ShortBody}
-use Rattle.lab_routes.specs.declared.refusals.RouteRefusal.{RouteRefusal}
-use Rattle.lab_routes.specs.declared.refusals.RouteRefusal.TheVariants as routes
-use Rattle.lab_machine.specs.declared.replies.Reply.{Reply}
-use Rattle.lab_machine.specs.declared.replies.Reply.TheVariants as reply
+use Rattle.lab_people_access.specs.declared.refusals.PeopleRefusal.{PeopleRefusal}
+use Rattle.lab_people_access.specs.declared.refusals.PeopleRefusal.TheVariants.{Credentials, RandomRepeated, NoSession, PasswordDue, RoleWanted, BadPassword, SamePassword, CodeTaken, LabFull, OwnIssue, IssueOpen, SamePerson, NoIssue, NoSuchPerson}
+use Rattle.lab_records_rules.specs.declared.refusals.Refusal.{Refusal}
+use Rattle.lab_records_rules.specs.declared.refusals.Refusal.TheVariants as rules
+use Rattle.lab_wire_members.specs.declared.refusals.BodyRefusal.{BodyRefusal}
+use Rattle.lab_wire_members.specs.declared.refusals.BodyRefusal.TheVariants as bodies
+use Rattle.lab_wire_heads.specs.declared.refusals.HeadRefusal.{HeadRefusal}
+use Rattle.lab_wire_heads.specs.declared.refusals.HeadRefusal.TheVariants.{BadHead, HeadTooLong, TransferCoding, LengthWanted, BodyTooLong, ShortBody}
+use Rattle.lab_wire.specs.declared.route_refusals.RouteRefusal.{RouteRefusal}
+use Rattle.lab_wire.specs.declared.route_refusals.RouteRefusal.TheVariants as routes
+use Rattle.lab_records_machine.specs.declared.replies.Reply.{Reply}
+use Rattle.lab_records_machine.specs.declared.replies.Reply.TheVariants as reply
 use Rattle.lab_wire.specs.declared.refusals.RequestRefusal.{RequestRefusal}
 use Rattle.lab_wire.specs.declared.refusals.RequestRefusal.TheVariants.{Head, Route}
 use Rattle.lab_wire.specs.declared.replies.Answer.{Answer}

@@ -3,8 +3,8 @@ ghost use Rattle.std.specs.Prelude.{◌≡◌, Ok, IfOk, IfErr};
 ghost use Rattle.lab_wire.specs.Asked.{asked, RequestFaultFits};
 
 use crate::refusals::{RequestFault, RequestRefusal};
-use lab_heads::request_parts;
-use lab_routes::{Asked, RouteFault, command_of};
+use crate::{Asked, RouteFault, command_of};
+use lab_wire_heads::request_parts;
 use std::alloc::Global;
 
 /// Reads what the bytes of a request ask of which laboratory. What follows the request's body is passed over.

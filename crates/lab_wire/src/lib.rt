@@ -1,20 +1,29 @@
-//! The wire of Koghdise: what the bytes of an HTTP/1.1 request ask of which laboratory, and the bytes of each answer
-//! (RFC 9110 and RFC 9112). What the layers above name of the crates below is passed on.
+//! The wire of Koghdise: what the bytes of an HTTP/1.1 request ask of which laboratory, and the bytes of
+//! each answer (RFC 9110 and RFC 9112). What the layers above name of the crates below is passed on.
 #![tactic(auto)]
 
 mod asked;
+mod commands;
+mod numbers;
+mod paths;
+mod queries;
 mod refusals;
 mod replies;
+mod route_refusals;
+mod routes;
 mod statuses;
 
 pub use asked::ask;
-pub use lab_heads::{HeadRefusal, RequestParts, grammar_of_heads, request_parts};
-pub use lab_machine::{Command, Founder, Founding, Instruction, Reply};
-pub use lab_members::{BodyFault, BodyRefusal};
-pub use lab_messages::{WriteFault, write_reply};
-pub use lab_names::{LabCode, Name, OutOfMemory, Tick};
-pub use lab_routes::{Allowed, Asked, RouteRefusal};
-pub use lab_rules::Refusal;
-pub use lab_secrets::Token;
+pub use commands::{Asked, command_of};
+pub use lab_forms_texts::{LabCode, Name, OutOfMemory, Tick};
+pub use lab_records_machine::{Command, Founder, Founding, Instruction, Reply};
+pub use lab_records_rules::Refusal;
+pub use lab_seal_hashes::Token;
+pub use lab_wire_heads::{
+    HeadRefusal, RequestParts, WriteFault, grammar_of_heads, request_parts, write_reply,
+};
+pub use lab_wire_members::{BodyFault, BodyRefusal};
 pub use refusals::{RequestFault, RequestRefusal};
 pub use replies::{Answer, memory_reply, reply_bytes};
+pub use route_refusals::{Allowed, RouteFault, RouteRefusal};
+pub use routes::{Destination, Route, destination_of};

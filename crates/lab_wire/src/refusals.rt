@@ -3,9 +3,9 @@
 ghost use Rattle.std.specs.Prelude.{◌≡◌, Some};
 ghost use Rattle.lab_wire.specs.Refusals.{request_entry, request_fault_entry};
 
-use lab_heads::HeadRefusal;
-use lab_names::OutOfMemory;
-use lab_routes::RouteRefusal;
+use crate::RouteRefusal;
+use lab_forms_texts::OutOfMemory;
+use lab_wire_heads::HeadRefusal;
 use std::fmt;
 use thiserror::Error;
 

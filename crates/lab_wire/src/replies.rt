@@ -1,18 +1,17 @@
 //! Answers as bytes: HTTP/1.1 messages (RFC 9112) whose bodies are JSON (RFC 8259), or a copy as CSV (RFC 4180).
 ghost use Rattle.std.specs.Prelude.{◌≡◌, IfOk, string_bytes};
-ghost use Rattle.lab_replies.specs.Replies.{body_of};
+ghost use Rattle.lab_wire_replies.specs.Replies.{body_of};
 ghost use Rattle.lab_wire.specs.Replies.{body_type, answer_type, entry_text, answer_text, challenge_field, allow_by_route, allow_by_request, allow_field, further_fields, reply_text, memory_text};
 
+use crate::RouteRefusal;
 use crate::refusals::RequestRefusal;
 use crate::statuses::answer_status;
 use http::StatusCode;
-use lab_kept::KeeperFault;
-use lab_machine::Reply;
-use lab_messages::message;
-use lab_names::{OutOfMemory, Tick};
-use lab_replies::reply_body;
-use lab_replies_parts::entry_value;
-use lab_routes::RouteRefusal;
+use lab_forms_texts::{OutOfMemory, Tick};
+use lab_records_kept::KeeperFault;
+use lab_records_machine::Reply;
+use lab_wire_heads::message;
+use lab_wire_replies::{entry_value, reply_body};
 use std::alloc::Global;
 
 /// The type of a body that is JSON.

@@ -2,16 +2,16 @@
 ghost use Rattle.std.specs.Prelude.{◌≡◌};
 ghost use Rattle.lab_wire.specs.Statuses.{form_status, people_status, refusal_status, body_status, head_status, route_status, request_status, reply_status, answer_status};
 
+use crate::RouteRefusal;
 use crate::refusals::RequestRefusal;
 use crate::replies::Answer;
 use http::StatusCode;
-use lab_access::PeopleRefusal;
 use lab_forms::FormRefusal;
-use lab_heads::HeadRefusal;
-use lab_machine::Reply;
-use lab_members::BodyRefusal;
-use lab_routes::RouteRefusal;
-use lab_rules::Refusal;
+use lab_people_access::PeopleRefusal;
+use lab_records_machine::Reply;
+use lab_records_rules::Refusal;
+use lab_wire_heads::HeadRefusal;
+use lab_wire_members::BodyRefusal;
 
 // Of forms and values.
 fn form_status(refusal: FormRefusal) -> StatusCode

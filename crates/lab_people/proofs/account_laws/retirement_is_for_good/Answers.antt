@@ -1,8 +1,8 @@
 use Rattle.std.proofs.Common.{ap}
 use Rattle.std.specs.Prelude.{Some, true}
-use Rattle.lab_access.specs.declared.refusals.PeopleRefusal.TheVariants.{NoSuchPerson}
-use Rattle.lab_access.specs.Attempts.{is_own_code}
-use Rattle.lab_access.specs.Openings.{opening, opening_by}
+use Rattle.lab_people_access.specs.declared.refusals.PeopleRefusal.TheVariants.{NoSuchPerson}
+use Rattle.lab_people_access.specs.Attempts.{is_own_code}
+use Rattle.lab_people_access.specs.Openings.{opening, opening_by}
 use Rattle.lab_people.specs.Accounts.{changing, changing_by, setting_roles, retiring, unlocking, person_meant}
 use Rattle.lab_people.specs.Issues.{asking, confirming}
 use Rattle.lab_people.proofs.LawLemmas.{retired_leaves, retired_attempt, retired_meant, refused_then}

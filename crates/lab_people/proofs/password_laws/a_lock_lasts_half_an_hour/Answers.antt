@@ -1,7 +1,7 @@
 use Rattle.std.proofs.Common.{ap, ◌∙◌, Some, refl}
 use Rattle.std.specs.Prelude.{option_and_then}
-use Rattle.lab_access.specs.Persons.{is_locked}
-use Rattle.lab_access.specs.Attempts.{failure_count}
+use Rattle.lab_people_access.specs.Persons.{is_locked}
+use Rattle.lab_people_access.specs.Attempts.{failure_count}
 use Rattle.lab_people.proofs.LawLemmas.{right_attempt, wrong_counted}
 use Rattle.lab_people.proofs.password_laws.a_lock_lasts_half_an_hour.Goals as goal
 

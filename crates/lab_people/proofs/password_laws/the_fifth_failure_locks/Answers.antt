@@ -1,6 +1,6 @@
 use Rattle.std.proofs.Common.{ap, ◌∙◌, ◌++◌, ◌∷◌, [], refl}
-use Rattle.lab_access.specs.Attempts.{failure_count}
-use Rattle.lab_access.specs.Persons.{is_locked}
+use Rattle.lab_people_access.specs.Attempts.{failure_count}
+use Rattle.lab_people_access.specs.Persons.{is_locked}
 use Rattle.lab_people.specs.Laws.{person_after}
 use Rattle.lab_people.proofs.LawLemmas.{counted_on, fifth_locks, wrong_locks, unlocked_as_is}
 use Rattle.lab_people.proofs.password_laws.the_fifth_failure_locks.Goals as goal

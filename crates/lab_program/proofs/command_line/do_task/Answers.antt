@@ -1,6 +1,6 @@
 -- What is asked for is the task that is done.
 use Rattle.lab_program.proofs.DoneLemmas.{done_as}
-use Rattle.lab_words.proofs.GivenLemmas.{held_so}
+use Rattle.lab_program_words.proofs.GivenLemmas.{held_so}
 use Rattle.lab_program.proofs.command_line.do_task.Goals as goal
 
 pub returns-in-Found : goal.returns-in-Found

@@ -1,8 +1,8 @@
 -- The task that is done is the one that the words ask for; other words are explained by their fault.
 use Rattle.std.proofs.Common.{map, inl, inr}
-use Rattle.lab_words.proofs.AskLemmas.{asked_is}
+use Rattle.lab_program_words.proofs.AskLemmas.{asked_is}
 use Rattle.lab_program.proofs.DoneLemmas.{never_done}
-use Rattle.lab_words_explained.proofs.ExplainLemmas.{explained_by, unexplained}
+use Rattle.lab_program_app.proofs.ExplainLemmas.{explained_by, unexplained}
 use Rattle.lab_program.proofs.command_line.labdesk.Goals as goal
 
 pub returns-in-Ok-clause-done : goal.returns-in-Ok-clause-done

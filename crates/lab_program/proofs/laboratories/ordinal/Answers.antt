@@ -1,6 +1,6 @@
 -- A number that is one of a record is its own ordinal.
 use Rattle.std.proofs.Common.{◌≡◌, ◌∙◌, ℕ, Bool, true, false, Option, Some, None, IsTrue, if◌then◌else◌, unwrap_or, ap, refl}
-use Rattle.lab_names.specs.Ordinals.{is_ordinal, ordinal_of}
+use Rattle.lab_forms_texts.specs.Ordinals.{is_ordinal, ordinal_of}
 use Rattle.lab_program.proofs.laboratories.ordinal.Goals as goal
 
 taken : (number other : ℕ) (is_one : Bool) → IsTrue is_one → unwrap_or (if is_one then Some number else None) other ≡ number

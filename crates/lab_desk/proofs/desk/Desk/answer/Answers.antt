@@ -1,5 +1,5 @@
 -- The answer that was written is the witness; one event is a run by the lemmas of `Running`.
-use Rattle.lab_runs.proofs.Running.{one_founding, one_call, sent_as}
+use Rattle.lab_desk_runs.proofs.Running.{one_founding, one_call, sent_as}
 use Rattle.lab_desk.proofs.desk.Desk.answer.Goals as goal
 
 pub returns-in-Found-clause-answered : goal.returns-in-Found-clause-answered

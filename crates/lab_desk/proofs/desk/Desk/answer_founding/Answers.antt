@@ -1,7 +1,7 @@
 -- A founding was taken where a laboratory was founded, and where its refusal is told.
-use Rattle.lab_foundings.specs.Foundings.{founding_in}
-use Rattle.lab_foundings.proofs.Bearing.{takes_founded, takes_refused}
-use Rattle.lab_runs.proofs.Lasting.{still_stays}
+use Rattle.lab_desk_foundings.specs.Foundings.{founding_in}
+use Rattle.lab_desk_foundings.proofs.Bearing.{takes_founded, takes_refused}
+use Rattle.lab_desk_runs.proofs.Lasting.{still_stays}
 use Rattle.lab_desk.proofs.desk.Desk.answer_founding.Goals as goal
 use Rattle.lab_desk.proofs.desk.Desk.answer_founding.Goals.{in-Ok-found, in-Err}
 

@@ -1,8 +1,8 @@
 -- What was founded from the newborn was founded from its body, and is right as it is born.
-use Rattle.lab_kept.specs.Births.{newborn_lab}
-use Rattle.lab_foundings.proofs.Bearing.{founds_as}
-use Rattle.lab_runs.proofs.Keeping.{left_keeps, placed_keeps, still_keeps}
-use Rattle.lab_runs.proofs.Staying.{placed_within, placed_releasing}
+use Rattle.lab_records_kept.specs.Births.{newborn_lab}
+use Rattle.lab_desk_foundings.proofs.Bearing.{founds_as}
+use Rattle.lab_desk_runs.proofs.Keeping.{left_keeps, placed_keeps, still_keeps}
+use Rattle.lab_desk_runs.proofs.Staying.{placed_within, placed_releasing}
 use Rattle.lab_desk.proofs.desk.Desk.found.Goals as goal
 
 pub returns-clause-founded : goal.returns-clause-founded

@@ -1,6 +1,6 @@
 -- What a step leaves true and keeps, a request leaves true and keeps of every laboratory.
-use Rattle.lab_runs.proofs.Keeping.{asked_keeps, still_keeps}
-use Rattle.lab_runs.proofs.Staying.{asked_within, asked_releasing}
+use Rattle.lab_desk_runs.proofs.Keeping.{asked_keeps, still_keeps}
+use Rattle.lab_desk_runs.proofs.Staying.{asked_within, asked_releasing}
 use Rattle.lab_desk.proofs.desk.Desk.handle.Goals as goal
 
 pub returns-in-Ok-clause-within : goal.returns-in-Ok-clause-within

@@ -2,11 +2,11 @@
 -- there was no memory, leave the keeper alone.
 use Rattle.std.proofs.Common.{sym, subst, rules, ap, ◌∙◌, Ok, Err, inr}
 use Rattle.std.specs.Prelude.{IfSome}
-use Rattle.lab_receptions.specs.Receptions.{IsReception}
+use Rattle.lab_wire_received.specs.Receptions.{IsReception}
 use Rattle.lab_wire.specs.Asked.{asked}
 use Rattle.lab_wire.specs.declared.refusals.RequestRefusal.TheVariants.{Head}
 use Rattle.lab_desk.specs.Serving.{AreAsked, Serves}
-use Rattle.lab_runs.proofs.Lasting.{still_stays}
+use Rattle.lab_desk_runs.proofs.Lasting.{still_stays}
 use Rattle.lab_desk.proofs.Receiving.{handled_by, exhausted, refused_by, asked_as, refused_as, some_asked, told_known, told_refused}
 use Rattle.lab_desk.proofs.desk.Desk.receive.Goals as goal
 

@@ -1,9 +1,9 @@
 -- The run goes on by each event; a write fault ends it within the answer of its last event.
 use Rattle.std.proofs.Common.{rules, ◌≡◌, ◌+◌, [], ◌∷◌, ◌++◌, length, subst, arith}
 use Rattle.std.proofs.lemmas.List.{take_all}
-use Rattle.lab_runs.specs.Runs.{Runs}
-use Rattle.lab_runs.proofs.Lasting.{stays_first, stays_after}
-use Rattle.lab_runs.proofs.Running.{run_more, run_cut, runs_none}
+use Rattle.lab_desk_runs.specs.Runs.{Runs}
+use Rattle.lab_desk_runs.proofs.Lasting.{stays_first, stays_after}
+use Rattle.lab_desk_runs.proofs.Running.{run_more, run_cut, runs_none}
 use Rattle.lab_desk.proofs.desk.Desk.run.Goals as goal
 
 pub loop-event-init : goal.loop-event-init

@@ -1,7 +1,7 @@
 use Rattle.std.proofs.Common.{◌≡◌, ◌≤◌, take, length, vec_capacity}
-use Rattle.lab_kept.specs.Worlds.{Passes, Given}
-use Rattle.lab_runs.specs.Keeping.{AreWithin, StaysOn}
-use Rattle.lab_runs.specs.Runs.{Runs}
+use Rattle.lab_records_kept.specs.Worlds.{Passes, Given}
+use Rattle.lab_desk_runs.specs.Keeping.{AreWithin, StaysOn}
+use Rattle.lab_desk_runs.specs.Runs.{Runs}
 use Rattle.lab_desk.proofs.desk.Desk.run.Given as goal
 
 -- the events so far are a run from the start, and its answers are what was written

@@ -1,8 +1,8 @@
 use Rattle.std.proofs.Common.{◌≡◌, Ok, Err}
 use Rattle.sqlite.specs.Held.{state}
-use Rattle.lab_kept.specs.Worlds.{Changes}
-use Rattle.lab_tables.specs.Ready.{tables_of}
-use Rattle.lab_tables_changes.specs.Steps.{AreMadeIfAny}
+use Rattle.lab_records_kept.specs.Worlds.{Changes}
+use Rattle.lab_store_tables.specs.Ready.{tables_of}
+use Rattle.lab_store_laws.specs.Steps.{AreMadeIfAny}
 use Rattle.lab_store.proofs.Settled.{durable_now}
 use Rattle.lab_store.proofs.Committed.{crashes, stays_safe, made_means, reached}
 use Rattle.lab_store.proofs.Applied.{changes_as, changes_law, ends_given}

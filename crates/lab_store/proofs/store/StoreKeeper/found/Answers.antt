@@ -1,9 +1,9 @@
 use Rattle.std.proofs.Common.{◌≡◌}
 use Rattle.sqlite.specs.Held.{state}
-use Rattle.lab_kept.specs.Births.{newborn_lab}
-use Rattle.lab_kept.specs.Worlds.{Places}
-use Rattle.lab_tables.specs.Ready.{tables_of}
-use Rattle.lab_commits.specs.Founding.{IsPlacedBy}
+use Rattle.lab_records_kept.specs.Births.{newborn_lab}
+use Rattle.lab_records_kept.specs.Worlds.{Places}
+use Rattle.lab_store_tables.specs.Ready.{tables_of}
+use Rattle.lab_store.specs.Founding.{IsPlacedBy}
 use Rattle.lab_store.proofs.Settled.{durable_now}
 use Rattle.lab_store.proofs.Committed.{crashes, stays_safe, made_means, reached, on_lives}
 use Rattle.lab_store.proofs.Applied.{places_as, founding_law, founding_given}

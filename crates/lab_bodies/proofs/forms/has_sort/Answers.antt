@@ -1,4 +1,0 @@
-use Rattle.lab_bodies.proofs.forms.has_sort.Goals as goal
-
-pub returns-in-Number : goal.returns-in-Number
-returns-in-Number c = rw c.in-Number.is c.has_members.ensures

@@ -1,4 +1,0 @@
-pub mod Accounts
-pub mod Bodies
-pub mod Foundings
-pub mod Forms

@@ -1,4 +1,0 @@
-pub mod CheckLemmas
-pub mod ReadLemmas
-pub mod KnownValues
-pub mod KeptLemmas

@@ -1,5 +1,0 @@
-mod Commits
-mod After
-mod Endings
-mod Placed
-pub mod KnownValues

@@ -1,0 +1,100 @@
+-- What each row of a copy leaves to find, where the reader's bytes are known.
+use Rattle.std.proofs.Common.{◌≡◌, ℕ, ◌+◌, Bool, true, false, List, length, Option, Some, None, Result, Ok, Err, refl, sym, ap, subst, ◌∙◌}
+use Rattle.std.specs.Prelude.{IfSome, option_map}
+use Rattle.csv.specs.Reading.{ReadRecord, default_config, reader_config, reader_state, source_of, strip_bom}
+use Rattle.csv.specs.declared.parser.State.TheVariants as st
+use Rattle.csv.specs.declared.reader.Reader.{Reader}
+use Rattle.lab_copy_rows.specs.Copies.{is_header, verdict}
+use Rattle.lab_copy_rows.specs.declared.flaws.Flaw.{Flaw}
+use Rattle.lab_copy_rows.specs.declared.flaws.Flaw.TheVariants as flaw
+use Rattle.lab_copy_rows.specs.declared.lines.Counts.{Counts}
+use Rattle.lab_copy_rows.specs.declared.lines.Line.{Line}
+use Rattle.lab_copy.specs.Faults.{IsAnswer, IsNoFlaw}
+use Rattle.lab_copy.specs.Checks.{fault_at, rows_of}
+use Rattle.lab_copy_lines.specs.Lines.{IsRead, line_at}
+use Rattle.lab_copy.specs.Kept.{IsAt, IsTaken, edition_by, kept_none, verdict_kept}
+use Rattle.lab_copy.specs.Left.{AnswersRest, IsLeftOf}
+use Rattle.lab_copy.specs.declared.faults.CheckFault.{CheckFault}
+use Rattle.lab_copy.specs.declared.faults.CheckFault.TheVariants.{Flawed, Read, Memory}
+use Rattle.lab_copy_lines.specs.declared.faults.RowFault.{RowFault}
+use Rattle.lab_copy_lines.specs.declared.faults.RowFault.TheVariants as row_fault
+use Rattle.lab_copy.specs.declared.kept.Kept.{Kept}
+use Rattle.lab_copy.proofs.ReadLemmas.{record_reads, when_known, no_header, bad_header, begun_left, at_end, bad_row, taken_left, taken_fault}
+
+-- a fault that says nothing of a copy
+pub nothing_known : (known : Option (List ℕ)) (fault : CheckFault) → IsNoFlaw fault
+    → IfSome known (λ bytes. IsAnswer (verdict (rows_of bytes)) (Err fault))
+nothing_known known (Flawed _) none = absurd none
+nothing_known None Read none = tt
+nothing_known (Some bytes) Read none = tt
+nothing_known None (Memory _) none = tt
+nothing_known (Some bytes) (Memory _) none = tt
+
+-- ---- the first row
+
+module _ {R : Type 0} (rem : R → Option (List ℕ)) (known : Option (List ℕ)) (old new : Reader R) (fields : List (List ℕ))
+    (config : reader_config old ≡ default_config) (state : reader_state old ≡ st.StartRecord)
+    (source : source_of rem old ≡ option_map strip_bom known) where
+  pub first_none : ReadRecord rem old new false fields
+      → IfSome known (λ bytes. IsAnswer (verdict (rows_of bytes)) (Err (Flawed flaw.NoEnd)))
+  first_none read =
+      when_known known _ (λ bytes is.
+      no_header bytes (reader_state new) (source_of rem new) fields
+      (rw (state, source ∙ ap (option_map strip_bom) is) at (record_reads rem old new false fields config read)))
+
+  pub first_bad : ReadRecord rem old new true fields → is_header fields ≡ false
+      → IfSome known (λ bytes. IsAnswer (verdict (rows_of bytes)) (Err (Flawed (flaw.BadRow 1))))
+  first_bad read bad =
+      when_known known _ (λ bytes is.
+      bad_header bytes (reader_state new) (source_of rem new) fields
+      (rw (state, source ∙ ap (option_map strip_bom) is) at (record_reads rem old new true fields config read)) bad)
+
+  pub first_good : ReadRecord rem old new true fields → is_header fields ≡ true → (result : Result Counts CheckFault)
+      → AnswersRest (reader_state new) (source_of rem new) result
+      → IfSome known (λ bytes. IsAnswer (verdict (rows_of bytes)) result)
+  first_good read good result answers =
+      when_known known _ (λ bytes is. answers (verdict (rows_of bytes))
+      (begun_left bytes (reader_state new) (source_of rem new) fields
+      (rw (state, source ∙ ap (option_map strip_bom) is) at (record_reads rem old new true fields config read)) good))
+
+-- ---- every other row
+
+module _ {R : Type 0} (rem : R → Option (List ℕ)) (found : Result Counts Flaw) (old new : Reader R) (fields : List (List ℕ))
+    (kept : Kept) (row : ℕ) (config : reader_config old ≡ default_config)
+    (left : IsLeftOf found kept row (reader_state old) (source_of rem old)) where
+  pub next_none : ReadRecord rem old new false fields → (result : Result Counts CheckFault) → IsAnswer (verdict_kept kept) result
+      → IsAnswer found result
+  next_none read result answer =
+      subst (λ one. IsAnswer one result)
+      (sym (at_end found kept row (reader_state old) (reader_state new) (source_of rem old) (source_of rem new) fields left
+      (record_reads rem old new false fields config read)))
+      answer
+
+  module _ (read : ReadRecord rem old new true fields) where
+    pub next_unread : (fault : RowFault) → IsRead (line_at (edition_by kept.copy) fields) (Err fault)
+        → IsAnswer found (Err (fault_at row fault))
+    next_unread row_fault.BadRow none =
+        bad_row found kept row (reader_state old) (reader_state new) (source_of rem old) (source_of rem new) fields left
+        (record_reads rem old new true fields config read) none
+    next_unread (row_fault.Memory _) none = tt
+
+    module _ (line : Line) (is_line : line_at (edition_by kept.copy) fields ≡ Some line) where
+      pub next_taken : (more : Kept)
+          → ((lines : List Line) → row ≡ length lines + 2 → IsAt kept lines → IsTaken lines line more (Ok tt))
+          → IsLeftOf found more (row + 1) (reader_state new) (source_of rem new)
+      next_taken more takes =
+          taken_left found kept row (reader_state old) (reader_state new) (source_of rem old) (source_of rem new) fields left
+          (record_reads rem old new true fields config read) line is_line more takes
+
+      pub next_fault : (more : Kept) (fault : CheckFault)
+          → ((lines : List Line) → row ≡ length lines + 2 → IsAt kept lines → IsTaken lines line more (Err fault))
+          → IsAnswer found (Err fault)
+      next_fault more fault takes =
+          taken_fault found kept row (reader_state old) (reader_state new) (source_of rem old) (source_of rem new) fields left
+          (record_reads rem old new true fields config read) line is_line more fault takes
+
+-- a fault that says nothing of a copy
+pub answers_nothing : (found : Result Counts Flaw) (fault : CheckFault) → IsNoFlaw fault → IsAnswer found (Err fault)
+answers_nothing found (Flawed _) none = absurd none
+answers_nothing found Read none = tt
+answers_nothing found (Memory _) none = tt

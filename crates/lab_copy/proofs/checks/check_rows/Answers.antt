@@ -1,0 +1,60 @@
+-- each row is taken, or told; at the end of the input stands what is kept
+use Rattle.std.proofs.Common.{◌≡◌, ◌∙◌, Bool, true, false, List, ℕ, Some, Err, sym, ap, subst, inl}
+use Rattle.std.proofs.lemmas.Result.{err_from_is_err_and}
+use Rattle.csv.specs.Reading.{ReadRecord}
+use Rattle.csv.specs.Records.{fields_of}
+use Rattle.lab_copy_lines.specs.Lines.{IsRead, line_at}
+use Rattle.lab_copy.proofs.CheckLemmas.{next_none, next_unread, next_taken, next_fault}
+use Rattle.lab_copy.proofs.checks.check_rows.Goals as goal
+
+pub returns-then-not-branch : goal.returns-then-not-branch
+returns-then-not-branch g c = λ found all.
+    let before = c.loop-number.invariant in
+    let read =
+    subst (λ (was : Bool). ReadRecord g.R.Read.remaining c.loop-number.rows c.read_row.new.rows was (fields_of c.read_row.new.row))
+    c.if-not-branch.true (c.in_ok-read_row.ensures.reads before.trim before.ready) in
+    next_none g.R.Read.remaining found c.loop-number.rows c.read_row.new.rows (fields_of c.read_row.new.row) c.loop-number.kept
+    c.loop-number.number before.config (before.left found all) read c.finish.result c.finish.ensures.value
+
+pub returns-in_err-take-in-Ok : goal.returns-in_err-take-in-Ok
+returns-in_err-take-in-Ok g c =
+    let p =
+    err_from_is_err_and c.from_residual-in_err-take-in-Ok.result c.from_residual-in_err-take-in-Ok.ensures.1 in
+    rw (p.1, p.2) (λ found all.
+    let before = c.loop-number.invariant in
+    let read =
+    subst (λ (was : Bool). ReadRecord g.R.Read.remaining c.loop-number.rows c.read_row.new.rows was (fields_of c.read_row.new.row))
+    c.if-not-branch.false (c.in_ok-read_row.ensures.reads before.trim before.ready) in
+    let is_line = ap (λ edition. line_at edition (fields_of c.read_row.new.row)) (sym c.edition.ensures) ∙ c.in-Ok.ensures.value in
+    next_fault g.R.Read.remaining found c.loop-number.rows c.read_row.new.rows (fields_of c.read_row.new.row) c.loop-number.kept
+    c.loop-number.number before.config (before.left found all) read c.in-Ok.line is_line c.take.new.self
+    c.in_err-take-in-Ok.field-0.0 c.in_err-take-in-Ok.ensures)
+
+pub returns-in-Err : goal.returns-in-Err
+returns-in-Err g c = λ found all.
+    let before = c.loop-number.invariant in
+    let read =
+    subst (λ (was : Bool). ReadRecord g.R.Read.remaining c.loop-number.rows c.read_row.new.rows was (fields_of c.read_row.new.row))
+    c.if-not-branch.false (c.in_ok-read_row.ensures.reads before.trim before.ready) in
+    let none = subst (λ edition. IsRead (line_at edition (fields_of c.read_row.new.row)) (Err c.in-Err.fault)) c.edition.ensures c.in-Err.ensures.value in
+    rw c.fault_at.ensures
+    (next_unread g.R.Read.remaining found c.loop-number.rows c.read_row.new.rows (fields_of c.read_row.new.row) c.loop-number.kept
+    c.loop-number.number before.config (before.left found all) read c.in-Err.fault none)
+
+pub loop-number-preserved : goal.loop-number-preserved
+loop-number-preserved g c =
+    let before = c.loop-number.invariant in
+    let reads = c.in_ok-read_row.ensures.reads before.trim before.ready in
+    let read =
+    subst (λ (was : Bool). ReadRecord g.R.Read.remaining c.loop-number.rows c.read_row.new.rows was (fields_of c.read_row.new.row))
+    c.if-not-branch.false reads in
+    let is_line = ap (λ edition. line_at edition (fields_of c.read_row.new.row)) (sym c.edition.ensures) ∙ c.in-Ok.ensures.value in
+    record {
+      config = reads.2 ∙ before.config;
+      trim = reads.3 ∙ before.trim;
+      ready = inl (c.in_ok-read_row.ensures.ready before.trim);
+      left = λ found all.
+          next_taken g.R.Read.remaining found c.loop-number.rows c.read_row.new.rows (fields_of c.read_row.new.row)
+          c.loop-number.kept c.loop-number.number before.config (before.left found all) read c.in-Ok.line is_line
+          c.take.new.self c.in_ok-take-in-Ok.ensures;
+    }

@@ -1,0 +1,18 @@
+-- Which rows a copy has, and the fault of one that wasn't read.
+use Rattle.std.specs.Prelude.{ℕ, List}
+use Rattle.csv.specs.Reading.{default_config, records, strip_bom}
+use Rattle.lab_copy_rows.specs.declared.flaws.Flaw.TheVariants as flaw
+use Rattle.lab_copy_lines.specs.declared.faults.RowFault.{RowFault}
+use Rattle.lab_copy_lines.specs.declared.faults.RowFault.TheVariants as row_fault
+use Rattle.lab_copy.specs.declared.faults.CheckFault.{CheckFault}
+use Rattle.lab_copy.specs.declared.faults.CheckFault.TheVariants.{Flawed, Memory}
+
+-- the rows of a text of CSV (RFC 4180), behind a byte order mark that it may begin with; the kit's
+-- reader defines them
+abbrev pub rows_of : List ℕ → List (List (List ℕ))
+rows_of bytes = records default_config (strip_bom bytes)
+
+-- the fault of a check whose row wasn't read
+abbrev pub fault_at : ℕ → RowFault → CheckFault
+fault_at row row_fault.BadRow = Flawed (flaw.BadRow row)
+fault_at row (row_fault.Memory fault) = Memory fault

@@ -1,0 +1,124 @@
+//! The check of a copy, which keeps only the version at hand.
+ghost use Rattle.std.specs.Prelude.{◌≡◌, ℕ, true, List, Option, IfOk, IfErr, OnOk, IfSome, option_map};
+ghost use Rattle.csv.specs.Reading.{ReadRecord, Ready, default_config, reader_config, reader_state, reader_trim, source_of, strip_bom, took_first};
+ghost use Rattle.csv.specs.Records.{fields_of};
+ghost use Rattle.csv.specs.declared.parser.State.TheVariants as st;
+ghost use Rattle.csv.specs.declared.reader.Trim.TheVariants as trim;
+ghost use Rattle.lab_copy_rows.specs.Copies.{verdict};
+ghost use Rattle.lab_copy.specs.Faults.{IsAnswer, IsNoFlaw};
+ghost use Rattle.lab_copy.specs.Checks.{fault_at, rows_of};
+ghost use Rattle.lab_copy.specs.Kept.{kept_none};
+ghost use Rattle.lab_copy.specs.Left.{AnswersRest};
+ghost use Rattle.lab_copy.specs.declared.asks.AskedReader.{AskedReader};
+
+use crate::CheckFault;
+use crate::asks::AskedReader;
+use crate::kept::Kept;
+use csv::{ByteRecord, ErrorKind, Reader, ReaderBuilder};
+use lab_copy_lines::{RowFault, is_header, read_line};
+use lab_copy_rows::{Counts, Flaw, OutOfMemory};
+use std::alloc::Global;
+use std::io::Read;
+
+/// The most rows that are read. No copy has as many.
+const MOST_ROWS: u64 = 1_000_000_000_000;
+
+/// Reads a copy as CSV to its end, and answers how many rows of each kind it has, where it is sound; else the first flaw that
+/// is told. It recomputes every digest and every seal.
+pub fn check_copy<R: Read + Drop>(alloc: Global, reader: R) -> Result<Counts, CheckFault>
+    ensures { IfSome (R.remaining reader) (λ bytes. IsAnswer (verdict (rows_of bytes)) result) }
+{
+    let mut rows = copy_reader(alloc, reader);
+    let answer = check_all(alloc, &mut rows);
+    drop(rows);
+    answer
+}
+
+// Checks the rows that a reader gives from its start.
+fn check_all<R: Read>(alloc: Global, rows: &mut Reader<R>) -> Result<Counts, CheckFault>
+    requires config { reader_config rows.old ≡ default_config }
+    requires trim { reader_trim rows.old ≡ trim.None }
+    requires ready { Ready rows.old }
+    requires state { reader_state rows.old ≡ st.StartRecord }
+    ensures { (known : Option (List ℕ))
+        → source_of R.remaining rows.old ≡ option_map strip_bom known
+        → IfSome known (λ bytes. IsAnswer (verdict (rows_of bytes)) result) }
+{
+    let mut row = ByteRecord::new(alloc);
+    if !read_row(rows, &mut row)? {
+        return Err(CheckFault::Flawed(Flaw::NoEnd));
+    }
+    if !is_header(&row) {
+        return Err(CheckFault::Flawed(Flaw::BadRow(1)));
+    }
+    let mut kept = Kept::none();
+    let answer = check_rows(alloc, rows, &mut row, &mut kept);
+    drop(kept);
+    answer
+}
+
+// A reader of rows, that take no header and may have any number of fields, from a reader that isn't asked forever.
+fn copy_reader<R: Read>(alloc: Global, reader: R) -> Reader<AskedReader<R>>
+    ensures config { reader_config result ≡ default_config }
+    ensures trim { reader_trim result ≡ trim.None }
+    ensures ready { Ready result }
+    ensures state { reader_state result ≡ st.StartRecord }
+    ensures source { source_of (λ (asked : AskedReader R). R.remaining asked.reader) result
+        ≡ option_map strip_bom (R.remaining reader) }
+{
+    ReaderBuilder::new()
+        .has_headers(false)
+        .flexible(true)
+        .from_reader(alloc, AskedReader::new(reader))
+}
+
+// Checks the rows behind the header.
+fn check_rows<R: Read>(
+    alloc: Global,
+    rows: &mut Reader<R>,
+    row: &mut ByteRecord,
+    kept: &mut Kept,
+) -> Result<Counts, CheckFault>
+    requires config { reader_config rows.old ≡ default_config }
+    requires trim { reader_trim rows.old ≡ trim.None }
+    requires ready { Ready rows.old }
+    requires none { kept.old ≡ kept_none }
+    ensures { AnswersRest (reader_state rows.old) (source_of R.remaining rows.old) result }
+{
+    for number in 2..MOST_ROWS {
+        if !read_row(rows, row)? {
+            return kept.finish(alloc);
+        }
+        match read_line(alloc, kept.edition(), row) {
+            Ok(line) => kept.take(alloc, number, line)?,
+            Err(fault) => return Err(fault_at(number, fault)),
+        }
+    }
+    Err(CheckFault::Read)
+}
+
+// Reads the next row, if there is one.
+fn read_row<R: Read>(rows: &mut Reader<R>, row: &mut ByteRecord) -> Result<bool, CheckFault>
+    ensures reads { IfOk result (λ found. (reader_trim rows.old ≡ trim.None) → Ready rows.old
+        → ReadRecord R.remaining rows.old rows.new found (fields_of row.new)) }
+    ensures ready { (reader_trim rows.old ≡ trim.None) → OnOk result (took_first rows.new ≡ true) }
+    ensures fault { IfErr result IsNoFlaw }
+{
+    match rows.read_byte_record(row) {
+        Ok(found) => Ok(found),
+        Err(error) => match error.kind() {
+            ErrorKind::OutOfMemory => Err(CheckFault::Memory(OutOfMemory)),
+            _ => Err(CheckFault::Read),
+        },
+    }
+}
+
+// The fault of a check that meets this one in a row.
+fn fault_at(row: u64, fault: RowFault) -> CheckFault
+    ensures { result ≡ fault_at row fault }
+{
+    match fault {
+        RowFault::BadRow => CheckFault::Flawed(Flaw::BadRow(row)),
+        RowFault::Memory(fault) => CheckFault::Memory(fault),
+    }
+}

@@ -1,0 +1,282 @@
+//! The version at hand: what is kept of a version while its rows come, and how it is found sound.
+ghost use Rattle.std.specs.Prelude.{◌≡◌, IfOk, IsSome, OnErr, OnOk, map, option_map};
+ghost use Rattle.std.specs.List.{list_any};
+ghost use Rattle.std.specs.Str.{bytes_eq};
+ghost use Rattle.lab_seal_versions.specs.Origins.{AmendsUnlessFirst};
+ghost use Rattle.lab_seal_versions.specs.declared.rows.EntryRow.{EntryRow};
+ghost use Rattle.lab_copy_rows.specs.Copies.{wants_approval};
+ghost use Rattle.lab_copy.specs.Hands.{amendment_behind, amendment_by, begun, with_entry, with_row, with_signature, has_numbers, is_next, has_digest_at_hand, has_signatures_at_hand, has_persons_at_hand, flaw_of_hand};
+ghost use Rattle.lab_copy.specs.declared.hands.VersionAtHand.{VersionAtHand};
+
+use lab_copy_rows::{
+    Digest, EntryRow, Flaw, Format, Meaning, Note, Ordinal, OutOfMemory, PersonCode, RecordLine,
+    State, VersionLine,
+};
+use lab_forms_texts::Series;
+use lab_seal_versions::{
+    Amendment, EntryRows, Origin, VersionParts, digest, state_of, write_version,
+};
+use std::alloc::Global;
+use std::mem;
+
+/// The version whose rows are coming: the number of its row, the version as its digest covers it, the state and the digest in its
+/// row, and the meanings and signers of its signatures.
+pub struct VersionAtHand {
+    row: u64,
+    parts: VersionParts,
+    state: State,
+    digest: Digest,
+    meanings: Series<Meaning>,
+    signers: Series<PersonCode>,
+}
+
+// It is written out, so that a caller doesn't prove again how each part is dropped.
+impl Drop for VersionAtHand {
+    fn drop(self) {
+        let VersionAtHand {
+            row: _,
+            parts: _,
+            state: _,
+            digest: _,
+            meanings: _,
+            signers: _,
+        } = self;
+    }
+}
+
+impl VersionAtHand {
+    /// The version that begins in the row, of the record and behind the version before.
+    pub fn begin(
+        alloc: Global,
+        row: u64,
+        about: &RecordLine,
+        before: &Option<VersionAtHand>,
+        line: VersionLine,
+    ) -> Result<VersionAtHand, OutOfMemory>
+        requires { AmendsUnlessFirst line.number (amendment_behind before.now line) }
+        ensures { IfOk result (λ hand. hand ≡ begun row about.now before.now line) }
+    {
+        let form = about.form.copy()?;
+        let sample = about.sample.copy()?;
+        let previous = digest_of(before);
+        Ok(VersionAtHand {
+            row,
+            parts: VersionParts {
+                format: line.format,
+                lab: line.lab,
+                record_number: line.record_number,
+                origin: origin_of(line.number, line.reason, previous),
+                form,
+                form_version: about.form_version,
+                sample,
+                opener: line.opener,
+                opened: line.opened,
+                rows: EntryRows::new(Vec::new(alloc)),
+            },
+            state: line.state,
+            digest: line.digest,
+            meanings: Series::new(alloc),
+            signers: Series::new(alloc),
+        })
+    }
+
+    /// Keeps an entry.
+    pub fn enter(&mut self, alloc: Global, row: EntryRow) -> Result<(), OutOfMemory>
+        ensures { OnOk result (self.new ≡ with_entry row self.old) }
+    {
+        enter_row(&mut self.parts, alloc, row)
+    }
+
+    /// Keeps a signature.
+    pub fn sign(&mut self, person: PersonCode, meaning: Meaning) -> Result<(), OutOfMemory>
+        ensures { OnOk result (self.new ≡ with_signature person meaning self.old) }
+    {
+        self.meanings.push(meaning)?;
+        self.signers.push(person)?;
+        Ok(())
+    }
+
+    /// The digest in the version's row.
+    pub fn digest(&self) -> Digest
+        ensures { result ≡ self.now.digest }
+    {
+        self.digest
+    }
+
+    /// Whether an entry or a signature has the numbers of the version.
+    pub fn has_numbers(&self, record_number: Ordinal, number: Ordinal) -> bool
+        ensures { result ≡ has_numbers record_number number self.now }
+    {
+        record_number == self.parts.record_number && number == self.parts.origin.number()
+    }
+
+    /// Whether a version row is that of the next version, and this one is settled.
+    pub fn is_followed_by(&self, line: &VersionLine) -> bool
+        ensures { result ≡ is_next line.now self.now }
+    {
+        line.record_number == self.parts.record_number
+            && line.number.get() == self.parts.origin.number().get() + 1
+            && self.state.is_settled()
+    }
+
+    /// What is wrong with the version, once its rows have come. Its text is made to find it.
+    pub fn check(&self, alloc: Global) -> Result<Option<Flaw>, OutOfMemory>
+        ensures { IfOk result (λ shown. shown ≡ flaw_of_hand self.now) }
+    {
+        if !self.has_digest(alloc)? {
+            return Ok(Some(Flaw::Digest(self.row)));
+        }
+        if !(self.has_signatures() && self.has_persons()) {
+            return Ok(Some(Flaw::OnePerson(self.row)));
+        }
+        Ok(None)
+    }
+
+    // Whether the digest in the row is that of the version's text.
+    fn has_digest(&self, alloc: Global) -> Result<bool, OutOfMemory>
+        ensures { IfOk result (λ has. has ≡ has_digest_at_hand self.now) }
+    {
+        let text = write_version(alloc, &self.parts)?;
+        Ok(digest(&text).bytes() == self.digest.bytes())
+    }
+
+    // Whether the signatures are those of the state in the row.
+    fn has_signatures(&self) -> bool
+        ensures { result ≡ has_signatures_at_hand self.now }
+    {
+        match state_of(self.meanings.as_slice(), wants_approval(self.parts.format)) {
+            Some(state) => state.word() == self.state.word(),
+            None => false,
+        }
+    }
+
+    // Whether the author entered a row, every other signer none, and the third isn't the second.
+    fn has_persons(&self) -> bool
+        ensures { result ≡ has_persons_at_hand self.now }
+    {
+        match self.signers.as_slice() {
+            [] => true,
+            [author] => self.has_entered(author),
+            [author, second] => self.has_entered(author) && !self.has_entered(second),
+            [author, second, third, ..] => {
+                self.has_entered(author)
+                    && !self.has_entered(second)
+                    && !self.has_entered(third)
+                    && *third != *second
+            }
+        }
+    }
+
+    fn has_entered(&self, person: &PersonCode) -> bool
+        ensures { result ≡ list_any (bytes_eq person.now)
+            (map (λ (row : EntryRow). row.person) self.now.parts.rows) }
+    {
+        has_row_of(self.parts.rows.rows(), person)
+    }
+}
+
+/// The version that begins in the row, where a record's row came.
+pub fn begin(
+    alloc: Global,
+    row: u64,
+    about: &Option<RecordLine>,
+    before: &Option<VersionAtHand>,
+    line: VersionLine,
+) -> Result<Option<VersionAtHand>, OutOfMemory>
+    requires { AmendsUnlessFirst line.number (amendment_behind before.now line) }
+    ensures value { IfOk result (λ version. version
+        ≡ option_map (λ about. begun row about before.now line) about.now) }
+    ensures memory { OnErr result (IsSome about.now) }
+{
+    match about {
+        Some(about) => Ok(Some(VersionAtHand::begin(alloc, row, about, before, line)?)),
+        None => Ok(None),
+    }
+}
+
+/// Keeps an entry of the version at hand, where there is one.
+pub fn enter(
+    version: &mut Option<VersionAtHand>,
+    alloc: Global,
+    row: EntryRow,
+) -> Result<(), OutOfMemory>
+    ensures kept { OnOk result (version.new ≡ option_map (with_entry row) version.old) }
+    ensures memory { OnErr result (IsSome version.old) }
+{
+    match version {
+        Some(version) => version.enter(alloc, row),
+        None => Ok(()),
+    }
+}
+
+/// Keeps a signature of the version at hand, where there is one.
+pub fn sign(
+    version: &mut Option<VersionAtHand>,
+    person: PersonCode,
+    meaning: Meaning,
+) -> Result<(), OutOfMemory>
+    ensures kept { OnOk result (version.new
+        ≡ option_map (with_signature person meaning) version.old) }
+    ensures memory { OnErr result (IsSome version.old) }
+{
+    match version {
+        Some(version) => version.sign(person, meaning),
+        None => Ok(()),
+    }
+}
+
+// Whether one of the rows is the person's.
+fn has_row_of(rows: &[EntryRow], person: &PersonCode) -> bool
+    ensures { result ≡ list_any (λ (row : EntryRow). bytes_eq person.now row.person) rows.now }
+{
+    rows.iter()
+        .any(|row| person.as_str() == row.person.as_str())
+}
+
+// Keeps an entry among the rows of a version.
+fn enter_row(parts: &mut VersionParts, alloc: Global, row: EntryRow) -> Result<(), OutOfMemory>
+    ensures { OnOk result (parts.new ≡ with_row row parts.old) }
+{
+    let mut rows = mem::replace(&mut parts.rows, EntryRows::new(Vec::new(alloc))).into_rows();
+    let done = rows.push(row);
+    parts.rows = EntryRows::new(rows);
+    done?;
+    Ok(())
+}
+
+// The digest of the version at hand.
+fn digest_of(version: &Option<VersionAtHand>) -> Option<Digest>
+    ensures { result ≡ option_map (λ (hand : VersionAtHand). hand.digest) version.now }
+{
+    match version {
+        Some(version) => Some(version.digest),
+        None => None,
+    }
+}
+
+// What a version amends, which has a reason for it unless it is the first.
+fn origin_of(number: Ordinal, reason: Option<Note>, previous: Option<Digest>) -> Origin
+    requires { AmendsUnlessFirst number (amendment_by reason previous) }
+    ensures { result ≡ record { number = number; amendment = amendment_by reason previous } }
+{
+    let Some(reason) = reason else {
+        return Origin::first();
+    };
+    let Some(previous) = previous else {
+        return Origin::first();
+    };
+    match Origin::amending(number, Amendment { previous, reason }) {
+        Some(origin) => origin,
+        None => unreachable!(),
+    }
+}
+
+// Whether an approval is wanted, of which only the newer format tells.
+fn wants_approval(format: Format) -> bool
+    ensures { result ≡ wants_approval format }
+{
+    match format {
+        Format::One => false,
+        Format::Two { approval } => approval,
+    }
+}

@@ -1,0 +1,5 @@
+pub mod FieldLemmas
+pub mod KnownFields
+pub mod KnownLines
+mod KnownVersionLines
+pub mod RowLemmas

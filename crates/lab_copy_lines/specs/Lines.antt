@@ -1,0 +1,51 @@
+-- How a row is read as a line: its fields, the header, and what it stands for in a copy; what each
+-- kind of row stands for is said in lab_copy_rows, `Reading.antt`.
+use Rattle.std.specs.Prelude.{◌≡◌, ℕ, Bool, List, [], Option, Some, None, IsSome, Result, Ok, Err, if◌then◌else◌, unwrap_or}
+use Rattle.std.specs.Str.{bytes_eq}
+use Rattle.std.specs.Cmp.Lexicographic.{pointwise}
+use Rattle.csv.specs.Records.{field_at}
+use Rattle.lab_seal.specs.Reading.{◌>>=◌}
+use Rattle.lab_copy_rows.specs.Rows.{Columns, fields_in, header_row}
+use Rattle.lab_copy_rows.specs.Reading.{columns_of, line_of}
+use Rattle.lab_copy_rows.specs.Copies.{is_of_edition}
+use Rattle.lab_copy_rows.specs.declared.lines.Edition.{Edition}
+use Rattle.lab_copy_rows.specs.declared.lines.Line.{Line}
+use Rattle.lab_copy_rows.specs.declared.lines.Line.TheVariants.{Version}
+use Rattle.lab_copy_lines.specs.Fields.{HasReasonUnlessFirst}
+use Rattle.lab_copy_lines.specs.declared.faults.RowFault.{RowFault}
+use Rattle.lab_copy_lines.specs.declared.faults.RowFault.TheVariants.{BadRow, Memory}
+
+-- what is found is what is there, and a bad row is told where nothing is; out of memory only where
+-- there is something, whose texts are copied
+abbrev pub IsRead : {A : Type 0} → Option A → Result A RowFault → Type 0
+IsRead found (Ok value) = found ≡ Some value
+IsRead found (Err BadRow) = found ≡ None
+IsRead found (Err (Memory _)) = IsSome found
+
+-- a field, or nothing where there are fewer
+abbrev pub field_in : List (List ℕ) → ℕ → List ℕ
+field_in fields place = unwrap_or (field_at fields place) []
+
+-- the columns have the names of the header
+abbrev pub has_header_names : Columns → Bool
+has_header_names row = pointwise bytes_eq (fields_in row) (fields_in header_row)
+
+abbrev pub IsReasoned : Line → Type 0
+IsReasoned (Version line) = HasReasonUnlessFirst line.number line.reason
+IsReasoned _ = Unit {0}
+
+-- what is found, where a copy of an edition may have it as a line
+abbrev pub within : {A : Type 0} → Edition → (A → Line) → Option A → Option A
+within edition line_with found = do
+  value ← found
+  if is_of_edition edition (line_with value) then Some value else None
+
+-- what the columns of a row stand for in a copy of an edition
+abbrev pub line_by : Edition → Columns → Option Line
+line_by edition columns = within edition (λ line. line) (line_of columns)
+
+-- the same of a row
+abbrev pub line_at : Edition → List (List ℕ) → Option Line
+line_at edition row = do
+  columns ← columns_of row
+  line_by edition columns

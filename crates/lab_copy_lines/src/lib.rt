@@ -1,0 +1,21 @@
+//! What rows of inspection copies stand for: the fields of a row, one by one, and the line of typed parts
+//! that they make, by the kind of the row.
+#![tactic(auto)]
+
+mod byte_records;
+mod columns;
+mod faults;
+pub mod fields;
+mod kinds;
+mod lines;
+mod parts;
+mod version_row_parts;
+
+pub use byte_records::is_header;
+pub use columns::RowFields;
+pub use faults::RowFault;
+pub use kinds::Kind;
+pub use lines::read_line;
+pub use version_row_parts::{
+    EntryParts, SignatureParts, VersionRowParts, entry_parts, signature_parts, version_parts,
+};

@@ -1,0 +1,217 @@
+//! What rows stand for.
+ghost use Rattle.std.specs.Prelude.{◌≡◌, IfOk};
+ghost use Rattle.csv.specs.Records.{fields_of};
+ghost use Rattle.lab_copy_rows.specs.Copies.{is_approval, is_of_edition, is_older};
+ghost use Rattle.lab_copy_rows.specs.declared.lines.Line.TheVariants.{Signature, Version};
+ghost use Rattle.lab_copy_rows.specs.Reading.{copy_line, record_line, version_line, entry_line, signature_line, end_line};
+ghost use Rattle.lab_copy_lines.specs.Fields.{HasReasonUnlessFirst, columns_in, meaning_of};
+ghost use Rattle.lab_copy_lines.specs.Lines.{IsRead, IsReasoned, line_at, line_by, within};
+ghost use Rattle.lab_copy_lines.specs.VersionRowParts.{signature_of, version_of};
+
+use crate::byte_records::row_fields;
+use crate::faults::RowFault;
+use crate::fields::{MeaningParts, is_word, own_meaning, own_person, own_reason};
+use crate::parts::{copy_parts, end_parts, record_parts};
+use crate::{
+    RowFields, SignatureParts, VersionRowParts, entry_parts, signature_parts, version_parts,
+};
+use csv::ByteRecord;
+use lab_copy_rows::{
+    CopyLine, Edition, EndLine, EntryLine, EntryRow, Format, Line, RecordLine, SealParts,
+    SignatureLine, State, VersionLine,
+};
+use lab_forms_texts::{Keys, LabCodes, Names, Notes, PersonCodes, Units};
+use lab_seal::fields::own;
+use std::alloc::Global;
+
+/// What a row stands for in a copy of the edition. `BadRow` where it stands for nothing.
+pub fn read_line(alloc: Global, edition: Edition, row: &ByteRecord) -> Result<Line, RowFault>
+    ensures value { IsRead (line_at edition (fields_of row.now)) result }
+    ensures reasoned { IfOk result IsReasoned }
+{
+    match row_fields(row) {
+        Some(columns) => line_by(alloc, edition, &columns),
+        None => Err(RowFault::BadRow),
+    }
+}
+
+// What a row stands for, by its kind.
+#[tactic(auto, unfolding(lab_copy_rows::specs::Reading::line_of))]
+fn line_by(alloc: Global, edition: Edition, row: &RowFields<'_>) -> Result<Line, RowFault>
+    ensures value { IsRead (line_by edition (columns_in row.now)) result }
+    ensures reasoned { IfOk result IsReasoned }
+{
+    if is_word(row.kind, "copy") {
+        Ok(Line::Copy(copy_line(alloc, row)?))
+    } else if is_word(row.kind, "record") {
+        Ok(Line::Record(record_line(alloc, row)?))
+    } else if is_word(row.kind, "version") {
+        Ok(Line::Version(version_line(alloc, edition, row)?))
+    } else if is_word(row.kind, "entry") {
+        Ok(Line::Entry(entry_line(alloc, row)?))
+    } else if is_word(row.kind, "signature") {
+        Ok(Line::Signature(signature_line(alloc, edition, row)?))
+    } else if is_word(row.kind, "end") {
+        Ok(Line::End(end_line(alloc, row)?))
+    } else {
+        Err(RowFault::BadRow)
+    }
+}
+
+fn copy_line(alloc: Global, row: &RowFields<'_>) -> Result<CopyLine, RowFault>
+    ensures { IsRead (copy_line (columns_in row.now)) result }
+{
+    let Some(parts) = copy_parts(row) else {
+        return Err(RowFault::BadRow);
+    };
+    Ok(CopyLine {
+        edition: parts.edition,
+        lab: own::<LabCodes>(alloc, parts.lab)?,
+        from: parts.from,
+        to: parts.to,
+        person: own_person(alloc, parts.person)?,
+        name: own::<Names>(alloc, parts.name)?,
+        moment: parts.moment,
+    })
+}
+
+fn record_line(alloc: Global, row: &RowFields<'_>) -> Result<RecordLine, RowFault>
+    ensures { IsRead (record_line (columns_in row.now)) result }
+{
+    let Some(parts) = record_parts(row) else {
+        return Err(RowFault::BadRow);
+    };
+    Ok(RecordLine {
+        lab: own::<LabCodes>(alloc, parts.lab)?,
+        record_number: parts.record_number,
+        form_version: parts.form_version,
+        form: own::<Keys>(alloc, parts.form)?,
+        sample: own::<Names>(alloc, parts.sample)?,
+    })
+}
+
+fn version_line(
+    alloc: Global,
+    edition: Edition,
+    row: &RowFields<'_>,
+) -> Result<VersionLine, RowFault>
+    ensures value { IsRead (within edition (λ line. Version line)
+        (version_line (columns_in row.now))) result }
+    ensures reasoned { IfOk result (λ line. HasReasonUnlessFirst line.number line.reason) }
+{
+    let Some(parts) = version_parts(row) else {
+        return Err(RowFault::BadRow);
+    };
+    if !has_version(edition, &parts) {
+        return Err(RowFault::BadRow);
+    }
+    Ok(VersionLine {
+        lab: own::<LabCodes>(alloc, parts.lab)?,
+        record_number: parts.record_number,
+        number: parts.number,
+        format: parts.format,
+        state: parts.state,
+        opener: own::<PersonCodes>(alloc, parts.opener)?,
+        opened: parts.opened,
+        reason: own_reason(alloc, parts.reason)?,
+        digest: parts.digest,
+    })
+}
+
+// Whether a copy of the edition may have the version.
+fn has_version(edition: Edition, parts: &VersionRowParts<'_>) -> bool
+    ensures { result ≡ is_of_edition edition (Version (version_of parts.now)) }
+{
+    match edition {
+        Edition::Two => true,
+        Edition::One => is_older(parts.format, parts.state),
+    }
+}
+
+// Whether the older rules know the format and the state.
+fn is_older(format: Format, state: State) -> bool
+    ensures { result ≡ is_older format state }
+{
+    match format {
+        Format::Two { .. } => false,
+        Format::One => !matches!(state, State::Reviewed),
+    }
+}
+
+fn entry_line(alloc: Global, row: &RowFields<'_>) -> Result<EntryLine, RowFault>
+    ensures { IsRead (entry_line (columns_in row.now)) result }
+{
+    let Some(parts) = entry_parts(row) else {
+        return Err(RowFault::BadRow);
+    };
+    Ok(EntryLine {
+        lab: own::<LabCodes>(alloc, parts.lab)?,
+        record_number: parts.record_number,
+        version: parts.version,
+        row: EntryRow {
+            key: own::<Keys>(alloc, parts.key)?,
+            value: own::<Notes>(alloc, parts.value)?,
+            unit: own::<Units>(alloc, parts.unit)?,
+            person: own::<PersonCodes>(alloc, parts.person)?,
+            moment: parts.moment,
+            reason: own_reason(alloc, parts.reason)?,
+        },
+    })
+}
+
+fn signature_line(
+    alloc: Global,
+    edition: Edition,
+    row: &RowFields<'_>,
+) -> Result<SignatureLine, RowFault>
+    ensures { IsRead (within edition (λ line. Signature line)
+        (signature_line (columns_in row.now))) result }
+{
+    let Some(parts) = signature_parts(row) else {
+        return Err(RowFault::BadRow);
+    };
+    if !has_signature(edition, &parts) {
+        return Err(RowFault::BadRow);
+    }
+    Ok(SignatureLine {
+        record_number: parts.record_number,
+        version: parts.version,
+        parts: SealParts {
+            version: parts.digest,
+            lab: own::<LabCodes>(alloc, parts.lab)?,
+            person: own::<PersonCodes>(alloc, parts.person)?,
+            name: own::<Names>(alloc, parts.name)?,
+            meaning: own_meaning(alloc, parts.meaning)?,
+            moment: parts.moment,
+        },
+        seal: parts.seal,
+    })
+}
+
+// Whether a copy of the edition may have the signature.
+fn has_signature(edition: Edition, parts: &SignatureParts<'_>) -> bool
+    ensures { result ≡ is_of_edition edition (Signature (signature_of parts.now)) }
+{
+    match edition {
+        Edition::Two => true,
+        Edition::One => !is_approval(parts.meaning),
+    }
+}
+
+fn is_approval(meaning: MeaningParts<'_>) -> bool
+    ensures { result ≡ is_approval (meaning_of meaning.entry) }
+{
+    matches!(meaning, MeaningParts::Approval)
+}
+
+fn end_line(alloc: Global, row: &RowFields<'_>) -> Result<EndLine, RowFault>
+    ensures { IsRead (end_line (columns_in row.now)) result }
+{
+    let Some(parts) = end_parts(row) else {
+        return Err(RowFault::BadRow);
+    };
+    Ok(EndLine {
+        lab: own::<LabCodes>(alloc, parts.lab)?,
+        counts: parts.counts,
+    })
+}

@@ -1,0 +1,7 @@
+pub mod Copies
+pub mod Csv
+pub mod Flaws
+pub mod Lines
+pub mod Outs
+pub mod Reading
+pub mod Rows

@@ -1,0 +1,53 @@
+//! One request, handled by two desks.
+
+ghost use Rattle.std.specs.Prelude.{◌≡◌, Err};
+ghost use Rattle.lab_wire.specs.declared.refusals.RequestRefusal.{RequestRefusal};
+ghost use Rattle.lab_wire.specs.Asked.{asked};
+ghost use Rattle.lab_desk.specs.Twins.{IsHandled, AreTaken, AgreeOnAsked, StayAgreed, StayAgreedElsewhere, SameButForMemory, GivenBoth, both};
+
+use crate::{Desk, Keeper, Tick};
+
+/// Whether each of two desks took a request.
+#[derive(Clone, Copy, Debug, PartialEq, Eq)]
+pub struct Twins {
+    /// Whether the first did.
+    pub one: bool,
+    /// Whether the other did.
+    pub other: bool,
+}
+
+/// Handles a request by two desks, one after the other, over keepers of any two types. Each desk is
+/// left as `Desk::handle` leaves it. Where both took the request and agreed on the laboratory that
+/// it names, they reply alike and agree on it still, whatever else they hold. On every other
+/// laboratory on which they agreed they agree still, whatever became of the request.
+pub fn twin<S: Keeper + Drop, T: Keeper + Drop>(
+    desk: &mut Desk<S>,
+    other: &mut Desk<T>,
+    tick: &Tick,
+    bytes: &[u8],
+) -> Twins
+    // Each desk by itself:
+    ensures one { IsHandled S.world S.rests S.moves tick.now (asked bytes.now)
+        desk.old desk.new result.one }
+    ensures other { IsHandled T.world T.rests T.moves tick.now (asked bytes.now)
+        other.old other.new result.other }
+
+    // Both desks:
+    ensures replies { let old = both (S.world desk.old.keeper) (T.world other.old.keeper) in
+        let new = both (S.world desk.new.keeper) (T.world other.new.keeper) in
+        GivenBoth old new (AreTaken result → AgreeOnAsked old (asked bytes.now) →
+        desk.new.reply ≡ other.new.reply) }
+    ensures agree { let old = both (S.world desk.old.keeper) (T.world other.old.keeper) in
+        let new = both (S.world desk.new.keeper) (T.world other.new.keeper) in
+        GivenBoth old new (result.one ≡ result.other → StayAgreed old new) }
+    ensures elsewhere { let old = both (S.world desk.old.keeper) (T.world other.old.keeper) in
+        let new = both (S.world desk.new.keeper) (T.world other.new.keeper) in
+        GivenBoth old new (StayAgreedElsewhere (asked bytes.now) old new) }
+    ensures nobodys { (refusal : RequestRefusal) → asked bytes.now ≡ Err refusal →
+        SameButForMemory desk.new.reply other.new.reply }
+{
+    Twins {
+        one: desk.handle(tick, bytes),
+        other: other.handle(tick, bytes),
+    }
+}

@@ -1,0 +1,26 @@
+//! The law of two runs. The function does nothing: its contract says the law.
+
+ghost use Rattle.std.specs.Prelude.{◌≡◌, ℕ, List, Bool};
+ghost use Rattle.lab_records_kept.specs.Worlds.{Meaning};
+ghost use Rattle.lab_desk_runs.specs.declared.events.Event.{Event};
+ghost use Rattle.lab_desk_runs.specs.Runs.{Handled, IsTold, AreAlone, own_events, own_answers, after_run};
+ghost use Rattle.lab_desk.specs.Twins.{Agree};
+
+/// Law: two runs that agree on a laboratory at their starts, and in which the same events of its own
+/// were taken, give it the same answers, byte for byte, and agree on it after (`answers`, `after`),
+/// whatever else they hold and whatever events of others come between. Where the events of the runs
+/// are the same, and the same of them were taken, so are its own (`own`). That each laboratory's
+/// answers are those of its run alone is what `Desk::run` promises.
+pub fn equal_events_get_equal_answers()
+    ensures answers { (start other_start : Meaning) (handled others : List Handled)
+        (code : List ℕ) → AreAlone start handled → AreAlone other_start others →
+        Agree start other_start code → own_events code handled ≡ own_events code others →
+        own_answers code handled ≡ own_answers code others }
+    ensures after { (start other_start : Meaning) (handled others : List Handled)
+        (code : List ℕ) →
+        Agree start other_start code → own_events code handled ≡ own_events code others →
+        Agree (after_run start handled) (after_run other_start others) code }
+    ensures own { (events : List Event) (taken : List Bool) (handled others : List Handled)
+        (code : List ℕ) → IsTold events taken handled → IsTold events taken others →
+        own_events code handled ≡ own_events code others }
+{}

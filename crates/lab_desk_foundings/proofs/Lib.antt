@@ -1,0 +1,4 @@
+pub mod Bearing
+mod Bodies
+mod KnownFoundings
+pub mod KnownRunFaults

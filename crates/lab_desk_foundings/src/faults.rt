@@ -1,0 +1,121 @@
+//! Why a founding founded nothing.
+
+ghost use Rattle.std.specs.Prelude.{◌≡◌, Some};
+ghost use Rattle.lab_desk_foundings.specs.Faults.{found_fault_entry, is_taken};
+
+use lab_forms_texts::OutOfMemory;
+use lab_records_kept::PlacingFault;
+use lab_records_machine::BirthRefusal;
+use lab_wire_members::{BodyFault, BodyRefusal};
+use std::fmt;
+use thiserror::Error;
+
+/// Why a founding founded nothing. Nothing was changed. Its text is its word.
+#[derive(Clone, Copy, Debug, PartialEq, Eq, Error)]
+pub enum FoundFault {
+    /// The body is none of a founding.
+    Body(BodyRefusal),
+    /// No laboratory is born from it.
+    Birth(BirthRefusal),
+    /// The keeper founded nothing, or memory ran out before.
+    Placing(PlacingFault),
+}
+
+impl FoundFault {
+    /// Whether the founding was taken all the same: it was, unless memory ran out or the store
+    /// refused.
+    pub fn is_taken(&self) -> bool
+        ensures { result ≡ is_taken self.now }
+    {
+        match self {
+            FoundFault::Body(_)
+            | FoundFault::Birth(_)
+            | FoundFault::Placing(PlacingFault::LabExists) => true,
+            FoundFault::Placing(PlacingFault::Storage | PlacingFault::Memory) => false,
+        }
+    }
+
+    fn entry(&self) -> (Option<u32>, &'static str)
+        ensures number { result.0 ≡ Some (found_fault_entry self.now).number }
+        ensures word { result.1.now ≡ (found_fault_entry self.now).word }
+    {
+        match self {
+            FoundFault::Body(refusal) => (refusal.number(), refusal.word()),
+            FoundFault::Birth(refusal) => (refusal.number(), refusal.word()),
+            FoundFault::Placing(fault) => (fault.number(), fault.word()),
+        }
+    }
+
+    /// The number by which the fault is known.
+    pub fn number(&self) -> Option<u32>
+        ensures { result ≡ Some (found_fault_entry self.now).number }
+    {
+        self.entry().0
+    }
+
+    /// The word by which the fault is known.
+    pub fn word(&self) -> &'static str
+        ensures { result.now ≡ (found_fault_entry self.now).word }
+    {
+        self.entry().1
+    }
+}
+
+/// A body was not read.
+impl From<BodyFault> for FoundFault {
+    ghost use Rattle.lab_desk_foundings.specs.Faults.{fault_of_body};
+
+    ghost from_gives = { λ fault gives. gives ≡ fault_of_body fault };
+
+    fn from(fault: BodyFault) -> FoundFault {
+        match fault {
+            BodyFault::Refused(refusal) => FoundFault::Body(refusal),
+            BodyFault::Memory => FoundFault::Placing(PlacingFault::Memory),
+        }
+    }
+}
+
+/// No laboratory is born.
+impl From<BirthRefusal> for FoundFault {
+    ghost use Rattle.lab_desk_foundings.specs.declared.faults.FoundFault.TheVariants.{Birth};
+
+    ghost from_gives = { λ refusal gives. gives ≡ Birth refusal };
+
+    fn from(refusal: BirthRefusal) -> FoundFault {
+        FoundFault::Birth(refusal)
+    }
+}
+
+/// Memory ran out.
+impl From<OutOfMemory> for FoundFault {
+    ghost use Rattle.lab_records_kept.specs.declared.faults.PlacingFault.TheVariants.{Memory};
+    ghost use Rattle.lab_desk_foundings.specs.declared.faults.FoundFault.TheVariants.{Placing};
+
+    ghost from_gives = { λ _ gives. gives ≡ Placing Memory };
+
+    fn from(_error: OutOfMemory) -> FoundFault {
+        FoundFault::Placing(PlacingFault::Memory)
+    }
+}
+
+/// A keeper founded nothing.
+impl From<PlacingFault> for FoundFault {
+    ghost use Rattle.lab_desk_foundings.specs.declared.faults.FoundFault.TheVariants.{Placing};
+
+    ghost from_gives = { λ fault gives. gives ≡ Placing fault };
+
+    fn from(fault: PlacingFault) -> FoundFault {
+        FoundFault::Placing(fault)
+    }
+}
+
+impl fmt::Display for FoundFault {
+    ghost use Rattle.std.specs.Prelude.{Some};
+    ghost use Rattle.lab_desk_foundings.specs.Faults.{found_fault_entry};
+
+    ghost output = { λ fault. Some (found_fault_entry fault).word };
+
+    fn fmt<W: fmt::Write>(&self, f: &mut fmt::Formatter<W>) -> fmt::Result {
+        f.write_str(self.word())
+    }
+}

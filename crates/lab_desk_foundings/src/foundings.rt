@@ -1,0 +1,106 @@
+//! What a founding's body bears, and the line that answers a founding.
+
+ghost use Rattle.std.specs.Prelude.{◌≡◌, ◌<◌, ◌⊎◌, length, IfOk, IfErr, None, Ok, true, false, option_map};
+ghost use Rattle.lab_records_kept.specs.Births.{newborn_lab};
+ghost use Rattle.lab_records_kept.specs.declared.faults.PlacingFault.TheVariants.{Memory};
+ghost use Rattle.lab_desk_foundings.specs.declared.faults.FoundFault.TheVariants.{Placing};
+ghost use Rattle.lab_desk_foundings.specs.Faults.{found_fault_entry, is_taken, FoundFaultFits};
+ghost use Rattle.lab_desk_foundings.specs.Foundings.{IsNewborn, founding_in, founded_line, refused_line, memory_line, shown};
+
+use crate::faults::FoundFault;
+use lab_forms_texts::{LabCode, OutOfMemory, Tick};
+use lab_records_kept::Newborn;
+use lab_records_machine::bear;
+use lab_wire_bodies::founding_of;
+use std::alloc::Global;
+
+/// What a keeper founds the laboratory of the code from, by its body.
+pub fn newborn_of(
+    alloc: Global,
+    lab: &LabCode,
+    tick: &Tick,
+    body: &[u8],
+) -> Result<Newborn, FoundFault>
+    ensures born { IfOk result (λ newborn.
+        IsNewborn lab.now tick.now (founding_in body.now) (newborn_lab newborn)) }
+    // The keeper wasn't asked, so neither that the laboratory exists nor the store is a fault:
+    ensures fault { IfErr result (FoundFaultFits ⊥ ⊥ lab.now tick.now (founding_in body.now)) }
+    // An empty body is refused, which takes no memory:
+    ensures memory { IfErr result (λ fault. fault ≡ Placing Memory → 0 < length body.now) }
+{
+    match founding_of(alloc, body) {
+        Ok(founding) => Ok(bear(lab.copy()?, founding, tick)?),
+        Err(fault) => Err(FoundFault::from(fault)),
+    }
+}
+
+/// The line that tells of a founding.
+pub fn founded(alloc: Global, lab: &LabCode) -> Result<Vec<u8>, OutOfMemory>
+    ensures { IfOk result (λ line. line.items ≡ founded_line lab.now) }
+{
+    let code = lab.as_str();
+    Ok(format!(in alloc; "founded {code}\n")?.into_bytes())
+}
+
+/// The line that tells of a refused founding.
+fn refused(alloc: Global, fault: &FoundFault) -> Result<Vec<u8>, OutOfMemory>
+    ensures { IfOk result (λ line. line.items ≡ refused_line (found_fault_entry fault.now)) }
+{
+    let number = fault.number().unwrap();
+    let word = fault.word();
+    Ok(format!(in alloc; "refused {number} {word}\n")?.into_bytes())
+}
+
+/// The line that tells of a founding that failed, and whether it was taken all the same.
+pub fn unfounded(alloc: Global, fault: &FoundFault) -> Line
+    ensures taken { result.taken ≡ true → (is_taken fault.now ≡ true)
+        × (shown (option_map (λ line. line.items) result.text)
+        ≡ refused_line (found_fault_entry fault.now)) }
+    ensures refused { result.taken ≡ false →
+        (shown (option_map (λ line. line.items) result.text) ≡ memory_line)
+        ⊎ ((is_taken fault.now ≡ false)
+        × (shown (option_map (λ line. line.items) result.text)
+        ≡ refused_line (found_fault_entry fault.now))) }
+{
+    match refused(alloc, fault) {
+        Ok(text) => Line {
+            taken: fault.is_taken(),
+            text: Some(text),
+        },
+        Err(_) => Line::of_memory(),
+    }
+}
+
+/// The line that answers a founding for lack of memory; no memory is taken for it.
+const MEMORY_LINE: &[u8] = b"refused 90 memory\n";
+
+/// The line that answers a founding, and whether the founding was taken.
+#[derive(Drop)]
+pub struct Line {
+    /// Whether the founding was taken: it was, unless memory ran out or the store refused.
+    pub taken: bool,
+    /// The line; where there is none, it is that for lack of memory.
+    pub text: Option<Vec<u8>>,
+}
+
+impl Line {
+    /// The line for lack of memory.
+    pub fn of_memory() -> Line
+        ensures { result ≡ record { taken = false; text = None } }
+    {
+        Line {
+            taken: false,
+            text: None,
+        }
+    }
+
+    /// The bytes of the line.
+    pub fn bytes(&self) -> &[u8]
+        ensures { result.now ≡ shown (option_map (λ line. line.items) self.now.text) }
+    {
+        match &self.text {
+            Some(line) => line.as_slice(),
+            None => MEMORY_LINE,
+        }
+    }
+}

@@ -1,0 +1,11 @@
+//! What the body of a founding bears and why a founding founded nothing; why a run of events ended before
+//! its last, and why a request was not served whole. No keeper is asked.
+#![tactic(auto)]
+
+mod faults;
+mod foundings;
+mod run_faults;
+
+pub use faults::FoundFault;
+pub use foundings::{Line, founded, newborn_of, unfounded};
+pub use run_faults::{RunFault, ServeFault};

@@ -1,0 +1,96 @@
+//! What a request is answered by: where there is no laboratory of the code, the refusal; else, by
+//! the part that was loaded, what the machine decides, built whole before the keeper makes the
+//! changes, which is the last thing.
+
+ghost use Rattle.std.specs.Prelude.{◌≡◌, IfOk, IfErr};
+ghost use Rattle.lab_desk_requests.specs.Calls.{Applies};
+ghost use Rattle.lab_records_outcomes.specs.Deciding.{decided};
+ghost use Rattle.lab_wire.specs.declared.replies.Answer.TheVariants.{Replied};
+ghost use Rattle.lab_wire.specs.Replies.{reply_text};
+
+use lab_forms_texts::{OutOfMemory, Series, Tick};
+use lab_records::decide;
+use lab_records_kept::{Change, Keeper, KeeperFault, Slice};
+use lab_records_machine::{Instruction, Reply};
+use lab_records_outcomes::Outcome;
+use lab_records_rules::Refusal;
+use lab_wire::{Answer, Asked, reply_bytes};
+use std::alloc::Global;
+
+/// The reply where there is no laboratory of the code.
+pub fn no_such_lab(alloc: Global, tick: &Tick) -> Result<Vec<u8>, KeeperFault>
+    ensures reply { IfOk result (λ reply. reply.items ≡ reply_text tick.now
+        (Replied (Reply.Refused Refusal.NoSuchLab))) }
+    ensures fault { IfErr result (λ fault. fault ≡ KeeperFault.Memory) }
+{
+    let refused = Answer::Replied(Reply::Refused(Refusal::NoSuchLab));
+    let reply = reply_bytes(alloc, tick, &refused);
+    drop(refused);
+    Ok(reply?)
+}
+
+/// Answers by the part of the laboratory: what is decided on it is replied, and its changes are
+/// made. After an error every laboratory means what it meant.
+pub fn answer_on<S: Keeper>(
+    alloc: Global,
+    keeper: &mut S,
+    slice: Slice,
+    tick: &Tick,
+    asked: Asked,
+) -> Result<Vec<u8>, KeeperFault>
+    ensures reply { IfOk result (λ reply. reply.items ≡ reply_text tick.now
+        (Replied (decided slice tick.now asked.instruction.command).reply)) }
+    ensures applies { Applies asked.lab (decided slice tick.now asked.instruction.command).changes
+        (S.world keeper.old) (S.world keeper.new) (S.rests keeper.old keeper.new)
+        (S.moves keeper.old keeper.new) result }
+{
+    let Asked { lab, instruction } = asked;
+    let built = build(alloc, slice, tick, instruction)?;
+    let Built { reply, changes } = built;
+    keeper.apply(&lab, changes)?;
+    Ok(reply)
+}
+
+/// What is decided of an instruction, its reply whole in bytes.
+#[derive(Drop)]
+struct Built {
+    reply: Vec<u8>,
+    changes: Series<Change>,
+}
+
+// Decides an instruction on the part of a laboratory that it needs, and builds the reply.
+fn build(
+    alloc: Global,
+    slice: Slice,
+    tick: &Tick,
+    instruction: Instruction,
+) -> Result<Built, OutOfMemory>
+    ensures reply { IfOk result (λ built. built.reply.items ≡ reply_text tick.now
+        (Replied (decided slice tick.now instruction.command).reply)) }
+    ensures changes { IfOk result (λ built.
+        built.changes ≡ (decided slice tick.now instruction.command).changes) }
+{
+    let Instruction { token, command } = instruction;
+    drop(token);
+    let outcome = decide(alloc, slice, tick, command)?;
+    told(alloc, tick, outcome)
+}
+
+// The reply of an outcome, whole in bytes, and its changes.
+fn told(alloc: Global, tick: &Tick, outcome: Outcome) -> Result<Built, OutOfMemory>
+    ensures reply { IfOk result (λ built.
+        built.reply.items ≡ reply_text tick.now (Replied outcome.reply)) }
+    ensures changes { IfOk result (λ built. built.changes ≡ outcome.changes) }
+{
+    let Outcome { reply, changes } = outcome;
+    let answer = Answer::Replied(reply);
+    let bytes = reply_bytes(alloc, tick, &answer);
+    drop(answer);
+    match bytes {
+        Ok(reply) => Ok(Built { reply, changes }),
+        Err(fault) => {
+            drop(changes);
+            Err(fault)
+        }
+    }
+}

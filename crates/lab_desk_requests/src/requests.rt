@@ -1,0 +1,76 @@
+//! How a laboratory is asked over any keeper: its part is loaded, and it is answered by that, or
+//! where there is none, told so.
+
+ghost use Rattle.std.specs.Prelude.{◌≡◌, Ok, IsTrue, IfOk};
+ghost use Rattle.lab_records_kept.specs.Worlds.{Given, Quiet};
+ghost use Rattle.lab_records_kept.specs.Parts.{part_of};
+ghost use Rattle.lab_records_laws.specs.Asking.{IsCommandFormed};
+ghost use Rattle.lab_records_machine.specs.Needs.{need_of};
+ghost use Rattle.lab_wire.specs.Replies.{reply_text};
+ghost use Rattle.lab_desk_requests.specs.Calls.{Ends, Loads};
+ghost use Rattle.lab_desk_runs.specs.Keeping.{AreWithin};
+ghost use Rattle.lab_desk_runs.specs.Requests.{answer_to, is_idle, DoesStep};
+
+use crate::{answer_on, no_such_lab};
+use lab_forms_texts::Tick;
+use lab_records::formed;
+use lab_records_kept::{Keeper, KeeperFault, Slice};
+use lab_records_machine::needs;
+use lab_wire::Asked;
+use std::alloc::Global;
+
+// Loads the part of the laboratory that its instruction needs, or none where there is no
+// laboratory of the code.
+fn load_needed<S: Keeper>(
+    keeper: &mut S,
+    tick: &Tick,
+    asked: &Asked,
+) -> Result<Option<Slice>, KeeperFault>
+    ensures part { Given (S.world keeper.old) (S.world keeper.new) (IfOk result (λ found. found
+        ≡ part_of (need_of tick.now asked.now.instruction)
+        ((S.world keeper.old).meaning asked.now.lab))) }
+    ensures loads { Loads (S.world keeper.old) (S.world keeper.new)
+        (S.rests keeper.old keeper.new) result }
+{
+    let need = needs(tick, &asked.instruction)?;
+    let loaded = keeper.load(&asked.lab, &need);
+    drop(need);
+    loaded
+}
+
+/// Answers what a laboratory was asked. After an error every laboratory means what it meant.
+pub fn answer_asked<S: Keeper>(
+    alloc: Global,
+    keeper: &mut S,
+    tick: &Tick,
+    asked: Asked,
+) -> Result<Vec<u8>, KeeperFault>
+    ensures formed { IsCommandFormed asked.instruction.command }
+    ensures reply { Given (S.world keeper.old) (S.world keeper.new) (IfOk result (λ reply.
+        reply.items ≡ reply_text tick.now
+        (answer_to (S.world keeper.old).meaning tick.now (Ok asked)))) }
+    ensures ends { Ends (S.world keeper.old) (S.world keeper.new)
+        (S.rests keeper.old keeper.new) result }
+    ensures quiet { IsTrue (is_idle ((S.world keeper.old).meaning asked.lab) tick.now
+        asked.instruction) →
+        Given (S.world keeper.old) (S.world keeper.new)
+        (Quiet (S.world keeper.old) (S.world keeper.new)) }
+    // Where every laboratory is within its limits:
+    ensures does { AreWithin (S.world keeper.old) →
+        Given (S.world keeper.old) (S.world keeper.new)
+        (DoesStep (S.world keeper.old) (S.world keeper.new) tick.now asked
+        (S.moves keeper.old keeper.new) result) }
+{
+    formed(&asked.instruction.command);
+    match load_needed(keeper, tick, &asked) {
+        Ok(Some(slice)) => answer_on(alloc, keeper, slice, tick, asked),
+        Ok(None) => {
+            drop(asked);
+            no_such_lab(alloc, tick)
+        }
+        Err(fault) => {
+            drop(asked);
+            Err(fault)
+        }
+    }
+}

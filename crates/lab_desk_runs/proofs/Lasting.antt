@@ -1,0 +1,50 @@
+-- What stays true where nothing was touched, and over one event more.
+use Rattle.lab_records_kept.specs.Worlds.{World, Given, Passes}
+use Rattle.lab_desk_runs.specs.Keeping.{AreWithin, Stays, StaysOn}
+use Rattle.lab_desk_runs.proofs.Keeping.{still_keeps}
+use Rattle.lab_desk_runs.proofs.Releasing.{released_stay}
+use Rattle.lab_desk_runs.proofs.Retaining.{retained_on, still_retained}
+
+-- nothing was touched
+pub still_stays : (world : World) → world.is_reached → Stays world world
+still_stays world reached = record {
+  within = λ within. within;
+  releasing = λ releasing. releasing;
+  keeps = still_keeps world;
+  reached = reached;
+  safe = λ live safe. safe;
+}
+
+-- before the first event
+pub stays_first : (world : World) → AreWithin world → world.is_reached → StaysOn world world
+stays_first world within reached = record {
+  within = within;
+  releasing = λ releasing. releasing;
+  retains = still_retained world;
+  released = λ releasing. released_stay world world (still_retained world) releasing;
+  reached = reached;
+  safe = λ live safe. safe;
+}
+
+-- one event more
+stays_more : (old mid new : World) → (new.is_live → mid.is_live) → StaysOn old mid →
+    Stays mid new → StaysOn old new
+stays_more old mid new back so next =
+    let retains = retained_on old mid new back so.retains next.keeps in record {
+      within = next.within so.within;
+      releasing = λ releasing. next.releasing (so.releasing releasing);
+      retains = retains;
+      released = λ releasing. released_stay old new retains
+          (next.releasing (so.releasing releasing));
+      reached = next.reached;
+      safe = λ live safe. next.safe (back live) (so.safe (back live) safe);
+    }
+
+-- so it is by what a call says of the event
+pub stays_after : (old mid new : World) → Passes mid new →
+    (AreWithin old → Given old mid (StaysOn old mid)) →
+    (AreWithin mid → Given mid new (Stays mid new)) →
+    AreWithin old → Given old new (StaysOn old new)
+stays_after old mid new passes so next = λ within honest reached.
+    let before = so within (passes.honest honest) reached in
+    stays_more old mid new (passes.live honest) before (next before.within honest before.reached)

@@ -1,3 +1,0 @@
-pub mod AlteringLemmas
-pub mod ValueLemmas
-mod KnownValues

@@ -1,6 +1,0 @@
-pub mod EventLemmas
-pub mod NumberLemmas
-pub mod ReadLemmas
-pub mod NextLemmas
-pub mod KnownValues
-pub mod ReplayLemmas

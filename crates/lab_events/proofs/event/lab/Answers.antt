@@ -1,5 +1,0 @@
-use Rattle.lab_events.proofs.EventLemmas.{lab_code-not_text}
-use Rattle.lab_events.proofs.event.lab.Goals as goal
-
-pub returns-in_default : goal.returns-in_default
-returns-in_default c = lab_code-not_text c.args.text.now c.in_default.ensures.cases.0

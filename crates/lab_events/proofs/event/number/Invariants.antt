@@ -1,8 +1,0 @@
-use Rattle.std.proofs.Common.{◌≡◌, nat_le, drop}
-use Rattle.lab_events.specs.Event.{number_where}
-use Rattle.lab_events.proofs.NumberLemmas.{number_on}
-use Rattle.lab_events.proofs.event.number.Given as goal
-
-abbrev pub invariant-loop-byte : goal.invariant-loop-byte
-invariant-loop-byte l = number_where (λ n. nat_le n l.fn.most) l.fn.text
-    ≡ number_on (λ n. nat_le n l.fn.most) l.value (drop l.byte-index l.fn.text)

@@ -1,9 +1,0 @@
-use Rattle.std.proofs.Common.{◌∙◌}
-use Rattle.lab_events.proofs.ReplayLemmas.{told}
-use Rattle.lab_events.proofs.replays.tell.Goals as goal
-
-pub returns : goal.returns
-returns g c =
-    let line = c.as_bytes.ensures.value ∙ c.line.ensures in
-    told c.args.fault _ _ c.write_reply.result (rw line at c.write_reply.ensures.whole)
-    (rw line at c.write_reply.ensures.cut) (rw line at c.write_reply.ensures.short)

@@ -1,5 +1,0 @@
-pub mod Event
-pub mod Fault
-pub mod Limited
-pub mod Reading
-pub mod Replay

@@ -1,7 +1,0 @@
-use Rattle.sqlite.specs.Held.{state}
-use Rattle.lab_files.proofs.Making.{row_done}
-use Rattle.lab_files.proofs.creating.name_schema.Goals as goal
-
-pub returns-clause-made : goal.returns-clause-made
-returns-clause-made g c clean was =
-    row_done (state g.S.Store c.args.tx.now.conn.now) (state g.S.Store c.run.new.tx.conn.now) c.run.result (c.run.ensures.runs clean) was

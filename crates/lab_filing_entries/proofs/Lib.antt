@@ -1,4 +1,0 @@
-pub mod EntryWrites
-pub mod KeyLemmas
-pub mod Added
-pub mod KnownValues

@@ -1,4 +1,0 @@
-pub mod FormWrites
-pub mod KeyLemmas
-pub mod InTurn
-pub mod KnownValues

@@ -1,4 +1,0 @@
-pub mod RecordWrites
-pub mod KeyLemmas
-pub mod InTurn
-pub mod KnownValues

@@ -1,9 +1,0 @@
-pub mod KnownValues
-pub mod Texts
-pub mod Keys
-pub mod Exact
-pub mod FormsFound
-pub mod KindTexts
-pub mod KindKeys
-pub mod KindsExact
-pub mod KindsFound

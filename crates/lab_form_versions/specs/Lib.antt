@@ -1,4 +1,0 @@
-pub mod Shown
-pub mod Forms
-pub mod KindsShown
-pub mod Kinds

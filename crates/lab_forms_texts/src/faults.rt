@@ -1,0 +1,165 @@
+//! Why a name or a moment was not made. Each fault has a number and a word, by which the interface tells it.
+ghost use Rattle.std.specs.Prelude.{◌≡◌, Some};
+
+use std::alloc::{AllocError, AllocFailed};
+use std::fmt;
+use thiserror::Error;
+
+/// The allocator had no memory for a value.
+#[derive(Clone, Copy, Debug, PartialEq, Eq, Error)]
+pub struct OutOfMemory;
+
+impl OutOfMemory {
+    ghost use Rattle.lab_forms_texts.specs.Faults.{memory_entry};
+
+    fn entry(&self) -> (u32, &'static str)
+        ensures number { result.0 ≡ memory_entry.number }
+        ensures word { result.1.now ≡ memory_entry.word }
+    {
+        (90, "memory")
+    }
+
+    /// The fault's number.
+    pub fn number(&self) -> Option<u32>
+        ensures { result ≡ Some memory_entry.number }
+    {
+        Some(self.entry().0)
+    }
+
+    /// The fault's word.
+    pub fn word(&self) -> &'static str
+        ensures { result.now ≡ memory_entry.word }
+    {
+        self.entry().1
+    }
+}
+
+impl fmt::Display for OutOfMemory {
+    ghost use Rattle.std.specs.Prelude.{Some};
+    ghost use Rattle.lab_forms_texts.specs.Faults.{memory_entry};
+
+    ghost output = { λ _. Some memory_entry.word };
+
+    fn fmt<W: fmt::Write>(&self, f: &mut fmt::Formatter<W>) -> fmt::Result {
+        f.write_str(self.word())
+    }
+}
+
+impl From<AllocError> for OutOfMemory {
+    ghost from_gives = { λ _ e. e ≡ record {} };
+
+    fn from(_error: AllocError) -> OutOfMemory {
+        OutOfMemory
+    }
+}
+
+impl<T: Drop> From<AllocFailed<T>> for OutOfMemory {
+    ghost from_gives = { λ _ e. e ≡ record {} };
+
+    fn from(_error: AllocFailed<T>) -> OutOfMemory {
+        OutOfMemory
+    }
+}
+
+/// Why a text was not made a name.
+#[derive(Clone, Copy, Debug, PartialEq, Eq, Error)]
+pub enum NameFault {
+    /// The text is none that the name's rule admits.
+    BadName,
+    /// The text is admitted, and there was no memory for it.
+    Memory(OutOfMemory),
+}
+
+impl NameFault {
+    ghost use Rattle.lab_forms_texts.specs.Faults.{name_fault_entry};
+
+    fn entry(&self) -> (u32, &'static str)
+        ensures number { result.0 ≡ (name_fault_entry self.now).number }
+        ensures word { result.1.now ≡ (name_fault_entry self.now).word }
+    {
+        match self {
+            NameFault::BadName => (1, "bad_name"),
+            NameFault::Memory(fault) => fault.entry(),
+        }
+    }
+
+    /// The fault's number.
+    pub fn number(&self) -> Option<u32>
+        ensures { result ≡ Some (name_fault_entry self.now).number }
+    {
+        Some(self.entry().0)
+    }
+
+    /// The fault's word.
+    pub fn word(&self) -> &'static str
+        ensures { result.now ≡ (name_fault_entry self.now).word }
+    {
+        self.entry().1
+    }
+}
+
+impl fmt::Display for NameFault {
+    ghost use Rattle.std.specs.Prelude.{Some};
+    ghost use Rattle.lab_forms_texts.specs.Faults.{name_fault_entry};
+
+    ghost output = { λ fault. Some (name_fault_entry fault).word };
+
+    fn fmt<W: fmt::Write>(&self, f: &mut fmt::Formatter<W>) -> fmt::Result {
+        f.write_str(self.word())
+    }
+}
+
+impl From<AllocError> for NameFault {
+    ghost use Rattle.lab_forms_texts.specs.declared.faults.NameFault.TheVariants.{Memory};
+
+    ghost from_gives = { λ _ e. e ≡ Memory (record {}) };
+
+    fn from(_error: AllocError) -> NameFault {
+        NameFault::Memory(OutOfMemory)
+    }
+}
+
+/// Why a number or a text was not made a moment.
+#[derive(Clone, Copy, Debug, PartialEq, Eq, Error)]
+pub enum MomentFault {
+    /// The number or the text is that of no moment.
+    BadMoment,
+}
+
+impl MomentFault {
+    ghost use Rattle.lab_forms_texts.specs.Faults.{moment_fault_entry};
+
+    fn entry(&self) -> (u32, &'static str)
+        ensures number { result.0 ≡ (moment_fault_entry self.now).number }
+        ensures word { result.1.now ≡ (moment_fault_entry self.now).word }
+    {
+        match self {
+            MomentFault::BadMoment => (2, "bad_moment"),
+        }
+    }
+
+    /// The fault's number.
+    pub fn number(&self) -> Option<u32>
+        ensures { result ≡ Some (moment_fault_entry self.now).number }
+    {
+        Some(self.entry().0)
+    }
+
+    /// The fault's word.
+    pub fn word(&self) -> &'static str
+        ensures { result.now ≡ (moment_fault_entry self.now).word }
+    {
+        self.entry().1
+    }
+}
+
+impl fmt::Display for MomentFault {
+    ghost use Rattle.std.specs.Prelude.{Some};
+    ghost use Rattle.lab_forms_texts.specs.Faults.{moment_fault_entry};
+
+    ghost output = { λ fault. Some (moment_fault_entry fault).word };
+
+    fn fmt<W: fmt::Write>(&self, f: &mut fmt::Formatter<W>) -> fmt::Result {
+        f.write_str(self.word())
+    }
+}

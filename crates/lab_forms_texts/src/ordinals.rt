@@ -1,0 +1,69 @@
+//! Ordinals: the numbers by which the laboratories count what they keep.
+ghost use Rattle.std.specs.Prelude.{◌≡◌, ◌+◌, IsTrue};
+ghost use Rattle.lab_forms_texts.specs.Ordinals.{is_ordinal, ordinal_of};
+
+use std::marker::Model;
+
+/// The last ordinal.
+const LAST: u32 = 1_000_000_000;
+
+/// A number from 1 to 1,000,000,000, as records, versions, sessions and rows of a trail have them.
+///
+/// A contract sees it as the number.
+#[derive(Clone, Copy, Debug, PartialEq, Eq, PartialOrd, Ord)]
+pub struct Ordinal {
+    number: u32,
+}
+
+impl Model for Ordinal {
+    ghost use Rattle.std.specs.Prelude.{ℕ, IsTrue};
+    ghost use Rattle.lab_forms_texts.specs.Ordinals.{is_ordinal};
+
+    ghost Value = { ℕ };
+
+    ghost view = { λ ordinal. ordinal.number };
+
+    ghost invariant = { λ ordinal. IsTrue (is_ordinal ordinal.number) };
+
+    ghost inverse = { λ n. record { number = n } };
+}
+
+impl Ordinal {
+    /// The ordinal of what comes first.
+    pub const FIRST: Ordinal = Ordinal { number: 1 };
+
+    /// The number as an ordinal, if it is one.
+    pub fn new(number: u32) -> Option<Ordinal>
+        ensures { result ≡ ordinal_of number }
+    {
+        if number == 0 || number > LAST {
+            return None;
+        }
+        Some(Ordinal { number })
+    }
+
+    /// The next ordinal where so many were given, if there is one.
+    pub fn after(count: u32) -> Option<Ordinal>
+        ensures { result ≡ ordinal_of (count + 1) }
+    {
+        if count >= LAST {
+            return None;
+        }
+        Ordinal::new(count + 1)
+    }
+
+    /// The number.
+    pub fn get(self) -> u32
+        ensures value { result ≡ self }
+        ensures in_range { IsTrue (is_ordinal self) }
+    {
+        self.number
+    }
+
+    /// The ordinal that follows, if there is one.
+    pub fn next(self) -> Option<Ordinal>
+        ensures { result ≡ ordinal_of (self + 1) }
+    {
+        Ordinal::after(self.number)
+    }
+}

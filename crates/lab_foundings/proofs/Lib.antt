@@ -1,3 +1,0 @@
-pub mod Bearing
-mod Bodies
-mod KnownValues

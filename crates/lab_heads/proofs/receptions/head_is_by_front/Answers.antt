@@ -1,5 +1,0 @@
-use Rattle.lab_heads.proofs.RequestLaws.{head_law}
-use Rattle.lab_heads.proofs.receptions.head_is_by_front.Goals as goal
-
-pub returns : goal.returns
-returns c = head_law

@@ -1,9 +1,0 @@
-pub mod Fields
-pub mod HeadGrammar
-pub mod Heads
-pub mod Interims
-pub mod Lengths
-pub mod Receptions
-pub mod Refusals
-pub mod Requests
-pub mod Tokens

@@ -1,6 +1,0 @@
-pub mod ItemLemmas
-pub mod ReadLemmas
-pub mod TextLemmas
-pub mod PartLemmas
-pub mod SpellingLemmas
-mod KnownValues

@@ -1,5 +1,0 @@
-use Rattle.lab_kept.proofs.laws.what_is_released.Goals as goal
-use Rattle.lab_kept.proofs.ReleaseLemmas.{all_released}
-
-pub returns : goal.returns
-returns c = all_released

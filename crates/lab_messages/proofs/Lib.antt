@@ -1,3 +1,0 @@
-pub mod DateLemmas
-pub mod KnownValues
-pub mod MessageLemmas

@@ -1,0 +1,4 @@
+pub mod AppLemmas
+pub mod ExplainLemmas
+mod KnownCommands
+mod KnownFaults

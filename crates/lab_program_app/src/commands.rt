@@ -1,0 +1,251 @@
+//! Each command of `labdesk` with its arguments, as `clap` is told of it, and what help says of it.
+
+ghost use Rattle.std.specs.Prelude.{◌≡◌, IfOk, false};
+ghost use Rattle.clap.specs.Words.{app_of, new_app, rule_of, with_rule};
+ghost use Rattle.lab_program_app.specs.Apps.{check_app, copy_app, count_rule, file_rule, found_app, lab_rule, moment_rule, named_rule, number_rule, port_rule, rehearse_app, replay_app, serve_app, wanted_rule, with_file_and_lab, with_port_and_count, with_range};
+
+use clap::{Arg, Command, value_parser};
+use std::alloc::{AllocError, Global};
+
+/// What help says of a founding.
+const FOUNDING: &str =
+    "It founds a laboratory in the file, at the moment of the clock, and prints `founded` and its
+code. A file is made where there is none, and stays where the founding is refused. The input is a
+JSON object: the laboratory's `name`, and three `founders`, each with `code`, `name` and
+`password`. It is described in docs/FORMATS.md. An example:
+
+    labdesk found --file laboratories --lab aqua < examples/founding.json";
+
+/// What help says of serving.
+const SERVING: &str =
+    "It prints `listening` and its address once clients can connect, serves so many connections one
+after the other, and ends. Requests and replies are described in docs/HTTP.md. An example:
+
+    labdesk serve --file laboratories --port 8080";
+
+/// What help says of the making of a copy.
+const COPYING: &str =
+    "It writes the inspection copy of the laboratory's records of these numbers to standard output.
+A copy is described in docs/COPIES.md. An example:
+
+    labdesk copy --file laboratories --lab aqua --from 1 --to 100 > copy.csv";
+
+/// What help says of the check of a copy.
+const CHECKING: &str =
+    "It tells `good` and how many records, versions, entries and signatures the copy has, or
+`bad`, what is wrong first, and the row. The input is CSV, as `labdesk copy` writes it, and is
+described in docs/COPIES.md. An example:
+
+    labdesk check < copy.csv";
+
+/// What help says of the input of a replay.
+const REPLAYING: &str =
+    "An event is a line, and right after it as many bytes as the line's last number says:
+
+    found <lab> <seconds> <word> <length>
+    call <seconds> <word> <length>
+
+The input is described in docs/FORMATS.md. An example:
+
+    labdesk replay < examples/two-laboratories.events";
+
+/// What help says of a rehearsal.
+const REHEARSING: &str =
+    "It founds the laboratory in memory, at the first of all moments, asks for its card over a
+socket of this machine at the given moment, and prints the reply. The input is a JSON object, as
+that of `labdesk found`, and is described in docs/FORMATS.md. An example:
+
+    labdesk rehearse --lab aqua --moment 100 < examples/founding.json";
+
+/// The seconds of the last moment.
+const LAST_SECOND: i64 = 253_402_300_799;
+
+/// The most connections that are served.
+const MOST_CONNECTIONS: i64 = 1_000_000_000;
+
+/// The number of the last record that there may be.
+const LAST_RECORD: i64 = 1_000_000_000;
+
+// ---- arguments
+
+// An argument behind `--` and its name, and what help calls its value.
+fn named<'a>(alloc: Global, name: &'a str, value: &'a str, help: &'a str) -> Arg<'a>
+    ensures rule { rule_of result ≡ named_rule name.entry.now }
+    ensures local { result.global ≡ false }
+{
+    Arg::new(alloc, name)
+        .long(name)
+        .value_name(value)
+        .help(help)
+}
+
+// One that has to be given.
+fn wanted<'a>(alloc: Global, name: &'a str, value: &'a str, help: &'a str) -> Arg<'a>
+    ensures rule { rule_of result ≡ wanted_rule name.entry.now }
+    ensures local { result.global ≡ false }
+{
+    named(alloc, name, value, help).required(true)
+}
+
+// A file of laboratories.
+fn file_argument<'a>(alloc: Global) -> Arg<'a>
+    ensures rule { rule_of result ≡ file_rule }
+    ensures local { result.global ≡ false }
+{
+    wanted(alloc, "file", "F", "Path of the file of laboratories")
+}
+
+// A laboratory.
+fn lab_argument<'a>(alloc: Global) -> Arg<'a>
+    ensures rule { rule_of result ≡ lab_rule }
+    ensures local { result.global ≡ false }
+{
+    wanted(alloc, "lab", "L", "Code of the laboratory")
+}
+
+// The moment of a rehearsal.
+fn moment_argument<'a>(alloc: Global) -> Arg<'a>
+    ensures rule { rule_of result ≡ moment_rule }
+    ensures local { result.global ≡ false }
+{
+    let help = "Seconds since 1970-01-01T00:00:00Z";
+    wanted(alloc, "moment", "S", help).value_parser(value_parser!(i64).range(0..=LAST_SECOND))
+}
+
+// The port of a server.
+fn port_argument<'a>(alloc: Global) -> Arg<'a>
+    ensures rule { rule_of result ≡ port_rule }
+    ensures local { result.global ≡ false }
+{
+    let help = "Port of this machine, 0 for any that is free";
+    wanted(alloc, "port", "P", help).value_parser(value_parser!(u16))
+}
+
+// How many connections a server serves.
+fn count_argument<'a>(alloc: Global) -> Arg<'a>
+    ensures rule { rule_of result ≡ count_rule }
+    ensures local { result.global ≡ false }
+{
+    named(alloc, "count", "K", "How many connections are served")
+        .default_value("1000000")
+        .value_parser(value_parser!(u32).range(1..=MOST_CONNECTIONS))
+}
+
+// The number of a record.
+fn number_argument<'a>(alloc: Global, name: &'a str, value: &'a str, help: &'a str) -> Arg<'a>
+    ensures rule { rule_of result ≡ number_rule name.entry.now }
+    ensures local { result.global ≡ false }
+{
+    wanted(alloc, name, value, help).value_parser(value_parser!(u32).range(1..=LAST_RECORD))
+}
+
+// ---- commands
+
+// A command that has nothing yet besides its help.
+fn command<'a>(alloc: Global, name: &'a str, about: &'a str, more: &'a str) -> Command<'a>
+    ensures { app_of result ≡ new_app name.entry.now }
+{
+    Command::new(alloc, name).about(about).after_help(more)
+}
+
+// A command with one more argument, which is its own.
+fn with<'a>(bare: Command<'a>, argument: Arg<'a>) -> Result<Command<'a>, AllocError>
+    requires { argument.global ≡ false }
+    ensures { IfOk result
+        (λ more. app_of more ≡ with_rule (app_of bare.entry) (rule_of argument.entry)) }
+{
+    bare.arg(argument)
+}
+
+// A command with a file, and a laboratory in it.
+fn with_file_and_lab<'a>(alloc: Global, bare: Command<'a>) -> Result<Command<'a>, AllocError>
+    ensures { IfOk result (λ more. app_of more ≡ with_file_and_lab (app_of bare.entry)) }
+{
+    let first = with(bare, file_argument(alloc))?;
+    with(first, lab_argument(alloc))
+}
+
+// A command with a port, and how many connections are served there.
+fn with_port_and_count<'a>(alloc: Global, bare: Command<'a>) -> Result<Command<'a>, AllocError>
+    ensures { IfOk result (λ more. app_of more ≡ with_port_and_count (app_of bare.entry)) }
+{
+    let first = with(bare, port_argument(alloc))?;
+    with(first, count_argument(alloc))
+}
+
+// A command with the first and the last number of records.
+fn with_range<'a>(alloc: Global, bare: Command<'a>) -> Result<Command<'a>, AllocError>
+    ensures { IfOk result (λ more. app_of more ≡ with_range (app_of bare.entry)) }
+{
+    let from = number_argument(alloc, "from", "A", "Number of the first record, 1 or more");
+    let first = with(bare, from)?;
+    let help = "Number of the last record, up to 1000000000";
+    with(first, number_argument(alloc, "to", "B", help))
+}
+
+/// `found`, of a laboratory in a file.
+///
+/// # Errors
+/// Memory ran out.
+pub fn found_command<'a>(alloc: Global) -> Result<Command<'a>, AllocError>
+    ensures { IfOk result (λ command. app_of command ≡ found_app) }
+{
+    let about = "Found a laboratory in a file, from the body of standard input";
+    let bare = command(alloc, "found", about, FOUNDING);
+    with_file_and_lab(alloc, bare)
+}
+
+/// `serve`, of a file at a port, for so many connections.
+///
+/// # Errors
+/// Memory ran out.
+pub fn serve_command<'a>(alloc: Global) -> Result<Command<'a>, AllocError>
+    ensures { IfOk result (λ command. app_of command ≡ serve_app) }
+{
+    let about = "Serve the laboratories of a file, on a port of this machine";
+    let bare = command(alloc, "serve", about, SERVING);
+    let first = with(bare, file_argument(alloc))?;
+    with_port_and_count(alloc, first)
+}
+
+/// `copy`, of the records of a file's laboratory, from a number to a number.
+///
+/// # Errors
+/// Memory ran out.
+pub fn copy_command<'a>(alloc: Global) -> Result<Command<'a>, AllocError>
+    ensures { IfOk result (λ command. app_of command ≡ copy_app) }
+{
+    let about = "Write the inspection copy of a laboratory's records to standard output";
+    let bare = command(alloc, "copy", about, COPYING);
+    let first = with_file_and_lab(alloc, bare)?;
+    with_range(alloc, first)
+}
+
+/// `rehearse`, of a laboratory at a moment.
+///
+/// # Errors
+/// Memory ran out.
+pub fn rehearse_command<'a>(alloc: Global) -> Result<Command<'a>, AllocError>
+    ensures { IfOk result (λ command. app_of command ≡ rehearse_app) }
+{
+    let about = "Found a laboratory from the body of standard input, and ask for its card";
+    let bare = command(alloc, "rehearse", about, REHEARSING);
+    let first = with(bare, lab_argument(alloc))?;
+    with(first, moment_argument(alloc))
+}
+
+/// `check`.
+pub fn check_command<'a>(alloc: Global) -> Command<'a>
+    ensures { app_of result ≡ check_app }
+{
+    let about = "Check the inspection copy of standard input, and tell what is found";
+    command(alloc, "check", about, CHECKING)
+}
+
+/// `replay`.
+pub fn replay_command<'a>(alloc: Global) -> Command<'a>
+    ensures { app_of result ≡ replay_app }
+{
+    let about = "Run the events of standard input, and write their answers to standard output";
+    command(alloc, "replay", about, REPLAYING)
+}

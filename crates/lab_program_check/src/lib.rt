@@ -1,0 +1,9 @@
+//! `labdesk check`: what is found of an inspection copy, told in a line.
+#![tactic(auto)]
+
+mod faults;
+mod verdicts;
+
+pub use faults::StopFault;
+pub use lab_wire_heads::WriteFault;
+pub use verdicts::check;

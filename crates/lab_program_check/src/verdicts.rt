@@ -1,0 +1,102 @@
+//! The check of a copy from a reader, and the line that tells what was found.
+ghost use Rattle.std.specs.Prelude.{◌≡◌, ◌≢◌, IfOk, IfErr, IfSome};
+ghost use Rattle.lab_copy_rows.specs.Copies.{verdict};
+ghost use Rattle.lab_copy.specs.Checks.{rows_of};
+ghost use Rattle.lab_program_check.specs.declared.faults.StopFault.TheVariants.{Write as NotWritten};
+ghost use Rattle.lab_program_check.specs.Verdicts.{good_line, bad_line, IsFound, IsVerdictTold, IsCheck};
+
+use crate::faults::StopFault;
+use lab_copy::{CheckFault, Counts, Flaw, OutOfMemory, check_copy};
+use lab_wire_heads::{WriteFault, write_reply};
+use std::alloc::Global;
+use std::io::{Read, Write};
+
+/// What was found of a copy: the line that tells it, and the status.
+#[derive(Drop)]
+struct Found {
+    line: String,
+    status: u8,
+}
+
+// The line that tells of a sound copy: how many rows of each kind it has.
+fn good_line(alloc: Global, counts: Counts) -> Result<String, OutOfMemory>
+    ensures { IfOk result (λ line. line.bytes.items ≡ good_line counts) }
+{
+    let (records, versions) = (counts.records, counts.versions);
+    let (entries, signatures) = (counts.entries, counts.signatures);
+    let line = format!(in alloc; "good {records} {versions} {entries} {signatures}\n")?;
+    Ok(line)
+}
+
+// The line that tells of a flaw: its word, and the row at which it is told.
+fn bad_line(alloc: Global, flaw: Flaw) -> Result<String, OutOfMemory>
+    ensures { IfOk result (λ line. line.bytes.items ≡ bad_line flaw) }
+{
+    let word = flaw.word();
+    let line = match flaw.row() {
+        Some(row) => format!(in alloc; "bad {word} {row}\n")?,
+        None => format!(in alloc; "bad {word}\n")?,
+    };
+    Ok(line)
+}
+
+// What is found of the copy that a reader gives.
+fn look_over<R: Read + Drop>(alloc: Global, input: R) -> Result<Found, StopFault>
+    ensures found { IfOk result (λ found. IfSome (R.remaining input) (λ bytes.
+        IsFound (verdict (rows_of bytes)) found.line.bytes.items found.status)) }
+    ensures fault { IfErr result (λ fault. fault ≢ NotWritten) }
+{
+    match check_copy(alloc, input) {
+        Ok(counts) => Ok(Found {
+            line: good_line(alloc, counts)?,
+            status: 0,
+        }),
+        Err(CheckFault::Flawed(flaw)) => Ok(Found {
+            line: bad_line(alloc, flaw)?,
+            status: 1,
+        }),
+        Err(CheckFault::Read) => Err(StopFault::Read),
+        Err(CheckFault::Memory(_)) => Err(StopFault::Memory),
+    }
+}
+
+// Checks the copy that the input has, and tells on the output what is found. Answers the status.
+fn tell_found<R: Read + Drop, W: Write>(
+    alloc: Global,
+    input: R,
+    output: &mut W,
+) -> Result<u8, StopFault>
+    ensures { IfSome (R.remaining input) (λ bytes. IsVerdictTold (verdict (rows_of bytes)) result
+        (W.contents output.old) (W.contents output.new)) }
+{
+    let found = look_over(alloc, input)?;
+    match write_reply(output, found.line.as_bytes()) {
+        Ok(()) => Ok(found.status),
+        Err(_) => Err(StopFault::Write),
+    }
+}
+
+/// `labdesk check`: checks the inspection copy that the input has, by its rows alone, and tells on the output in a line what is
+/// found: `good` and how many records, versions, entries and signatures it has, or `bad`, the word of its first flaw and the row.
+/// What stops it is told on standard error. Answers the status: 0 for a sound copy, and else 1.
+///
+/// # Errors
+/// The check stopped, and standard error failed before the whole line was told.
+pub fn check<R: Read + Drop, W: Write, E: Write>(
+    alloc: Global,
+    input: R,
+    output: &mut W,
+    errors: &mut E,
+) -> Result<u8, WriteFault>
+    ensures { IfSome (R.remaining input) (λ bytes. IsCheck (verdict (rows_of bytes)) result
+        (W.contents output.old) (W.contents output.new)
+        (E.contents errors.old) (E.contents errors.new)) }
+{
+    match tell_found(alloc, input, output) {
+        Ok(status) => Ok(status),
+        Err(fault) => {
+            write_reply(errors, fault.line().as_bytes())?;
+            Ok(1)
+        }
+    }
+}

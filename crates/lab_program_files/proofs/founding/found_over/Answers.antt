@@ -1,0 +1,76 @@
+-- Where the line, the body or the tick fails nothing is done; then the founding tells.
+use Rattle.std.proofs.Common.{◌∙◌}
+use Rattle.std.proofs.KnownBytes.{Keeps-refl}
+use Rattle.std.proofs.lemmas.Result.{err_from_is_err_and}
+use Rattle.lab_desk_foundings.specs.Foundings.{founded_line}
+use Rattle.lab_program_outside.specs.declared.faults.ServerFault.TheVariants.{Memory, Read}
+use Rattle.lab_program_files.proofs.FoundingLemmas.{ends_founded, ends_idle, ends_refused, prints_idle, undrawn}
+use Rattle.lab_program_files.proofs.founding.found_over.Goals as goal
+
+pub returns-in_err-line-clause-ends : goal.returns-in_err-line-clause-ends
+returns-in_err-line-clause-ends g c =
+    let fault = err_from_is_err_and c.from_residual.result c.from_residual.ensures.1 in
+    rw (fault.1, fault.2) (ends_idle g.S.Keeper.world g.S.Keeper.places undrawn c.args.lab.now
+    (g.B.Read.remaining c.args.body.now) c.args.desk.now.keeper Memory tt)
+
+pub returns-in_err-line-clause-prints : goal.returns-in_err-line-clause-prints
+returns-in_err-line-clause-prints g c =
+    let fault = err_from_is_err_and c.from_residual.result c.from_residual.ensures.1 in
+    rw (fault.1, fault.2) (Keeps-refl _)
+
+pub returns-in_err-bytes-clause-ends : goal.returns-in_err-bytes-clause-ends
+returns-in_err-bytes-clause-ends g c =
+    let fault = err_from_is_err_and c.from_residual-in_err-bytes.result
+    c.from_residual-in_err-bytes.ensures.1 in
+    rw (fault.1, fault.2) (ends_idle g.S.Keeper.world g.S.Keeper.places _ c.args.lab.now
+    (g.B.Read.remaining c.args.body.now) c.args.desk.now.keeper _ c.in_err-bytes.ensures.fault)
+
+pub returns-in_err-bytes-clause-prints : goal.returns-in_err-bytes-clause-prints
+returns-in_err-bytes-clause-prints g c =
+    let fault = err_from_is_err_and c.from_residual-in_err-bytes.result
+    c.from_residual-in_err-bytes.ensures.1 in
+    rw (fault.1, fault.2) (prints_idle (founded_line c.args.lab.now) _
+    (g.W.Write.contents c.args.output.now) c.in_err-bytes.ensures.fault (Keeps-refl _))
+
+pub returns-in_err-tick-clause-ends : goal.returns-in_err-tick-clause-ends
+returns-in_err-tick-clause-ends g c =
+    let fault = err_from_is_err_and c.from_residual-in_err-tick.result
+    c.from_residual-in_err-tick.ensures.1 in
+    rw (fault.1, fault.2) (ends_idle g.S.Keeper.world g.S.Keeper.places undrawn c.args.lab.now
+    (g.B.Read.remaining c.args.body.now) c.args.desk.now.keeper Read tt)
+
+pub returns-in_err-tick-clause-prints : goal.returns-in_err-tick-clause-prints
+returns-in_err-tick-clause-prints g c =
+    let fault = err_from_is_err_and c.from_residual-in_err-tick.result
+    c.from_residual-in_err-tick.ensures.1 in
+    rw (fault.1, fault.2) (Keeps-refl _)
+
+pub returns-in_err-found-clause-ends : goal.returns-in_err-found-clause-ends
+returns-in_err-found-clause-ends g c =
+    let fault = err_from_is_err_and c.from_residual-in_err-found.result
+    c.from_residual-in_err-found.ensures.1 in
+    rw (fault.1, fault.2) (ends_refused g.S.Keeper.world g.S.Keeper.places _ c.args.lab.now
+    (g.B.Read.remaining c.args.body.now) c.as_slice.result.now c.in_ok-bytes.bytes.items
+    c.args.desk.now.keeper c.found.new.self.keeper c.in_ok-tick.tick _
+    (c.in_ok-tick.ensures.moment, c.in_ok-tick.ensures.words) c.as_slice.ensures.value
+    c.in_ok-bytes.ensures.bytes c.in_err-found.ensures.fault c.in_err-found.ensures.err)
+
+pub returns-in_err-found-clause-prints : goal.returns-in_err-found-clause-prints
+returns-in_err-found-clause-prints g c =
+    let fault = err_from_is_err_and c.from_residual-in_err-found.result
+    c.from_residual-in_err-found.ensures.1 in
+    rw (fault.1, fault.2) (Keeps-refl _)
+
+pub returns-clause-ends : goal.returns-clause-ends
+returns-clause-ends g c =
+    ends_founded g.S.Keeper.world g.S.Keeper.places _ c.args.lab.now
+    (g.B.Read.remaining c.args.body.now) c.as_slice.result.now c.in_ok-bytes.bytes.items
+    c.args.desk.now.keeper c.found.new.self.keeper c.in_ok-tick.tick _
+    (c.in_ok-tick.ensures.moment, c.in_ok-tick.ensures.words) c.as_slice.ensures.value
+    c.in_ok-bytes.ensures.bytes c.print.ensures.fault c.in_ok-found.ensures.founded
+    c.in_ok-found.ensures.durable
+
+pub returns-clause-prints : goal.returns-clause-prints
+returns-clause-prints g c =
+    let line = c.as_slice-2.ensures.value ∙ c.in_ok-line.ensures in
+    rw line at c.print.ensures.printed

@@ -1,0 +1,71 @@
+//! `labdesk serve`: the laboratories of a file are served on a port of this machine.
+
+ghost use Rattle.lab_program_files.specs.FileWorlds.{file_moves, file_rests, file_world};
+ghost use Rattle.lab_program_shelves.specs.Files.{IsOurs};
+ghost use Rattle.lab_program_files.specs.Serving.{IsUnprepared, ServesFile};
+ghost use Rattle.std.specs.Prelude.{IfErr, IfOk};
+
+use crate::leaving::leave;
+use lab_program_outside::{Chance, Clock};
+use lab_program_serve::{Desk, listen};
+use lab_program_shelves::{Closing, Shelf, TaskFault, decline, open_file};
+use lab_store::Store;
+use lab_wire_heads::WriteFault;
+use sqlite::Connection;
+use std::alloc::Global;
+use std::io::Write;
+use std::net::Net;
+
+/// A desk over the file at the path, and a listener at the port.
+fn prepared<N: Net, H: Shelf>(
+    net: &N,
+    alloc: Global,
+    shelf: &mut H,
+    path: &str,
+    port: u16,
+) -> Result<(Desk<Store<H::Disk>>, N::Listener), TaskFault>
+    ensures ours { IfOk result (λ prepared. IsOurs H.Disk.Store prepared.0.keeper) }
+    ensures fault { IfErr result IsUnprepared }
+{
+    let conn = open_file(alloc, shelf, path)?;
+    let desk = Desk::new(alloc, Store::new(alloc, conn))?;
+    let listener = listen(net, port)?;
+    Ok((desk, listener))
+}
+
+/// `labdesk serve`: opens the file at the path, listens at a port of this machine (0 is any that is
+/// free), prints which, serves so many connections one after the other, and tells on standard error
+/// why it stopped before the last. Answers the status: 0 where all were served, and else 1.
+///
+/// # Errors
+/// It stopped, and standard error failed before the whole line was told.
+pub fn serve<N: Net, H: Shelf, C: Clock, X: Chance, W: Write, E: Write>(
+    net: &N,
+    alloc: Global,
+    shelf: &mut H,
+    path: &str,
+    port: u16,
+    count: u32,
+    clock: &mut C,
+    chance: &mut X,
+    output: &mut W,
+    errors: &mut E,
+) -> Result<u8, WriteFault>
+where
+    Connection<H::Disk>: Closing,
+    ensures { ServesFile (file_world H.Disk.Store) (file_rests H.Disk.Store)
+        (file_moves H.Disk.Store) (IsOurs H.Disk.Store) count
+        (W.contents output.old) (W.contents output.new)
+        (E.contents errors.old) (E.contents errors.new) result }
+{
+    match prepared(net, alloc, shelf, path, port) {
+        Ok((mut desk, listener)) => {
+            let status = lab_program_serve::serve(
+                alloc, &mut desk, listener, clock, chance, count, output, errors,
+            );
+            leave(desk.into_keeper());
+            status
+        }
+        Err(fault) => decline(alloc, errors, fault),
+    }
+}

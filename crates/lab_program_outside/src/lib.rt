@@ -1,0 +1,17 @@
+//! What a program takes from outside, whoever hands it in: the moments of a clock, words of chance,
+//! and the bytes of a reader; the faults that stop it there, and how a fault is told on standard
+//! error.
+#![tactic(auto)]
+
+mod faults;
+mod outside;
+mod reading;
+mod told;
+
+pub use faults::{ConnectionFault, ListenFault, RehearsalFault, ServerFault};
+pub use lab_desk_foundings::{FoundFault, ServeFault};
+pub use lab_forms_texts::{Moment, Tick};
+pub use lab_wire_heads::WriteFault;
+pub use outside::{Chance, Clock, DrawFault, draw};
+pub use reading::read_all;
+pub use told::tell;

@@ -1,0 +1,39 @@
+//! How a fault is told on standard error.
+
+ghost use Rattle.std.specs.Prelude.{◌≡◌, ℕ, ◌+◌, ◌^◌, ◌<◌, length, take, OnOk, IfErr};
+ghost use Rattle.std.specs.Io.KnownBytes.{Appends};
+ghost use Rattle.lab_program_outside.specs.Faults.{IsTold, told_line};
+
+use lab_wire_heads::{WriteFault, write_reply};
+use std::io::Write;
+
+/// What stands before the word.
+const BEFORE: &str = "labdesk: ";
+
+/// Writes a text after so many bytes. After a fault it tells how many went out of both.
+fn tell_after<E: Write>(errors: &mut E, sent: usize, text: &str) -> Result<(), WriteFault>
+    requires { sent + length text.now < 2 ^ 64 }
+    ensures whole { OnOk result (Appends (E.contents errors.old) (E.contents errors.new) text.now) }
+    ensures cut { IfErr result (λ untold. (part : ℕ) × (untold.sent ≡ sent + part)
+        × (part < length text.now)
+        × Appends (E.contents errors.old) (E.contents errors.new) (take part text.now)) }
+{
+    match write_reply(errors, text.as_bytes()) {
+        Ok(()) => Ok(()),
+        Err(fault) => Err(WriteFault {
+            sent: sent + fault.sent,
+        }),
+    }
+}
+
+/// Tells the word of a fault, in a line. No memory is taken for it.
+///
+/// # Errors
+/// Standard error failed before the whole line was told.
+pub fn tell<E: Write>(errors: &mut E, word: &str) -> Result<(), WriteFault>
+    ensures { IsTold (told_line word.now) result (E.contents errors.old) (E.contents errors.new) }
+{
+    tell_after(errors, 0, BEFORE)?;
+    tell_after(errors, BEFORE.len(), word)?;
+    tell_after(errors, BEFORE.len() + word.len(), "\n")
+}

@@ -1,0 +1,10 @@
+use Rattle.std.proofs.Common.{◌-◌, ◌≤◌, length}
+use Rattle.lab_program_replay.proofs.ReadLemmas.{HasRead}
+use Rattle.lab_program_replay.proofs.event.line.Given as goal
+
+abbrev pub invariant-loop-reader : goal.invariant-loop-reader
+invariant-loop-reader g l = (length l.line.items ≤ 1001)
+    × HasRead (g.B.Read.remaining l.fn.reader) (g.B.Read.remaining l.reader) l.line.items
+
+abbrev pub decreases-loop-reader : goal.decreases-loop-reader
+decreases-loop-reader g l = 1001 - length l.line.items

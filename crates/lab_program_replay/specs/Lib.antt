@@ -1,0 +1,6 @@
+pub mod Event
+pub mod Fault
+pub mod Limited
+pub mod Reading
+pub mod Replay
+pub mod Replays

@@ -1,0 +1,47 @@
+//! The events of an input, run one after the other on a desk.
+ghost use Rattle.lab_records_kept.specs.Worlds.{Given};
+ghost use Rattle.lab_desk_runs.specs.Keeping.{AreWithin};
+ghost use Rattle.lab_program_replay.specs.Replay.{IsTold, Replays};
+
+use crate::event::next_event;
+use crate::fault::ReplayFault;
+use lab_desk::Desk;
+use lab_records_kept::Keeper;
+use lab_wire_heads::{WriteFault, write_reply};
+use std::alloc::Global;
+use std::io::{BufRead, Write};
+
+/// Runs the events of the input on a desk until the input ends. After an error the events before it
+/// stand, and their answers were written.
+///
+/// # Errors
+/// What comes next is no event, the input or the output failed, or memory ran out.
+pub fn run_events<S: Keeper + Drop, B: BufRead, W: Write>(
+    alloc: Global,
+    desk: &mut Desk<S>,
+    reader: &mut B,
+    output: &mut W,
+) -> Result<(), ReplayFault>
+    ensures replayed { AreWithin (S.world desk.old.keeper) →
+        Given (S.world desk.old.keeper) (S.world desk.new.keeper)
+        (Replays (S.world desk.old.keeper) (S.world desk.new.keeper)
+        (B.remaining reader.old) (W.contents output.old) (W.contents output.new) result) }
+{
+    for _ in 0..u64::MAX {
+        let Some(event) = next_event(alloc, reader)? else {
+            return Ok(());
+        };
+        desk.run(&[event], output)?;
+    }
+    Err(ReplayFault::ReadFault)
+}
+
+/// Tells a fault on standard error by its whole line.
+///
+/// # Errors
+/// Standard error failed, and has the first bytes of the line.
+pub fn tell<E: Write>(errors: &mut E, fault: ReplayFault) -> Result<(), WriteFault>
+    ensures { IsTold fault result (E.contents errors.old) (E.contents errors.new) }
+{
+    write_reply(errors, fault.line().as_bytes())
+}

@@ -1,0 +1,129 @@
+//! Why a replay stops.
+ghost use Rattle.std.specs.Prelude.{◌≡◌};
+
+use lab_desk::RunFault;
+use lab_forms_texts::{NameFault, OutOfMemory};
+use std::alloc::AllocError;
+use std::{fmt, io};
+use thiserror::Error;
+
+/// Why a replay stopped before the end of its input. The fault's own text is its word.
+#[derive(Clone, Copy, Debug, PartialEq, Eq, Error)]
+pub enum ReplayFault {
+    /// What comes next in the input is no event.
+    BadEvent,
+    /// The input could not be read.
+    ReadFault,
+    /// An answer could not be written.
+    WriteFault,
+    /// The laboratories could not be kept.
+    Storage,
+    /// There was no memory to go on.
+    Memory,
+}
+
+impl ReplayFault {
+    ghost use Rattle.lab_program_replay.specs.Fault.{fault_word, fault_line};
+
+    /// The word by which the fault is known.
+    pub fn word(&self) -> &'static str
+        ensures { result.now ≡ fault_word self.now }
+    {
+        match self {
+            ReplayFault::BadEvent => "bad_event",
+            ReplayFault::ReadFault => "read_fault",
+            ReplayFault::WriteFault => "write_fault",
+            ReplayFault::Storage => "storage",
+            ReplayFault::Memory => "memory",
+        }
+    }
+
+    /// The line that tells the fault on standard error, with its line feed. No memory is taken for
+    /// it.
+    pub fn line(&self) -> &'static str
+        ensures { result.now ≡ fault_line self.now }
+    {
+        match self {
+            ReplayFault::BadEvent => "labdesk: bad_event\n",
+            ReplayFault::ReadFault => "labdesk: read_fault\n",
+            ReplayFault::WriteFault => "labdesk: write_fault\n",
+            ReplayFault::Storage => "labdesk: storage\n",
+            ReplayFault::Memory => "labdesk: memory\n",
+        }
+    }
+}
+
+impl fmt::Display for ReplayFault {
+    ghost use Rattle.std.specs.Prelude.{Some};
+    ghost use Rattle.lab_program_replay.specs.Fault.{fault_word};
+
+    ghost output = { λ fault. Some (fault_word fault) };
+
+    fn fmt<W: fmt::Write>(&self, f: &mut fmt::Formatter<W>) -> fmt::Result {
+        f.write_str(self.word())
+    }
+}
+
+/// A text was refused as a laboratory's code.
+impl From<NameFault> for ReplayFault {
+    ghost use Rattle.lab_program_replay.specs.Fault.{fault_of_name};
+
+    ghost from_gives = { λ fault gives. gives ≡ fault_of_name fault };
+
+    fn from(fault: NameFault) -> ReplayFault {
+        match fault {
+            NameFault::BadName => ReplayFault::BadEvent,
+            NameFault::Memory(_) => ReplayFault::Memory,
+        }
+    }
+}
+
+/// There was no memory for a desk.
+impl From<OutOfMemory> for ReplayFault {
+    ghost use Rattle.lab_program_replay.specs.declared.fault.ReplayFault.TheVariants.{Memory};
+
+    ghost from_gives = { λ _ fault. fault ≡ Memory };
+
+    fn from(_want: OutOfMemory) -> ReplayFault {
+        ReplayFault::Memory
+    }
+}
+
+/// A run of events stopped.
+impl From<RunFault> for ReplayFault {
+    ghost use Rattle.lab_program_replay.specs.Fault.{fault_of_run};
+
+    ghost from_gives = { λ fault gives. gives ≡ fault_of_run fault };
+
+    fn from(fault: RunFault) -> ReplayFault {
+        match fault {
+            RunFault::Memory => ReplayFault::Memory,
+            RunFault::Write { .. } => ReplayFault::WriteFault,
+        }
+    }
+}
+
+impl From<AllocError> for ReplayFault {
+    ghost use Rattle.lab_program_replay.specs.declared.fault.ReplayFault.TheVariants.{Memory};
+
+    ghost from_gives = { λ _ fault. fault ≡ Memory };
+
+    fn from(_error: AllocError) -> ReplayFault {
+        ReplayFault::Memory
+    }
+}
+
+/// A reader failed.
+impl From<io::Error> for ReplayFault {
+    ghost use Rattle.lab_program_replay.specs.Fault.{IsReaderFault};
+
+    ghost from_gives = { λ _ fault. IsReaderFault fault };
+
+    fn from(error: io::Error) -> ReplayFault {
+        if error.kind() == io::ErrorKind::OutOfMemory {
+            ReplayFault::Memory
+        } else {
+            ReplayFault::ReadFault
+        }
+    }
+}

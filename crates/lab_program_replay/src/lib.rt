@@ -1,0 +1,19 @@
+//! A replay: the events of an input, read from its lines and run one after the other over a store in
+//! memory, that begins with no laboratory.
+#![tactic(auto)]
+
+mod event;
+mod event_runs;
+mod fault;
+mod limited;
+mod memory;
+mod replays;
+
+pub use event::next_event;
+pub use event_runs::{run_events, tell};
+pub use fault::ReplayFault;
+pub use lab_desk::{Desk, Event};
+pub use lab_wire_heads::WriteFault;
+pub use limited::LimitedReader;
+pub use memory::store_in_memory;
+pub use replays::replay;

@@ -1,0 +1,28 @@
+//! A store in memory.
+
+ghost use Rattle.std.specs.Prelude.{◌≡◌, ℕ, List, None, IfOk};
+ghost use Rattle.sqlite.specs.Held.{state};
+ghost use Rattle.sqlite.specs.Steps.{over_memory};
+ghost use Rattle.lab_store.specs.StoreWorlds.{store_world};
+
+use lab_store::Store;
+use lab_store_files::{FileFault, create};
+use sqlite::{Connection, MemStore};
+use std::alloc::Global;
+
+/// A store in memory, with no laboratory.
+///
+/// # Errors
+/// The store refused, or memory ran out.
+pub fn store_in_memory(alloc: Global) -> Result<Store<MemStore>, FileFault>
+    ensures nobody { IfOk result (λ store. (code : List ℕ) →
+        (store_world over_memory store).meaning code ≡ None) }
+    ensures honest { IfOk result (λ store. (store_world over_memory store).is_honest) }
+    ensures reached { IfOk result (λ store. (store_world over_memory store).is_reached) }
+{
+    let Ok(mut conn) = Connection::open_in_memory(alloc) else {
+        return Err(FileFault::Memory);
+    };
+    create(&mut conn)?;
+    Ok(Store::new(alloc, conn))
+}

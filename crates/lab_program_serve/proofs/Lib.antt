@@ -1,0 +1,5 @@
+pub mod KnownRehearsals
+pub mod KnownServing
+pub mod RehearsalLemmas
+pub mod TextLemmas
+pub mod VisitLemmas

@@ -1,0 +1,5 @@
+pub mod Rehearsals
+pub mod RehearseTask
+pub mod ServeTask
+pub mod Texts
+pub mod Visits

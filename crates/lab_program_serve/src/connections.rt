@@ -1,0 +1,41 @@
+//! Connections that come one after the other.
+
+ghost use Rattle.std.specs.Prelude.{◌≡◌, ℕ, List, [], ◌∷◌, Option, None, IfOk};
+ghost use Rattle.lab_program_outside.specs.Sources.{Gives};
+
+use lab_program_outside::ListenFault;
+use std::io::{Read, Write};
+
+/// A connection: what its client sends, and what goes to its client.
+#[derive(Drop)]
+pub struct Connection<R, W> {
+    /// What the client sends.
+    pub reader: R,
+    /// What goes to the client.
+    pub writer: W,
+}
+
+/// Where connections come in.
+pub trait Connections {
+    /// What a client sends.
+    type Reader: Read + Drop;
+
+    /// What goes to a client.
+    type Writer: Write + Drop;
+
+    /// The port that clients connect to.
+    ghost listens_at: { Self → ℕ };
+
+    /// The connections that come from here on, where they are known: for each what its client
+    /// sends, where that is known.
+    ghost coming: { Self → Option (List (Option (List ℕ))) } = { λ _. None };
+
+    /// The port that clients connect to.
+    fn port(&self) -> u16
+        ensures { result ≡ listens_at self.now };
+
+    /// Takes the next connection, for which it waits.
+    fn accept(&mut self) -> Result<Connection<Self::Reader, Self::Writer>, ListenFault>
+        ensures given { IfOk result (λ connection. Gives (coming self.old) (coming self.new)
+            (Self.Reader.remaining connection.reader ∷ [])) };
+}

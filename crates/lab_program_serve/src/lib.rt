@@ -1,0 +1,22 @@
+//! Serving requests over loopback sockets, one connection after the other, and the rehearsal of one
+//! request. What is said of sockets stands in `loopback` and `rehearsal_loopback`; all else is said of
+//! any connections.
+#![tactic(auto)]
+
+mod connections;
+mod loopback;
+mod rehearsal_loopback;
+mod rehearsals;
+mod serving;
+
+pub use connections::{Connection, Connections};
+pub use lab_desk::{Desk, Keeper};
+pub use lab_forms_texts::{LabCode, Moment};
+pub use lab_program_outside::{
+    Chance, Clock, ConnectionFault, FoundFault, ListenFault, RehearsalFault, ServerFault,
+};
+pub use lab_wire_heads::WriteFault;
+pub use loopback::{Listening, connect, listen, serve};
+pub use rehearsal_loopback::rehearse;
+pub use rehearsals::{rehearse_over, request_bytes};
+pub use serving::{serve_connection, serve_over};

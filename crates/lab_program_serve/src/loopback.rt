@@ -1,0 +1,199 @@
+//! Sockets: a listener of this machine, and what is served over it.
+
+ghost use Rattle.std.specs.Prelude.{◌≡◌, IfErr};
+ghost use Rattle.lab_records_kept.specs.Worlds.{Passes, Given};
+ghost use Rattle.lab_desk_runs.specs.Keeping.{AreWithin, StaysOn};
+ghost use Rattle.lab_program_serve.specs.ServeTask.{IsServing};
+ghost use Rattle.lab_program_serve.specs.Texts.{IsAnnounced};
+ghost use Rattle.lab_program_outside.specs.declared.faults.ServerFault.TheVariants.{Read as NoneListened};
+ghost use Rattle.lab_program_serve.specs.Visits.{ServesCount};
+
+use crate::connections::{Connection, Connections};
+use crate::serving::serve_over;
+use lab_desk::{Desk, Keeper};
+use lab_program_outside::{Chance, Clock, ListenFault, ServerFault, tell};
+use lab_wire_heads::WriteFault;
+use std::alloc::Global;
+use std::io::{ErrorKind, Read, Write};
+use std::net::{
+    Ipv4Addr, Net, OpenListener, OpenStream, SocketAddr, SocketAddrV4, TcpListener, TcpStream,
+};
+
+/// How often in a row a connection that was lost as it was accepted is passed over.
+const MOST_LOST: u32 = 1_000_000;
+
+/// A listener of which connections are accepted, and its port.
+#[derive(Drop)]
+pub struct Listening<L> {
+    listener: L,
+    port: u16,
+}
+
+impl<L: OpenListener + Drop> Listening<L> {
+    /// The connections of a listener.
+    pub fn new(listener: L) -> Result<Listening<L>, ListenFault> {
+        match listener.local_addr() {
+            Ok(address) => Ok(Listening {
+                listener,
+                port: address.port(),
+            }),
+            Err(_) => Err(ListenFault),
+        }
+    }
+
+    /// The next stream; none where its connection was lost.
+    fn next_stream(&self) -> Result<Option<L::Stream>, ListenFault> {
+        match self.listener.accept() {
+            Ok((stream, _)) => Ok(Some(stream)),
+            Err(error) if is_lost(error.kind()) => Ok(None),
+            Err(_) => Err(ListenFault),
+        }
+    }
+}
+
+impl<L: OpenListener + Drop> Listening<L>
+where
+    L::Stream: Read + Write + OpenStream,
+{
+    /// Both ends of the next stream; none where its connection was lost, or where the system has no second handle of it,
+    /// with which that connection ends.
+    fn next_ends(&self) -> Result<Option<Connection<L::Stream, L::Stream>>, ListenFault> {
+        match self.next_stream()? {
+            Some(stream) => Ok(ends_of(stream).ok()),
+            None => Ok(None),
+        }
+    }
+}
+
+fn is_lost(kind: ErrorKind) -> bool {
+    matches!(
+        kind,
+        ErrorKind::Interrupted | ErrorKind::ConnectionAborted | ErrorKind::ConnectionReset
+    )
+}
+
+impl<L: OpenListener + Drop> Connections for Listening<L>
+where
+    L::Stream: Read + Write + OpenStream,
+{
+    type Reader = L::Stream;
+
+    type Writer = L::Stream;
+
+    ghost listens_at = { λ listening. listening.port };
+
+    fn port(&self) -> u16 {
+        self.port
+    }
+
+    fn accept(&mut self) -> Result<Connection<L::Stream, L::Stream>, ListenFault> {
+        for _ in 0..MOST_LOST {
+            if let Some(ends) = self.next_ends()? {
+                return Ok(ends);
+            }
+        }
+        Err(ListenFault)
+    }
+}
+
+/// Both ends of a stream.
+fn ends_of<T: Read + Write + OpenStream + Drop>(
+    reader: T,
+) -> Result<Connection<T, T>, ListenFault> {
+    match reader.try_clone() {
+        Ok(writer) => Ok(Connection { reader, writer }),
+        Err(_) => Err(ListenFault),
+    }
+}
+
+/// The address of a port of this machine.
+fn loopback(port: u16) -> SocketAddr {
+    SocketAddr::V4(SocketAddrV4::new(Ipv4Addr::LOCALHOST, port))
+}
+
+/// A listener at a port of this machine; port 0 is any that is free.
+///
+/// # Errors
+/// `Read` where the network gives none, and no other fault.
+pub fn listen<N: Net>(net: &N, port: u16) -> Result<N::Listener, ServerFault>
+    ensures fault { IfErr result (λ fault. fault ≡ NoneListened) }
+{
+    match TcpListener::bind(net, loopback(port)) {
+        Ok(listener) => Ok(listener),
+        Err(_) => Err(ServerFault::Read),
+    }
+}
+
+/// A client's connection to a port of this machine.
+///
+/// # Errors
+/// The network gives none.
+pub fn connect<N: Net>(
+    net: &N,
+    port: u16,
+) -> Result<Connection<N::Stream, N::Stream>, ServerFault> {
+    match TcpStream::connect(net, loopback(port)) {
+        Ok(stream) => Ok(ends_of(stream)?),
+        Err(_) => Err(ServerFault::Read),
+    }
+}
+
+/// Serves so many connections of a listener.
+fn serve_listener<S: Keeper + Drop, L: OpenListener + Drop, C: Clock, X: Chance, W: Write>(
+    alloc: Global,
+    desk: &mut Desk<S>,
+    listener: L,
+    clock: &mut C,
+    chance: &mut X,
+    count: u32,
+    output: &mut W,
+) -> Result<(), ServerFault>
+where
+    L::Stream: Read + Write + OpenStream,
+    ensures printed { IsAnnounced result (W.contents output.old) (W.contents output.new) }
+    ensures served { AreWithin (S.world desk.old.keeper) →
+        Given (S.world desk.old.keeper) (S.world desk.new.keeper)
+        (ServesCount S.world S.rests S.moves desk.old.keeper desk.new.keeper result count) }
+    ensures stays { AreWithin (S.world desk.old.keeper) →
+        Given (S.world desk.old.keeper) (S.world desk.new.keeper)
+        (StaysOn (S.world desk.old.keeper) (S.world desk.new.keeper)) }
+    ensures passes { Passes (S.world desk.old.keeper) (S.world desk.new.keeper) }
+{
+    let mut listening = Listening::new(listener)?;
+    serve_over(alloc, desk, &mut listening, clock, chance, count, output)
+}
+
+/// `labdesk serve`: serves so many connections of a listener, as [`serve_over`] does, and tells on
+/// standard error why it stopped before the last. Answers the status: 0 where all were served, and
+/// else 1.
+///
+/// # Errors
+/// It stopped, and standard error failed before the whole line was told.
+pub fn serve<S: Keeper + Drop, L: OpenListener + Drop, C: Clock, X: Chance, W: Write, E: Write>(
+    alloc: Global,
+    desk: &mut Desk<S>,
+    listener: L,
+    clock: &mut C,
+    chance: &mut X,
+    count: u32,
+    output: &mut W,
+    errors: &mut E,
+) -> Result<u8, WriteFault>
+where
+    L::Stream: Read + Write + OpenStream,
+    ensures serves { IsServing S.world S.rests S.moves desk.old.keeper desk.new.keeper count
+        (W.contents output.old) (W.contents output.new)
+        (E.contents errors.old) (E.contents errors.new) result }
+    ensures stays { AreWithin (S.world desk.old.keeper) →
+        Given (S.world desk.old.keeper) (S.world desk.new.keeper)
+        (StaysOn (S.world desk.old.keeper) (S.world desk.new.keeper)) }
+    ensures passes { Passes (S.world desk.old.keeper) (S.world desk.new.keeper) }
+{
+    match serve_listener(alloc, desk, listener, clock, chance, count, output) {
+        Ok(()) => Ok(0),
+        Err(fault) => {
+            tell(errors, fault.word())?;
+            Ok(1)
+        }
+    }
+}

@@ -1,0 +1,103 @@
+//! Serving connections, one after the other, whatever they come from.
+
+ghost use Rattle.std.specs.Prelude.{◌≡◌, List, OnOk, IfSome};
+ghost use Rattle.lab_wire_heads.specs.Interims.{interim_text};
+ghost use Rattle.lab_records_kept.specs.Worlds.{Passes, Given};
+ghost use Rattle.lab_desk_runs.specs.Keeping.{AreWithin, Stays, StaysOn};
+ghost use Rattle.lab_desk.specs.Serving.{HandlesRequest};
+ghost use Rattle.lab_program_serve.specs.Texts.{IsPrinted, listening_line};
+ghost use Rattle.lab_program_serve.specs.Visits.{AreCounted, AreGiven, AreVisits, OnServed, OnUnserved, Sends, Visit};
+
+use crate::connections::{Connection, Connections};
+use lab_desk::{Desk, Keeper};
+use lab_forms_texts::Tick;
+use lab_program_outside::{Chance, Clock, ConnectionFault, ServerFault, draw};
+use lab_wire_heads::write_reply;
+use std::alloc::Global;
+use std::io::{BufReader, Read, Write};
+
+/// Tells that clients can connect, and to which port.
+fn announce<W: Write>(alloc: Global, output: &mut W, port: u16) -> Result<(), ServerFault>
+    ensures { IsPrinted (listening_line port) result
+        (W.contents output.old) (W.contents output.new) }
+{
+    let line = format!(in alloc; "listening 127.0.0.1:{port}\n")?;
+    write_reply(output, line.as_bytes())?;
+    match output.flush() {
+        Ok(()) => Ok(()),
+        Err(_) => Err(ServerFault::Write),
+    }
+}
+
+/// Serves one connection, which is read through a buffer.
+///
+/// # Errors
+/// Those of serving a request, and that there was no memory for the buffer: nothing is changed.
+pub fn serve_connection<S: Keeper + Drop, R: Read + Drop, W: Write>(
+    alloc: Global,
+    desk: &mut Desk<S>,
+    reader: R,
+    writer: &mut W,
+    tick: &Tick,
+) -> Result<(), ConnectionFault>
+    ensures handled { AreWithin (S.world desk.old.keeper) →
+        Given (S.world desk.old.keeper) (S.world desk.new.keeper)
+        (OnServed result (HandlesRequest (R.remaining reader)
+        (S.world desk.old.keeper) (S.world desk.new.keeper) tick.now
+        (S.rests desk.old.keeper desk.new.keeper) (S.moves desk.old.keeper desk.new.keeper)
+        desk.new.reply)) }
+    ensures written { IfSome (R.remaining reader) (λ bytes.
+        Sends (interim_text bytes) desk.new.reply result
+        (W.contents writer.old) (W.contents writer.new)) }
+    ensures untouched { OnUnserved result (desk.new ≡ desk.old) }
+    ensures stays { AreWithin (S.world desk.old.keeper) →
+        Given (S.world desk.old.keeper) (S.world desk.new.keeper)
+        (Stays (S.world desk.old.keeper) (S.world desk.new.keeper)) }
+    ensures passes { Passes (S.world desk.old.keeper) (S.world desk.new.keeper) }
+{
+    let Ok(mut buffered) = BufReader::new(alloc, reader) else {
+        return Err(ConnectionFault::Memory);
+    };
+    desk.serve_one(&mut buffered, writer, tick)?;
+    Ok(())
+}
+
+/// Serves so many connections, one after the other, and prints first to which port clients can
+/// connect. The tick of a connection is drawn when it is accepted. A connection whose request could
+/// not be read or answered whole counts as served, and the next one is served.
+///
+/// # Errors
+/// The line couldn't be printed, or there was no memory for it; or the listener, the clock or the
+/// source of random words failed: what was served before stands.
+pub fn serve_over<S: Keeper + Drop, L: Connections, C: Clock, X: Chance, W: Write>(
+    alloc: Global,
+    desk: &mut Desk<S>,
+    connections: &mut L,
+    clock: &mut C,
+    chance: &mut X,
+    count: u32,
+    output: &mut W,
+) -> Result<(), ServerFault>
+    ensures printed { IsPrinted (listening_line (L.listens_at connections.old)) result
+        (W.contents output.old) (W.contents output.new) }
+    ensures served { AreWithin (S.world desk.old.keeper) →
+        Given (S.world desk.old.keeper) (S.world desk.new.keeper)
+        ((visits : List Visit)
+        × AreVisits S.world S.rests S.moves desk.old.keeper visits desk.new.keeper
+        × AreCounted result count visits (AreGiven visits
+        (L.coming connections.old) (L.coming connections.new)
+        (C.coming clock.old) (C.coming clock.new) (X.coming chance.old) (X.coming chance.new))) }
+    ensures stays { AreWithin (S.world desk.old.keeper) →
+        Given (S.world desk.old.keeper) (S.world desk.new.keeper)
+        (StaysOn (S.world desk.old.keeper) (S.world desk.new.keeper)) }
+    ensures passes { Passes (S.world desk.old.keeper) (S.world desk.new.keeper) }
+{
+    announce(alloc, output, connections.port())?;
+    for _ in 0..count {
+        let connection = connections.accept()?;
+        let tick = draw(clock, chance)?;
+        let Connection { reader, mut writer } = connection;
+        let _ = serve_connection(alloc, desk, reader, &mut writer, &tick);
+    }
+    Ok(())
+}

@@ -1,0 +1,17 @@
+//! Where files of laboratories lie, and the files, the clock, the chance and the terminal of this
+//! machine; how such a file is opened or made; and why a task over one failed, told on standard
+//! error.
+#![tactic(auto)]
+
+mod faults;
+mod files;
+mod hosts;
+mod shelves;
+mod telling;
+
+pub use crate::faults::TaskFault;
+pub use crate::files::{make_file, open_file};
+pub use crate::hosts::{HostShelf, SystemChance, SystemClock, TerminalProgress};
+pub use crate::shelves::{Closing, Shelf};
+pub use crate::telling::decline;
+pub use lab_records_walks::{Progress, Unheard};

@@ -1,4 +1,0 @@
-pub mod Heads
-pub mod Shown
-pub mod Leaves
-pub mod Laboratories

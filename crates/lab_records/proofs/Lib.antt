@@ -1,0 +1,3 @@
+pub mod KnownCommands
+pub mod KnownDecisions
+pub mod Taken

@@ -1,0 +1,257 @@
+//! What is decided on a part of a laboratory.
+ghost use Rattle.std.specs.Prelude.{◌≡◌, [], None, IfOk, IsTrue, OnErr};
+ghost use Rattle.lab_records_laws.specs.Asking.{IsCommandFormed};
+ghost use Rattle.lab_records_machine.specs.Done.{done_of};
+ghost use Rattle.lab_records_outcomes.specs.Deciding.{outcome, ended_done, touching, decided_without, decided_by, decided};
+ghost use Rattle.lab_records.specs.Makings.{is_made_without, is_made_by, is_made};
+
+use crate::{done_of, opening_done};
+use lab_forms_texts::{Moment, OutOfMemory, PersonCode, Series, Tick};
+use lab_people_access::{PeopleRefusal, Person, Session};
+use lab_records_kept::{Change, Slice};
+use lab_records_machine::{Command, Done, Passage, Reply, pass};
+use lab_records_outcomes::{Outcome, end, opening_failed, opening_made, refused, touching};
+use lab_records_rules::{Refusal, Typed};
+use std::alloc::Global;
+
+/// What is decided of a command at a tick, on the part of a laboratory that it needs: the reply, and the changes, in order.
+/// The only error is out of memory, and only where something is made: a refusal that notes nothing is told as it is. If the
+/// command makes a form, it is one, as `what_is_decided` wants it.
+#[tactic(auto, using(crate::proofs::Taken::same_decided, crate::proofs::Taken::same_made))]
+pub fn decide(
+    alloc: Global,
+    slice: Slice,
+    tick: &Tick,
+    command: Command,
+) -> Result<Outcome, OutOfMemory>
+    ensures decided { IfOk result (λ outcome. outcome ≡ decided slice tick.now command) }
+    ensures memory { OnErr result (IsTrue (is_made slice tick.now command)) }
+    ensures formed { IsCommandFormed command }
+{
+    formed(&command);
+    let mut slice = slice;
+    let comer = take_comer(&mut slice);
+    let reached = pass(slice.last, comer.session, comer.caller, tick, &command);
+    let outcome = decide_by(alloc, &mut slice, tick, command, reached);
+    drop(slice);
+    outcome
+}
+
+/// The form that a command makes is one, as every form of the code is. A law: the command is left as it is.
+pub fn formed(command: &Command)
+    ensures { IsCommandFormed command.now }
+{
+    if let Command::MakeForm { form, .. } = command {
+        let _fields = form.fields();
+    }
+}
+
+// Who comes: the session of the token, and its person, where they are there.
+#[derive(Drop)]
+struct Comer {
+    session: Option<Session>,
+    caller: Option<Person>,
+}
+
+// Takes the session and its person out of a part.
+fn take_comer(slice: &mut Slice) -> Comer
+    ensures taken { result ≡ record { session = slice.old.session; caller = slice.old.caller } }
+    ensures left { slice.new ≡ record slice.old { session = None; caller = None } }
+{
+    Comer {
+        session: slice.session.take(),
+        caller: slice.caller.take(),
+    }
+}
+
+// What is decided by how far the command gets. What is left of the part isn't said.
+fn decide_by(
+    alloc: Global,
+    slice: &mut Slice,
+    tick: &Tick,
+    command: Command,
+    reached: Passage,
+) -> Result<Outcome, OutOfMemory>
+    ensures decided { IfOk result
+        (λ outcome. outcome ≡ decided_by slice.old tick.now command reached) }
+    ensures memory { OnErr result (IsTrue (is_made_by slice.old tick.now command reached)) }
+{
+    match reached {
+        Passage::Early => {
+            drop(command);
+            Ok(refused(Series::new(alloc), Refusal::ClockBehind))
+        }
+        Passage::NeedsNone(repeated) => {
+            let outcome = decide_without(alloc, slice, tick, &repeated, command);
+            drop(repeated);
+            outcome
+        }
+        Passage::Stranger => {
+            drop(command);
+            let refusal = Refusal::People(PeopleRefusal::NoSession);
+            Ok(refused(Series::new(alloc), refusal))
+        }
+        Passage::Barred(session, refusal) => {
+            drop(command);
+            barred(alloc, tick.moment, session, refusal)
+        }
+        Passage::Passes(session, caller) => {
+            let outcome = decide_in(alloc, slice, tick, session, &caller, command);
+            drop(caller);
+            outcome
+        }
+    }
+}
+
+// A command that its session may not give, of which it is noted that it came, in any case. The only error is out of memory.
+fn barred(
+    alloc: Global,
+    moment: Moment,
+    session: Session,
+    refusal: Refusal,
+) -> Result<Outcome, OutOfMemory>
+    ensures { IfOk result
+        (λ told. told ≡ outcome (Reply.Refused refusal) (touching moment session)) }
+{
+    let changes = touching(alloc, moment, &session);
+    drop(session);
+    match changes {
+        Ok(changes) => Ok(refused(changes, refusal)),
+        Err(fault) => {
+            drop(refusal);
+            Err(fault)
+        }
+    }
+}
+
+// A command that asks for no session.
+fn decide_without(
+    alloc: Global,
+    slice: &mut Slice,
+    tick: &Tick,
+    repeated: &Option<Session>,
+    command: Command,
+) -> Result<Outcome, OutOfMemory>
+    ensures decided { IfOk result (λ outcome. outcome
+        ≡ decided_without slice.old tick.now repeated.now command) }
+    ensures memory { OnErr result
+        (IsTrue (is_made_without slice.old tick.now repeated.now command)) }
+{
+    match command {
+        Command::Open { code, password } => {
+            let outcome = decide_opening(alloc, slice, tick, repeated, code, &password);
+            drop(password);
+            outcome
+        }
+        command => {
+            drop(command);
+            show_card(alloc, slice)
+        }
+    }
+}
+
+// The card, of which code and name are copied in any case. The only error is out of memory.
+fn show_card(alloc: Global, slice: &Slice) -> Result<Outcome, OutOfMemory>
+    ensures { IfOk result
+        (λ shown. shown ≡ outcome (Reply.Card slice.now.code slice.now.name) []) }
+{
+    let lab = slice.code.copy()?;
+    let name = slice.name.copy()?;
+    Ok(Outcome {
+        reply: Reply::Card { lab, name },
+        changes: Series::new(alloc),
+    })
+}
+
+// An opening: its moment is noted where it is accepted, and where the password fails. The code is copied for the trail, and
+// that there is no memory for it counts only where the opening is accepted.
+#[tactic(auto, using(crate::proofs::Taken::opened_is_made))]
+fn decide_opening(
+    alloc: Global,
+    slice: &mut Slice,
+    tick: &Tick,
+    repeated: &Option<Session>,
+    code: PersonCode,
+    password: &Typed,
+) -> Result<Outcome, OutOfMemory>
+    ensures decided { IfOk result (λ outcome. outcome
+        ≡ decided_without slice.old tick.now repeated.now (Command.Open code password.now)) }
+    ensures memory { OnErr result (IsTrue
+        (is_made_without slice.old tick.now repeated.now (Command.Open code password.now))) }
+{
+    let moment = tick.moment;
+    let rows = slice.counts.trail;
+    let sessions = slice.counts.sessions;
+    let told = code.copy();
+    let person = slice.person.take();
+    match opening_done(alloc, code, person, password, tick, sessions, repeated)? {
+        Done::Refused(refusal) => Ok(refused(Series::new(alloc), refusal)),
+        Done::Failed(occasion, failure) => {
+            opening_failed(alloc, rows, slice.strays, moment, occasion, failure)
+        }
+        Done::Read(reply) => Ok(Outcome {
+            reply,
+            changes: Series::new(alloc),
+        }),
+        Done::Made(reply, deed, own) => {
+            opening_made(alloc, rows, moment, &told?, reply, deed, own)
+        }
+    }
+}
+
+// A command in a session: its request is taken note of before all, in any case. The only error is out of memory.
+fn decide_in(
+    alloc: Global,
+    slice: &mut Slice,
+    tick: &Tick,
+    session: Session,
+    caller: &Person,
+    command: Command,
+) -> Result<Outcome, OutOfMemory>
+    ensures { IfOk result (λ outcome. outcome
+        ≡ decided_by slice.old tick.now command (Passage.Passes session caller.now)) }
+{
+    let mut session = session;
+    match touching(alloc, tick.moment, &session) {
+        Ok(before) => {
+            session.touch(tick.moment);
+            decide_noted(alloc, slice, tick, session, caller, command, before)
+        }
+        Err(fault) => {
+            drop(session);
+            drop(command);
+            Err(fault)
+        }
+    }
+}
+
+// A command in a session whose request was noted by these changes. The only error is out of memory: the caller is copied in any case.
+fn decide_noted(
+    alloc: Global,
+    slice: &mut Slice,
+    tick: &Tick,
+    session: Session,
+    caller: &Person,
+    command: Command,
+    before: Series<Change>,
+) -> Result<Outcome, OutOfMemory>
+    ensures { IfOk result (λ outcome. outcome
+        ≡ ended_done slice.old tick.now.moment caller.now.code before
+        (done_of slice.old tick.now session caller.now command)) }
+{
+    let rows = slice.counts.trail;
+    let strays = slice.strays;
+    let Ok(giver) = caller.copy() else {
+        drop(session);
+        drop(command);
+        drop(before);
+        return Err(OutOfMemory);
+    };
+    match done_of(alloc, slice, tick, session, giver, command) {
+        Ok(done) => end(alloc, before, rows, strays, tick.moment, &caller.code, done),
+        Err(fault) => {
+            drop(before);
+            Err(fault)
+        }
+    }
+}

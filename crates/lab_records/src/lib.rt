@@ -1,0 +1,10 @@
+//! What is decided on the part of a laboratory that a command needs: the reply, and the changes that are to
+//! be made of it (ISO/IEC 17025:2017, 7.5; 21 CFR Part 11). It knows no bytes, no tables and no keeper.
+#![tactic(auto)]
+
+mod commands;
+mod decisions;
+
+pub use commands::done_of;
+pub use decisions::{decide, formed};
+pub use lab_records_commands::opening_done;

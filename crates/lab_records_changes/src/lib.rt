@@ -1,0 +1,13 @@
+//! The changes that are made of a laboratory in memory, each in its place: persons, sessions, forms,
+//! records, entries, signatures and the trail (21 CFR 11.10(e), 11.70). Where memory runs out, the
+//! laboratory is as before.
+#![tactic(auto)]
+
+mod changes;
+mod places;
+
+pub use changes::{change, insert_person};
+pub use places::{
+    enter, open, place_for_form, place_for_person, place_of_person, place_of_record,
+    place_of_session, place_of_version, sign,
+};

@@ -1,0 +1,87 @@
+//! What the opening and the closing of a session come to.
+ghost use Rattle.std.specs.Prelude.{◌≡◌, Ok, is_ok, IfOk, IsTrue, OnErr};
+ghost use Rattle.lab_people_access.specs.Openings.{opening};
+ghost use Rattle.lab_records_machine.specs.Done.{opened_done, closed_done};
+
+use crate::counts::open_counted;
+use lab_forms_texts::{OutOfMemory, PersonCode, Tick};
+use lab_people_access::{Opened, PeopleFault, Person, Session};
+use lab_records_kept::{Change, Deed, Occasion};
+use lab_records_machine::{Done, Reply, pair, single};
+use lab_records_rules::{Refusal, Typed};
+use std::alloc::Global;
+
+/// What the opening of a session comes to, by a code, whose person was looked up, and a password. The only error is out of
+/// memory, where it is opened.
+pub fn opening_done(
+    alloc: Global,
+    code: PersonCode,
+    person: Option<Person>,
+    password: &Typed,
+    tick: &Tick,
+    sessions: u64,
+    repeated: &Option<Session>,
+) -> Result<Done, OutOfMemory>
+    ensures done { IfOk result (λ done. done
+        ≡ opened_done (opening code person password.now tick.now sessions repeated.now)) }
+    ensures memory { OnErr result
+        (IsTrue (is_ok (opening code person password.now tick.now sessions repeated.now))) }
+{
+    match open_counted(
+        code,
+        person,
+        password.as_str(),
+        tick,
+        sessions,
+        repeated.as_ref(),
+    ) {
+        Ok(opened) => opened_done(alloc, opened),
+        Err(fault) => match fault {
+            PeopleFault::Failed(failure) => Ok(Done::Failed(Occasion::Opening, failure)),
+            PeopleFault::Refused(refusal) => Ok(Done::Refused(Refusal::People(refusal))),
+        },
+    }
+}
+
+// A session that was opened.
+fn opened_done(alloc: Global, opened: Opened) -> Result<Done, OutOfMemory>
+    ensures { IfOk result (λ done. done ≡ opened_done (Ok opened)) }
+{
+    let Opened {
+        person,
+        session,
+        token,
+        due,
+    } = opened;
+    let number = session.number;
+    let changes = pair(
+        alloc,
+        Change::PersonSet(person),
+        Change::SessionAdded(session),
+    )?;
+    Ok(Done::Made(
+        Reply::Opened {
+            session: number,
+            token,
+            due,
+        },
+        Deed::Open { session: number },
+        changes,
+    ))
+}
+
+/// What the closing of the session by its person comes to. The only error is out of memory: the closed session is a change in any
+/// case.
+pub fn closed_done(alloc: Global, session: Session) -> Result<Done, OutOfMemory>
+    ensures { IfOk result (λ done. done ≡ closed_done session) }
+{
+    let number = session.number;
+    let mut closed = session;
+    closed.close();
+    let changes = single(alloc, Change::SessionSet(closed))?;
+    Ok(Done::Made(
+        Reply::Closed { session: number },
+        Deed::Close { session: number },
+        changes,
+    ))
+}

@@ -1,0 +1,9 @@
+//! What the definitions say of copies that are made of a laboratory.
+ghost use Rattle.lab_records_copies.specs.Soundness.{CopiesAreSound};
+
+/// Law: the copy of a laboratory that is bound, under dual control and within its limits is sound, and has as many rows of each
+/// kind as its records have.
+#[tactic(auto, using(crate::proofs::CopyLemmas::copies_are_sound))]
+pub fn a_copy_is_sound()
+    ensures { CopiesAreSound }
+{}

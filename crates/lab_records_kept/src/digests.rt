@@ -1,0 +1,67 @@
+//! The digest of a version of a record as it is now, and signatures with their seals.
+ghost use Rattle.std.specs.Prelude.{◌≡◌, IfOk};
+ghost use Rattle.lab_records_kept.specs.Digests.{parts_of, digest_of, signature_of};
+
+use crate::records::{Record, Signature, Version};
+use lab_forms_texts::{LabCode, OutOfMemory};
+use lab_seal_versions::{Digest, SealParts, VersionParts, digest, seal, write_version};
+use std::alloc::Global;
+
+impl Record {
+    /// The digest of a version of the record, in the laboratory of the code: of its text as it is now. The only error is out
+    /// of memory.
+    pub fn digest_of(
+        &self,
+        alloc: Global,
+        lab: &LabCode,
+        version: &Version,
+    ) -> Result<Digest, OutOfMemory>
+        ensures { IfOk result (λ digest. digest ≡ digest_of lab.now self.now version.now) }
+    {
+        let parts = self.parts_of(lab, version)?;
+        let text = write_version(alloc, &parts);
+        drop(parts);
+        Ok(digest(&text?))
+    }
+
+    // What the text of the version says, as copies.
+    fn parts_of(&self, lab: &LabCode, version: &Version) -> Result<VersionParts, OutOfMemory>
+        ensures { IfOk result (λ parts. parts ≡ parts_of lab.now self.now version.now) }
+    {
+        let lab = lab.copy()?;
+        let form = self.form.code.copy()?;
+        let sample = self.sample.copy()?;
+        let opener = version.opener.copy()?;
+        let origin = version.origin.copy()?;
+        let rows = version.rows.copy()?;
+        Ok(VersionParts {
+            format: version.format,
+            lab,
+            record_number: self.number,
+            origin,
+            form,
+            form_version: self.form.version,
+            sample,
+            opener,
+            opened: version.opened,
+            rows,
+        })
+    }
+}
+
+impl Signature {
+    /// The signature of these parts, with its seal.
+    pub fn sealed(parts: SealParts) -> Signature
+        ensures { result ≡ signature_of parts }
+    {
+        let seal = seal(&parts);
+        Signature {
+            person: parts.person,
+            name: parts.name,
+            meaning: parts.meaning,
+            moment: parts.moment,
+            digest: parts.version,
+            seal,
+        }
+    }
+}

@@ -1,0 +1,37 @@
+//! What is kept of a laboratory: its persons and sessions, forms, records with their versions and signatures, and its
+//! trail; which part of it a command needs, and which changes are made of it (ISO/IEC 17025:2017, 7.5 and 8.4). It knows
+//! no command, no bytes of a request and no tables. The names of the crates below that these types are made of are passed
+//! on. A `Drop` that is written out spares each caller the proof of how each part is dropped.
+#![tactic(auto)]
+
+mod births;
+mod changes;
+mod digests;
+mod faults;
+mod keeper;
+mod labs;
+mod laws;
+mod limits;
+mod needs;
+mod records;
+mod subjects;
+mod trails;
+
+pub use births::Newborn;
+pub use changes::Change;
+pub use faults::{KeeperFault, PlacingFault};
+pub use keeper::Keeper;
+pub use lab_forms::{Bound, Choices, Field, Form, FormRefusal, Kind, Value};
+pub use lab_forms_texts::Series;
+pub use lab_people_access::{Ask, Closing, Password, Person, Role, Roles, Session};
+pub use lab_seal_versions::{
+    Amendment, Digest, EntryRow, EntryRows, Format, Key, LabCode, Meaning, Moment, Name, Note,
+    Ordinal, Origin, OriginParts, OutOfMemory, PersonCode, Seal, SealParts, State, Unit,
+    VersionParts,
+};
+pub use labs::Lab;
+pub use laws::what_is_released;
+pub use limits::{COUNT_LIMIT, FORM_VERSIONS_LIMIT, RECORDS_LIMIT, ROWS_LIMIT, VERSIONS_LIMIT};
+pub use needs::{Counts, FormWanted, ListWanted, Need, RecordWanted, Slice};
+pub use records::{FormVersion, Record, Signature, Version};
+pub use trails::{Action, Deed, Occasion, Subject, TrailRow};

@@ -1,0 +1,173 @@
+//! Which part of a laboratory is needed, and that part.
+ghost use Rattle.std.specs.Prelude.{◌≡◌};
+
+use crate::records::{FormVersion, Record};
+use crate::trails::TrailRow;
+use lab_forms_texts::{Key, LabCode, Moment, Name, Ordinal, PersonCode, Series};
+use lab_people_access::{Person, Session};
+use lab_seal_versions::Digest;
+
+/// Which version of a form is needed.
+#[derive(Drop)]
+pub enum FormWanted {
+    /// The last version of the form.
+    Last { code: Key },
+    /// The version of the number.
+    Exact { code: Key, version: Ordinal },
+}
+
+/// Which record is needed.
+#[derive(Drop)]
+pub enum RecordWanted {
+    /// The record of the number.
+    Numbered { number: Ordinal },
+    /// The record of the form and the sample, whatever the form's version.
+    About { form: Key, sample: Name },
+}
+
+/// Which list is needed.
+#[derive(Clone, Copy)]
+pub enum ListWanted {
+    /// All persons.
+    Persons,
+    /// The records from a number to a number.
+    Records { from: Ordinal, to: Ordinal },
+    /// The rows of the trail from a number to a number.
+    Trail { from: Ordinal, to: Ordinal },
+}
+
+/// Which part of a laboratory is needed. Nothing else of it is.
+pub struct Need {
+    /// The session whose token has the digest, and its person.
+    pub token: Option<Digest>,
+    /// The person of the code.
+    pub person: Option<PersonCode>,
+    /// A version of a form.
+    pub form: Option<FormWanted>,
+    /// A record.
+    pub filed: Option<RecordWanted>,
+    /// A list.
+    pub list: Option<ListWanted>,
+}
+
+impl Drop for Need {
+    fn drop(self) {
+        let Need {
+            token: _,
+            person: _,
+            form: _,
+            filed: _,
+            list: _,
+        } = self;
+    }
+}
+
+/// How many a laboratory has.
+#[derive(Clone, Copy)]
+pub struct Counts {
+    /// Persons, retired ones too.
+    pub persons: u64,
+    /// Sessions, closed ones too.
+    pub sessions: u64,
+    /// Records.
+    pub records: u64,
+    /// Rows of the trail.
+    pub trail: u64,
+}
+
+/// A part of a laboratory.
+pub struct Slice {
+    /// The laboratory's code.
+    pub code: LabCode,
+    /// Its name.
+    pub name: Name,
+    /// The moment of its last activity.
+    pub last: Moment,
+    /// How many passwords were given for nobody's account.
+    pub strays: u64,
+    /// How many persons, sessions, records and rows of the trail it has.
+    pub counts: Counts,
+    /// The session that is needed, where it is there.
+    pub session: Option<Session>,
+    /// The person of that session.
+    pub caller: Option<Person>,
+    /// The person who is needed, where somebody has or had the code.
+    pub person: Option<Person>,
+    /// The version of a form that is needed, where it is there.
+    pub form: Option<FormVersion>,
+    /// The record that is needed, where it is there.
+    pub filed: Option<Record>,
+    /// The persons that are needed.
+    pub persons: Series<Person>,
+    /// The records that are needed.
+    pub records: Series<Record>,
+    /// The rows of the trail that are needed.
+    pub trail: Series<TrailRow>,
+}
+
+impl Drop for Slice {
+    fn drop(self) {
+        let Slice {
+            code: _,
+            name: _,
+            last: _,
+            strays: _,
+            counts: _,
+            session: _,
+            caller: _,
+            person: _,
+            form: _,
+            filed: _,
+            persons: _,
+            records: _,
+            trail: _,
+        } = self;
+    }
+}
+
+impl Slice {
+    /// The record that is needed, alone.
+    pub fn into_filed(self) -> Option<Record>
+        ensures { result ≡ self.filed }
+    {
+        let Slice {
+            code: _,
+            name: _,
+            last: _,
+            strays: _,
+            counts: _,
+            session: _,
+            caller: _,
+            person: _,
+            form: _,
+            filed,
+            persons: _,
+            records: _,
+            trail: _,
+        } = self;
+        filed
+    }
+
+    /// The laboratory's code and name, alone.
+    pub fn into_naming(self) -> (LabCode, Name)
+        ensures code { result.0 ≡ self.code }
+        ensures name { result.1 ≡ self.name }
+    {
+        let Slice {
+            code,
+            name,
+            last: _,
+            strays: _,
+            counts: _,
+            session: _,
+            caller: _,
+            person: _,
+            form: _,
+            filed: _,
+            persons: _,
+            records: _,
+            trail: _,
+        } = self;
+        (code, name)
+    }
+}

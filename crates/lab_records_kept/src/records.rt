@@ -1,0 +1,302 @@
+//! Records with their versions and signatures, and the versions of forms by which they are filled in.
+ghost use Rattle.std.specs.Prelude.{◌≡◌, IfOk, map, option_copied};
+ghost use Rattle.lab_seal_versions.specs.States.{state_of as state_by};
+ghost use Rattle.lab_records_kept.specs.Lookups.{last_of, version_of};
+ghost use Rattle.lab_records_kept.specs.Values.{meaning_of, version_state, has_entered};
+
+use lab_forms::Form;
+use lab_forms_texts::{Key, Moment, Name, Ordinal, OutOfMemory, PersonCode, Series};
+use lab_seal_versions::{Digest, EntryRows, Format, Meaning, Origin, Seal, State};
+use std::alloc::AllocError;
+
+/// One version of a form.
+pub struct FormVersion {
+    /// By what the form is known.
+    pub code: Key,
+    /// The number of the version, from 1 on.
+    pub version: Ordinal,
+    /// What it asks for.
+    pub form: Form,
+}
+
+impl Drop for FormVersion {
+    fn drop(self) {
+        let FormVersion {
+            code: _,
+            version: _,
+            form: _,
+        } = self;
+    }
+}
+
+/// A signature of a version, with the printed name, the moment and the meaning (21 CFR 11.50(a)).
+pub struct Signature {
+    /// Who signed.
+    pub person: PersonCode,
+    /// The person's printed name.
+    pub name: Name,
+    /// What the version was signed as.
+    pub meaning: Meaning,
+    /// When it was signed.
+    pub moment: Moment,
+    /// The digest of the version that was signed.
+    pub digest: Digest,
+    /// The seal that binds the signature to that version.
+    pub seal: Seal,
+}
+
+impl Drop for Signature {
+    fn drop(self) {
+        let Signature {
+            person: _,
+            name: _,
+            meaning: _,
+            moment: _,
+            digest: _,
+            seal: _,
+        } = self;
+    }
+}
+
+/// A version of a record.
+pub struct Version {
+    /// The format of its text.
+    pub format: Format,
+    /// Its number, and what a later version amends and why.
+    pub origin: Origin,
+    /// Who opened it.
+    pub opener: PersonCode,
+    /// When it was opened.
+    pub opened: Moment,
+    /// Its rows in the order in which they were entered.
+    pub rows: EntryRows,
+    /// Its signatures in the order in which they were given.
+    pub signatures: Series<Signature>,
+}
+
+impl Drop for Version {
+    fn drop(self) {
+        let Version {
+            format: _,
+            origin: _,
+            opener: _,
+            opened: _,
+            rows: _,
+            signatures: _,
+        } = self;
+    }
+}
+
+/// A record: a form filled in for a sample.
+pub struct Record {
+    /// Its number in the laboratory.
+    pub number: Ordinal,
+    /// The version of the form that it is filled in by.
+    pub form: FormVersion,
+    /// The sample that it is about.
+    pub sample: Name,
+    /// Its versions, the first of them first.
+    pub versions: Series<Version>,
+}
+
+impl Drop for Record {
+    fn drop(self) {
+        let Record {
+            number: _,
+            form: _,
+            sample: _,
+            versions: _,
+        } = self;
+    }
+}
+
+impl FormVersion {
+    /// A copy. The only error is out of memory.
+    pub fn copy(&self) -> Result<FormVersion, OutOfMemory>
+        ensures { IfOk result (λ copy. copy ≡ self.now) }
+    {
+        Ok(self.clone()?)
+    }
+}
+
+impl Clone for FormVersion {
+    ghost use Rattle.std.specs.Prelude.{◌≡◌};
+
+    ghost is_clone = { λ form copy. copy ≡ form };
+
+    fn clone(&self) -> Result<FormVersion, AllocError> {
+        let code = self.code.clone()?;
+        let form = self.form.clone()?;
+        Ok(FormVersion {
+            code,
+            version: self.version,
+            form,
+        })
+    }
+}
+
+impl Signature {
+    /// A copy. The only error is out of memory.
+    pub fn copy(&self) -> Result<Signature, OutOfMemory>
+        ensures { IfOk result (λ copy. copy ≡ self.now) }
+    {
+        Ok(self.clone()?)
+    }
+}
+
+impl Clone for Signature {
+    ghost use Rattle.std.specs.Prelude.{◌≡◌};
+
+    ghost is_clone = { λ signature copy. copy ≡ signature };
+
+    fn clone(&self) -> Result<Signature, AllocError> {
+        let person = self.person.clone()?;
+        let name = self.name.clone()?;
+        let meaning = self.meaning.clone()?;
+        Ok(Signature {
+            person,
+            name,
+            meaning,
+            moment: self.moment,
+            digest: self.digest,
+            seal: self.seal,
+        })
+    }
+}
+
+impl Version {
+    /// Whether the person entered a row of it.
+    pub fn has_entered(&self, person: &PersonCode) -> bool
+        ensures { result ≡ has_entered person.now self.now }
+    {
+        self.rows
+            .rows()
+            .iter()
+            .any(|row| row.person.as_str() == person.as_str())
+    }
+
+    /// A copy. The only error is out of memory.
+    pub fn copy(&self) -> Result<Version, OutOfMemory>
+        ensures { IfOk result (λ copy. copy ≡ self.now) }
+    {
+        Ok(self.clone()?)
+    }
+}
+
+impl Clone for Version {
+    ghost use Rattle.std.specs.Prelude.{◌≡◌};
+
+    ghost is_clone = { λ version copy. copy ≡ version };
+
+    fn clone(&self) -> Result<Version, AllocError> {
+        let origin = self.origin.clone()?;
+        let opener = self.opener.clone()?;
+        let rows = self.rows.clone()?;
+        let signatures = self.signatures.clone()?;
+        Ok(Version {
+            format: self.format,
+            origin,
+            opener,
+            opened: self.opened,
+            rows,
+            signatures,
+        })
+    }
+}
+
+impl Record {
+    /// The version of a form that it fills in, and its sample, alone.
+    pub fn into_heading(self) -> (FormVersion, Name)
+        ensures form { result.0 ≡ self.form }
+        ensures sample { result.1 ≡ self.sample }
+    {
+        let Record {
+            number: _,
+            form,
+            sample,
+            versions: _,
+        } = self;
+        (form, sample)
+    }
+
+    /// The version that has the number.
+    pub fn version(&self, number: Ordinal) -> Option<&Version>
+        ensures { option_copied result ≡ version_of self.now.versions number }
+    {
+        self.versions
+            .as_slice()
+            .iter()
+            .find(|version| version.origin.number() == number)
+    }
+
+    /// The last version.
+    pub fn current(&self) -> Option<&Version>
+        ensures { option_copied result ≡ last_of self.now.versions }
+    {
+        self.versions.last()
+    }
+
+    /// The state of a version of the record.
+    pub fn state_of(&self, version: &Version) -> Option<State>
+        ensures { result ≡ version_state self.now version.now }
+    {
+        state_by(version.signatures.as_slice(), self.form.form.approval())
+    }
+
+    /// A copy. The only error is out of memory.
+    pub fn copy(&self) -> Result<Record, OutOfMemory>
+        ensures { IfOk result (λ copy. copy ≡ self.now) }
+    {
+        Ok(self.clone()?)
+    }
+}
+
+impl Clone for Record {
+    ghost use Rattle.std.specs.Prelude.{◌≡◌};
+
+    ghost is_clone = { λ kept copy. copy ≡ kept };
+
+    fn clone(&self) -> Result<Record, AllocError> {
+        let form = self.form.clone()?;
+        let sample = self.sample.clone()?;
+        let versions = self.versions.clone()?;
+        Ok(Record {
+            number: self.number,
+            form,
+            sample,
+            versions,
+        })
+    }
+}
+
+/// The state that signatures make, in order; none where no version has such.
+fn state_by(signatures: &[Signature], approval: bool) -> Option<State>
+    ensures { result ≡ state_by (map meaning_of signatures.now) approval }
+{
+    match (signatures, approval) {
+        ([], _) => Some(State::Open),
+        ([author], _) => match &author.meaning {
+            Meaning::Authorship => Some(State::Signed),
+            Meaning::Review | Meaning::Rejection(_) | Meaning::Approval => None,
+        },
+        ([author, second], _) => match (&author.meaning, &second.meaning) {
+            (Meaning::Authorship, Meaning::Review) => Some(if approval {
+                State::Reviewed
+            } else {
+                State::Released
+            }),
+            (Meaning::Authorship, Meaning::Rejection(_)) => Some(State::Rejected),
+            _ => None,
+        },
+        ([author, second, third], true) => {
+            match (&author.meaning, &second.meaning, &third.meaning) {
+                (Meaning::Authorship, Meaning::Review, Meaning::Approval) => Some(State::Released),
+                (Meaning::Authorship, Meaning::Review, Meaning::Rejection(_)) => {
+                    Some(State::Rejected)
+                }
+                _ => None,
+            }
+        }
+        _ => None,
+    }
+}

@@ -1,0 +1,6 @@
+pub mod Asking
+pub mod Births
+pub mod Inspections
+pub mod Runs
+pub mod Stepping
+pub mod TakenSteps

@@ -1,0 +1,15 @@
+//! Law: a step leaves records under dual control (ISO/IEC 17025:2017, 7.5.1).
+ghost use Rattle.lab_forms_texts.specs.declared.tick.Tick.{Tick};
+ghost use Rattle.lab_records_kept.specs.declared.labs.Lab.{Lab};
+ghost use Rattle.lab_records_kept.specs.Dual.{IsDual};
+ghost use Rattle.lab_records_machine.specs.declared.commands.Instruction.{Instruction};
+ghost use Rattle.lab_records_machine.specs.Machine.{step};
+ghost use Rattle.lab_records_laws.specs.Stepping.{HoldsOf};
+
+/// Law: where the signatures of each version of a laboratory are those of a state and are given by whom they may be, and
+/// every version but the last of a record is released or rejected, they are so after a step as well, whatever the
+/// instruction.
+pub fn a_step_keeps_dual()
+    ensures { (lab : Lab) → (tick : Tick) → (instruction : Instruction) → IsDual lab
+        → HoldsOf IsDual (step (Some lab) tick instruction).after }
+{}

@@ -1,0 +1,4 @@
+pub mod Finds
+pub mod KnownValues
+pub mod Listing
+pub mod Memory

@@ -1,0 +1,154 @@
+//! What a founding gives a laboratory, why one is refused, and what a keeper founds a laboratory from.
+ghost use Rattle.std.specs.Prelude.{◌≡◌, Some, None, Ok, Err, bytes_eq, IfOk, IfErr};
+ghost use Rattle.lab_records_kept.specs.Births.{newborn_lab};
+ghost use Rattle.lab_records_machine.specs.Births.{birth_entry, is_code_shared, are_passwords, founder_person, newborn, born};
+
+use lab_forms_texts::{LabCode, Moment, Name, PersonCode, Tick};
+use lab_people_access::{Password, Person, Role, Roles};
+use lab_records_kept::Newborn;
+use lab_records_rules::Typed;
+use lab_seal_hashes::founder_salts;
+
+/// One of the persons by whom a laboratory is founded, who become its administrators.
+#[derive(Drop)]
+pub struct Founder {
+    /// The code.
+    pub code: PersonCode,
+    /// The printed name.
+    pub name: Name,
+    /// The password, as it was typed.
+    pub password: Typed,
+}
+
+/// What a founding gives a laboratory: its name, and three administrators.
+#[derive(Drop)]
+pub struct Founding {
+    /// The laboratory's name.
+    pub name: Name,
+    /// The first founder.
+    pub first: Founder,
+    /// The second founder.
+    pub second: Founder,
+    /// The third founder.
+    pub third: Founder,
+}
+
+/// Why a laboratory isn't founded.
+#[derive(Clone, Copy, Debug, PartialEq, Eq)]
+pub enum BirthRefusal {
+    /// Two founders have one code.
+    CodeTaken,
+    /// A password has fewer than 12 bytes or more than 128.
+    BadPassword,
+    /// There is a laboratory of the code.
+    LabExists,
+}
+
+impl BirthRefusal {
+    fn entry(&self) -> (u32, &'static str)
+        ensures number { result.0 ≡ (birth_entry self.now).number }
+        ensures word { result.1.now ≡ (birth_entry self.now).word }
+    {
+        match self {
+            BirthRefusal::CodeTaken => (27, "code_taken"),
+            BirthRefusal::BadPassword => (25, "bad_password"),
+            BirthRefusal::LabExists => (64, "lab_exists"),
+        }
+    }
+
+    /// The number by which the refusal is known.
+    pub fn number(&self) -> Option<u32>
+        ensures { result ≡ Some (birth_entry self.now).number }
+    {
+        Some(self.entry().0)
+    }
+
+    /// The word by which the refusal is known.
+    pub fn word(&self) -> &'static str
+        ensures { result.now ≡ (birth_entry self.now).word }
+    {
+        self.entry().1
+    }
+}
+
+impl Founding {
+    /// Whether two of the founders have one code.
+    fn is_code_shared(&self) -> bool
+        ensures { result ≡ is_code_shared self.now }
+    {
+        is_same(&self.first.code, &self.second.code)
+            || is_same(&self.first.code, &self.third.code)
+            || is_same(&self.second.code, &self.third.code)
+    }
+
+    /// Whether every founder's password may be chosen.
+    fn are_passwords(&self) -> bool
+        ensures { result ≡ are_passwords self.now }
+    {
+        Password::admits(self.first.password.as_str())
+            && Password::admits(self.second.password.as_str())
+            && Password::admits(self.third.password.as_str())
+    }
+}
+
+impl Founder {
+    /// The founder as an administrator, whose password was chosen at the moment and is kept with the salt.
+    fn into_person(self, salt: [u8; 16], moment: Moment) -> Person
+        ensures { result ≡ founder_person self salt moment }
+    {
+        Person {
+            roles: Roles::none().with(Role::Administrator),
+            retired: false,
+            failures: 0,
+            locked: None,
+            password: Password::choose(self.password.as_str(), salt, moment),
+            ask: None,
+            code: self.code,
+            name: self.name,
+        }
+    }
+}
+
+fn is_same(one: &PersonCode, other: &PersonCode) -> bool
+    ensures { result ≡ bytes_eq one.now other.now }
+{
+    one.as_str() == other.as_str()
+}
+
+/// What a keeper founds the laboratory of the code from, where there is none of the code; or why it isn't founded. That there is
+/// one already comes last, and is the keeper's refusal.
+pub fn bear(code: LabCode, founding: Founding, tick: &Tick) -> Result<Newborn, BirthRefusal>
+    ensures ok { IfOk result (λ newborn.
+        born None code tick.now founding ≡ Ok (newborn_lab newborn)) }
+    ensures err { IfErr result (λ refusal. born None code tick.now founding ≡ Err refusal) }
+{
+    if founding.is_code_shared() {
+        return Err(BirthRefusal::CodeTaken);
+    }
+    if !founding.are_passwords() {
+        return Err(BirthRefusal::BadPassword);
+    }
+    Ok(newborn(code, founding, tick))
+}
+
+/// The laboratory with its three administrators, each with a salt of their own.
+fn newborn(code: LabCode, founding: Founding, tick: &Tick) -> Newborn
+    ensures { newborn_lab result ≡ newborn code tick.now founding }
+{
+    let Founding {
+        name,
+        first,
+        second,
+        third,
+    } = founding;
+    let [first_salt, second_salt, third_salt] = founder_salts(&tick.words);
+    let moment = tick.moment;
+    Newborn {
+        first: first.into_person(first_salt, moment),
+        second: second.into_person(second_salt, moment),
+        third: third.into_person(third_salt, moment),
+        code,
+        name,
+        moment,
+    }
+}

@@ -1,0 +1,60 @@
+-- Values from outside, so that a wrong rule in the definitions does not check: what a trail of a
+-- thousand million rows has no room for.
+use Rattle.std.proofs.Common.{◌≡◌, ℕ, true, false, [], ◌∷◌, codes, refl, Some}
+use Rattle.std.specs.Prelude.{⊤}
+use Rattle.lab_people_access.specs.declared.persons.Person.{Person}
+use Rattle.lab_people_access.specs.declared.refusals.Failure.TheVariants.{Counted, Locking, AlreadyLocked, Stray}
+use Rattle.lab_people_access.specs.declared.refusals.PeopleRefusal.TheVariants.{LabFull}
+use Rattle.lab_people_access.specs.declared.sessions.Closing.TheVariants.{All}
+use Rattle.lab_records_kept.specs.declared.changes.Change.{Change}
+use Rattle.lab_records_kept.specs.declared.changes.Change.TheVariants.{Strays, PersonSet, SessionsClosed, TrailAdded}
+use Rattle.lab_records_kept.specs.declared.trails.Deed.TheVariants.{Open, Refuse, Lock}
+use Rattle.lab_records_kept.specs.declared.trails.Occasion.TheVariants.{Opening}
+use Rattle.lab_records_kept.specs.Trails.{row_of}
+use Rattle.lab_records_rules.specs.declared.refusals.Refusal.TheVariants.{People}
+use Rattle.lab_records_machine.specs.declared.replies.Reply.TheVariants.{Refused, Closed}
+use Rattle.lab_records_outcomes.specs.Deciding.{IsFailureWritten, failing, outcome, ended_made}
+
+-- the row of that number, that the person's password was refused, or that the account was locked
+abbrev refused_row : ℕ → Person → Change
+refused_row number person = TrailAdded (row_of number 500 (Some person.code) (Refuse Opening))
+
+abbrev locked_row : ℕ → Person → Change
+locked_row number person = TrailAdded (row_of number 500 (Some person.code) (Lock person.code))
+
+-- a password that locks: with room for two rows, for one, and for none
+pub known_locks : (person : Person)
+    → (failing 999999998 0 500 Opening (Locking person)
+    ≡ PersonSet person ∷ SessionsClosed person.code All ∷ refused_row 999999999 person
+    ∷ locked_row 1000000000 person ∷ [])
+    × (failing 999999999 0 500 Opening (Locking person)
+    ≡ PersonSet person ∷ SessionsClosed person.code All ∷ refused_row 1000000000 person ∷ [])
+    × (failing 1000000000 0 500 Opening (Locking person)
+    ≡ PersonSet person ∷ SessionsClosed person.code All ∷ [])
+known_locks person = (refl, refl, refl)
+
+-- one that is counted, one that meets a lock, and one that is nobody's
+pub known_failures : (person : Person)
+    → (failing 999999999 0 500 Opening (Counted person)
+    ≡ PersonSet person ∷ refused_row 1000000000 person ∷ [])
+    × (failing 1000000000 0 500 Opening (Counted person) ≡ PersonSet person ∷ [])
+    × (failing 0 0 500 Opening (AlreadyLocked person) ≡ refused_row 1 person ∷ [])
+    × (failing 1000000000 0 500 Opening (AlreadyLocked person) ≡ [])
+    × (failing 0 7 500 Opening Stray ≡ Strays 8 ∷ [])
+known_failures person = (refl, refl, refl, refl, refl)
+
+-- memory may run out of a password that meets a lock as long as there is room for its row, and of one that is counted in any case
+pub known_writings : (person : Person)
+    → (IsFailureWritten 999999999 (AlreadyLocked person) ≡ (false ≡ false))
+    × (IsFailureWritten 1000000000 (AlreadyLocked person) ≡ (true ≡ false))
+    × (IsFailureWritten 1000000000 (Counted person) ≡ ⊤)
+known_writings person = (refl, refl, refl)
+
+-- what is made is told, and refused where the trail is full
+pub known_ends : (before own : Change)
+    → (ended_made (before ∷ []) 999999999 500 (codes "dan") (Closed 3) (Open 3) (own ∷ [])
+    ≡ outcome (Closed 3)
+    (before ∷ own ∷ TrailAdded (row_of 1000000000 500 (Some (codes "dan")) (Open 3)) ∷ []))
+    × (ended_made (before ∷ []) 1000000000 500 (codes "dan") (Closed 3) (Open 3) (own ∷ [])
+    ≡ outcome (Refused (People LabFull)) (before ∷ []))
+known_ends before own = (refl, refl)

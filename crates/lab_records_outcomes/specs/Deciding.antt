@@ -1,0 +1,140 @@
+-- What is decided on a part of a laboratory: the reply, and the changes that are to be made, in
+-- order. That this is the step of the whole laboratory is a law (`what_is_decided`), not said here.
+use Rattle.std.specs.Prelude.{◌≡◌, ℕ, ◌+◌, false, nat_le, List, [], ◌∷◌, ◌++◌, Option, Some, if◌then◌else◌, ⊤}
+use Rattle.lab_forms_texts.specs.declared.tick.Tick.{Tick}
+use Rattle.lab_people_access.specs.declared.sessions.Session.{Session}
+use Rattle.lab_people_access.specs.declared.sessions.Closing.TheVariants.{All}
+use Rattle.lab_people_access.specs.declared.refusals.Failure.{Failure}
+use Rattle.lab_people_access.specs.declared.refusals.Failure.TheVariants.{Counted, Locking, AlreadyLocked, Stray}
+use Rattle.lab_people_access.specs.declared.refusals.PeopleRefusal.TheVariants.{NoSession, Credentials, LabFull}
+use Rattle.lab_people_access.specs.Openings.{opening}
+use Rattle.lab_people_access.specs.Sessions.{touched_session}
+use Rattle.lab_records_kept.specs.declared.needs.Slice.{Slice}
+use Rattle.lab_records_kept.specs.declared.changes.Change.{Change}
+use Rattle.lab_records_kept.specs.declared.changes.Change.TheVariants.{Last, Strays, PersonSet, SessionSet, SessionsClosed, TrailAdded}
+use Rattle.lab_records_kept.specs.declared.trails.Deed.{Deed}
+use Rattle.lab_records_kept.specs.declared.trails.Deed.TheVariants.{Refuse, Lock}
+use Rattle.lab_records_kept.specs.declared.trails.Occasion.{Occasion}
+use Rattle.lab_records_kept.specs.Limits.{count_limit}
+use Rattle.lab_records_kept.specs.Trails.{row_of}
+use Rattle.lab_records_rules.specs.declared.refusals.Refusal.TheVariants.{ClockBehind, People}
+use Rattle.lab_records_machine.specs.declared.commands.Command.{Command}
+use Rattle.lab_records_machine.specs.declared.commands.Command.TheVariants.{Open}
+use Rattle.lab_records_machine.specs.declared.passages.Passage.{Passage}
+use Rattle.lab_records_machine.specs.declared.passages.Passage.TheVariants.{Early, NeedsNone, Stranger, Barred, Passes}
+use Rattle.lab_records_machine.specs.declared.replies.Reply.{Reply}
+use Rattle.lab_records_machine.specs.declared.replies.Reply.TheVariants.{Refused as ToldRefused, Card as ShowsCard}
+use Rattle.lab_records_machine.specs.Cases.{more_strays}
+use Rattle.lab_records_machine.specs.Machine.{passage}
+use Rattle.lab_records_machine.specs.declared.done.Done.{Done}
+use Rattle.lab_records_machine.specs.declared.done.Done.TheVariants.{Refused, Failed, Read, Made}
+use Rattle.lab_records_outcomes.specs.declared.outcome.Outcome.{Outcome}
+use Rattle.lab_records_machine.specs.Done.{opened_done, done_of}
+
+-- ---- the rows that the trail is given, where it has so many
+
+-- the row of a deed, in a trail of `rows` rows
+abbrev pub told_row : ℕ → ℕ → List ℕ → Deed → Change
+told_row rows moment person deed = TrailAdded (row_of (rows + 1) moment (Some person) deed)
+
+-- one row, where there is room for it
+abbrev pub noted_rows : ℕ → ℕ → List ℕ → Deed → List Change
+noted_rows rows moment person deed =
+    if nat_le count_limit rows then [] else told_row rows moment person deed ∷ []
+
+-- two rows, as far as there is room
+abbrev pub two_rows : ℕ → ℕ → List ℕ → Deed → Deed → List Change
+two_rows rows moment person first second =
+    if nat_le count_limit rows then []
+    else told_row rows moment person first ∷ noted_rows (rows + 1) moment person second
+
+-- what a failed password changes, where the trail has so many rows and so many strays were counted
+abbrev pub failing : ℕ → ℕ → ℕ → Occasion → Failure → List Change
+failing rows strays moment occasion (Counted person) =
+    PersonSet person ∷ noted_rows rows moment person.code (Refuse occasion)
+failing rows strays moment occasion (Locking person) =
+    PersonSet person ∷ SessionsClosed person.code All
+    ∷ two_rows rows moment person.code (Refuse occasion) (Lock person.code)
+failing rows strays moment occasion (AlreadyLocked person) =
+    noted_rows rows moment person.code (Refuse occasion)
+failing rows strays moment occasion Stray = Strays (more_strays strays) ∷ []
+
+-- ---- the end of a command
+
+abbrev pub outcome : Reply → List Change → Outcome
+outcome reply changes = record { reply = reply; changes = changes }
+
+-- a full trail refuses last; else the deed is told
+abbrev pub ended_made : List Change → ℕ → ℕ → List ℕ → Reply → Deed → List Change → Outcome
+ended_made before rows moment person reply deed own =
+    if nat_le count_limit rows then outcome (ToldRefused (People LabFull)) before
+    else outcome reply (before ++ own ++ told_row rows moment person deed ∷ [])
+
+-- in a session, where the trail has so many rows and so many strays were counted; `before` notes
+-- that the request came
+abbrev pub ended_by : ℕ → ℕ → ℕ → List ℕ → List Change → Done → Outcome
+ended_by rows strays moment person before (Refused refusal) = outcome (ToldRefused refusal) before
+ended_by rows strays moment person before (Failed occasion failure) =
+    outcome (ToldRefused (People Credentials))
+    (before ++ failing rows strays moment occasion failure)
+ended_by rows strays moment person before (Read reply) = outcome reply before
+ended_by rows strays moment person before (Made reply deed own) =
+    ended_made before rows moment person reply deed own
+
+-- a failed password changes something, so that memory may be asked for: of a locked account where
+-- the trail has room for its row, and else in any case
+abbrev pub IsFailureWritten : ℕ → Failure → Type 0
+IsFailureWritten rows (Counted person) = ⊤
+IsFailureWritten rows (Locking person) = ⊤
+IsFailureWritten rows (AlreadyLocked person) = nat_le count_limit rows ≡ false
+IsFailureWritten rows Stray = ⊤
+
+-- something is made of it, so that memory may be asked for: of a failed password that changes
+-- something, and of a deed where the trail has room for its row
+abbrev pub IsWritten : ℕ → Done → Type 0
+IsWritten rows (Refused refusal) = ⊥
+IsWritten rows (Failed occasion failure) = IsFailureWritten rows failure
+IsWritten rows (Read reply) = ⊥
+IsWritten rows (Made reply deed own) = nat_le count_limit rows ≡ false
+
+abbrev pub ended_done : Slice → ℕ → List ℕ → List Change → Done → Outcome
+ended_done slice moment person before done =
+    ended_by slice.counts.trail slice.strays moment person before done
+
+-- what notes a request by the session at the moment
+abbrev pub touching : ℕ → Session → List Change
+touching moment session = Last moment ∷ SessionSet (touched_session moment session) ∷ []
+
+-- at an opening, whose moment is noted where it is accepted, and where the password fails
+abbrev pub opening_ended : Slice → ℕ → List ℕ → Done → Outcome
+opening_ended slice moment code (Refused refusal) = outcome (ToldRefused refusal) []
+opening_ended slice moment code (Failed occasion failure) =
+    outcome (ToldRefused (People Credentials))
+    (Last moment ∷ failing slice.counts.trail slice.strays moment occasion failure)
+opening_ended slice moment code (Read reply) = outcome reply []
+opening_ended slice moment code (Made reply deed own) =
+    ended_made [] slice.counts.trail moment code reply deed (Last moment ∷ own)
+
+-- a command that asks for no session; the part brings the session that has an opening's token
+abbrev pub decided_without : Slice → Tick → Option Session → Command → Outcome
+decided_without slice tick repeated (Open code password) =
+    opening_ended slice tick.moment code
+    (opened_done (opening code slice.person password tick slice.counts.sessions repeated))
+decided_without slice tick repeated command = outcome (ShowsCard slice.code slice.name) []
+
+-- by how far the instruction gets
+abbrev pub decided_by : Slice → Tick → Command → Passage → Outcome
+decided_by slice tick command Early = outcome (ToldRefused ClockBehind) []
+decided_by slice tick command (NeedsNone repeated) = decided_without slice tick repeated command
+decided_by slice tick command Stranger = outcome (ToldRefused (People NoSession)) []
+decided_by slice tick command (Barred session refusal) =
+    outcome (ToldRefused refusal) (touching tick.moment session)
+decided_by slice tick command (Passes session caller) =
+    ended_done slice tick.moment caller.code (touching tick.moment session)
+    (done_of slice tick (touched_session tick.moment session) caller command)
+
+-- what is decided on a part
+abbrev pub decided : Slice → Tick → Command → Outcome
+decided slice tick command =
+    decided_by slice tick command
+    (passage slice.last slice.session slice.caller tick.moment command)

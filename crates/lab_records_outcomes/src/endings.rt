@@ -1,0 +1,182 @@
+//! How a command ends on a part of a laboratory: what notes that its request came, what is made of a failed password, and what a
+//! full trail refuses.
+ghost use Rattle.std.specs.Prelude.{◌≡◌, ◌++◌, ◌∷◌, [], Some, false, nat_le, IfOk, OnErr};
+ghost use Rattle.lab_records_kept.specs.Limits.{count_limit};
+ghost use Rattle.lab_records_kept.specs.Trails.{row_of};
+ghost use Rattle.lab_records_outcomes.specs.Deciding.{IsWritten, failing, outcome, ended_made, ended_by, touching};
+
+use crate::drafts::next_number;
+use crate::outcome::Outcome;
+use crate::telling::{failed, refused, told};
+use lab_forms_texts::{Moment, Ordinal, OutOfMemory, PersonCode, Series};
+use lab_people_access::{Failure, PeopleRefusal, Session};
+use lab_records_kept::{Change, Deed, Occasion};
+use lab_records_machine::{Done, Reply, joined, pair, single};
+use lab_records_rules::Refusal;
+use std::alloc::Global;
+
+/// That a request came by the session at the moment. The only error is out of memory: two changes are made in any case.
+pub fn touching(
+    alloc: Global,
+    moment: Moment,
+    session: &Session,
+) -> Result<Series<Change>, OutOfMemory>
+    ensures { IfOk result (λ changes. changes ≡ touching moment session.now) }
+{
+    let mut touched = session.copy()?;
+    touched.touch(moment);
+    pair(alloc, Change::Last(moment), Change::SessionSet(touched))
+}
+
+/// The end of an opening whose password failed: its moment is noted. The only error is out of memory: the moment is a change in any
+/// case.
+pub fn opening_failed(
+    alloc: Global,
+    rows: u64,
+    strays: u64,
+    moment: Moment,
+    occasion: Occasion,
+    failure: Failure,
+) -> Result<Outcome, OutOfMemory>
+    ensures { IfOk result (λ told. told
+        ≡ outcome (Reply.Refused (Refusal.People PeopleRefusal.Credentials))
+        (Change.Last moment ∷ failing rows strays moment occasion failure)) }
+{
+    match single(alloc, Change::Last(moment)) {
+        Ok(before) => failed(alloc, before, rows, strays, moment, occasion, failure),
+        Err(fault) => {
+            drop(failure);
+            Err(fault)
+        }
+    }
+}
+
+/// The end of an opening that is accepted: a full trail refuses it; else its moment is noted, and the deed is told. The only error
+/// is out of memory, where the trail has room.
+pub fn opening_made(
+    alloc: Global,
+    rows: u64,
+    moment: Moment,
+    code: &PersonCode,
+    reply: Reply,
+    deed: Deed,
+    own: Series<Change>,
+) -> Result<Outcome, OutOfMemory>
+    ensures made { IfOk result (λ outcome. outcome
+        ≡ ended_made [] rows moment code.now reply deed (Change.Last moment ∷ own)) }
+    ensures memory { OnErr result (nat_le count_limit rows ≡ false) }
+{
+    let Some(number) = next_number(rows) else {
+        drop(reply);
+        drop(deed);
+        drop(own);
+        let refusal = Refusal::People(PeopleRefusal::LabFull);
+        return Ok(refused(Series::new(alloc), refusal));
+    };
+    match with_moment(alloc, moment, own) {
+        Ok(own) => {
+            let before = Series::new(alloc);
+            told_made(alloc, before, number, moment, code, reply, deed, own)
+        }
+        Err(fault) => {
+            drop(reply);
+            drop(deed);
+            Err(fault)
+        }
+    }
+}
+
+// The moment of the last activity, a change in any case, and changes behind it. The only error is out of memory.
+fn with_moment(
+    alloc: Global,
+    moment: Moment,
+    own: Series<Change>,
+) -> Result<Series<Change>, OutOfMemory>
+    ensures { IfOk result (λ changes. changes ≡ Change.Last moment ∷ own) }
+{
+    match single(alloc, Change::Last(moment)) {
+        Ok(first) => joined(first, own),
+        Err(fault) => {
+            drop(own);
+            Err(fault)
+        }
+    }
+}
+
+/// The end of a command in a session. The only error is out of memory, where something is written of it.
+pub fn end(
+    alloc: Global,
+    before: Series<Change>,
+    rows: u64,
+    strays: u64,
+    moment: Moment,
+    person: &PersonCode,
+    done: Done,
+) -> Result<Outcome, OutOfMemory>
+    ensures ended { IfOk result
+        (λ outcome. outcome ≡ ended_by rows strays moment person.now before done) }
+    ensures memory { OnErr result (IsWritten rows done) }
+{
+    match done {
+        Done::Refused(refusal) => Ok(refused(before, refusal)),
+        Done::Failed(occasion, failure) => {
+            failed(alloc, before, rows, strays, moment, occasion, failure)
+        }
+        Done::Read(reply) => Ok(Outcome {
+            reply,
+            changes: before,
+        }),
+        Done::Made(reply, deed, own) => {
+            ended_made(alloc, before, rows, moment, person, reply, deed, own)
+        }
+    }
+}
+
+// Something is made: a full trail refuses last; else the deed is told. The only error is out of memory, where the trail has room.
+fn ended_made(
+    alloc: Global,
+    before: Series<Change>,
+    rows: u64,
+    moment: Moment,
+    person: &PersonCode,
+    reply: Reply,
+    deed: Deed,
+    own: Series<Change>,
+) -> Result<Outcome, OutOfMemory>
+    ensures made { IfOk result (λ outcome. outcome
+        ≡ ended_made before rows moment person.now reply deed own) }
+    ensures memory { OnErr result (nat_le count_limit rows ≡ false) }
+{
+    let Some(number) = next_number(rows) else {
+        drop(reply);
+        drop(deed);
+        drop(own);
+        return Ok(refused(before, Refusal::People(PeopleRefusal::LabFull)));
+    };
+    told_made(alloc, before, number, moment, person, reply, deed, own)
+}
+
+// What was made is told, by the number that the trail gives it. The only error is out of memory: its row is made in any case.
+fn told_made(
+    alloc: Global,
+    before: Series<Change>,
+    number: Ordinal,
+    moment: Moment,
+    person: &PersonCode,
+    reply: Reply,
+    deed: Deed,
+    own: Series<Change>,
+) -> Result<Outcome, OutOfMemory>
+    ensures { IfOk result (λ made. made ≡ outcome reply (before ++ own
+        ++ Change.TrailAdded (row_of number moment (Some person.now) deed) ∷ [])) }
+{
+    let changes = told(alloc, before, own, number, moment, person, &deed);
+    drop(deed);
+    match changes {
+        Ok(changes) => Ok(Outcome { reply, changes }),
+        Err(fault) => {
+            drop(reply);
+            Err(fault)
+        }
+    }
+}

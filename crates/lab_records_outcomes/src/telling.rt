@@ -1,0 +1,62 @@
+//! What is told: a refusal, a failed password, and the row behind what is made.
+ghost use Rattle.std.specs.Prelude.{◌≡◌, ◌++◌, ◌∷◌, [], Some, IfOk, OnErr};
+ghost use Rattle.lab_records_kept.specs.Trails.{row_of};
+ghost use Rattle.lab_records_outcomes.specs.Deciding.{IsFailureWritten, failing, outcome};
+
+use crate::drafts::{fail, row_of};
+use crate::outcome::Outcome;
+use lab_forms_texts::{Moment, Ordinal, OutOfMemory, PersonCode, Series};
+use lab_people_access::{Failure, PeopleRefusal};
+use lab_records_kept::{Change, Deed, Occasion};
+use lab_records_machine::{Reply, joined};
+use lab_records_rules::Refusal;
+use std::alloc::Global;
+
+/// A command that is refused, with what is changed nevertheless.
+pub fn refused(changes: Series<Change>, refusal: Refusal) -> Outcome
+    ensures { result ≡ outcome (Reply.Refused refusal) changes }
+{
+    Outcome {
+        reply: Reply::Refused(refusal),
+        changes,
+    }
+}
+
+/// A password that was given for a command failed. The only error is out of memory, where that changes something.
+pub fn failed(
+    alloc: Global,
+    before: Series<Change>,
+    rows: u64,
+    strays: u64,
+    moment: Moment,
+    occasion: Occasion,
+    failure: Failure,
+) -> Result<Outcome, OutOfMemory>
+    ensures failed { IfOk result (λ told. told
+        ≡ outcome (Reply.Refused (Refusal.People PeopleRefusal.Credentials))
+        (before ++ failing rows strays moment occasion failure)) }
+    ensures memory { OnErr result (IsFailureWritten rows failure) }
+{
+    let mut changes = before;
+    fail(alloc, &mut changes, rows, strays, moment, occasion, failure)?;
+    Ok(refused(changes, Refusal::People(PeopleRefusal::Credentials)))
+}
+
+/// Changes, and behind them the row that tells of the deed. The only error is out of memory: the row is made in any case.
+pub fn told(
+    alloc: Global,
+    before: Series<Change>,
+    own: Series<Change>,
+    number: Ordinal,
+    moment: Moment,
+    person: &PersonCode,
+    deed: &Deed,
+) -> Result<Series<Change>, OutOfMemory>
+    ensures { IfOk result (λ changes. changes ≡ before ++ own
+        ++ Change.TrailAdded (row_of number moment (Some person.now) deed.now) ∷ []) }
+{
+    let row = row_of(alloc, number, moment, person, deed)?;
+    let mut changes = joined(before, own)?;
+    changes.push(Change::TrailAdded(row))?;
+    Ok(changes)
+}

@@ -1,0 +1,213 @@
+//! What is read: a version of a form, a record, a version of a record, and a line of each record and each person.
+ghost use Rattle.std.specs.Prelude.{◌≡◌, IfOk, map};
+ghost use Rattle.lab_records_kept.specs.Digests.{digest_of};
+ghost use Rattle.lab_records_kept.specs.Lookups.{version_of};
+ghost use Rattle.lab_records_kept.specs.Values.{altered_at, values_at, version_state};
+ghost use Rattle.lab_records_rules.specs.Following.{Follows};
+ghost use Rattle.lab_records_rules.specs.Reading.{reading_form, version_line, reading_record, reading_found, reading_version, record_line, person_line};
+
+use crate::faults::{CommandFault, fail};
+use crate::readings::{PersonLine, RecordRead, RecordState, VersionRead, VersionState};
+use crate::refusals::Refusal;
+use crate::values::values_told;
+use lab_forms_texts::{Key, LabCode, Moment, Ordinal, OutOfMemory, Series};
+use lab_people_access::Person;
+use lab_records_kept::{FormVersion, Record, Version};
+use lab_seal_versions::{Digest, EntryRow, State};
+use std::alloc::Global;
+
+/// The version of a form that was looked up.
+pub fn read_form(form: Option<FormVersion>) -> Result<FormVersion, Refusal>
+    ensures { result ≡ reading_form form }
+{
+    match form {
+        Some(form) => Ok(form),
+        None => Err(Refusal::NoSuchForm),
+    }
+}
+
+/// The record that was looked up, with its versions' states and digests. Memory may run out only for what is read.
+pub fn read_record(
+    alloc: Global,
+    lab: &LabCode,
+    kept: Option<Record>,
+) -> Result<RecordRead, CommandFault>
+    ensures { Follows (reading_record lab.now kept) result }
+{
+    let Some(kept) = kept else {
+        return Err(CommandFault::Refused(Refusal::NoSuchRecord));
+    };
+    let versions = version_lines(alloc, lab, &kept)?;
+    let number = kept.number;
+    let (form, sample) = kept.into_heading();
+    Ok(RecordRead {
+        number,
+        form,
+        sample,
+        versions,
+    })
+}
+
+// The states and the digests of a record's versions, in order.
+fn version_lines(
+    alloc: Global,
+    lab: &LabCode,
+    kept: &Record,
+) -> Result<Series<VersionState>, OutOfMemory>
+    ensures { IfOk result (λ lines. lines ≡ map (version_line lab.now kept.now) kept.now.versions) }
+{
+    let mut lines = Series::new(alloc);
+    for version in kept.versions.as_slice() {
+        lines.push(version_line(alloc, lab, kept, version)?)?;
+    }
+    Ok(lines)
+}
+
+fn version_line(
+    alloc: Global,
+    lab: &LabCode,
+    kept: &Record,
+    version: &Version,
+) -> Result<VersionState, OutOfMemory>
+    ensures { IfOk result (λ line. line ≡ version_line lab.now kept.now version.now) }
+{
+    let digest = kept.digest_of(alloc, lab, version)?;
+    Ok(VersionState {
+        version: version.origin.number(),
+        state: kept.state_of(version),
+        digest,
+    })
+}
+
+/// The version of the number of the record, with the record's values at it. Memory may run out only for what is read.
+pub fn read_version(
+    alloc: Global,
+    lab: &LabCode,
+    kept: Option<Record>,
+    number: Ordinal,
+) -> Result<VersionRead, CommandFault>
+    ensures { Follows (reading_version lab.now kept number) result }
+{
+    match kept {
+        Some(kept) => read_found(alloc, lab, kept, number),
+        None => fail(CommandFault::Refused(Refusal::NoSuchRecord), kept),
+    }
+}
+
+// The version of the number of a record.
+fn read_found(
+    alloc: Global,
+    lab: &LabCode,
+    kept: Record,
+    number: Ordinal,
+) -> Result<VersionRead, CommandFault>
+    ensures { Follows (reading_found lab.now kept (version_of kept.versions number)) result }
+{
+    let read = match kept.version(number) {
+        Some(version) => version_parts(alloc, lab, &kept, version),
+        None => return fail(CommandFault::Refused(Refusal::NoSuchVersion), kept),
+    };
+    match read {
+        Ok(parts) => Ok(version_read(kept, parts)),
+        Err(_) => fail(CommandFault::Memory, kept),
+    }
+}
+
+/// What is read of a version beside its record's number, form and sample.
+#[derive(Drop)]
+struct VersionReadParts {
+    version: Version,
+    state: Option<State>,
+    digest: Digest,
+    altered: Series<Key>,
+    values: Series<EntryRow>,
+}
+
+// What a version of a record comes to, with a copy of it.
+fn version_parts(
+    alloc: Global,
+    lab: &LabCode,
+    kept: &Record,
+    version: &Version,
+) -> Result<VersionReadParts, OutOfMemory>
+    ensures version { IfOk result (λ parts. parts.version ≡ version.now) }
+    ensures state { IfOk result (λ parts. parts.state ≡ version_state kept.now version.now) }
+    ensures digest { IfOk result (λ parts. parts.digest ≡ digest_of lab.now kept.now version.now) }
+    ensures altered { IfOk result
+        (λ parts. parts.altered ≡ altered_at kept.now version.now.origin.number) }
+    ensures values { IfOk result
+        (λ parts. parts.values ≡ values_at kept.now version.now.origin.number) }
+{
+    let number = version.origin.number();
+    let digest = kept.digest_of(alloc, lab, version)?;
+    let told = values_told(alloc, kept, number)?;
+    let version_copy = version.copy()?;
+    Ok(VersionReadParts {
+        version: version_copy,
+        state: kept.state_of(version),
+        digest,
+        altered: told.altered,
+        values: told.values,
+    })
+}
+
+// What is read of a version, with the form and the sample of its record.
+fn version_read(kept: Record, parts: VersionReadParts) -> VersionRead
+    ensures { result ≡ record {
+      number = kept.number;
+      form = kept.form;
+      sample = kept.sample;
+      version = parts.version;
+      state = parts.state;
+      digest = parts.digest;
+      altered = parts.altered;
+      values = parts.values;
+    } }
+{
+    let number = kept.number;
+    let (form, sample) = kept.into_heading();
+    VersionRead {
+        number,
+        form,
+        sample,
+        version: parts.version,
+        state: parts.state,
+        digest: parts.digest,
+        altered: parts.altered,
+        values: parts.values,
+    }
+}
+
+/// A record in a line, by its last version. The only error is out of memory.
+pub fn record_line(kept: &Record) -> Result<RecordState, OutOfMemory>
+    ensures { IfOk result (λ line. line ≡ record_line kept.now) }
+{
+    let form = kept.form.code.copy()?;
+    let sample = kept.sample.copy()?;
+    let (current, state) = match kept.current() {
+        Some(version) => (Some(version.origin.number()), kept.state_of(version)),
+        None => (None, None),
+    };
+    Ok(RecordState {
+        number: kept.number,
+        form,
+        sample,
+        current,
+        state,
+    })
+}
+
+/// A person in a line, at the moment. The only error is out of memory.
+pub fn person_line(person: &Person, moment: Moment) -> Result<PersonLine, OutOfMemory>
+    ensures { IfOk result (λ line. line ≡ person_line moment person.now) }
+{
+    let code = person.code.copy()?;
+    let name = person.name.copy()?;
+    Ok(PersonLine {
+        code,
+        name,
+        roles: person.roles,
+        retired: person.retired,
+        locked: person.is_locked(moment),
+    })
+}

@@ -1,0 +1,129 @@
+//! What a laboratory's machine refuses.
+ghost use Rattle.std.specs.Prelude.{◌≡◌, Some};
+ghost use Rattle.lab_records_rules.specs.Refusals.{refusal_entry};
+
+use lab_forms::FormRefusal;
+use lab_forms_texts::{Key, Ordinal};
+use lab_people_access::PeopleRefusal;
+use lab_seal_hashes::Digest;
+
+/// What a laboratory's machine refuses, with what it tells.
+#[derive(Debug)]
+pub enum Refusal {
+    /// There is no such laboratory.
+    NoSuchLab,
+    /// The moment is before the laboratory's last one.
+    ClockBehind,
+    /// A refusal of persons and sessions.
+    People(PeopleRefusal),
+    /// A refusal of a form.
+    Form(FormRefusal),
+    /// There is no such form, or no such version of it.
+    NoSuchForm,
+    /// There is a record of the form and the sample, of this number.
+    RecordExists(Ordinal),
+    /// There is no such record.
+    NoSuchRecord,
+    /// The record has no such version.
+    NoSuchVersion,
+    /// The last version of the record isn't open.
+    NotOpen,
+    /// A reason is wanted.
+    ReasonWanted,
+    /// Nothing is altered.
+    NothingAltered,
+    /// The value of the key is the one that stands.
+    NotAltered(Key),
+    /// The last version of the record is neither released nor rejected.
+    AmendmentOpen,
+    /// Entries that the form requires are missing.
+    EntriesMissing,
+    /// The digest is another one than the version's, which is this one.
+    StaleDigest(Digest),
+    /// The version is signed already.
+    AlreadySigned,
+    /// Who signs entered a row of the version, or reviewed it.
+    OwnWork,
+    /// Who signs as the author entered no row of the version.
+    NotAuthor,
+    /// The version isn't signed as far as this signature wants.
+    NotSigned,
+    /// The code is wanted at the first signing of a session.
+    CodeWanted,
+    /// The form wants no approval.
+    ApprovalNotWanted,
+}
+
+// It is written out, so that a caller doesn't prove again how each part is dropped.
+impl Drop for Refusal {
+    fn drop(self) {
+        match self {
+            Refusal::NoSuchLab => {}
+            Refusal::ClockBehind => {}
+            Refusal::People(_) => {}
+            Refusal::Form(_) => {}
+            Refusal::NoSuchForm => {}
+            Refusal::RecordExists(_) => {}
+            Refusal::NoSuchRecord => {}
+            Refusal::NoSuchVersion => {}
+            Refusal::NotOpen => {}
+            Refusal::ReasonWanted => {}
+            Refusal::NothingAltered => {}
+            Refusal::NotAltered(_) => {}
+            Refusal::AmendmentOpen => {}
+            Refusal::EntriesMissing => {}
+            Refusal::StaleDigest(_) => {}
+            Refusal::AlreadySigned => {}
+            Refusal::OwnWork => {}
+            Refusal::NotAuthor => {}
+            Refusal::NotSigned => {}
+            Refusal::CodeWanted => {}
+            Refusal::ApprovalNotWanted => {}
+        }
+    }
+}
+
+impl Refusal {
+    fn entry(&self) -> (Option<u32>, &'static str)
+        ensures number { result.0 ≡ Some (refusal_entry self.now).number }
+        ensures word { result.1.now ≡ (refusal_entry self.now).word }
+    {
+        match self {
+            Refusal::NoSuchLab => (Some(40), "no_such_lab"),
+            Refusal::ClockBehind => (Some(41), "clock_behind"),
+            Refusal::People(refusal) => (refusal.number(), refusal.word()),
+            Refusal::Form(refusal) => (refusal.number(), refusal.word()),
+            Refusal::NoSuchForm => (Some(42), "no_such_form"),
+            Refusal::RecordExists(_) => (Some(43), "record_exists"),
+            Refusal::NoSuchRecord => (Some(44), "no_such_record"),
+            Refusal::NoSuchVersion => (Some(45), "no_such_version"),
+            Refusal::NotOpen => (Some(46), "not_open"),
+            Refusal::ReasonWanted => (Some(47), "reason_wanted"),
+            Refusal::NothingAltered => (Some(48), "nothing_altered"),
+            Refusal::NotAltered(_) => (Some(49), "not_altered"),
+            Refusal::AmendmentOpen => (Some(50), "amendment_open"),
+            Refusal::EntriesMissing => (Some(51), "entries_missing"),
+            Refusal::StaleDigest(_) => (Some(52), "stale_digest"),
+            Refusal::AlreadySigned => (Some(53), "already_signed"),
+            Refusal::OwnWork => (Some(54), "own_work"),
+            Refusal::NotAuthor => (Some(55), "not_author"),
+            Refusal::NotSigned => (Some(56), "not_signed"),
+            Refusal::CodeWanted => (Some(57), "code_wanted"),
+            Refusal::ApprovalNotWanted => (Some(58), "approval_not_wanted"),
+        }
+    }
+
+    /// The number by which the refusal is known.
+    pub fn number(&self) -> Option<u32>
+        ensures { result ≡ Some (refusal_entry self.now).number }
+    {
+        self.entry().0
+    }
+
+    /// The word by which the refusal is known.
+    pub fn word(&self) -> &'static str
+        ensures { result.now ≡ (refusal_entry self.now).word }
+    {
+        self.entry().1
+    }
+}

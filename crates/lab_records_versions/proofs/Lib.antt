@@ -1,0 +1,4 @@
+pub mod AlteringLemmas
+mod KnownEntries
+pub mod KnownSignings
+pub mod ValueLemmas

@@ -1,0 +1,143 @@
+//! The walk over a laboratory's records: the rows of each go out, one record after the other.
+
+ghost use Rattle.std.specs.Prelude.{◌≡◌, ◌<◌, ◌≤◌, ◌^◌, None, Err, IsSome, IfErr, OnOk, length};
+ghost use Rattle.lab_records_copies.specs.CopyLines.{body_lines};
+ghost use Rattle.lab_copy_rows.specs.Outs.{Sends};
+ghost use Rattle.lab_records_kept.specs.Worlds.{Given, Lives};
+ghost use Rattle.lab_forms_texts.specs.Ordinals.{last_ordinal};
+ghost use Rattle.lab_copy_rows.specs.Csv.{csv_text};
+ghost use Rattle.lab_records_walks.specs.Faults.{CopyFaultFits, OnTold};
+ghost use Rattle.lab_records_walks.specs.Resting.{IsRead};
+ghost use Rattle.lab_records_walks.specs.Walks.{CanWalk, copy_text, counted_all, desk_order, numbers_between, record_rows, text_under, walked};
+
+use crate::CopyOutFault;
+use crate::givers::RecordGiver;
+use crate::progress::Progress;
+use crate::reads::{first_line, head_of, last_kept};
+use lab_copy_rows::{CopyLine, CopyOut};
+use lab_records_kept::{Keeper, LabCode, Moment, Ordinal};
+use std::alloc::Global;
+use std::io::Write;
+
+/// Writes the inspection copy of a laboratory's records from a number to a number, made for nobody
+/// at this moment (21 CFR 11.10(b)). The giver has the rows of one record after the other go out, and
+/// the progress is told after each.
+///
+/// # Errors
+/// That there is no laboratory of the code, the store's refusal, that memory ran out, and a write
+/// that failed or took no byte. The front of the copy's text went out, and the rows are as they
+/// were.
+pub fn copy_out<S: Keeper, G: RecordGiver<S>, W: Write, P: Progress>(
+    alloc: Global,
+    keeper: &mut S,
+    giver: &G,
+    lab: &LabCode,
+    from: Ordinal,
+    to: Ordinal,
+    moment: Moment,
+    writer: &mut W,
+    progress: &mut P,
+) -> Result<(), CopyOutFault>
+    // Where the laboratory's records can be walked:
+    ensures text { CanWalk (S.world keeper.old) lab.now →
+        Given (S.world keeper.old) (S.world keeper.new)
+        (Sends (W.contents writer.old) (W.contents writer.new)
+        (copy_text (desk_order from to moment) ((S.world keeper.old).meaning lab.now)) result) }
+
+    // Whatever they are:
+    ensures found { Given (S.world keeper.old) (S.world keeper.new)
+        (OnOk result (IsSome ((S.world keeper.old).meaning lab.now))) }
+    ensures fault { IfErr result (CopyFaultFits
+        (Given (S.world keeper.old) (S.world keeper.new)
+        ((S.world keeper.old).meaning lab.now ≡ None))
+        (S.world keeper.old).may_refuse
+        (Given (S.world keeper.old) (S.world keeper.new)
+        (IsSome ((S.world keeper.old).meaning lab.now)))) }
+    ensures nothing { result ≡ Err CopyOutFault.NoSuchLab → writer.new ≡ writer.old }
+    ensures lives { Given (S.world keeper.old) (S.world keeper.new)
+        (OnTold result (Lives (S.world keeper.old) (S.world keeper.new))) }
+    ensures read { IsRead S.world S.rests keeper.old keeper.new }
+{
+    match head_of(keeper, lab) {
+        Ok(Some(slice)) => {
+            let last = last_kept(&slice, to);
+            let line = first_line(slice, from, to, moment);
+            copy_under(alloc, keeper, giver, line, last, writer, progress)
+        }
+        Ok(None) => Err(CopyOutFault::NoSuchLab),
+        Err(fault) => Err(CopyOutFault::from(fault)),
+    }
+}
+
+// Writes a copy under its first line: the records up to a last one.
+fn copy_under<S: Keeper, G: RecordGiver<S>, W: Write, P: Progress>(
+    alloc: Global,
+    keeper: &mut S,
+    giver: &G,
+    line: CopyLine,
+    last: u32,
+    writer: &mut W,
+    progress: &mut P,
+) -> Result<(), CopyOutFault>
+    requires { last ≤ last_ordinal }
+    ensures text { (S.world keeper.old).is_live →
+        length (body_lines line.lab (walked ((S.world keeper.old).meaning line.lab) line.from
+        (numbers_between line.from last))) < 2 ^ 64 →
+        Given (S.world keeper.old) (S.world keeper.new)
+        (Sends (W.contents writer.old) (W.contents writer.new) (text_under line
+        (walked ((S.world keeper.old).meaning line.lab) line.from
+        (numbers_between line.from last))) result) }
+    ensures fault { IfErr result
+        (CopyFaultFits ⊥ (S.world keeper.old).may_refuse (Unit {0})) }
+    ensures lives { (S.world keeper.old).is_live →
+        Given (S.world keeper.old) (S.world keeper.new)
+        (OnOk result (S.world keeper.new).is_live) }
+    ensures read { IsRead S.world S.rests keeper.old keeper.new }
+{
+    let mut out = CopyOut::start(alloc, writer, &line)?;
+    walk(
+        alloc, keeper, giver, &line.lab, line.from, last, &mut out, writer, progress,
+    )?;
+    out.finish(alloc, writer)?;
+    Ok(())
+}
+
+// Writes the rows of the records from a number to a last one.
+fn walk<S: Keeper, G: RecordGiver<S>, W: Write, P: Progress>(
+    alloc: Global,
+    keeper: &mut S,
+    giver: &G,
+    lab: &LabCode,
+    from: Ordinal,
+    last: u32,
+    out: &mut CopyOut,
+    writer: &mut W,
+    progress: &mut P,
+) -> Result<(), CopyOutFault>
+    requires { last ≤ last_ordinal }
+    ensures text { (S.world keeper.old).is_live →
+        Given (S.world keeper.old) (S.world keeper.new)
+        (Sends (W.contents writer.old) (W.contents writer.new) (csv_text (record_rows lab.now
+        (walked ((S.world keeper.old).meaning lab.now) from (numbers_between from last)))) result) }
+    ensures counts { (S.world keeper.old).is_live →
+        Given (S.world keeper.old) (S.world keeper.new)
+        (OnOk result (out.new ≡ record out.old {
+          counts = counted_all out.old.counts
+              (record_rows lab.now (walked ((S.world keeper.old).meaning lab.now) from
+              (numbers_between from last)));
+        })) }
+    ensures fault { IfErr result
+        (CopyFaultFits ⊥ (S.world keeper.old).may_refuse (Unit {0})) }
+    ensures lives { (S.world keeper.old).is_live →
+        Given (S.world keeper.old) (S.world keeper.new)
+        (OnOk result (S.world keeper.new).is_live) }
+    ensures read { IsRead S.world S.rests keeper.old keeper.new }
+{
+    let first = from.get();
+    let end = last + 1;
+    for number in first..end {
+        giver.give_record(alloc, keeper, lab, number, out, writer)?;
+        progress.told(number - first + 1, end - first);
+    }
+    Ok(())
+}

@@ -1,2 +1,0 @@
-pub mod RehearsalLemmas
-pub mod KnownValues

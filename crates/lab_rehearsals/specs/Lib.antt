@@ -1,2 +1,0 @@
-pub mod Rehearsals
-pub mod Tasks

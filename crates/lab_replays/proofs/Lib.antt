@@ -1,3 +1,0 @@
-pub mod ReplayLemmas
-pub mod MemoryLemmas
-mod KnownValues

@@ -1,4 +1,0 @@
-pub mod PartLemmas
-pub mod MemberLemmas
-pub mod FloatLemmas
-mod KnownValues

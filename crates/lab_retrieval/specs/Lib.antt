@@ -1,3 +1,0 @@
-pub mod Sought
-pub mod Shown
-pub mod Chains

@@ -1,6 +1,0 @@
-pub mod Refusals
-pub mod Numbers
-pub mod Paths
-pub mod Routes
-pub mod Queries
-pub mod Commands

@@ -1,5 +1,0 @@
-use Rattle.lab_rows.proofs.ReadLemmas.{read_back}
-use Rattle.lab_rows.proofs.laws.rows_read_back.Goals as goal
-
-pub returns : goal.returns
-returns c = read_back

@@ -1,6 +1,0 @@
-pub mod Copies
-pub mod Csv
-pub mod Flaws
-pub mod Lines
-pub mod Reading
-pub mod Rows

@@ -1,0 +1,3 @@
+pub mod KnownSeals
+pub mod KnownVersions
+pub mod RowLemmas

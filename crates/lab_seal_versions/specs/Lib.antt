@@ -1,0 +1,4 @@
+pub mod Origins
+pub mod Seals
+pub mod States
+pub mod Versions

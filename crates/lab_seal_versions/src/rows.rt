@@ -1,0 +1,142 @@
+//! The rows of a version: what persons entered, in order.
+ghost use Rattle.std.specs.Prelude.{◌≡◌, ◌++◌, ◌∷◌, [], IfOk, OnOk, OnErr};
+
+use lab_forms_texts::{Key, Moment, Note, OutOfMemory, PersonCode, Unit};
+use std::alloc::AllocError;
+use std::marker::Model;
+
+/// A row of a version: a value that a person entered under a key.
+#[derive(Debug)]
+pub struct EntryRow {
+    /// The field's key.
+    pub key: Key,
+    /// The value as it was written.
+    pub value: Note,
+    /// The value's unit.
+    pub unit: Unit,
+    /// Who entered it.
+    pub person: PersonCode,
+    /// When it was entered.
+    pub moment: Moment,
+    /// Why it was entered in place of an earlier one.
+    pub reason: Option<Note>,
+}
+
+// It is written out, so that a caller doesn't prove again how each part is dropped.
+impl Drop for EntryRow {
+    fn drop(self) {
+        let EntryRow {
+            key: _,
+            value: _,
+            unit: _,
+            person: _,
+            moment: _,
+            reason: _,
+        } = self;
+    }
+}
+
+impl EntryRow {
+    /// A copy.
+    pub fn copy(&self) -> Result<EntryRow, OutOfMemory>
+        ensures { IfOk result (λ copy. copy ≡ self.now) }
+    {
+        Ok(self.clone()?)
+    }
+}
+
+impl Clone for EntryRow {
+    ghost use Rattle.std.specs.Prelude.{◌≡◌};
+
+    ghost is_clone = { λ row copy. copy ≡ row };
+
+    fn clone(&self) -> Result<EntryRow, AllocError> {
+        let key = self.key.clone()?;
+        let value = self.value.clone()?;
+        let unit = self.unit.clone()?;
+        let person = self.person.clone()?;
+        let reason = self.reason.clone()?;
+        Ok(EntryRow {
+            key,
+            value,
+            unit,
+            person,
+            moment: self.moment,
+            reason,
+        })
+    }
+}
+
+/// Rows in the order in which they were entered.
+///
+/// A contract sees them as the list of the rows.
+#[derive(Debug)]
+pub struct EntryRows {
+    rows: Vec<EntryRow>,
+}
+
+// It is written out, so that a caller doesn't prove again how each part is dropped.
+impl Drop for EntryRows {
+    fn drop(self) {
+        let EntryRows { rows: _ } = self;
+    }
+}
+
+impl Model for EntryRows {
+    ghost use Rattle.std.specs.Prelude.{List};
+    ghost use Rattle.lab_seal_versions.specs.declared.rows.EntryRow.{EntryRow};
+
+    ghost Value = { List EntryRow };
+
+    ghost view = { λ list. list.rows.items };
+}
+
+impl EntryRows {
+    /// The rows that the list has.
+    pub fn new(rows: Vec<EntryRow>) -> EntryRows
+        ensures { result ≡ rows.items }
+    {
+        EntryRows { rows }
+    }
+
+    /// The rows.
+    pub fn rows(&self) -> &[EntryRow]
+        ensures { result.now ≡ self.now }
+    {
+        self.rows.as_slice()
+    }
+
+    /// Adds a row at the end.
+    pub fn push(&mut self, row: EntryRow) -> Result<(), OutOfMemory>
+        ensures added { OnOk result (self.new ≡ self.old ++ row ∷ []) }
+        ensures same { OnErr result (self.new ≡ self.old) }
+    {
+        Ok(self.rows.push(row)?)
+    }
+
+    /// Gives the list back.
+    pub fn into_rows(self) -> Vec<EntryRow>
+        ensures { result.items ≡ self }
+    {
+        let EntryRows { rows: list } = self;
+        list
+    }
+
+    /// A copy.
+    pub fn copy(&self) -> Result<EntryRows, OutOfMemory>
+        ensures { IfOk result (λ copy. copy ≡ self.now) }
+    {
+        Ok(self.clone()?)
+    }
+}
+
+impl Clone for EntryRows {
+    ghost use Rattle.std.specs.Prelude.{◌≡◌};
+
+    ghost is_clone = { λ rows copy. copy ≡ rows };
+
+    fn clone(&self) -> Result<EntryRows, AllocError> {
+        let rows = self.rows.clone()?;
+        Ok(EntryRows { rows })
+    }
+}

@@ -1,6 +1,0 @@
-use Rattle.std.proofs.Common.{ℕ, length, refl}
-use Rattle.std.proofs.lemmas.List.{drop-replicate}
-use Rattle.lab_secrets.proofs.keyed.zero_filled.Goals as goal
-
-pub returns : goal.returns
-returns c = rw (c.copy_from_slice.ensures.after, drop-replicate {X = ℕ} (length c.args.key.now) 64 0) refl

@@ -1,6 +1,0 @@
-use Rattle.lab_runs.proofs.Lasting.{stays_first}
-use Rattle.lab_serving.proofs.loopback.serve_listener.Goals as goal
-
-pub returns-in_err-listening-clause-stays : goal.returns-in_err-listening-clause-stays
-returns-in_err-listening-clause-stays g c = λ within honest reached.
-    stays_first (g.S.Keeper.world c.args.desk.now.keeper) within reached

@@ -1,0 +1,25 @@
+use Rattle.std.proofs.Common.{find, sym, ◌∙◌, subst}
+use Rattle.sqlite.specs.Held.{state}
+use Rattle.lab_records_kept.specs.declared.labs.Lab.{Lab}
+use Rattle.lab_records_kept.specs.Births.{newborn_lab}
+use Rattle.lab_store_tables.specs.Meaning.{has_code}
+use Rattle.lab_store_tables.specs.Ready.{tables_of}
+use Rattle.lab_store.specs.Commits.{Ends}
+use Rattle.lab_store_write_changes.specs.NewbornRows.{AddsRows}
+use Rattle.lab_store.specs.Founding.{IsPlacedBy}
+use Rattle.lab_store.proofs.Endings.{ends_after, none_found}
+use Rattle.lab_store.proofs.Placed.{is_placed}
+use Rattle.lab_store.proofs.founding.found.Goals as goal
+
+pub returns-clause-ends : goal.returns-clause-ends
+returns-clause-ends g c ready =
+    let old = state g.S.Store c.args.tables.now.conn in
+    let mid = state g.S.Store c.is_there.new.conn.conn in
+    let new = state g.S.Store c.place.new.conn in
+    let newborn = c.args.newborn in
+    let there = c.in_ok-is_there.ensures in
+    ends_after (AddsRows (newborn_lab newborn)) (IsPlacedBy newborn) c.place.result old mid new ready there.passes there.same
+    (λ clean t added. is_placed newborn (tables_of old) t
+    (none_found (find (has_code newborn.code) (tables_of old).labs) (sym (there.found ready clean) ∙ c.if-branch.false))
+    (sym c.is_asked.ensures ∙ c.if-is_asked.false) added)
+    (subst (λ (lab : Lab). Ends (AddsRows lab) c.place.result mid new) c.in_ok-lab.ensures c.place.ensures.ends)

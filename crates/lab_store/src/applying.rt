@@ -1,0 +1,98 @@
+//! All changes of a request, by one commit.
+
+ghost use Rattle.std.specs.Prelude.{◌≡◌, [], IsTrue, OnOk};
+ghost use Rattle.sqlite.specs.Held.{state};
+ghost use Rattle.sqlite.specs.Effect.{IsDatabase};
+ghost use Rattle.sqlite.specs.State.{HasCleanDisk, KeepsCommit, Survives};
+ghost use Rattle.lab_store_tables.specs.Changes.{InTurn};
+ghost use Rattle.lab_store_tables.specs.Ready.{IsAtRest, IsReady, LeavesNoMore};
+ghost use Rattle.lab_store_laws.specs.Steps.{StepsBy, AreMadeIfAny};
+ghost use Rattle.lab_store_write.specs.Calls.{IsInside, Steps};
+ghost use Rattle.lab_store.specs.Commits.{Ends};
+
+use crate::inside::Inside;
+use crate::tables::Tables;
+use lab_forms_texts::LabCode;
+use lab_records_kept::Change;
+use lab_store_columns::ReadFault;
+use lab_store_read_records::lab_at;
+use lab_store_write::RowId;
+use lab_store_write_changes::all_inside;
+use sqlite::{Alter, Connection, Error, Transaction};
+use std::alloc::Global;
+
+/// Makes the changes, one after the other, inside the transaction.
+fn make_inside<S: Alter>(
+    tx: &mut Transaction<'_, S>,
+    lab: RowId,
+    changes: &[Change],
+) -> Result<(), Error>
+    requires inside { IsInside (state S.Store tx.old.conn.now) }
+    ensures same_reference { tx.new.conn.ghost_name ≡ tx.old.conn.ghost_name }
+    ensures inside { HasCleanDisk (state S.Store tx.new.conn.now) →
+        OnOk result (IsTrue (state S.Store tx.new.conn.now).in_transaction) }
+    // In a database that keeps its own rules:
+    ensures made { HasCleanDisk (state S.Store tx.new.conn.now) →
+        OnOk result (IsDatabase (state S.Store tx.old.conn.now).now →
+        Steps (InTurn (StepsBy lab.id) changes.now)
+        (state S.Store tx.old.conn.now) (state S.Store tx.new.conn.now)) }
+    ensures kept { HasCleanDisk (state S.Store tx.new.conn.now) → KeepsCommit
+        (state S.Store tx.old.conn.now) (state S.Store tx.new.conn.now) }
+    ensures survives { Survives
+        (state S.Store tx.old.conn.now) (state S.Store tx.new.conn.now) (λ _. ⊥) }
+{
+    let mut inside = Inside { tx };
+    let made = all_inside(&mut inside, lab, changes);
+    let Inside { tx: _ } = inside;
+    made
+}
+
+/// Makes the changes of the laboratory whose row has the id, in one transaction.
+fn commit_all<S: Alter>(
+    conn: &mut Connection<S>,
+    lab: RowId,
+    changes: &[Change],
+) -> Result<(), Error>
+    requires at_rest { IsAtRest (state S.Store conn.old) }
+    ensures ends { Ends (InTurn (StepsBy lab.id) changes.now) result
+        (state S.Store conn.old) (state S.Store conn.new) }
+{
+    let _rules = conn.schema();
+    let mut tx = conn.transaction();
+    make_inside(&mut tx, lab, changes)?;
+    tx.commit()
+}
+
+/// Makes the changes of the laboratory of the code by one commit, all of them or none; by none where there is no change.
+///
+/// Errors: no laboratory of the code, or none of what a change names; a refusal of the store; or out of memory. The rows are
+/// then as before.
+pub fn apply<S: Alter>(
+    alloc: Global,
+    tables: &mut Tables<S>,
+    code: &LabCode,
+    changes: &[Change],
+) -> Result<(), ReadFault>
+    requires at_rest { IsAtRest (state S.Store tables.old.conn) }
+    ensures at_rest { IsAtRest (state S.Store tables.new.conn) }
+    ensures clean { HasCleanDisk (state S.Store tables.new.conn) →
+        HasCleanDisk (state S.Store tables.old.conn) }
+    ensures live { HasCleanDisk (state S.Store tables.new.conn) →
+        IsTrue (state S.Store tables.new.conn).is_open →
+        IsTrue (state S.Store tables.old.conn).is_open }
+    ensures ends { IsReady (state S.Store tables.old.conn) →
+        Ends (AreMadeIfAny code.now changes.now) result
+        (state S.Store tables.old.conn) (state S.Store tables.new.conn) }
+    ensures quiet { changes.now ≡ [] → IsReady (state S.Store tables.old.conn) →
+        LeavesNoMore (state S.Store tables.old.conn) (state S.Store tables.new.conn) }
+{
+    let found = lab_at(alloc, tables, code)?;
+    if changes.is_empty() {
+        return Ok(());
+    }
+    let Some(head) = found else {
+        return Err(ReadFault::Storage);
+    };
+    commit_all(&mut tables.conn, RowId { id: head.id }, changes)?;
+    Ok(())
+}

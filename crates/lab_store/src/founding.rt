@@ -1,0 +1,55 @@
+//! A laboratory that is founded, placed by one commit.
+
+ghost use Rattle.std.specs.Prelude.{◌≡◌, Err, IsSome, IsTrue};
+ghost use Rattle.sqlite.specs.Held.{state};
+ghost use Rattle.sqlite.specs.State.{HasCleanDisk};
+ghost use Rattle.lab_records_kept.specs.declared.faults.PlacingFault.TheVariants.{LabExists};
+ghost use Rattle.lab_store_tables.specs.Meaning.{meaning};
+ghost use Rattle.lab_store_tables.specs.Ready.{IsAtRest, IsReady, LeavesNoMore, tables_of};
+ghost use Rattle.lab_store.specs.Commits.{Ends};
+ghost use Rattle.lab_store.specs.Founding.{IsPlacedBy};
+
+use crate::places::{is_there, place};
+use crate::tables::Tables;
+use lab_records_kept::{Newborn, PlacingFault};
+use lab_store_write_changes::{is_asked, laboratory};
+use sqlite::Alter;
+use std::alloc::Global;
+
+/// Places the newborn laboratory by one commit: its row, its founders in the order of their codes, and the first row of its
+/// trail; all of them, or none.
+///
+/// Errors: a laboratory of the code is there; a refusal of the store, also of two founders of one code; or out of memory. The
+/// rows are then as before. A founder for whom a one-time word was asked is refused too: nobody can have asked before the
+/// founding, so this never comes.
+pub fn found<S: Alter>(
+    alloc: Global,
+    tables: &mut Tables<S>,
+    newborn: Newborn,
+) -> Result<(), PlacingFault>
+    requires at_rest { IsAtRest (state S.Store tables.old.conn) }
+    ensures at_rest { IsAtRest (state S.Store tables.new.conn) }
+    ensures clean { HasCleanDisk (state S.Store tables.new.conn) →
+        HasCleanDisk (state S.Store tables.old.conn) }
+    ensures live { HasCleanDisk (state S.Store tables.new.conn) →
+        IsTrue (state S.Store tables.new.conn).is_open →
+        IsTrue (state S.Store tables.old.conn).is_open }
+    ensures ends { IsReady (state S.Store tables.old.conn) → Ends (IsPlacedBy newborn) result
+        (state S.Store tables.old.conn) (state S.Store tables.new.conn) }
+    ensures exists { result ≡ Err LabExists → IsReady (state S.Store tables.old.conn) →
+        HasCleanDisk (state S.Store tables.new.conn) →
+        IsSome (meaning (tables_of (state S.Store tables.old.conn)) newborn.code)
+        × IsTrue (state S.Store tables.old.conn).is_open
+        × IsTrue (state S.Store tables.new.conn).is_open }
+    ensures quiet { result ≡ Err LabExists → IsReady (state S.Store tables.old.conn) →
+        LeavesNoMore (state S.Store tables.old.conn) (state S.Store tables.new.conn) }
+{
+    if is_there(tables, &newborn.code)? {
+        return Err(PlacingFault::LabExists);
+    }
+    if is_asked(&newborn) {
+        return Err(PlacingFault::Storage);
+    }
+    let lab = laboratory(alloc, newborn)?;
+    place(&mut tables.conn, &lab)
+}

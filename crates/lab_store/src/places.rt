@@ -1,0 +1,114 @@
+//! Whether a laboratory of a code is there, and the placing of one by a commit.
+
+ghost use Rattle.std.specs.Prelude.{◌≡◌, ◌≢◌, IfOk, IfErr, OnOk, find, is_some, slice_get};
+ghost use Rattle.sqlite.specs.Held.{state};
+ghost use Rattle.sqlite.specs.State.{HasCleanDisk, IsUnchanged, KeepsCommit, Survives};
+ghost use Rattle.lab_records_kept.specs.declared.faults.PlacingFault.TheVariants.{LabExists};
+ghost use Rattle.lab_store_tables.specs.Meaning.{has_code};
+ghost use Rattle.lab_store_tables.specs.Ready.{IsAtRest, IsReady, PassesBy, tables_of};
+ghost use Rattle.lab_store_read_records.specs.Shown.{labs_shown};
+ghost use Rattle.lab_store_write.specs.Calls.{IsInside, Makes};
+ghost use Rattle.lab_store.specs.Commits.{Ends};
+ghost use Rattle.lab_store_write_changes.specs.NewbornRows.{AddsRows};
+
+use crate::inside::Inside;
+use lab_forms_texts::LabCode;
+use lab_records_kept::{Lab, PlacingFault};
+use lab_store_columns::asking::rows_by_text;
+use lab_store_columns::{ReadFault, Readable};
+use lab_store_write_changes::add_rows;
+use sqlite::{Alter, Connection, Error, Row, Transaction};
+
+/// What an error of the store is told as.
+fn placing_fault(error: Error) -> PlacingFault
+    ensures { result ≢ LabExists }
+{
+    match ReadFault::from(error) {
+        ReadFault::Storage => PlacingFault::Storage,
+        ReadFault::Memory => PlacingFault::Memory,
+    }
+}
+
+/// The row of the laboratory with the code.
+fn lab_rows<D: Readable>(conn: &mut D, code: &str) -> Result<Vec<Row>, Error>
+    ensures passes { PassesBy (D.state conn.old) (D.state conn.new) }
+    ensures kept { HasCleanDisk (D.state conn.new) →
+        KeepsCommit (D.state conn.old) (D.state conn.new) }
+    ensures same { HasCleanDisk (D.state conn.new) →
+        OnOk result (IsUnchanged (D.state conn.old) (D.state conn.new)) }
+    ensures rows { IsReady (D.state conn.old) → HasCleanDisk (D.state conn.new) →
+        IfOk result
+        (λ rows. rows.items ≡ labs_shown (tables_of (D.state conn.old)) code.now) }
+{
+    rows_by_text(
+        conn,
+        "SELECT id, code, name, last, stray, records, sessions, trail FROM labs WHERE code = ?1",
+        code,
+    )
+}
+
+/// Whether there is a row.
+fn has_row(rows: &[Row]) -> bool
+    ensures { result ≡ is_some (slice_get rows.now 0) }
+{
+    rows.first().is_some()
+}
+
+/// Whether a laboratory of the code is there.
+pub(crate) fn is_there<D: Readable>(conn: &mut D, code: &LabCode) -> Result<bool, PlacingFault>
+    ensures passes { PassesBy (D.state conn.old) (D.state conn.new) }
+    ensures kept { HasCleanDisk (D.state conn.new) →
+        KeepsCommit (D.state conn.old) (D.state conn.new) }
+    ensures same { HasCleanDisk (D.state conn.new) →
+        OnOk result (IsUnchanged (D.state conn.old) (D.state conn.new)) }
+    ensures found { IsReady (D.state conn.old) → HasCleanDisk (D.state conn.new) →
+        IfOk result
+        (λ there. there ≡ is_some (find (has_code code.now) (tables_of (D.state conn.old)).labs)) }
+    ensures fault { IfErr result (λ fault. fault ≢ LabExists) }
+{
+    match lab_rows(conn, code.as_str()) {
+        Ok(rows) => Ok(has_row(&rows)),
+        Err(error) => Err(placing_fault(error)),
+    }
+}
+
+/// Adds the rows of the laboratory inside the transaction.
+fn add_inside<S: Alter>(tx: &mut Transaction<'_, S>, lab: &Lab) -> Result<(), Error>
+    requires inside { IsInside (state S.Store tx.old.conn.now) }
+    ensures same_reference { tx.new.conn.ghost_name ≡ tx.old.conn.ghost_name }
+    ensures made { Makes result (AddsRows lab.now)
+        (state S.Store tx.old.conn.now) (state S.Store tx.new.conn.now) }
+    ensures kept { HasCleanDisk (state S.Store tx.new.conn.now) → KeepsCommit
+        (state S.Store tx.old.conn.now) (state S.Store tx.new.conn.now) }
+    ensures survives { Survives
+        (state S.Store tx.old.conn.now) (state S.Store tx.new.conn.now) (λ _. ⊥) }
+{
+    let mut inside = Inside { tx };
+    let made = add_rows(&mut inside, lab);
+    let Inside { tx: _ } = inside;
+    made
+}
+
+/// Adds the rows of the laboratory in one transaction.
+fn commit_rows<S: Alter>(conn: &mut Connection<S>, lab: &Lab) -> Result<(), Error>
+    requires at_rest { IsAtRest (state S.Store conn.old) }
+    ensures ends { Ends (AddsRows lab.now) result
+        (state S.Store conn.old) (state S.Store conn.new) }
+{
+    let mut tx = conn.transaction();
+    add_inside(&mut tx, lab)?;
+    tx.commit()
+}
+
+/// Adds the rows of the laboratory by one commit.
+pub(crate) fn place<S: Alter>(conn: &mut Connection<S>, lab: &Lab) -> Result<(), PlacingFault>
+    requires at_rest { IsAtRest (state S.Store conn.old) }
+    ensures ends { Ends (AddsRows lab.now) result
+        (state S.Store conn.old) (state S.Store conn.new) }
+    ensures fault { IfErr result (λ fault. fault ≢ LabExists) }
+{
+    match commit_rows(conn, lab) {
+        Ok(()) => Ok(()),
+        Err(error) => Err(placing_fault(error)),
+    }
+}

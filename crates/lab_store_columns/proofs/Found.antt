@@ -1,0 +1,46 @@
+-- What was read of the rows that a query shows, as what the tables have.
+use Rattle.std.proofs.Common.{Option, Some, unwrap_or, ◌≡◌, ℕ, ℤ, List, [], ◌∷◌, map, filter, slice_get, option_map, refl, ap, ◌∙◌, Bool, true, false, None}
+use Rattle.sqlite_keyed.proofs.ListLemmas.{slice_get-filter}
+use Rattle.std.specs.Ordering.{int_eq}
+use Rattle.sqlite_keyed.specs.Keyed.{get_by}
+use Rattle.lab_store_tables.specs.Rows.{PersonRow, person_id, Tables, number, flag, optional, number_in, flag_in, optional_in}
+use Rattle.lab_store_tables.specs.Meaning.{code_of}
+use Rattle.lab_store_columns.specs.Shown.{code_shown, codes_shown, code_read}
+use Rattle.sqlite_value.specs.declared.value.Value.TheVariants.{Int, Blob, Text}
+use Rattle.sqlite_value.specs.Order.{bytes}
+use Rattle.sqlite_rules.specs.Edit.{id_in}
+
+-- ---- a column is read as it was
+
+pub flag_back : (b : Bool) → flag_in (flag b) ≡ b
+flag_back true = refl
+flag_back false = refl
+
+pub text_back : (o : Option (List ℕ)) → optional_in bytes (optional Text o) ≡ o
+text_back None = refl
+text_back (Some one) = refl
+
+pub number_back : (o : Option ℕ) → optional_in number_in (optional number o) ≡ o
+number_back None = refl
+number_back (Some one) = refl
+
+pub blob_back : (o : Option (List ℕ)) → optional_in bytes (optional Blob o) ≡ o
+blob_back None = refl
+blob_back (Some one) = refl
+
+pub id_back : (o : Option ℤ) → optional_in id_in (optional Int o) ≡ o
+id_back None = refl
+id_back (Some one) = refl
+
+-- ---- the code of a person
+
+code_found : (t : Tables) (id : ℤ) → option_map code_read (slice_get (codes_shown t id) 0) ≡ option_map (λ (one : PersonRow). one.code) (get_by person_id t.persons id)
+code_found t id = go (filter (λ (one : PersonRow). int_eq one.id id) t.persons) ∙ ap (option_map (λ (one : PersonRow). one.code)) (slice_get-filter (λ (one : PersonRow). int_eq one.id id) t.persons)
+  where
+    go : (found : List PersonRow) → option_map code_read (slice_get (map code_shown found) 0) ≡ option_map (λ (one : PersonRow). one.code) (slice_get found 0)
+    go [] = refl
+    go (one ∷ more) = refl
+
+-- the code that the first row shows
+pub code_is : (t : Tables) (id : ℤ) (code : List ℕ) → Some code ≡ option_map code_read (slice_get (codes_shown t id) 0) → code ≡ code_of t id
+code_is t id code h = ap (λ (o : Option (List ℕ)). unwrap_or o []) (h ∙ code_found t id)

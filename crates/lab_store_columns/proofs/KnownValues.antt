@@ -1,0 +1,19 @@
+-- Values from outside, so that a wrong rule in the definitions does not check: faults, and the code of a person of the small
+-- file of `lab_store_tables`.
+use Rattle.std.proofs.Common.{◌≡◌, pos, [], ◌∷◌, refl}
+use Rattle.std.specs.Prelude.{codes}
+use Rattle.sqlite_value.specs.declared.value.Value.TheVariants.{Text}
+use Rattle.lab_records_kept.specs.declared.faults.KeeperFault.TheVariants as kept
+use Rattle.lab_forms_texts.specs.declared.faults.NameFault.TheVariants as name
+use Rattle.lab_store_tables.proofs.KnownFile.{file}
+use Rattle.lab_store_columns.specs.declared.faults.ReadFault.TheVariants.{Storage, Memory}
+use Rattle.lab_store_columns.specs.Faults.{name_fault, kept_fault}
+use Rattle.lab_store_columns.specs.Shown.{codes_shown}
+
+-- the code of one person alone
+pub known_codes : (codes_shown file (pos 6) ≡ (Text (codes "eve") ∷ []) ∷ []) × (codes_shown file (pos 3) ≡ [])
+known_codes = (refl, refl)
+
+-- a text that is no name is a fault of what is stored, not of memory
+pub known_faults : (name_fault name.BadName ≡ Storage) × (kept_fault Storage ≡ kept.Storage) × (kept_fault Memory ≡ kept.Memory)
+known_faults = (refl, refl, refl)

@@ -1,0 +1,112 @@
+//! A file that is there is opened, where it is one of this schema.
+
+ghost use Rattle.std.specs.Prelude.{◌≡◌, ◌⊎◌, [], Ok, IfOk, OnOk};
+ghost use Rattle.sqlite_value.specs.Order.{column};
+ghost use Rattle.sqlite.specs.Held.{state};
+ghost use Rattle.sqlite.specs.State.{HasCleanDisk, IsUnchanged, Shown};
+ghost use Rattle.lab_store_tables.specs.Ready.{IsAtRest, IsKept, LeavesNoMore, PassesBy, WhereShown};
+ghost use Rattle.lab_store_files.specs.Faults.{FailedInStore};
+ghost use Rattle.lab_store_files.specs.Verdicts.{integer_in, number_query, number_shown, number_verdict, file_verdict, Answers};
+
+use crate::faults::FileFault;
+use crate::schemas::{has_number, is_whole};
+use crate::texts;
+use sqlite::types::ValueRef;
+use sqlite::{Alter, Connection, Error, Row};
+use sqlite_schema::schema::Schema;
+
+/// The number of the schema that the tables of this crate make.
+const SCHEMA: i64 = 3;
+
+/// The whole number that a row shows first.
+fn integer_in(row: &Row) -> Option<i64>
+    ensures { result ≡ integer_in (column row.now 0) }
+{
+    match row.get_ref(0) {
+        Ok(ValueRef::Int(number)) => Some(number),
+        Ok(ValueRef::Null | ValueRef::Real(_) | ValueRef::Text(_) | ValueRef::Blob(_)) => None,
+        Err(_) => None,
+    }
+}
+
+/// The number that the rows show, where one row alone shows one.
+fn shown_number(rows: &[Row]) -> Option<i64>
+    ensures { result ≡ number_shown rows.now }
+{
+    if rows.len() != 1 {
+        return None;
+    }
+    integer_in(&rows[0])
+}
+
+fn check_number(number: i64) -> Result<(), FileFault>
+    ensures { result ≡ number_verdict number }
+{
+    if number < 1 {
+        return Err(FileFault::NotADeskFile);
+    }
+    if number < SCHEMA {
+        return Err(FileFault::SchemaOld(number.unsigned_abs()));
+    }
+    if number > SCHEMA {
+        return Err(FileFault::SchemaNew(number.unsigned_abs()));
+    }
+    Ok(())
+}
+
+/// What the file is, by its schema and by what the question for the number shows.
+fn verdict(schema: &Schema, rows: &[Row]) -> Result<(), FileFault>
+    ensures { result ≡ file_verdict schema.now rows.now }
+{
+    let Some(number) = shown_number(rows) else {
+        return Err(FileFault::NotADeskFile);
+    };
+    check_number(number)?;
+    if is_whole(schema) {
+        Ok(())
+    } else {
+        Err(FileFault::NotADeskFile)
+    }
+}
+
+/// The rows that the question for the number shows.
+fn number_rows<S: Alter>(conn: &mut Connection<S>) -> Result<Vec<Row>, Error>
+    ensures shown { HasCleanDisk (state S.Store conn.new) →
+        IfOk result (λ rows. Shown number_query []
+        (state S.Store conn.old) (state S.Store conn.new) rows.items) }
+    ensures same { HasCleanDisk (state S.Store conn.new) →
+        OnOk result (IsUnchanged (state S.Store conn.old) (state S.Store conn.new)) }
+    ensures rows { IsAtRest (state S.Store conn.old) → WhereShown (state S.Store conn.new)
+        ((state S.Store conn.new).now ≡ (state S.Store conn.old).now) }
+    ensures crash { LeavesNoMore (state S.Store conn.old) (state S.Store conn.new) }
+    ensures passes { PassesBy (state S.Store conn.old) (state S.Store conn.new) }
+{
+    conn.query_all(texts::SCHEMA_QUERY, &[])
+}
+
+/// Opens a file in which laboratories are kept: its schema is the one of this crate, by the one row of the table `desk`,
+/// and each table and column is there. Nothing is written. What the rows say isn't looked at.
+///
+/// Errors: none of these files, an older or a newer schema with its number, a refusal of the store, or out of memory.
+pub fn open<S: Alter>(conn: &mut Connection<S>) -> Result<(), FileFault>
+    // The answer is the verdict on the file, or the store gave none:
+    ensures answer { HasCleanDisk (state S.Store conn.new) →
+        Answers (state S.Store conn.old) (state S.Store conn.new) result }
+    // A file of ours is never refused as another one:
+    ensures ours { HasCleanDisk (state S.Store conn.new) →
+        WhereShown (state S.Store conn.old) (IsKept (state S.Store conn.old).now →
+        (result ≡ Ok tt) ⊎ FailedInStore result) }
+    ensures same { HasCleanDisk (state S.Store conn.new) →
+        OnOk result (IsUnchanged (state S.Store conn.old) (state S.Store conn.new)) }
+    // However it ends, the rows are as they were, and a crash leaves no more than before:
+    ensures rows { IsAtRest (state S.Store conn.old) → WhereShown (state S.Store conn.new)
+        ((state S.Store conn.new).now ≡ (state S.Store conn.old).now) }
+    ensures crash { LeavesNoMore (state S.Store conn.old) (state S.Store conn.new) }
+    ensures passes { PassesBy (state S.Store conn.old) (state S.Store conn.new) }
+{
+    if !has_number(conn.schema()) {
+        return Err(FileFault::NotADeskFile);
+    }
+    let rows = number_rows(conn)?;
+    verdict(conn.schema(), &rows)
+}

@@ -1,0 +1,4 @@
+pub mod ByRules
+pub mod Chain
+pub mod Steps
+pub mod Stored

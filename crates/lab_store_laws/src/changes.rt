@@ -1,0 +1,24 @@
+//! Law: what changes make of the tables means what they make of the laboratory.
+
+ghost use Rattle.std.specs.Prelude.{ℕ, List};
+ghost use Rattle.lab_records_kept.specs.declared.changes.Change.{Change};
+ghost use Rattle.lab_records_kept.specs.Changes.{ChangesFit};
+ghost use Rattle.lab_records_kept.specs.Worlds.{Changes};
+ghost use Rattle.lab_store_tables.specs.Rows.{Tables};
+ghost use Rattle.lab_store_tables.specs.Meaning.{meaning};
+ghost use Rattle.lab_store_tables.specs.WellKept.{IsWellKept};
+ghost use Rattle.lab_store_tables.specs.Held.{AreRising};
+ghost use Rattle.lab_store_laws.specs.Steps.{AreMadeIfAny};
+
+/// Law: of well-kept tables, what changes of any kinds make of them, one after the other, means what
+/// they make of the laboratory of the code, and every other laboratory means what it meant; and the
+/// tables are well kept again. The changes fit the laboratory, and each left a database that keeps
+/// its own rules.
+pub fn changes_of_the_tables_mean_themselves()
+    ensures changed { (old new : Tables) (code : List ℕ) (changes : List Change) → AreRising old
+        → IsWellKept old → ChangesFit (meaning old code) changes → AreMadeIfAny code changes old new
+        → Changes code changes (meaning old) (meaning new) }
+    ensures kept { (old new : Tables) (code : List ℕ) (changes : List Change) → AreRising old
+        → IsWellKept old → ChangesFit (meaning old code) changes → AreMadeIfAny code changes old new
+        → IsWellKept new }
+{}

@@ -1,0 +1,22 @@
+-- Who of a laboratory is meant.
+use Rattle.std.specs.Prelude.{ℕ, List, Option, option_and_then}
+use Rattle.lab_records_kept.specs.declared.labs.Lab.{Lab}
+use Rattle.lab_records_kept.specs.declared.needs.Need.{Need}
+use Rattle.lab_records_kept.specs.Lookups.{session_at, person_at, caller_of}
+use Rattle.lab_store_load.specs.declared.people.Callers.{Callers}
+use Rattle.lab_store_load.specs.declared.people.People.{People}
+
+-- the session of a token, and whose it is
+abbrev pub callers_by : Lab → Option (List ℕ) → Callers
+callers_by lab token = record {
+  session = option_and_then (session_at lab) token;
+  caller = caller_of lab (option_and_then (session_at lab) token);
+}
+
+-- the same, and the person of a code
+abbrev pub people_by : Lab → Need → People
+people_by lab need = record {
+  session = option_and_then (session_at lab) need.token;
+  caller = caller_of lab (option_and_then (session_at lab) need.token);
+  person = option_and_then (person_at lab) need.person;
+}

@@ -1,0 +1,169 @@
+//! Rows of the trail.
+
+ghost use Rattle.std.specs.Prelude.{◌≡◌, [], ◌∷◌, ◌++◌, map, IfOk, OnOk, IsTrue};
+ghost use Rattle.sqlite.specs.State.{HasCleanDisk, IsUnchanged};
+ghost use Rattle.lab_store_tables.specs.Ready.{IsReady, PassesBy, tables_of};
+ghost use Rattle.lab_records_kept.specs.Lookups.{rows_within};
+ghost use Rattle.lab_store_tables.specs.Meaning.{trail_of};
+ghost use Rattle.lab_store_load.specs.Trails.{told_heads_within, told_by};
+ghost use Rattle.lab_store_load.specs.Shown.{told_shown_within, told_read};
+
+use crate::actions::action_by;
+use crate::cells::subject_of;
+use crate::heads::ToldHead;
+use lab_forms_texts::{Keys, Ordinal, Text};
+use lab_records_kept::TrailRow;
+use lab_store_columns::asking::rows_by_range;
+use lab_store_columns::cells::{id_if, moment_of, ordinal_of, text_of};
+use lab_store_columns::{ReadFault, Readable, code_if};
+use sqlite::{Error, Row};
+use std::alloc::Global;
+
+/// The rows of the trail of a range of numbers, in the laboratory with the id.
+fn told_rows<D: Readable>(conn: &mut D, lab: i64, from: u32, to: u32) -> Result<Vec<Row>, Error>
+    ensures passes { PassesBy (D.state conn.old) (D.state conn.new) }
+    ensures same { HasCleanDisk (D.state conn.new) →
+        OnOk result (IsUnchanged (D.state conn.old) (D.state conn.new)) }
+    ensures rows { IsReady (D.state conn.old) → HasCleanDisk (D.state conn.new) →
+        IfOk result (λ rows. rows.items
+        ≡ told_shown_within (tables_of (D.state conn.old)) lab from to) }
+{
+    rows_by_range(
+        conn,
+        "SELECT number, moment, person, action, subject FROM trail WHERE lab = ?1 AND number >= ?2 AND number <= ?3 ORDER BY number",
+        lab,
+        from,
+        to,
+    )
+}
+
+/// What a row shows.
+fn told_of_row(alloc: Global, row: &Row) -> Result<ToldHead, ReadFault>
+    ensures { IfOk result (λ told. told ≡ told_read row.now) }
+{
+    let number = ordinal_of(row, 0)?;
+    let moment = moment_of(row, 1)?;
+    let person = id_if(row, 2)?;
+    let word: Text<Keys> = text_of(alloc, row, 3)?;
+    let action = action_by(word.as_str()).ok_or(ReadFault::Storage)?;
+    let subject = subject_of(alloc, row, 4)?;
+    Ok(ToldHead {
+        number,
+        moment,
+        person,
+        action,
+        subject,
+    })
+}
+
+/// What rows show.
+fn told_of_rows(alloc: Global, rows: &[Row]) -> Result<Vec<ToldHead>, ReadFault>
+    ensures { IfOk result (λ made. made.items ≡ map told_read rows.now) }
+{
+    let mut made = Vec::new(alloc);
+    for row in rows {
+        made.push(told_of_row(alloc, row)?)?;
+    }
+    Ok(made)
+}
+
+/// The own rows of the trail of a range of numbers, in the laboratory with the id.
+fn told_heads_at<D: Readable>(
+    alloc: Global,
+    conn: &mut D,
+    lab: i64,
+    from: Ordinal,
+    to: Ordinal,
+) -> Result<Vec<ToldHead>, ReadFault>
+    ensures passes { PassesBy (D.state conn.old) (D.state conn.new) }
+    ensures same { HasCleanDisk (D.state conn.new) →
+        OnOk result (IsUnchanged (D.state conn.old) (D.state conn.new)) }
+    ensures heads { IsReady (D.state conn.old) → HasCleanDisk (D.state conn.new) →
+        IfOk result (λ made. made.items
+        ≡ told_heads_within (tables_of (D.state conn.old)) lab from to) }
+{
+    let rows = told_rows(conn, lab, from.get(), to.get())?;
+    told_of_rows(alloc, &rows)
+}
+
+/// The row of the trail, with the person's code.
+fn told_whole<D: Readable>(
+    alloc: Global,
+    conn: &mut D,
+    head: ToldHead,
+) -> Result<TrailRow, ReadFault>
+    ensures passes { PassesBy (D.state conn.old) (D.state conn.new) }
+    ensures same { HasCleanDisk (D.state conn.new) → IsTrue (D.state conn.old).is_open →
+        OnOk result (IsUnchanged (D.state conn.old) (D.state conn.new)) }
+    ensures told { IsReady (D.state conn.old) → HasCleanDisk (D.state conn.new) →
+        IfOk result (λ told. told ≡ told_by (tables_of (D.state conn.old)) head) }
+{
+    let person = code_if(alloc, conn, head.person)?;
+    Ok(TrailRow {
+        number: head.number,
+        moment: head.moment,
+        person,
+        action: head.action,
+        subject: head.subject,
+    })
+}
+
+/// The row of the trail, behind others.
+fn add_told<D: Readable>(
+    alloc: Global,
+    conn: &mut D,
+    made: &mut Vec<TrailRow>,
+    head: ToldHead,
+) -> Result<(), ReadFault>
+    ensures passes { PassesBy (D.state conn.old) (D.state conn.new) }
+    ensures same { HasCleanDisk (D.state conn.new) → IsTrue (D.state conn.old).is_open →
+        OnOk result (IsUnchanged (D.state conn.old) (D.state conn.new)) }
+    ensures told { IsReady (D.state conn.old) → HasCleanDisk (D.state conn.new) →
+        OnOk result (made.new.items
+        ≡ made.old.items ++ told_by (tables_of (D.state conn.old)) head ∷ []) }
+{
+    let told = told_whole(alloc, conn, head)?;
+    made.push(told)?;
+    Ok(())
+}
+
+/// The rows of the trail, behind others.
+fn add_all_told<D: Readable>(
+    alloc: Global,
+    conn: &mut D,
+    made: &mut Vec<TrailRow>,
+    heads: Vec<ToldHead>,
+) -> Result<(), ReadFault>
+    ensures passes { PassesBy (D.state conn.old) (D.state conn.new) }
+    ensures same { HasCleanDisk (D.state conn.new) → IsTrue (D.state conn.old).is_open →
+        OnOk result (IsUnchanged (D.state conn.old) (D.state conn.new)) }
+    ensures told { IsReady (D.state conn.old) → HasCleanDisk (D.state conn.new) →
+        IsTrue (D.state conn.old).is_open → OnOk result (made.new.items
+        ≡ made.old.items ++ map (told_by (tables_of (D.state conn.old))) heads.items) }
+{
+    for head in heads {
+        add_told(alloc, conn, made, head)?;
+    }
+    Ok(())
+}
+
+/// The rows of the trail from a number to a number in the laboratory with the id, in the order of the numbers.
+pub fn trail_within<D: Readable>(
+    alloc: Global,
+    conn: &mut D,
+    lab: i64,
+    from: Ordinal,
+    to: Ordinal,
+) -> Result<Vec<TrailRow>, ReadFault>
+    ensures passes { PassesBy (D.state conn.old) (D.state conn.new) }
+    ensures same { HasCleanDisk (D.state conn.new) →
+        OnOk result (IsUnchanged (D.state conn.old) (D.state conn.new)) }
+    ensures trail { IsReady (D.state conn.old) → HasCleanDisk (D.state conn.new) →
+        IfOk result (λ made. made.items
+        ≡ rows_within from to (trail_of (tables_of (D.state conn.old)) lab)) }
+{
+    let heads = told_heads_at(alloc, conn, lab, from, to)?;
+    let mut made = Vec::new(alloc);
+    add_all_told(alloc, conn, &mut made, heads)?;
+    Ok(made)
+}

@@ -1,0 +1,138 @@
+//! What is written of a record: its own row, and the rows of a version, read out of the tables.
+
+ghost use Rattle.std.specs.Prelude.{◌≡◌, IfErr, IfOk, OnOk};
+ghost use Rattle.sqlite.specs.State.{HasCleanDisk, IsUnchanged};
+ghost use Rattle.lab_copy_rows.specs.Outs.{Sends};
+ghost use Rattle.lab_records_kept.specs.Digests.{digest_of};
+ghost use Rattle.lab_store_pages.specs.Pages.{cover_rows, page_rows};
+ghost use Rattle.lab_store_read_records.specs.Leaves.{leaf_by, leaf_of};
+ghost use Rattle.lab_copy_rows.specs.Csv.{csv_text};
+ghost use Rattle.lab_store_tables.specs.Meaning.{version_after};
+ghost use Rattle.lab_store_tables.specs.Ready.{IsReady, PassesBy, tables_of};
+ghost use Rattle.lab_records_walks.specs.Faults.{CopyFaultFits};
+ghost use Rattle.lab_records_walks.specs.Walks.{counted_all};
+
+use crate::faults::told;
+use lab_copy_rows::CopyOut;
+use lab_forms_texts::LabCode;
+use lab_records_copies::{record_row, version_rows};
+use lab_records_kept::{Record, Version};
+use lab_records_walks::{CopyOutFault, give_rows};
+use lab_seal_hashes::Digest;
+use lab_store_columns::Readable;
+use lab_store_read_records::{VersionHead, VersionLeaf, leaf_at, version_after};
+use std::alloc::Global;
+use std::io::Write;
+
+/// Writes a record's own row.
+///
+/// # Errors
+/// That memory ran out, and a write that failed or took no byte. The front of the row's text went
+/// out.
+pub fn give_cover<W: Write>(
+    alloc: Global,
+    lab: &LabCode,
+    cover: &Record,
+    out: &mut CopyOut,
+    writer: &mut W,
+) -> Result<(), CopyOutFault>
+    ensures text { Sends (W.contents writer.old) (W.contents writer.new)
+        (csv_text (cover_rows lab.now cover.now)) result }
+    ensures counts { OnOk result (out.new ≡ record out.old {
+      counts = counted_all out.old.counts (cover_rows lab.now cover.now);
+    }) }
+    ensures fault { IfErr result (CopyFaultFits ⊥ (Unit {0}) (Unit {0})) }
+{
+    let row = record_row(alloc, lab, cover)?;
+    give_rows(alloc, out, writer, &[row])?;
+    Ok(())
+}
+
+/// Writes the rows of a version.
+fn give_version<W: Write>(
+    alloc: Global,
+    lab: &LabCode,
+    cover: &Record,
+    version: &Version,
+    out: &mut CopyOut,
+    writer: &mut W,
+) -> Result<(), CopyOutFault>
+    ensures text { Sends (W.contents writer.old) (W.contents writer.new)
+        (csv_text (page_rows lab.now cover.now version.now)) result }
+    ensures counts { OnOk result (out.new ≡ record out.old {
+      counts = counted_all out.old.counts (page_rows lab.now cover.now version.now);
+    }) }
+    ensures fault { IfErr result (CopyFaultFits ⊥ (Unit {0}) (Unit {0})) }
+{
+    let rows = version_rows(alloc, lab, cover, version)?;
+    give_rows(alloc, out, writer, rows.as_slice())?;
+    Ok(())
+}
+
+/// Writes the rows of the version that its own rows tell, behind one of the digest or none, and
+/// answers its digest.
+fn give_leaf<W: Write>(
+    alloc: Global,
+    lab: &LabCode,
+    cover: &Record,
+    before: Option<Digest>,
+    leaf: VersionLeaf,
+    out: &mut CopyOut,
+    writer: &mut W,
+) -> Result<Digest, CopyOutFault>
+    ensures text { Sends (W.contents writer.old) (W.contents writer.new)
+        (csv_text (page_rows lab.now cover.now (version_after cover.now before (leaf_of leaf))))
+        result }
+    ensures counts { OnOk result (out.new ≡ record out.old {
+      counts = counted_all out.old.counts
+          (page_rows lab.now cover.now (version_after cover.now before (leaf_of leaf)));
+    }) }
+    ensures digest { IfOk result (λ digest. digest
+        ≡ digest_of lab.now cover.now (version_after cover.now before (leaf_of leaf))) }
+    ensures fault { IfErr result (CopyFaultFits ⊥ (Unit {0}) (Unit {0})) }
+{
+    let Some(version) = version_after(cover, before, leaf) else {
+        return Err(CopyOutFault::Storage);
+    };
+    let digest = cover.digest_of(alloc, lab, &version)?;
+    give_version(alloc, lab, cover, &version, out, writer)?;
+    Ok(digest)
+}
+
+/// Writes the rows of the version with the row, behind one of the digest or none, and answers its
+/// digest.
+///
+/// # Errors
+/// The store's refusal, that memory ran out, and a write that failed or took no byte. The front of
+/// the rows' text went out, and the tables are as they were.
+pub fn give_page<D: Readable, W: Write>(
+    alloc: Global,
+    conn: &mut D,
+    lab: &LabCode,
+    cover: &Record,
+    before: Option<Digest>,
+    head: VersionHead,
+    out: &mut CopyOut,
+    writer: &mut W,
+) -> Result<Digest, CopyOutFault>
+    ensures passes { PassesBy (D.state conn.old) (D.state conn.new) }
+    ensures same { HasCleanDisk (D.state conn.new) →
+        OnOk result (IsUnchanged (D.state conn.old) (D.state conn.new)) }
+    ensures text { IsReady (D.state conn.old) → HasCleanDisk (D.state conn.new) →
+        Sends (W.contents writer.old) (W.contents writer.new) (csv_text (page_rows lab.now cover.now
+        (version_after cover.now before (leaf_by (tables_of (D.state conn.old)) head)))) result }
+    ensures counts { IsReady (D.state conn.old) → HasCleanDisk (D.state conn.new) →
+        OnOk result (out.new ≡ record out.old {
+          counts = counted_all out.old.counts (page_rows lab.now cover.now
+              (version_after cover.now before (leaf_by (tables_of (D.state conn.old)) head)));
+        }) }
+    ensures digest { IsReady (D.state conn.old) → HasCleanDisk (D.state conn.new) →
+        IfOk result (λ digest. digest ≡ digest_of lab.now cover.now
+        (version_after cover.now before (leaf_by (tables_of (D.state conn.old)) head))) }
+    ensures fault { IfErr result (CopyFaultFits ⊥ (Unit {0}) (Unit {0})) }
+{
+    match leaf_at(alloc, conn, head) {
+        Ok(leaf) => give_leaf(alloc, lab, cover, before, leaf, out, writer),
+        Err(fault) => Err(told(fault)),
+    }
+}

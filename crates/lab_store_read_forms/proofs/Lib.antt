@@ -1,0 +1,16 @@
+pub mod ByCodeExact
+pub mod ByCodeKeys
+pub mod ByCodeTexts
+pub mod Exact
+pub mod FiledFound
+pub mod FormsByCodeFound
+pub mod FormsFound
+pub mod Keys
+pub mod KindKeys
+pub mod KindTexts
+pub mod KindsExact
+pub mod KindsFound
+pub mod KnownForms
+pub mod KnownLookups
+pub mod Lists
+pub mod Texts

@@ -1,0 +1,158 @@
+//! The fields of a version of a form, with their choices.
+
+ghost use Rattle.std.specs.Prelude.{◌≡◌, [], ◌∷◌, ◌++◌, map, IfOk, OnOk, IsTrue};
+ghost use Rattle.sqlite.specs.State.{HasCleanDisk, IsUnchanged};
+ghost use Rattle.lab_store_tables.specs.Ready.{IsReady, PassesBy, tables_of};
+ghost use Rattle.lab_store_tables.specs.Meaning.{fields_of};
+ghost use Rattle.lab_store_read_forms.specs.Forms.{field_heads_of, field_by};
+ghost use Rattle.lab_store_read_forms.specs.Shown.{fields_shown, field_read};
+
+use crate::choices::names_if;
+use crate::heads::FieldHead;
+use crate::kinds::{is_choice, kind_of_row, kind_with};
+use lab_forms::Field;
+use lab_store_columns::asking::rows_by_one;
+use lab_store_columns::cells::{flag_of, id_of, text_of};
+use lab_store_columns::{ReadFault, Readable};
+use sqlite::{Error, Row};
+use std::alloc::Global;
+
+/// The fields of the version of a form with the id, in the order of their places.
+fn field_rows<D: Readable>(conn: &mut D, form: i64) -> Result<Vec<Row>, Error>
+    ensures passes { PassesBy (D.state conn.old) (D.state conn.new) }
+    ensures same { HasCleanDisk (D.state conn.new) →
+        OnOk result (IsUnchanged (D.state conn.old) (D.state conn.new)) }
+    ensures rows { IsReady (D.state conn.old) → HasCleanDisk (D.state conn.new) →
+        IfOk result
+        (λ rows. rows.items ≡ fields_shown (tables_of (D.state conn.old)) form) }
+{
+    rows_by_one(
+        conn,
+        "SELECT id, key, label, required, kind, unit, decimals, low, high, size FROM fields WHERE form = ?1 ORDER BY place",
+        form,
+    )
+}
+
+/// The field that a row shows.
+fn field_of_row(alloc: Global, row: &Row) -> Result<FieldHead, ReadFault>
+    ensures { IfOk result (λ field. field ≡ field_read row.now) }
+{
+    let id = id_of(row, 0)?;
+    let required = flag_of(row, 3)?;
+    let key = text_of(alloc, row, 1)?;
+    let label = text_of(alloc, row, 2)?;
+    let kind = kind_of_row(alloc, row)?;
+    Ok(FieldHead {
+        id,
+        key,
+        label,
+        required,
+        kind,
+    })
+}
+
+/// The fields that rows show.
+fn fields_of_rows(alloc: Global, rows: &[Row]) -> Result<Vec<FieldHead>, ReadFault>
+    ensures { IfOk result (λ made. made.items ≡ map field_read rows.now) }
+{
+    let mut made = Vec::new(alloc);
+    for row in rows {
+        made.push(field_of_row(alloc, row)?)?;
+    }
+    Ok(made)
+}
+
+/// The own rows of the fields of the version of a form with the id, in the order of their places.
+fn field_heads_at<D: Readable>(
+    alloc: Global,
+    conn: &mut D,
+    form: i64,
+) -> Result<Vec<FieldHead>, ReadFault>
+    ensures passes { PassesBy (D.state conn.old) (D.state conn.new) }
+    ensures same { HasCleanDisk (D.state conn.new) →
+        OnOk result (IsUnchanged (D.state conn.old) (D.state conn.new)) }
+    ensures heads { IsReady (D.state conn.old) → HasCleanDisk (D.state conn.new) →
+        IfOk result
+        (λ made. made.items ≡ field_heads_of (tables_of (D.state conn.old)) form) }
+{
+    let rows = field_rows(conn, form)?;
+    fields_of_rows(alloc, &rows)
+}
+
+/// The field with the row, with its choices.
+fn field_whole<D: Readable>(
+    alloc: Global,
+    conn: &mut D,
+    head: FieldHead,
+) -> Result<Field, ReadFault>
+    ensures passes { PassesBy (D.state conn.old) (D.state conn.new) }
+    ensures same { HasCleanDisk (D.state conn.new) → IsTrue (D.state conn.old).is_open →
+        OnOk result (IsUnchanged (D.state conn.old) (D.state conn.new)) }
+    ensures field { IsReady (D.state conn.old) → HasCleanDisk (D.state conn.new) →
+        IfOk result (λ field. field ≡ field_by (tables_of (D.state conn.old)) head) }
+{
+    let names = names_if(alloc, conn, head.id, is_choice(&head.kind))?;
+    Ok(Field {
+        key: head.key,
+        label: head.label,
+        required: head.required,
+        kind: kind_with(head.kind, names),
+    })
+}
+
+/// The field with the row, behind others.
+fn add_field<D: Readable>(
+    alloc: Global,
+    conn: &mut D,
+    made: &mut Vec<Field>,
+    head: FieldHead,
+) -> Result<(), ReadFault>
+    ensures passes { PassesBy (D.state conn.old) (D.state conn.new) }
+    ensures same { HasCleanDisk (D.state conn.new) → IsTrue (D.state conn.old).is_open →
+        OnOk result (IsUnchanged (D.state conn.old) (D.state conn.new)) }
+    ensures field { IsReady (D.state conn.old) → HasCleanDisk (D.state conn.new) →
+        OnOk result (made.new.items
+        ≡ made.old.items ++ field_by (tables_of (D.state conn.old)) head ∷ []) }
+{
+    let field = field_whole(alloc, conn, head)?;
+    made.push(field)?;
+    Ok(())
+}
+
+/// The fields with the rows, behind others.
+fn add_fields<D: Readable>(
+    alloc: Global,
+    conn: &mut D,
+    made: &mut Vec<Field>,
+    heads: Vec<FieldHead>,
+) -> Result<(), ReadFault>
+    ensures passes { PassesBy (D.state conn.old) (D.state conn.new) }
+    ensures same { HasCleanDisk (D.state conn.new) → IsTrue (D.state conn.old).is_open →
+        OnOk result (IsUnchanged (D.state conn.old) (D.state conn.new)) }
+    ensures fields { IsReady (D.state conn.old) → HasCleanDisk (D.state conn.new) →
+        IsTrue (D.state conn.old).is_open → OnOk result (made.new.items
+        ≡ made.old.items ++ map (field_by (tables_of (D.state conn.old))) heads.items) }
+{
+    for head in heads {
+        add_field(alloc, conn, made, head)?;
+    }
+    Ok(())
+}
+
+/// The fields of the version of a form with the id, in the order of their places, with their choices.
+pub fn fields_at<D: Readable>(
+    alloc: Global,
+    conn: &mut D,
+    form: i64,
+) -> Result<Vec<Field>, ReadFault>
+    ensures passes { PassesBy (D.state conn.old) (D.state conn.new) }
+    ensures same { HasCleanDisk (D.state conn.new) →
+        OnOk result (IsUnchanged (D.state conn.old) (D.state conn.new)) }
+    ensures fields { IsReady (D.state conn.old) → HasCleanDisk (D.state conn.new) →
+        IfOk result (λ made. made.items ≡ fields_of (tables_of (D.state conn.old)) form) }
+{
+    let heads = field_heads_at(alloc, conn, form)?;
+    let mut made = Vec::new(alloc);
+    add_fields(alloc, conn, &mut made, heads)?;
+    Ok(made)
+}

@@ -1,0 +1,143 @@
+//! Records, whole, by what a request names.
+
+ghost use Rattle.std.specs.Prelude.{◌≡◌, [], ◌∷◌, ◌++◌, map, option_map, IfOk, OnOk, IsTrue};
+ghost use Rattle.sqlite.specs.State.{HasCleanDisk, IsUnchanged};
+ghost use Rattle.lab_store_tables.specs.Ready.{IsReady, PassesBy, tables_of};
+ghost use Rattle.lab_records_kept.specs.Lookups.{record_of, record_about};
+ghost use Rattle.lab_records_kept.specs.Lookups.{records_within};
+ghost use Rattle.lab_store_tables.specs.Meaning.{records_of};
+ghost use Rattle.lab_store_read_forms.specs.Wholes.{record_by};
+
+use crate::wholes::record_whole;
+use lab_forms_texts::{Key, LabCode, Name, Ordinal};
+use lab_records_kept::Record;
+use lab_store_columns::{ReadFault, Readable};
+use lab_store_read_records::{RecordHead, record_about, record_at, records_within};
+use std::alloc::Global;
+
+/// The record of the row, where there is one.
+fn record_if<D: Readable>(
+    alloc: Global,
+    conn: &mut D,
+    code: &LabCode,
+    head: Option<RecordHead>,
+) -> Result<Option<Record>, ReadFault>
+    ensures passes { PassesBy (D.state conn.old) (D.state conn.new) }
+    ensures same { HasCleanDisk (D.state conn.new) → IsTrue (D.state conn.old).is_open →
+        OnOk result (IsUnchanged (D.state conn.old) (D.state conn.new)) }
+    ensures kept { IsReady (D.state conn.old) → HasCleanDisk (D.state conn.new) →
+        IfOk result (λ kept. kept
+        ≡ option_map (record_by (tables_of (D.state conn.old)) code.now) head) }
+{
+    match head {
+        Some(head) => {
+            let kept = record_whole(alloc, conn, code, head)?;
+            Ok(Some(kept))
+        }
+        None => Ok(None),
+    }
+}
+
+/// The record of the number, whole, in the laboratory with the code, whose row has the id.
+pub fn numbered_at<D: Readable>(
+    alloc: Global,
+    conn: &mut D,
+    code: &LabCode,
+    lab: i64,
+    number: Ordinal,
+) -> Result<Option<Record>, ReadFault>
+    ensures passes { PassesBy (D.state conn.old) (D.state conn.new) }
+    ensures same { HasCleanDisk (D.state conn.new) →
+        OnOk result (IsUnchanged (D.state conn.old) (D.state conn.new)) }
+    ensures kept { IsReady (D.state conn.old) → HasCleanDisk (D.state conn.new) →
+        IfOk result (λ kept. kept
+        ≡ record_of (records_of (tables_of (D.state conn.old)) code.now lab) number) }
+{
+    let head = record_at(alloc, conn, lab, number)?;
+    record_if(alloc, conn, code, head)
+}
+
+/// The record by the form about the sample, whole, in the laboratory with the code, whose row has the id.
+pub fn about_at<D: Readable>(
+    alloc: Global,
+    conn: &mut D,
+    code: &LabCode,
+    lab: i64,
+    form: &Key,
+    sample: &Name,
+) -> Result<Option<Record>, ReadFault>
+    ensures passes { PassesBy (D.state conn.old) (D.state conn.new) }
+    ensures same { HasCleanDisk (D.state conn.new) →
+        OnOk result (IsUnchanged (D.state conn.old) (D.state conn.new)) }
+    ensures kept { IsReady (D.state conn.old) → HasCleanDisk (D.state conn.new) →
+        IfOk result (λ kept. kept
+        ≡ record_about (records_of (tables_of (D.state conn.old)) code.now lab)
+        form.now sample.now) }
+{
+    let head = record_about(alloc, conn, lab, form, sample)?;
+    record_if(alloc, conn, code, head)
+}
+
+/// The record of the row, behind others.
+fn add_record<D: Readable>(
+    alloc: Global,
+    conn: &mut D,
+    code: &LabCode,
+    made: &mut Vec<Record>,
+    head: RecordHead,
+) -> Result<(), ReadFault>
+    ensures passes { PassesBy (D.state conn.old) (D.state conn.new) }
+    ensures same { HasCleanDisk (D.state conn.new) →
+        OnOk result (IsUnchanged (D.state conn.old) (D.state conn.new)) }
+    ensures kept { IsReady (D.state conn.old) → HasCleanDisk (D.state conn.new) →
+        OnOk result (made.new.items ≡ made.old.items
+        ++ record_by (tables_of (D.state conn.old)) code.now head ∷ []) }
+{
+    let kept = record_whole(alloc, conn, code, head)?;
+    made.push(kept)?;
+    Ok(())
+}
+
+/// The records of the rows, behind others.
+fn add_records<D: Readable>(
+    alloc: Global,
+    conn: &mut D,
+    code: &LabCode,
+    made: &mut Vec<Record>,
+    heads: Vec<RecordHead>,
+) -> Result<(), ReadFault>
+    ensures passes { PassesBy (D.state conn.old) (D.state conn.new) }
+    ensures same { HasCleanDisk (D.state conn.new) → IsTrue (D.state conn.old).is_open →
+        OnOk result (IsUnchanged (D.state conn.old) (D.state conn.new)) }
+    ensures kept { IsReady (D.state conn.old) → HasCleanDisk (D.state conn.new) →
+        IsTrue (D.state conn.old).is_open → OnOk result (made.new.items
+        ≡ made.old.items ++ map (record_by (tables_of (D.state conn.old)) code.now) heads.items) }
+{
+    for head in heads {
+        add_record(alloc, conn, code, made, head)?;
+    }
+    Ok(())
+}
+
+/// The records from a number to a number, whole, in the laboratory with the code, whose row has the id, in the order of the
+/// numbers.
+pub fn filed_within<D: Readable>(
+    alloc: Global,
+    conn: &mut D,
+    code: &LabCode,
+    lab: i64,
+    from: Ordinal,
+    to: Ordinal,
+) -> Result<Vec<Record>, ReadFault>
+    ensures passes { PassesBy (D.state conn.old) (D.state conn.new) }
+    ensures same { HasCleanDisk (D.state conn.new) →
+        OnOk result (IsUnchanged (D.state conn.old) (D.state conn.new)) }
+    ensures kept { IsReady (D.state conn.old) → HasCleanDisk (D.state conn.new) →
+        IfOk result (λ made. made.items ≡ records_within from to
+        (records_of (tables_of (D.state conn.old)) code.now lab)) }
+{
+    let heads = records_within(alloc, conn, lab, from, to)?;
+    let mut made = Vec::new(alloc);
+    add_records(alloc, conn, code, &mut made, heads)?;
+    Ok(made)
+}

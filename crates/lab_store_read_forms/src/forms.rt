@@ -1,0 +1,124 @@
+//! Versions of forms, with their fields.
+
+ghost use Rattle.std.specs.Prelude.{◌≡◌, option_map, slice_get, IfOk, IfSome, OnOk};
+ghost use Rattle.sqlite_keyed.specs.Keyed.{get_by};
+ghost use Rattle.sqlite.specs.State.{HasCleanDisk, IsUnchanged};
+ghost use Rattle.lab_store_tables.specs.Ready.{IsReady, PassesBy, tables_of};
+ghost use Rattle.lab_store_tables.specs.Rows.{form_id};
+ghost use Rattle.lab_store_tables.specs.Meaning.{form_at};
+ghost use Rattle.lab_store_read_forms.specs.Forms.{form_head, form_by};
+ghost use Rattle.lab_store_read_forms.specs.Shown.{forms_shown, form_read};
+
+use crate::fields::fields_at;
+use crate::heads::FormHead;
+use lab_forms::{Field, Form};
+use lab_records_kept::FormVersion;
+use lab_store_columns::asking::rows_by_one;
+use lab_store_columns::cells::{flag_of, id_of, ordinal_of, text_of};
+use lab_store_columns::{ReadFault, Readable};
+use sqlite::{Error, Row};
+use std::alloc::Global;
+
+/// The row of the version of a form with the id.
+fn form_rows<D: Readable>(conn: &mut D, id: i64) -> Result<Vec<Row>, Error>
+    ensures passes { PassesBy (D.state conn.old) (D.state conn.new) }
+    ensures same { HasCleanDisk (D.state conn.new) →
+        OnOk result (IsUnchanged (D.state conn.old) (D.state conn.new)) }
+    ensures rows { IsReady (D.state conn.old) → HasCleanDisk (D.state conn.new) →
+        IfOk result (λ rows. rows.items ≡ forms_shown (tables_of (D.state conn.old)) id) }
+{
+    rows_by_one(
+        conn,
+        "SELECT id, code, version, approval FROM forms WHERE id = ?1",
+        id,
+    )
+}
+
+/// The version of a form that a row shows.
+pub fn form_of_row(alloc: Global, row: &Row) -> Result<FormHead, ReadFault>
+    ensures { IfOk result (λ form. form ≡ form_read row.now) }
+{
+    let id = id_of(row, 0)?;
+    let version = ordinal_of(row, 2)?;
+    let approval = flag_of(row, 3)?;
+    let code = text_of(alloc, row, 1)?;
+    Ok(FormHead {
+        id,
+        code,
+        version,
+        approval,
+    })
+}
+
+/// The version of a form that the first row shows.
+pub fn first_form(alloc: Global, rows: &[Row]) -> Result<Option<FormHead>, ReadFault>
+    ensures { IfOk result (λ form. form ≡ option_map form_read (slice_get rows.now 0)) }
+{
+    match rows.first() {
+        Some(row) => Ok(Some(form_of_row(alloc, row)?)),
+        None => Ok(None),
+    }
+}
+
+/// The own row of the version of a form with the id.
+fn form_head_at<D: Readable>(
+    alloc: Global,
+    conn: &mut D,
+    id: i64,
+) -> Result<Option<FormHead>, ReadFault>
+    ensures passes { PassesBy (D.state conn.old) (D.state conn.new) }
+    ensures same { HasCleanDisk (D.state conn.new) →
+        OnOk result (IsUnchanged (D.state conn.old) (D.state conn.new)) }
+    ensures found { IsReady (D.state conn.old) → HasCleanDisk (D.state conn.new) →
+        IfOk result (λ form. form ≡ option_map form_head
+        (get_by form_id (tables_of (D.state conn.old)).forms id)) }
+{
+    let rows = form_rows(conn, id)?;
+    first_form(alloc, &rows)
+}
+
+/// The form of the fields. There may be none.
+fn form_made(fields: Vec<Field>, approval: bool) -> Option<Form>
+    ensures { IfSome result
+        (λ form. form ≡ record { fields = fields.items; approval = approval }) }
+{
+    match Form::make(fields, approval) {
+        Ok(form) => Some(form),
+        Err(_) => None,
+    }
+}
+
+/// The version of a form that has the row, with its fields. Fields that no form may have are a fault of the store.
+pub fn form_whole<D: Readable>(
+    alloc: Global,
+    conn: &mut D,
+    head: FormHead,
+) -> Result<FormVersion, ReadFault>
+    ensures passes { PassesBy (D.state conn.old) (D.state conn.new) }
+    ensures same { HasCleanDisk (D.state conn.new) →
+        OnOk result (IsUnchanged (D.state conn.old) (D.state conn.new)) }
+    ensures form { IsReady (D.state conn.old) → HasCleanDisk (D.state conn.new) →
+        IfOk result (λ form. form ≡ form_by (tables_of (D.state conn.old)) head) }
+{
+    let fields = fields_at(alloc, conn, head.id)?;
+    let form = form_made(fields, head.approval).ok_or(ReadFault::Storage)?;
+    Ok(FormVersion {
+        code: head.code,
+        version: head.version,
+        form,
+    })
+}
+
+/// The version of a form with the id, with its fields. That there is none is a fault of the store.
+pub fn form_at<D: Readable>(alloc: Global, conn: &mut D, id: i64) -> Result<FormVersion, ReadFault>
+    ensures passes { PassesBy (D.state conn.old) (D.state conn.new) }
+    ensures same { HasCleanDisk (D.state conn.new) →
+        OnOk result (IsUnchanged (D.state conn.old) (D.state conn.new)) }
+    ensures form { IsReady (D.state conn.old) → HasCleanDisk (D.state conn.new) →
+        IfOk result (λ form. form ≡ form_at (tables_of (D.state conn.old)) id) }
+{
+    let Some(head) = form_head_at(alloc, conn, id)? else {
+        return Err(ReadFault::Storage);
+    };
+    form_whole(alloc, conn, head)
+}

@@ -1,0 +1,130 @@
+//! Versions of forms, by the codes of the forms.
+
+ghost use Rattle.std.specs.Prelude.{◌≡◌, option_map, slice_get, IfOk, OnOk, IsTrue};
+ghost use Rattle.sqlite.specs.State.{HasCleanDisk, IsUnchanged};
+ghost use Rattle.lab_store_tables.specs.Ready.{IsReady, PassesBy, tables_of};
+ghost use Rattle.lab_records_kept.specs.Lookups.{last_of, last_form, exact_form};
+ghost use Rattle.lab_store_tables.specs.Meaning.{forms_of};
+ghost use Rattle.lab_store_read_forms.specs.Forms.{form_by};
+ghost use Rattle.lab_store_read_forms.specs.Shown.{form_read};
+ghost use Rattle.lab_store_read_forms.specs.FormsByCode.{exact_shown, form_versions_shown};
+
+use crate::asking::rows_by_version;
+use crate::{FormHead, first_form, form_of_row, form_whole};
+use lab_forms_texts::{Key, Ordinal};
+use lab_records_kept::FormVersion;
+use lab_store_columns::asking::rows_by_code;
+use lab_store_columns::{ReadFault, Readable};
+use sqlite::{Error, Row};
+use std::alloc::Global;
+
+/// The row of the version of the form, in the laboratory with the id.
+fn exact_rows<D: Readable>(
+    conn: &mut D,
+    lab: i64,
+    code: &str,
+    version: u32,
+) -> Result<Vec<Row>, Error>
+    ensures passes { PassesBy (D.state conn.old) (D.state conn.new) }
+    ensures same { HasCleanDisk (D.state conn.new) →
+        OnOk result (IsUnchanged (D.state conn.old) (D.state conn.new)) }
+    ensures rows { IsReady (D.state conn.old) → HasCleanDisk (D.state conn.new) →
+        IfOk result (λ rows. rows.items
+        ≡ exact_shown (tables_of (D.state conn.old)) lab code.now version) }
+{
+    rows_by_version(
+        conn,
+        "SELECT id, code, version, approval FROM forms WHERE lab = ?1 AND code = ?2 AND version = ?3",
+        lab,
+        code,
+        version,
+    )
+}
+
+/// The rows of the versions of the form, in the laboratory with the id, in the order of their numbers.
+fn form_version_rows<D: Readable>(conn: &mut D, lab: i64, code: &str) -> Result<Vec<Row>, Error>
+    ensures passes { PassesBy (D.state conn.old) (D.state conn.new) }
+    ensures same { HasCleanDisk (D.state conn.new) →
+        OnOk result (IsUnchanged (D.state conn.old) (D.state conn.new)) }
+    ensures rows { IsReady (D.state conn.old) → HasCleanDisk (D.state conn.new) →
+        IfOk result (λ rows. rows.items
+        ≡ form_versions_shown (tables_of (D.state conn.old)) lab code.now) }
+{
+    rows_by_code(
+        conn,
+        "SELECT id, code, version, approval FROM forms WHERE lab = ?1 AND code = ?2 ORDER BY code, version",
+        lab,
+        code,
+    )
+}
+
+/// The version of a form that the last row shows.
+fn last_form_of(alloc: Global, rows: &[Row]) -> Result<Option<FormHead>, ReadFault>
+    ensures { IfOk result (λ form. form ≡ option_map form_read (last_of rows.now)) }
+{
+    match rows.last() {
+        Some(row) => Ok(Some(form_of_row(alloc, row)?)),
+        None => Ok(None),
+    }
+}
+
+/// The version of a form that has the row, where there is one.
+fn form_if<D: Readable>(
+    alloc: Global,
+    conn: &mut D,
+    head: Option<FormHead>,
+) -> Result<Option<FormVersion>, ReadFault>
+    ensures passes { PassesBy (D.state conn.old) (D.state conn.new) }
+    ensures same { HasCleanDisk (D.state conn.new) → IsTrue (D.state conn.old).is_open →
+        OnOk result (IsUnchanged (D.state conn.old) (D.state conn.new)) }
+    ensures form { IsReady (D.state conn.old) → HasCleanDisk (D.state conn.new) →
+        IfOk result
+        (λ form. form ≡ option_map (form_by (tables_of (D.state conn.old))) head) }
+{
+    match head {
+        Some(head) => {
+            let form = form_whole(alloc, conn, head)?;
+            Ok(Some(form))
+        }
+        None => Ok(None),
+    }
+}
+
+/// The version of the form that has the number, in the laboratory with the id.
+pub fn exact_form_at<D: Readable>(
+    alloc: Global,
+    conn: &mut D,
+    lab: i64,
+    code: &Key,
+    version: Ordinal,
+) -> Result<Option<FormVersion>, ReadFault>
+    ensures passes { PassesBy (D.state conn.old) (D.state conn.new) }
+    ensures same { HasCleanDisk (D.state conn.new) →
+        OnOk result (IsUnchanged (D.state conn.old) (D.state conn.new)) }
+    ensures form { IsReady (D.state conn.old) → HasCleanDisk (D.state conn.new) →
+        IfOk result (λ form. form
+        ≡ exact_form (forms_of (tables_of (D.state conn.old)) lab) code.now version) }
+{
+    let rows = exact_rows(conn, lab, code.as_str(), version.get())?;
+    let head = first_form(alloc, &rows)?;
+    form_if(alloc, conn, head)
+}
+
+/// The last version of the form, in the laboratory with the id.
+pub fn last_form_at<D: Readable>(
+    alloc: Global,
+    conn: &mut D,
+    lab: i64,
+    code: &Key,
+) -> Result<Option<FormVersion>, ReadFault>
+    ensures passes { PassesBy (D.state conn.old) (D.state conn.new) }
+    ensures same { HasCleanDisk (D.state conn.new) →
+        OnOk result (IsUnchanged (D.state conn.old) (D.state conn.new)) }
+    ensures form { IsReady (D.state conn.old) → HasCleanDisk (D.state conn.new) →
+        IfOk result (λ form. form
+        ≡ last_form (forms_of (tables_of (D.state conn.old)) lab) code.now) }
+{
+    let rows = form_version_rows(conn, lab, code.as_str())?;
+    let head = last_form_of(alloc, &rows)?;
+    form_if(alloc, conn, head)
+}

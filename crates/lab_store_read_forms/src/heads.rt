@@ -1,0 +1,32 @@
+//! Rows as they are read, each by its id.
+
+use lab_forms::Kind;
+use lab_forms_texts::{Key, Name, Ordinal};
+
+/// The own row of a version of a form.
+#[derive(Debug, Drop)]
+pub struct FormHead {
+    /// The row's id.
+    pub id: i64,
+    /// By what the form is known.
+    pub code: Key,
+    /// The number of the version.
+    pub version: Ordinal,
+    /// Whether what it records wants a third person's approval.
+    pub approval: bool,
+}
+
+/// A field's own row. Its choices stand in rows of their own.
+#[derive(Debug, Drop)]
+pub struct FieldHead {
+    /// The row's id.
+    pub id: i64,
+    /// By what it is known in its form.
+    pub key: Key,
+    /// What people read beside it.
+    pub label: Name,
+    /// Whether a record has to have a value of it before it is signed.
+    pub required: bool,
+    /// What it takes; a choice has no names yet.
+    pub kind: Kind,
+}

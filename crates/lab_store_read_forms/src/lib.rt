@@ -1,0 +1,20 @@
+//! What the tables of a file say of the versions of a form, and of the forms and records that a request
+//! names, whole (ISO/IEC 17025:2017, 8.4.2; 21 CFR 11.10(c)). Nothing is written.
+#![tactic(auto)]
+
+mod asking;
+mod cells;
+mod choices;
+mod fields;
+mod filed;
+mod forms;
+mod forms_by_code;
+mod heads;
+mod kinds;
+mod wholes;
+
+pub use filed::{about_at, filed_within, numbered_at};
+pub use forms::{first_form, form_at, form_of_row, form_whole};
+pub use forms_by_code::{exact_form_at, last_form_at};
+pub use heads::FormHead;
+pub use wholes::record_whole;

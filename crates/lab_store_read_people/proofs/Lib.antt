@@ -1,0 +1,12 @@
+pub mod KnownPersons
+pub mod KnownSessions
+pub mod PersonKeys
+pub mod PersonLists
+pub mod PersonTexts
+pub mod PersonsExact
+pub mod PersonsFound
+pub mod SessionKeys
+pub mod SessionLists
+pub mod SessionTexts
+pub mod SessionsExact
+pub mod SessionsFound

@@ -1,0 +1,27 @@
+-- The rows that each query shows of the tables, in its order, and what such a row is read as.
+use Rattle.std.specs.Prelude.{ℕ, ℤ, List, [], ◌∷◌, map, filter}
+use Rattle.sqlite_value.specs.declared.value.Value.TheVariants.{Text, Blob}
+use Rattle.sqlite_value.specs.Order.{Row, column, bytes}
+use Rattle.lab_people_access.specs.declared.sessions.Session.{Session}
+use Rattle.lab_store_tables.specs.Rows.{SessionRow, Tables, number, flag, number_in, flag_in}
+use Rattle.lab_store_tables.specs.Changes.{is_session}
+use Rattle.lab_store_tables.specs.Meaning.{code_of}
+
+abbrev pub session_shown : Tables → SessionRow → Row
+session_shown t one =
+    number one.number ∷ Text (code_of t one.person) ∷ Blob one.token ∷ number one.opened
+    ∷ number one.last ∷ flag one.closed ∷ flag one.signed ∷ []
+
+abbrev pub sessions_shown : Tables → ℤ → List ℕ → List Row
+sessions_shown t lab token = map (session_shown t) (filter (is_session lab token) t.sessions)
+
+abbrev pub session_read : Row → Session
+session_read row = record {
+  number = number_in (column row 0);
+  person = bytes (column row 1);
+  token = bytes (column row 2);
+  opened = number_in (column row 3);
+  last = number_in (column row 4);
+  closed = flag_in (column row 5);
+  signed = flag_in (column row 6);
+}

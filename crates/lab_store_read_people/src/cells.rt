@@ -1,0 +1,76 @@
+//! One column of a row, as the type that stands in it. What is none of that type is a fault of the store.
+
+ghost use Rattle.std.specs.Prelude.{◌≡◌, [], IfOk, unwrap_or};
+ghost use Rattle.sqlite_value.specs.Order.{column, bytes};
+ghost use Rattle.lab_store_tables.specs.Rows.{number_in, optional_in};
+
+use lab_forms_texts::Moment;
+use lab_store_columns::ReadFault;
+use lab_store_columns::cells::{moment_of, small_if};
+use sqlite::Row;
+use sqlite::types::ValueRef;
+
+/// A moment, or none.
+pub(crate) fn moment_if(row: &Row, at: usize) -> Result<Option<Moment>, ReadFault>
+    ensures { IfOk result (λ moment. moment ≡ optional_in number_in (column row.now at)) }
+{
+    match row.get_ref(at)? {
+        ValueRef::Null => Ok(None),
+        ValueRef::Int(_) => Ok(Some(moment_of(row, at)?)),
+        ValueRef::Real(_) | ValueRef::Text(_) | ValueRef::Blob(_) => Err(ReadFault::Storage),
+    }
+}
+
+/// A moment that this row has to have.
+pub(crate) fn moment_due(row: &Row, at: usize) -> Result<Moment, ReadFault>
+    ensures { IfOk result
+        (λ moment. moment ≡ unwrap_or (optional_in number_in (column row.now at)) 0) }
+{
+    match moment_if(row, at)? {
+        Some(moment) => Ok(moment),
+        None => Err(ReadFault::Storage),
+    }
+}
+
+/// A number that this row has to have.
+pub(crate) fn small_due(row: &Row, at: usize) -> Result<u32, ReadFault>
+    ensures { IfOk result
+        (λ count. count ≡ unwrap_or (optional_in number_in (column row.now at)) 0) }
+{
+    match small_if(row, at)? {
+        Some(count) => Ok(count),
+        None => Err(ReadFault::Storage),
+    }
+}
+
+/// A salt that this row has to have.
+pub(crate) fn salt_due(row: &Row, at: usize) -> Result<[u8; 16], ReadFault>
+    ensures { IfOk result
+        (λ salt. salt ≡ unwrap_or (optional_in bytes (column row.now at)) []) }
+{
+    match row.get_ref(at)? {
+        ValueRef::Blob(blob) => match <[u8; 16]>::try_from(blob) {
+            Ok(salt) => Ok(salt),
+            Err(_) => Err(ReadFault::Storage),
+        },
+        ValueRef::Null | ValueRef::Int(_) | ValueRef::Real(_) | ValueRef::Text(_) => {
+            Err(ReadFault::Storage)
+        }
+    }
+}
+
+/// 32 bytes that this row has to have.
+pub(crate) fn bytes_due(row: &Row, at: usize) -> Result<[u8; 32], ReadFault>
+    ensures { IfOk result
+        (λ made. made ≡ unwrap_or (optional_in bytes (column row.now at)) []) }
+{
+    match row.get_ref(at)? {
+        ValueRef::Blob(blob) => match <[u8; 32]>::try_from(blob) {
+            Ok(made) => Ok(made),
+            Err(_) => Err(ReadFault::Storage),
+        },
+        ValueRef::Null | ValueRef::Int(_) | ValueRef::Real(_) | ValueRef::Text(_) => {
+            Err(ReadFault::Storage)
+        }
+    }
+}

@@ -1,0 +1,14 @@
+//! What the tables of a file say of the persons of a laboratory, their accounts and their sessions (21 CFR
+//! 11.10(d), (g)). Nothing is written.
+#![tactic(auto)]
+
+mod asking;
+mod cells;
+mod heads;
+mod passwords;
+mod persons;
+mod sessions;
+
+pub use heads::{AskHead, PersonHead};
+pub use persons::{person_at, person_count, persons_at};
+pub use sessions::session_at;

@@ -1,0 +1,106 @@
+//! What is kept of a password, what was asked for, and roles, from the columns of a person's row.
+
+ghost use Rattle.std.specs.Prelude.{◌≡◌, IfOk, unwrap_or};
+ghost use Rattle.sqlite_value.specs.Order.{column, bytes};
+ghost use Rattle.lab_people_access.specs.declared.passwords.Password.TheVariants.{Chosen, OneTime};
+ghost use Rattle.lab_store_tables.specs.Rows.{number_in, optional_in};
+ghost use Rattle.lab_store_tables.specs.Columns.{roles_in, verifier_in, password_in};
+ghost use Rattle.lab_store_read_people.specs.Heads.{ask_head};
+ghost use Rattle.lab_store_read_people.specs.PersonsShown.{password_cells, ask_cells};
+
+use crate::cells::{bytes_due, moment_due, salt_due, small_due};
+use crate::heads::AskHead;
+use lab_people_access::{Password, Roles};
+use lab_seal_hashes::Verifier;
+use lab_store_columns::ReadFault;
+use lab_store_columns::cells::{id_if, small_of};
+use sqlite::Row;
+
+/// The roles whose sum it is.
+pub(crate) fn roles_of(sum: u32) -> Roles
+    ensures { result ≡ roles_in sum }
+{
+    Roles {
+        analyst: sum % 2 == 1,
+        reviewer: sum / 2 % 2 == 1,
+        manager: sum / 4 % 2 == 1,
+        administrator: sum / 8 % 2 == 1,
+        inspector: sum / 16 % 2 == 1,
+    }
+}
+
+/// The verifier whose parts stand in three columns.
+fn verifier_of(row: &Row, salt: usize, rounds: usize, made: usize) -> Result<Verifier, ReadFault>
+    ensures { IfOk result (λ verifier. verifier
+        ≡ verifier_in (optional_in bytes (column row.now salt))
+        (optional_in number_in (column row.now rounds))
+        (optional_in bytes (column row.now made))) }
+{
+    let salt = salt_due(row, salt)?;
+    let rounds = small_due(row, rounds)?;
+    let made = bytes_due(row, made)?;
+    if rounds == 0 {
+        return Err(ReadFault::Storage);
+    }
+    Ok(Verifier::from_parts(salt, rounds, made))
+}
+
+/// A password that was chosen.
+fn chosen_of_row(row: &Row) -> Result<Password, ReadFault>
+    ensures { let cells = password_cells row.now in IfOk result (λ password. password
+        ≡ Chosen (verifier_in cells.salt cells.rounds cells.bytes) (unwrap_or cells.changed 0)) }
+{
+    let verifier = verifier_of(row, 7, 8, 9)?;
+    let changed = moment_due(row, 13)?;
+    Ok(Password::Chosen { verifier, changed })
+}
+
+/// A one-time word.
+fn one_time_of_row(row: &Row) -> Result<Password, ReadFault>
+    ensures { let cells = password_cells row.now in IfOk result (λ password. password
+        ≡ OneTime (verifier_in cells.salt cells.rounds cells.bytes)
+        (verifier_in cells.salt2 cells.rounds2 cells.bytes2) (unwrap_or cells.changed 0)) }
+{
+    let first = verifier_of(row, 7, 8, 9)?;
+    let second = verifier_of(row, 10, 11, 12)?;
+    let confirmed = moment_due(row, 13)?;
+    Ok(Password::OneTime {
+        first,
+        second,
+        confirmed,
+    })
+}
+
+/// What is kept of the password of the person whose row it is.
+pub(crate) fn password_of_row(row: &Row) -> Result<Password, ReadFault>
+    ensures { IfOk result (λ password. password ≡ password_in (password_cells row.now)) }
+{
+    let kind = small_of(row, 6)?;
+    if kind == 0 {
+        Ok(Password::Unset)
+    } else if kind == 1 {
+        chosen_of_row(row)
+    } else if kind == 2 {
+        one_time_of_row(row)
+    } else {
+        Err(ReadFault::Storage)
+    }
+}
+
+/// What an administrator asked for.
+pub(crate) fn ask_of_row(row: &Row) -> Result<Option<AskHead>, ReadFault>
+    ensures { IfOk result (λ ask. ask ≡ ask_head (ask_cells row.now)) }
+{
+    match id_if(row, 14)? {
+        Some(asker) => {
+            let asked = moment_due(row, 15)?;
+            let first = verifier_of(row, 16, 17, 18)?;
+            Ok(Some(AskHead {
+                asker,
+                asked,
+                first,
+            }))
+        }
+        None => Ok(None),
+    }
+}

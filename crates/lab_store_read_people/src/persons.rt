@@ -1,0 +1,293 @@
+//! Persons, with their accounts.
+
+ghost use Rattle.std.specs.Prelude.{◌≡◌, [], ◌∷◌, ◌++◌, map, length, option_map, slice_get, IfOk, OnOk, IsTrue};
+ghost use Rattle.sqlite.specs.State.{HasCleanDisk, IsUnchanged};
+ghost use Rattle.lab_store_tables.specs.Ready.{IsReady, PassesBy, tables_of};
+ghost use Rattle.lab_people_access.specs.Persons.{person_of};
+ghost use Rattle.lab_store_tables.specs.Meaning.{persons_of};
+ghost use Rattle.lab_store_read_people.specs.Heads.{ask_by, person_by, person_heads_of};
+ghost use Rattle.lab_store_read_people.specs.PersonsShown.{person_shown_by, persons_shown, all_codes_shown, person_read};
+
+use crate::cells::moment_if;
+use crate::heads::{AskHead, PersonHead};
+use crate::passwords::{ask_of_row, password_of_row, roles_of};
+use lab_forms_texts::PersonCode;
+use lab_people_access::{Ask, Person};
+use lab_store_columns::asking::{rows_by_code, rows_by_one};
+use lab_store_columns::cells::{flag_of, small_of, text_of};
+use lab_store_columns::{ReadFault, Readable, code_at};
+use sqlite::{Error, Row};
+use std::alloc::Global;
+
+/// The row of the person with the code, in the laboratory with the id.
+fn person_rows<D: Readable>(conn: &mut D, lab: i64, code: &str) -> Result<Vec<Row>, Error>
+    ensures passes { PassesBy (D.state conn.old) (D.state conn.new) }
+    ensures same { HasCleanDisk (D.state conn.new) →
+        OnOk result (IsUnchanged (D.state conn.old) (D.state conn.new)) }
+    ensures rows { IsReady (D.state conn.old) → HasCleanDisk (D.state conn.new) →
+        IfOk result (λ rows. rows.items
+        ≡ person_shown_by (tables_of (D.state conn.old)) lab code.now) }
+{
+    rows_by_code(
+        conn,
+        "SELECT code, name, roles, retired, failures, locked, kind, salt, rounds, bytes, salt2, rounds2, bytes2, changed, asker, asked, ask_salt, ask_rounds, ask_bytes FROM persons WHERE lab = ?1 AND code = ?2",
+        lab,
+        code,
+    )
+}
+
+/// The rows of the persons of the laboratory with the id, in the order of their codes.
+fn persons_rows<D: Readable>(conn: &mut D, lab: i64) -> Result<Vec<Row>, Error>
+    ensures passes { PassesBy (D.state conn.old) (D.state conn.new) }
+    ensures same { HasCleanDisk (D.state conn.new) →
+        OnOk result (IsUnchanged (D.state conn.old) (D.state conn.new)) }
+    ensures rows { IsReady (D.state conn.old) → HasCleanDisk (D.state conn.new) →
+        IfOk result
+        (λ rows. rows.items ≡ persons_shown (tables_of (D.state conn.old)) lab) }
+{
+    rows_by_one(
+        conn,
+        "SELECT code, name, roles, retired, failures, locked, kind, salt, rounds, bytes, salt2, rounds2, bytes2, changed, asker, asked, ask_salt, ask_rounds, ask_bytes FROM persons WHERE lab = ?1 ORDER BY code",
+        lab,
+    )
+}
+
+/// The codes of the persons of the laboratory with the id, in order.
+fn all_code_rows<D: Readable>(conn: &mut D, lab: i64) -> Result<Vec<Row>, Error>
+    ensures passes { PassesBy (D.state conn.old) (D.state conn.new) }
+    ensures same { HasCleanDisk (D.state conn.new) →
+        OnOk result (IsUnchanged (D.state conn.old) (D.state conn.new)) }
+    ensures rows { IsReady (D.state conn.old) → HasCleanDisk (D.state conn.new) →
+        IfOk result
+        (λ rows. rows.items ≡ all_codes_shown (tables_of (D.state conn.old)) lab) }
+{
+    rows_by_one(
+        conn,
+        "SELECT code FROM persons WHERE lab = ?1 ORDER BY code",
+        lab,
+    )
+}
+
+/// The person whom a row shows.
+fn person_of_row(alloc: Global, row: &Row) -> Result<PersonHead, ReadFault>
+    ensures { IfOk result (λ person. person ≡ person_read row.now) }
+{
+    let roles = roles_of(small_of(row, 2)?);
+    let retired = flag_of(row, 3)?;
+    let failures = small_of(row, 4)?;
+    let locked = moment_if(row, 5)?;
+    let password = password_of_row(row)?;
+    let ask = ask_of_row(row)?;
+    let code = text_of(alloc, row, 0)?;
+    let name = text_of(alloc, row, 1)?;
+    Ok(PersonHead {
+        code,
+        name,
+        roles,
+        retired,
+        failures,
+        locked,
+        password,
+        ask,
+    })
+}
+
+/// The person whom the first row shows.
+fn first_person(alloc: Global, rows: &[Row]) -> Result<Option<PersonHead>, ReadFault>
+    ensures { IfOk result (λ person. person ≡ option_map person_read (slice_get rows.now 0)) }
+{
+    match rows.first() {
+        Some(row) => Ok(Some(person_of_row(alloc, row)?)),
+        None => Ok(None),
+    }
+}
+
+/// The persons whom rows show.
+fn persons_of_rows(alloc: Global, rows: &[Row]) -> Result<Vec<PersonHead>, ReadFault>
+    ensures { IfOk result (λ made. made.items ≡ map person_read rows.now) }
+{
+    let mut made = Vec::new(alloc);
+    for row in rows {
+        made.push(person_of_row(alloc, row)?)?;
+    }
+    Ok(made)
+}
+
+/// What was asked for, with the code of whoever asked.
+fn ask_whole<D: Readable>(
+    alloc: Global,
+    conn: &mut D,
+    ask: Option<AskHead>,
+) -> Result<Option<Ask>, ReadFault>
+    ensures passes { PassesBy (D.state conn.old) (D.state conn.new) }
+    ensures same { HasCleanDisk (D.state conn.new) → IsTrue (D.state conn.old).is_open →
+        OnOk result (IsUnchanged (D.state conn.old) (D.state conn.new)) }
+    ensures ask { IsReady (D.state conn.old) → HasCleanDisk (D.state conn.new) →
+        IfOk result (λ whole. whole
+        ≡ option_map (ask_by (tables_of (D.state conn.old))) ask) }
+{
+    match ask {
+        Some(ask) => {
+            let asker = code_at(alloc, conn, ask.asker)?;
+            Ok(Some(Ask {
+                asker,
+                asked: ask.asked,
+                first: ask.first,
+            }))
+        }
+        None => Ok(None),
+    }
+}
+
+/// The person of the row.
+fn person_whole<D: Readable>(
+    alloc: Global,
+    conn: &mut D,
+    head: PersonHead,
+) -> Result<Person, ReadFault>
+    ensures passes { PassesBy (D.state conn.old) (D.state conn.new) }
+    ensures same { HasCleanDisk (D.state conn.new) → IsTrue (D.state conn.old).is_open →
+        OnOk result (IsUnchanged (D.state conn.old) (D.state conn.new)) }
+    ensures person { IsReady (D.state conn.old) → HasCleanDisk (D.state conn.new) →
+        IfOk result (λ person. person ≡ person_by (tables_of (D.state conn.old)) head) }
+{
+    let ask = ask_whole(alloc, conn, head.ask)?;
+    Ok(Person {
+        code: head.code,
+        name: head.name,
+        roles: head.roles,
+        retired: head.retired,
+        failures: head.failures,
+        locked: head.locked,
+        password: head.password,
+        ask,
+    })
+}
+
+/// The person of the row, where there is one.
+fn person_if<D: Readable>(
+    alloc: Global,
+    conn: &mut D,
+    head: Option<PersonHead>,
+) -> Result<Option<Person>, ReadFault>
+    ensures passes { PassesBy (D.state conn.old) (D.state conn.new) }
+    ensures same { HasCleanDisk (D.state conn.new) → IsTrue (D.state conn.old).is_open →
+        OnOk result (IsUnchanged (D.state conn.old) (D.state conn.new)) }
+    ensures person { IsReady (D.state conn.old) → HasCleanDisk (D.state conn.new) →
+        IfOk result (λ person. person
+        ≡ option_map (person_by (tables_of (D.state conn.old))) head) }
+{
+    match head {
+        Some(head) => {
+            let person = person_whole(alloc, conn, head)?;
+            Ok(Some(person))
+        }
+        None => Ok(None),
+    }
+}
+
+/// The person of the row, behind others.
+fn add_person<D: Readable>(
+    alloc: Global,
+    conn: &mut D,
+    made: &mut Vec<Person>,
+    head: PersonHead,
+) -> Result<(), ReadFault>
+    ensures passes { PassesBy (D.state conn.old) (D.state conn.new) }
+    ensures same { HasCleanDisk (D.state conn.new) → IsTrue (D.state conn.old).is_open →
+        OnOk result (IsUnchanged (D.state conn.old) (D.state conn.new)) }
+    ensures person { IsReady (D.state conn.old) → HasCleanDisk (D.state conn.new) →
+        OnOk result (made.new.items
+        ≡ made.old.items ++ person_by (tables_of (D.state conn.old)) head ∷ []) }
+{
+    let person = person_whole(alloc, conn, head)?;
+    made.push(person)?;
+    Ok(())
+}
+
+/// The persons of the rows, behind others.
+fn add_persons<D: Readable>(
+    alloc: Global,
+    conn: &mut D,
+    made: &mut Vec<Person>,
+    heads: Vec<PersonHead>,
+) -> Result<(), ReadFault>
+    ensures passes { PassesBy (D.state conn.old) (D.state conn.new) }
+    ensures same { HasCleanDisk (D.state conn.new) → IsTrue (D.state conn.old).is_open →
+        OnOk result (IsUnchanged (D.state conn.old) (D.state conn.new)) }
+    ensures persons { IsReady (D.state conn.old) → HasCleanDisk (D.state conn.new) →
+        IsTrue (D.state conn.old).is_open → OnOk result (made.new.items
+        ≡ made.old.items ++ map (person_by (tables_of (D.state conn.old))) heads.items) }
+{
+    for head in heads {
+        add_person(alloc, conn, made, head)?;
+    }
+    Ok(())
+}
+
+/// The own rows of the persons of the laboratory with the id, in the order of their codes.
+fn person_heads_at<D: Readable>(
+    alloc: Global,
+    conn: &mut D,
+    lab: i64,
+) -> Result<Vec<PersonHead>, ReadFault>
+    ensures passes { PassesBy (D.state conn.old) (D.state conn.new) }
+    ensures same { HasCleanDisk (D.state conn.new) →
+        OnOk result (IsUnchanged (D.state conn.old) (D.state conn.new)) }
+    ensures heads { IsReady (D.state conn.old) → HasCleanDisk (D.state conn.new) →
+        IfOk result
+        (λ made. made.items ≡ person_heads_of (tables_of (D.state conn.old)) lab) }
+{
+    let rows = persons_rows(conn, lab)?;
+    persons_of_rows(alloc, &rows)
+}
+
+/// The person who has or had the code, in the laboratory with the id.
+pub fn person_at<D: Readable>(
+    alloc: Global,
+    conn: &mut D,
+    lab: i64,
+    code: &PersonCode,
+) -> Result<Option<Person>, ReadFault>
+    ensures passes { PassesBy (D.state conn.old) (D.state conn.new) }
+    ensures same { HasCleanDisk (D.state conn.new) →
+        OnOk result (IsUnchanged (D.state conn.old) (D.state conn.new)) }
+    ensures person { IsReady (D.state conn.old) → HasCleanDisk (D.state conn.new) →
+        IfOk result (λ person. person
+        ≡ person_of (persons_of (tables_of (D.state conn.old)) lab) code.now) }
+{
+    let rows = person_rows(conn, lab, code.as_str())?;
+    let head = first_person(alloc, &rows)?;
+    person_if(alloc, conn, head)
+}
+
+/// The persons of the laboratory with the id, in the order of their codes.
+pub fn persons_at<D: Readable>(
+    alloc: Global,
+    conn: &mut D,
+    lab: i64,
+) -> Result<Vec<Person>, ReadFault>
+    ensures passes { PassesBy (D.state conn.old) (D.state conn.new) }
+    ensures same { HasCleanDisk (D.state conn.new) →
+        OnOk result (IsUnchanged (D.state conn.old) (D.state conn.new)) }
+    ensures persons { IsReady (D.state conn.old) → HasCleanDisk (D.state conn.new) →
+        IfOk result (λ made. made.items ≡ persons_of (tables_of (D.state conn.old)) lab) }
+{
+    let heads = person_heads_at(alloc, conn, lab)?;
+    let mut made = Vec::new(alloc);
+    add_persons(alloc, conn, &mut made, heads)?;
+    Ok(made)
+}
+
+/// How many persons the laboratory with the id has.
+pub fn person_count<D: Readable>(conn: &mut D, lab: i64) -> Result<u64, ReadFault>
+    ensures passes { PassesBy (D.state conn.old) (D.state conn.new) }
+    ensures same { HasCleanDisk (D.state conn.new) →
+        OnOk result (IsUnchanged (D.state conn.old) (D.state conn.new)) }
+    ensures count { IsReady (D.state conn.old) → HasCleanDisk (D.state conn.new) →
+        IfOk result
+        (λ count. count ≡ length (persons_of (tables_of (D.state conn.old)) lab)) }
+{
+    let rows = all_code_rows(conn, lab)?;
+    Ok(rows.len() as u64)
+}

@@ -1,0 +1,12 @@
+pub mod ChainTurns
+pub mod Exact
+pub mod Found
+pub mod Keys
+pub mod KnownReadings
+pub mod KnownRetrieval
+pub mod Lists
+pub mod RetrievalExact
+pub mod RetrievalFound
+pub mod RetrievalKeys
+pub mod RetrievalTexts
+pub mod Texts

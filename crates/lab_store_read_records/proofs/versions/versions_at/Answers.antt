@@ -1,0 +1,12 @@
+use Rattle.std.proofs.Common.{w64, ◌∙◌, ap, map}
+use Rattle.std.proofs.lemmas.Int.{to_z-of_z}
+use Rattle.lab_store_tables.specs.Ready.{tables_of}
+use Rattle.lab_store_read_records.specs.Shown.{version_read}
+use Rattle.lab_store_read_records.proofs.Found.{versions_found}
+use Rattle.lab_store_columns.proofs.Queries.{if_then}
+use Rattle.lab_store_read_records.proofs.versions.versions_at.Goals as goal
+
+pub returns-clause-versions : goal.returns-clause-versions
+returns-clause-versions g c ready clean =
+    let rows = rw (to_z-of_z w64 c.args.kept c.ranges.kept) at (c.in_ok-rows.ensures.rows ready clean) in
+    if_then c.versions_of_rows.result (λ made is. is ∙ ap (map version_read) (c.deref.ensures.value ∙ rows) ∙ versions_found (tables_of (g.D.Readable.state c.args.conn.now)) c.args.kept) c.versions_of_rows.ensures

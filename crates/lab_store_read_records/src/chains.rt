@@ -1,0 +1,132 @@
+//! Versions of a record, each of which amends the one before it as that is now.
+
+ghost use Rattle.std.specs.Prelude.{◌≡◌, None, [], ◌∷◌, ◌++◌, map, option_map, unwrap_or, IfOk, IfSome, OnOk};
+ghost use Rattle.lab_records_kept.specs.Digests.{digest_of};
+ghost use Rattle.lab_records_kept.specs.Lookups.{last_of};
+ghost use Rattle.lab_store_tables.specs.Columns.{format_in};
+ghost use Rattle.lab_store_tables.specs.Meaning.{version_after, chained};
+ghost use Rattle.lab_store_read_records.specs.Leaves.{leaf_of};
+ghost use Rattle.lab_store_read_records.specs.Chains.{origin_after, before_next};
+
+use crate::VersionLeaf;
+use lab_forms_texts::{LabCode, Note, Ordinal, Series};
+use lab_records_kept::{Record, Version};
+use lab_seal_hashes::Digest;
+use lab_seal_versions::{Amendment, Format, Origin};
+use lab_store_columns::ReadFault;
+use std::alloc::Global;
+
+/// The format of a number, where the form wants an approval or not.
+fn format_of(number: u32, approval: bool) -> Format
+    ensures { result ≡ format_in number approval }
+{
+    if number == 1 {
+        Format::One
+    } else {
+        Format::Two { approval }
+    }
+}
+
+/// Where a version comes from, whose number and reason these are, behind one of the digest or none. A first version of a
+/// later number, and a later one without a reason or of the first number, come from nowhere.
+fn origin_after(number: Ordinal, reason: Option<Note>, before: Option<Digest>) -> Option<Origin>
+    ensures { IfSome result (λ origin. origin ≡ origin_after number reason before) }
+{
+    match before {
+        None => {
+            if number != Ordinal::FIRST {
+                return None;
+            }
+            Some(Origin::first())
+        }
+        Some(previous) => match reason {
+            Some(reason) => Origin::amending(number, Amendment { previous, reason }),
+            None => None,
+        },
+    }
+}
+
+/// The version that the rows tell, behind one of the digest or none. Of the record all but its versions is read. There is
+/// none that is first and of another number, nor a later one without a reason or of the first number.
+pub fn version_after(cover: &Record, before: Option<Digest>, leaf: VersionLeaf) -> Option<Version>
+    ensures { IfSome result (λ version. version ≡ version_after cover.now before (leaf_of leaf)) }
+{
+    let origin = origin_after(leaf.number, leaf.reason, before)?;
+    Some(Version {
+        format: format_of(leaf.format, cover.form.form.approval()),
+        origin,
+        opener: leaf.opener,
+        opened: leaf.opened,
+        rows: leaf.rows,
+        signatures: leaf.signatures,
+    })
+}
+
+/// The digest of the last version, if there is one.
+fn before_next(
+    alloc: Global,
+    lab: &LabCode,
+    cover: &Record,
+    made: &Series<Version>,
+) -> Result<Option<Digest>, ReadFault>
+    ensures { IfOk result (λ digest. digest ≡ before_next lab.now cover.now made.now) }
+{
+    match made.last() {
+        Some(version) => match cover.digest_of(alloc, lab, version) {
+            Ok(digest) => Ok(Some(digest)),
+            Err(_) => Err(ReadFault::Memory),
+        },
+        None => Ok(None),
+    }
+}
+
+/// One version more, which amends the last one.
+fn add_version(
+    alloc: Global,
+    lab: &LabCode,
+    cover: &Record,
+    made: &mut Series<Version>,
+    leaf: VersionLeaf,
+) -> Result<(), ReadFault>
+    ensures { OnOk result (made.new ≡ made.old
+        ++ version_after cover.now (before_next lab.now cover.now made.old) (leaf_of leaf) ∷ []) }
+{
+    let before = before_next(alloc, lab, cover, made)?;
+    let version = version_after(cover, before, leaf).ok_or(ReadFault::Storage)?;
+    made.push(version)?;
+    Ok(())
+}
+
+/// All of them, behind others.
+fn add_versions(
+    alloc: Global,
+    lab: &LabCode,
+    cover: &Record,
+    made: &mut Series<Version>,
+    leaves: Vec<VersionLeaf>,
+) -> Result<(), ReadFault>
+    ensures { OnOk result (made.new ≡ made.old
+        ++ chained lab.now cover.now (before_next lab.now cover.now made.old)
+        (map leaf_of leaves.items)) }
+{
+    for leaf in leaves {
+        add_version(alloc, lab, cover, made, leaf)?;
+    }
+    Ok(())
+}
+
+/// The versions of a record of the laboratory, from what their own rows tell: each after the first amends the one before
+/// it. Of the record all but its versions is read.
+pub fn chain(
+    alloc: Global,
+    lab: &LabCode,
+    cover: &Record,
+    leaves: Vec<VersionLeaf>,
+) -> Result<Series<Version>, ReadFault>
+    ensures { IfOk result
+        (λ made. made ≡ chained lab.now cover.now None (map leaf_of leaves.items)) }
+{
+    let mut made = Series::new(alloc);
+    add_versions(alloc, lab, cover, &mut made, leaves)?;
+    Ok(made)
+}

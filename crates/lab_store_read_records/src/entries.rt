@@ -1,0 +1,78 @@
+//! Rows that persons entered in a version.
+
+ghost use Rattle.std.specs.Prelude.{◌≡◌, map, IfOk, OnOk};
+ghost use Rattle.sqlite.specs.State.{HasCleanDisk, IsUnchanged};
+ghost use Rattle.lab_store_tables.specs.Ready.{IsReady, PassesBy, tables_of};
+ghost use Rattle.lab_store_tables.specs.Meaning.{entries_of};
+ghost use Rattle.lab_store_read_records.specs.Shown.{entries_shown, entry_read};
+
+use lab_seal_versions::EntryRow;
+use lab_store_columns::asking::rows_by_one;
+use lab_store_columns::cells::{moment_of, text_if, text_of};
+use lab_store_columns::{ReadFault, Readable};
+use sqlite::{Error, Row};
+use std::alloc::Global;
+
+/// The entries of the version with the id, in the order of their places.
+fn entry_rows<D: Readable>(conn: &mut D, version: i64) -> Result<Vec<Row>, Error>
+    ensures passes { PassesBy (D.state conn.old) (D.state conn.new) }
+    ensures same { HasCleanDisk (D.state conn.new) →
+        OnOk result (IsUnchanged (D.state conn.old) (D.state conn.new)) }
+    ensures rows { IsReady (D.state conn.old) → HasCleanDisk (D.state conn.new) →
+        IfOk result
+        (λ rows. rows.items ≡ entries_shown (tables_of (D.state conn.old)) version) }
+{
+    rows_by_one(
+        conn,
+        "SELECT entries.key, entries.value, entries.unit, persons.code, entries.moment, entries.reason FROM entries, persons WHERE entries.version = ?1 AND persons.id = entries.person ORDER BY entries.place",
+        version,
+    )
+}
+
+/// The entry that a row shows.
+fn entry_of_row(alloc: Global, row: &Row) -> Result<EntryRow, ReadFault>
+    ensures { IfOk result (λ entry. entry ≡ entry_read row.now) }
+{
+    let moment = moment_of(row, 4)?;
+    let key = text_of(alloc, row, 0)?;
+    let value = text_of(alloc, row, 1)?;
+    let unit = text_of(alloc, row, 2)?;
+    let person = text_of(alloc, row, 3)?;
+    let reason = text_if(alloc, row, 5)?;
+    Ok(EntryRow {
+        key,
+        value,
+        unit,
+        person,
+        moment,
+        reason,
+    })
+}
+
+/// The entries that rows show.
+fn entries_of_rows(alloc: Global, rows: &[Row]) -> Result<Vec<EntryRow>, ReadFault>
+    ensures { IfOk result (λ made. made.items ≡ map entry_read rows.now) }
+{
+    let mut made = Vec::new(alloc);
+    for row in rows {
+        made.push(entry_of_row(alloc, row)?)?;
+    }
+    Ok(made)
+}
+
+/// The entries of the version with the id, in the order of their places.
+pub fn entries_at<D: Readable>(
+    alloc: Global,
+    conn: &mut D,
+    version: i64,
+) -> Result<Vec<EntryRow>, ReadFault>
+    ensures passes { PassesBy (D.state conn.old) (D.state conn.new) }
+    ensures same { HasCleanDisk (D.state conn.new) →
+        OnOk result (IsUnchanged (D.state conn.old) (D.state conn.new)) }
+    ensures entries { IsReady (D.state conn.old) → HasCleanDisk (D.state conn.new) →
+        IfOk result
+        (λ made. made.items ≡ entries_of (tables_of (D.state conn.old)) version) }
+{
+    let rows = entry_rows(conn, version)?;
+    entries_of_rows(alloc, &rows)
+}

@@ -1,0 +1,58 @@
+//! Rows as they are read, each by its id.
+
+use lab_forms_texts::{Key, LabCode, Moment, Name, Note, Ordinal, PersonCode};
+
+/// A laboratory's own row.
+#[derive(Debug, Drop)]
+pub struct LabHead {
+    /// The row's id.
+    pub id: i64,
+    /// The code by which requests name it.
+    pub code: LabCode,
+    /// Its name.
+    pub name: Name,
+    /// The moment of its last activity.
+    pub last: Moment,
+    /// How many stray passwords were given.
+    pub strays: u64,
+    /// How many numbers of records it gave.
+    pub records: u64,
+    /// How many numbers of sessions it gave.
+    pub sessions: u64,
+    /// How many numbers of rows of the trail it gave.
+    pub trail: u64,
+}
+
+/// A version's own row.
+#[derive(Debug, Drop)]
+pub struct VersionHead {
+    /// The row's id.
+    pub id: i64,
+    /// Its number in the record.
+    pub number: Ordinal,
+    /// The number of the format of its text.
+    pub format: u32,
+    /// Who opened it.
+    pub opener: PersonCode,
+    /// When it was opened.
+    pub opened: Moment,
+    /// Why it amends the one before it.
+    pub reason: Option<Note>,
+}
+
+/// A record's own row.
+#[derive(Debug, Drop)]
+pub struct RecordHead {
+    /// The row's id.
+    pub id: i64,
+    /// Its number in the laboratory.
+    pub number: Ordinal,
+    /// The id of the version of the form that it is filled in by.
+    pub form: i64,
+    /// By what the form is known.
+    pub form_code: Key,
+    /// The sample that it is about.
+    pub sample: Name,
+    /// The number of its last version.
+    pub current: u32,
+}

@@ -1,0 +1,59 @@
+//! Whole versions, each as its own rows tell it.
+
+ghost use Rattle.std.specs.Prelude.{◌≡◌, IfOk, OnOk};
+ghost use Rattle.sqlite.specs.State.{HasCleanDisk, IsUnchanged};
+ghost use Rattle.lab_store_tables.specs.Ready.{IsReady, PassesBy, tables_of};
+ghost use Rattle.lab_store_read_records.specs.Leaves.{leaf_of, leaf_by};
+
+use crate::entries::entries_at;
+use crate::heads::VersionHead;
+use crate::signatures::signatures_at;
+use lab_forms_texts::{Moment, Note, Ordinal, PersonCode, Series};
+use lab_records_kept::Signature;
+use lab_seal_versions::EntryRows;
+use lab_store_columns::{ReadFault, Readable};
+use std::alloc::Global;
+
+/// A version as its own rows tell it. What it amends they don't tell.
+#[derive(Drop)]
+pub struct VersionLeaf {
+    /// Its number in the record.
+    pub number: Ordinal,
+    /// The number of the format of its text.
+    pub format: u32,
+    /// Who opened it.
+    pub opener: PersonCode,
+    /// When it was opened.
+    pub opened: Moment,
+    /// Why it amends the one before it.
+    pub reason: Option<Note>,
+    /// Its rows in the order in which they were entered.
+    pub rows: EntryRows,
+    /// Its signatures in the order in which they were given.
+    pub signatures: Series<Signature>,
+}
+
+/// The version with the row, with its entries and signatures.
+pub fn leaf_at<D: Readable>(
+    alloc: Global,
+    conn: &mut D,
+    head: VersionHead,
+) -> Result<VersionLeaf, ReadFault>
+    ensures passes { PassesBy (D.state conn.old) (D.state conn.new) }
+    ensures same { HasCleanDisk (D.state conn.new) →
+        OnOk result (IsUnchanged (D.state conn.old) (D.state conn.new)) }
+    ensures leaf { IsReady (D.state conn.old) → HasCleanDisk (D.state conn.new) →
+        IfOk result (λ leaf. leaf_of leaf ≡ leaf_by (tables_of (D.state conn.old)) head) }
+{
+    let rows = entries_at(alloc, conn, head.id)?;
+    let signatures = signatures_at(alloc, conn, head.id)?;
+    Ok(VersionLeaf {
+        number: head.number,
+        format: head.format,
+        opener: head.opener,
+        opened: head.opened,
+        reason: head.reason,
+        rows: EntryRows::new(rows),
+        signatures: Series::from_vec(signatures),
+    })
+}

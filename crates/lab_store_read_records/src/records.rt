@@ -1,0 +1,80 @@
+//! Records, each by its own row.
+
+ghost use Rattle.std.specs.Prelude.{◌≡◌, find, option_map, slice_get, IfOk, OnOk};
+ghost use Rattle.sqlite.specs.State.{HasCleanDisk, IsUnchanged};
+ghost use Rattle.lab_store_tables.specs.Ready.{IsReady, PassesBy, tables_of};
+ghost use Rattle.lab_store_read_records.specs.Heads.{is_record, record_head};
+ghost use Rattle.lab_store_read_records.specs.Shown.{records_shown, record_read};
+
+use crate::asking::rows_by_two;
+use crate::heads::RecordHead;
+use lab_forms_texts::Ordinal;
+use lab_store_columns::cells::{id_of, ordinal_of, small_of, text_of};
+use lab_store_columns::{ReadFault, Readable};
+use sqlite::{Error, Row};
+use std::alloc::Global;
+
+/// The row of the record with the number, in the laboratory with the id.
+fn record_rows<D: Readable>(conn: &mut D, lab: i64, number: u32) -> Result<Vec<Row>, Error>
+    ensures passes { PassesBy (D.state conn.old) (D.state conn.new) }
+    ensures same { HasCleanDisk (D.state conn.new) →
+        OnOk result (IsUnchanged (D.state conn.old) (D.state conn.new)) }
+    ensures rows { IsReady (D.state conn.old) → HasCleanDisk (D.state conn.new) →
+        IfOk result
+        (λ rows. rows.items ≡ records_shown (tables_of (D.state conn.old)) lab number) }
+{
+    rows_by_two(
+        conn,
+        "SELECT id, number, form, form_code, sample, current FROM records WHERE lab = ?1 AND number = ?2",
+        lab,
+        number,
+    )
+}
+
+/// The record that a row shows.
+fn record_of_row(alloc: Global, row: &Row) -> Result<RecordHead, ReadFault>
+    ensures { IfOk result (λ found. found ≡ record_read row.now) }
+{
+    let id = id_of(row, 0)?;
+    let number = ordinal_of(row, 1)?;
+    let form = id_of(row, 2)?;
+    let current = small_of(row, 5)?;
+    let form_code = text_of(alloc, row, 3)?;
+    let sample = text_of(alloc, row, 4)?;
+    Ok(RecordHead {
+        id,
+        number,
+        form,
+        form_code,
+        sample,
+        current,
+    })
+}
+
+/// The record that the first row shows.
+fn first_record(alloc: Global, rows: &[Row]) -> Result<Option<RecordHead>, ReadFault>
+    ensures { IfOk result (λ found. found ≡ option_map record_read (slice_get rows.now 0)) }
+{
+    match rows.first() {
+        Some(row) => Ok(Some(record_of_row(alloc, row)?)),
+        None => Ok(None),
+    }
+}
+
+/// The record's own row, where there is one of the number in the laboratory with the id.
+pub fn record_at<D: Readable>(
+    alloc: Global,
+    conn: &mut D,
+    lab: i64,
+    number: Ordinal,
+) -> Result<Option<RecordHead>, ReadFault>
+    ensures passes { PassesBy (D.state conn.old) (D.state conn.new) }
+    ensures same { HasCleanDisk (D.state conn.new) →
+        OnOk result (IsUnchanged (D.state conn.old) (D.state conn.new)) }
+    ensures found { IsReady (D.state conn.old) → HasCleanDisk (D.state conn.new) →
+        IfOk result (λ found. found ≡ option_map record_head
+        (find (is_record lab number) (tables_of (D.state conn.old)).records)) }
+{
+    let rows = record_rows(conn, lab, number.get())?;
+    first_record(alloc, &rows)
+}

@@ -1,0 +1,109 @@
+//! Signatures of a version.
+
+ghost use Rattle.std.specs.Prelude.{◌≡◌, map, IfOk, IfSome, OnOk};
+ghost use Rattle.sqlite.specs.State.{HasCleanDisk, IsUnchanged};
+ghost use Rattle.lab_store_tables.specs.Ready.{IsReady, PassesBy, tables_of};
+ghost use Rattle.lab_store_tables.specs.Columns.{meaning_in};
+ghost use Rattle.lab_store_tables.specs.Meaning.{signatures_of};
+ghost use Rattle.lab_store_read_records.specs.Shown.{signatures_shown, signature_read};
+ghost use Rattle.sqlite_value.specs.Order.{column, bytes};
+ghost use Rattle.lab_store_tables.specs.Rows.{optional_in};
+
+use lab_forms_texts::{Keys, Note, Text};
+use lab_records_kept::Signature;
+use lab_seal_versions::{Meaning, Seal};
+use lab_store_columns::asking::rows_by_one;
+use lab_store_columns::cells::{digest_of, moment_of, text_if, text_of};
+use lab_store_columns::{ReadFault, Readable};
+use sqlite::{Error, Row};
+use std::alloc::Global;
+
+/// The signatures of the version with the id, in the order of their places.
+fn signature_rows<D: Readable>(conn: &mut D, version: i64) -> Result<Vec<Row>, Error>
+    ensures passes { PassesBy (D.state conn.old) (D.state conn.new) }
+    ensures same { HasCleanDisk (D.state conn.new) →
+        OnOk result (IsUnchanged (D.state conn.old) (D.state conn.new)) }
+    ensures rows { IsReady (D.state conn.old) → HasCleanDisk (D.state conn.new) →
+        IfOk result
+        (λ rows. rows.items ≡ signatures_shown (tables_of (D.state conn.old)) version) }
+{
+    rows_by_one(
+        conn,
+        "SELECT persons.code, signatures.name, signatures.meaning, signatures.reason, signatures.moment, signatures.digest, signatures.seal FROM signatures, persons WHERE signatures.version = ?1 AND persons.id = signatures.person ORDER BY signatures.place",
+        version,
+    )
+}
+
+/// What a version was signed as, by its word and its reason. There may be none that is written so.
+fn meaning_by(word: &str, reason: Option<Note>) -> Option<Meaning>
+    ensures { IfSome result (λ meaning. meaning ≡ meaning_in word.now reason) }
+{
+    match word {
+        "authorship" => Some(Meaning::Authorship),
+        "review" => Some(Meaning::Review),
+        "rejection" => match reason {
+            Some(reason) => Some(Meaning::Rejection(reason)),
+            None => None,
+        },
+        "approval" => Some(Meaning::Approval),
+        _ => None,
+    }
+}
+
+/// What the version was signed as, which stands in two columns of a row.
+fn meaning_of(alloc: Global, row: &Row) -> Result<Meaning, ReadFault>
+    ensures { IfOk result (λ meaning. meaning
+        ≡ meaning_in (bytes (column row.now 2)) (optional_in bytes (column row.now 3))) }
+{
+    let word: Text<Keys> = text_of(alloc, row, 2)?;
+    let reason = text_if(alloc, row, 3)?;
+    meaning_by(word.as_str(), reason).ok_or(ReadFault::Storage)
+}
+
+/// The signature that a row shows.
+fn signature_of_row(alloc: Global, row: &Row) -> Result<Signature, ReadFault>
+    ensures { IfOk result (λ signature. signature ≡ signature_read row.now) }
+{
+    let moment = moment_of(row, 4)?;
+    let digest = digest_of(row, 5)?;
+    let seal = Seal::from_bytes(digest_of(row, 6)?.bytes());
+    let person = text_of(alloc, row, 0)?;
+    let name = text_of(alloc, row, 1)?;
+    let meaning = meaning_of(alloc, row)?;
+    Ok(Signature {
+        person,
+        name,
+        meaning,
+        moment,
+        digest,
+        seal,
+    })
+}
+
+/// The signatures that rows show.
+fn signatures_of_rows(alloc: Global, rows: &[Row]) -> Result<Vec<Signature>, ReadFault>
+    ensures { IfOk result (λ made. made.items ≡ map signature_read rows.now) }
+{
+    let mut made = Vec::new(alloc);
+    for row in rows {
+        made.push(signature_of_row(alloc, row)?)?;
+    }
+    Ok(made)
+}
+
+/// The signatures of the version with the id, in the order of their places.
+pub fn signatures_at<D: Readable>(
+    alloc: Global,
+    conn: &mut D,
+    version: i64,
+) -> Result<Vec<Signature>, ReadFault>
+    ensures passes { PassesBy (D.state conn.old) (D.state conn.new) }
+    ensures same { HasCleanDisk (D.state conn.new) →
+        OnOk result (IsUnchanged (D.state conn.old) (D.state conn.new)) }
+    ensures signatures { IsReady (D.state conn.old) → HasCleanDisk (D.state conn.new) →
+        IfOk result
+        (λ made. made.items ≡ signatures_of (tables_of (D.state conn.old)) version) }
+{
+    let rows = signature_rows(conn, version)?;
+    signatures_of_rows(alloc, &rows)
+}

@@ -1,0 +1,78 @@
+//! Versions of a record, each by its own row.
+
+ghost use Rattle.std.specs.Prelude.{◌≡◌, map, IfOk, OnOk};
+ghost use Rattle.sqlite.specs.State.{HasCleanDisk, IsUnchanged};
+ghost use Rattle.lab_store_tables.specs.Ready.{IsReady, PassesBy, tables_of};
+ghost use Rattle.lab_store_read_records.specs.Heads.{versions_of};
+ghost use Rattle.lab_store_read_records.specs.Shown.{versions_shown, version_read};
+
+use crate::heads::VersionHead;
+use lab_store_columns::asking::rows_by_one;
+use lab_store_columns::cells::{id_of, moment_of, ordinal_of, small_of, text_if, text_of};
+use lab_store_columns::{ReadFault, Readable};
+use sqlite::{Error, Row};
+use std::alloc::Global;
+
+/// The versions of the record with the id, in the order of their numbers.
+fn version_rows<D: Readable>(conn: &mut D, kept: i64) -> Result<Vec<Row>, Error>
+    ensures passes { PassesBy (D.state conn.old) (D.state conn.new) }
+    ensures same { HasCleanDisk (D.state conn.new) →
+        OnOk result (IsUnchanged (D.state conn.old) (D.state conn.new)) }
+    ensures rows { IsReady (D.state conn.old) → HasCleanDisk (D.state conn.new) →
+        IfOk result
+        (λ rows. rows.items ≡ versions_shown (tables_of (D.state conn.old)) kept) }
+{
+    rows_by_one(
+        conn,
+        "SELECT versions.id, versions.number, versions.format, persons.code, versions.opened, versions.reason FROM versions, persons WHERE versions.record = ?1 AND persons.id = versions.opener ORDER BY versions.number",
+        kept,
+    )
+}
+
+/// The version that a row shows.
+fn version_of_row(alloc: Global, row: &Row) -> Result<VersionHead, ReadFault>
+    ensures { IfOk result (λ version. version ≡ version_read row.now) }
+{
+    let id = id_of(row, 0)?;
+    let number = ordinal_of(row, 1)?;
+    let format = small_of(row, 2)?;
+    let opened = moment_of(row, 4)?;
+    let opener = text_of(alloc, row, 3)?;
+    let reason = text_if(alloc, row, 5)?;
+    Ok(VersionHead {
+        id,
+        number,
+        format,
+        opener,
+        opened,
+        reason,
+    })
+}
+
+/// The versions that rows show.
+fn versions_of_rows(alloc: Global, rows: &[Row]) -> Result<Vec<VersionHead>, ReadFault>
+    ensures { IfOk result (λ made. made.items ≡ map version_read rows.now) }
+{
+    let mut made = Vec::new(alloc);
+    for row in rows {
+        made.push(version_of_row(alloc, row)?)?;
+    }
+    Ok(made)
+}
+
+/// The versions of the record with the id, in the order of their numbers.
+pub fn versions_at<D: Readable>(
+    alloc: Global,
+    conn: &mut D,
+    kept: i64,
+) -> Result<Vec<VersionHead>, ReadFault>
+    ensures passes { PassesBy (D.state conn.old) (D.state conn.new) }
+    ensures same { HasCleanDisk (D.state conn.new) →
+        OnOk result (IsUnchanged (D.state conn.old) (D.state conn.new)) }
+    ensures versions { IsReady (D.state conn.old) → HasCleanDisk (D.state conn.new) →
+        IfOk result
+        (λ made. made.items ≡ versions_of (tables_of (D.state conn.old)) kept) }
+{
+    let rows = version_rows(conn, kept)?;
+    versions_of_rows(alloc, &rows)
+}

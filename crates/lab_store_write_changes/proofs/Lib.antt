@@ -1,0 +1,6 @@
+pub mod AllRows
+pub mod KnownChanges
+pub mod KnownNewborns
+pub mod LabMore
+mod Positions
+mod Steps

@@ -1,0 +1,2 @@
+pub mod NewbornRows
+pub mod Newborns

@@ -1,0 +1,119 @@
+//! Each change inside a transaction, and one after the other.
+
+ghost use Rattle.std.specs.Prelude.{◌≡◌, OnOk, IsTrue};
+ghost use Rattle.sqlite.specs.Effect.{IsDatabase};
+ghost use Rattle.sqlite.specs.State.{HasCleanDisk, KeepsCommit, Survives};
+ghost use Rattle.lab_records_kept.specs.declared.changes.Change.TheVariants.{Last, Strays, SessionsClosed};
+ghost use Rattle.lab_store_tables.specs.Changes.{AppliesIn, InTurn};
+ghost use Rattle.lab_store_laws.specs.Steps.{AppliesWhereKept, StepsBy};
+ghost use Rattle.lab_store_write.specs.Calls.{IsInside, Makes, Steps};
+
+use lab_forms_texts::{Moment, PersonCode};
+use lab_records_kept::{Change, Closing};
+use lab_store_write::{RowId, Writable, add_told, set_last, set_strays};
+use lab_store_write_people::{add_person, add_session, close_sessions, set_person, set_session};
+use lab_store_write_records::{add_form, add_record, enter_row, open_version, sign_version};
+use sqlite::Error;
+
+/// Sets the last moment.
+fn change_last<W: Writable>(tx: &mut W, lab: RowId, moment: Moment) -> Result<(), Error>
+    requires inside { IsInside (W.state tx.old) }
+    ensures same_lender { W.lender tx.new ≡ W.lender tx.old }
+    ensures made { Makes result (AppliesIn lab.id (Last moment))
+        (W.state tx.old) (W.state tx.new) }
+    ensures kept { HasCleanDisk (W.state tx.new) → KeepsCommit
+        (W.state tx.old) (W.state tx.new) }
+    ensures survives { Survives
+        (W.state tx.old) (W.state tx.new) (λ _. ⊥) }
+{
+    set_last(tx, lab, moment)?;
+    Ok(())
+}
+
+/// Sets how many passwords were given for nobody's account.
+fn change_strays<W: Writable>(tx: &mut W, lab: RowId, count: u64) -> Result<(), Error>
+    requires inside { IsInside (W.state tx.old) }
+    ensures same_lender { W.lender tx.new ≡ W.lender tx.old }
+    ensures made { Makes result (AppliesIn lab.id (Strays count))
+        (W.state tx.old) (W.state tx.new) }
+    ensures kept { HasCleanDisk (W.state tx.new) → KeepsCommit
+        (W.state tx.old) (W.state tx.new) }
+    ensures survives { Survives
+        (W.state tx.old) (W.state tx.new) (λ _. ⊥) }
+{
+    set_strays(tx, lab, count)?;
+    Ok(())
+}
+
+/// Closes the sessions of the person that are meant.
+fn change_sessions<W: Writable>(
+    tx: &mut W,
+    lab: RowId,
+    person: &PersonCode,
+    closing: Closing,
+) -> Result<(), Error>
+    requires inside { IsInside (W.state tx.old) }
+    ensures same_lender { W.lender tx.new ≡ W.lender tx.old }
+    ensures made { Makes result (AppliesWhereKept lab.id (SessionsClosed person.now closing))
+        (W.state tx.old) (W.state tx.new) }
+    ensures kept { HasCleanDisk (W.state tx.new) → KeepsCommit
+        (W.state tx.old) (W.state tx.new) }
+    ensures survives { Survives
+        (W.state tx.old) (W.state tx.new) (λ _. ⊥) }
+{
+    close_sessions(tx, lab, person, closing)
+}
+
+/// Makes the change of the laboratory whose row has the id.
+fn change_rows<W: Writable>(tx: &mut W, lab: RowId, change: &Change) -> Result<(), Error>
+    requires inside { IsInside (W.state tx.old) }
+    ensures same_lender { W.lender tx.new ≡ W.lender tx.old }
+    ensures made { Makes result (AppliesWhereKept lab.id change.now)
+        (W.state tx.old) (W.state tx.new) }
+    ensures kept { HasCleanDisk (W.state tx.new) → KeepsCommit
+        (W.state tx.old) (W.state tx.new) }
+    ensures survives { Survives
+        (W.state tx.old) (W.state tx.new) (λ _. ⊥) }
+{
+    match change {
+        Change::Last(moment) => change_last(tx, lab, *moment),
+        Change::Strays(count) => change_strays(tx, lab, *count),
+        Change::PersonAdded(person) => add_person(tx, lab, person),
+        Change::PersonSet(person) => set_person(tx, lab, person),
+        Change::SessionAdded(session) => add_session(tx, lab, session),
+        Change::SessionSet(session) => set_session(tx, lab, session),
+        Change::SessionsClosed { person, closing } => change_sessions(tx, lab, person, *closing),
+        Change::FormAdded(form) => add_form(tx, lab, form),
+        Change::RecordAdded(kept) => add_record(tx, lab, kept),
+        Change::RowAdded { record, row } => enter_row(tx, lab, *record, row),
+        Change::VersionOpened { record, version } => open_version(tx, lab, *record, version),
+        Change::SignatureAdded {
+            record,
+            version,
+            signature,
+        } => sign_version(tx, lab, *record, *version, signature),
+        Change::TrailAdded(row) => add_told(tx, lab, row),
+    }
+}
+
+/// Makes the changes, one after the other.
+pub fn all_inside<W: Writable>(tx: &mut W, lab: RowId, changes: &[Change]) -> Result<(), Error>
+    requires inside { IsInside (W.state tx.old) }
+    ensures same_lender { W.lender tx.new ≡ W.lender tx.old }
+    ensures inside { HasCleanDisk (W.state tx.new) →
+        OnOk result (IsTrue (W.state tx.new).in_transaction) }
+    // In a database that keeps its own rules:
+    ensures made { HasCleanDisk (W.state tx.new) →
+        OnOk result (IsDatabase (W.state tx.old).now →
+        Steps (InTurn (StepsBy lab.id) changes.now)
+        (W.state tx.old) (W.state tx.new)) }
+    ensures kept { HasCleanDisk (W.state tx.new) → KeepsCommit
+        (W.state tx.old) (W.state tx.new) }
+    ensures survives { Survives
+        (W.state tx.old) (W.state tx.new) (λ _. ⊥) }
+{
+    for change in changes {
+        change_rows(tx, lab, change)?;
+    }
+    Ok(())
+}

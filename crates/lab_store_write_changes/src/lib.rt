@@ -1,0 +1,12 @@
+//! What is written inside one transaction: the changes of a request, one after the other, and the rows of
+//! a laboratory that is founded (21 CFR 11.10(e); ISO/IEC 17025:2017, 7.11.3). It names no connection
+//! and no transaction: who begins one, and commits it, stands above.
+#![tactic(auto)]
+
+mod changes;
+mod newborns;
+mod rows;
+
+pub use changes::all_inside;
+pub use newborns::{is_asked, laboratory};
+pub use rows::add_rows;

@@ -1,0 +1,9 @@
+pub mod Added
+pub mod ClosedAlike
+pub mod ClosingLemmas
+pub mod ClosingWrites
+pub mod KnownPersons
+pub mod KnownSessions
+pub mod PersonLemmas
+pub mod PersonWrites
+pub mod SessionWrites

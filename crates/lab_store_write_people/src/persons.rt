@@ -1,0 +1,187 @@
+//! Persons, with their accounts.
+
+ghost use Rattle.std.specs.Prelude.{◌≡◌, option_map};
+ghost use Rattle.sqlite.specs.State.{HasCleanDisk, KeepsCommit, Survives};
+ghost use Rattle.lab_store_tables.specs.Changes.{IsNamedIfAny, AddsPerson, SetsPerson, person_row_of, set_person as with_row};
+ghost use Rattle.lab_store_write.specs.Calls.{IsInside, Makes, Answers, Finds};
+ghost use Rattle.lab_store_write.specs.Ids.{row_id};
+ghost use Rattle.lab_store_write_people.specs.Persons.{asker_in, with_person};
+
+use crate::passwords::{
+    ask_cells, made_or_null, password_cells, roles_sum, rounds_or_null, salt_or_null,
+};
+use lab_people_access::{Ask, Person};
+use lab_store_write::statements::run;
+use lab_store_write::values::{
+    flag_value, id_or_null, id_value, moment_or_null, small_value, text_value,
+};
+use lab_store_write::{RowId, Writable, person_id_at};
+use sqlite::Error;
+
+/// Who asked for a one-time word, where somebody did.
+fn asker_if_any<W: Writable>(
+    tx: &mut W,
+    lab: RowId,
+    ask: &Option<Ask>,
+) -> Result<Option<RowId>, Error>
+    requires inside { IsInside (W.state tx.old) }
+    ensures same_lender { W.lender tx.new ≡ W.lender tx.old }
+    ensures found { Answers result (λ one. Finds (λ t.
+        IsNamedIfAny t lab.id (option_map asker_in ask.now) (option_map row_id one)))
+        (W.state tx.old) (W.state tx.new) }
+    ensures kept { HasCleanDisk (W.state tx.new) → KeepsCommit
+        (W.state tx.old) (W.state tx.new) }
+    ensures survives { Survives
+        (W.state tx.old) (W.state tx.new) (λ _. ⊥) }
+{
+    match ask {
+        Some(ask) => {
+            let asker = person_id_at(tx, lab, &ask.asker)?;
+            Ok(Some(asker))
+        }
+        None => Ok(None),
+    }
+}
+
+/// Adds the row.
+fn insert_person<W: Writable>(
+    tx: &mut W,
+    lab: RowId,
+    asker: Option<RowId>,
+    person: &Person,
+) -> Result<usize, Error>
+    requires inside { IsInside (W.state tx.old) }
+    ensures same_lender { W.lender tx.new ≡ W.lender tx.old }
+    ensures made { Makes result (λ before after. after
+        ≡ with_person lab.id (option_map row_id asker) person.now before)
+        (W.state tx.old) (W.state tx.new) }
+    ensures kept { HasCleanDisk (W.state tx.new) → KeepsCommit
+        (W.state tx.old) (W.state tx.new) }
+    ensures survives { Survives
+        (W.state tx.old) (W.state tx.new) (λ _. ⊥) }
+{
+    let code = person.code.as_str();
+    let name = person.name.as_str();
+    let roles = roles_sum(person.roles);
+    let password = password_cells(&person.password);
+    let ask = ask_cells(asker, &person.ask);
+    let changed = password.changed;
+    let asked = ask.asked;
+    run(
+        tx,
+        "INSERT INTO persons (lab, code, name, roles, retired, failures, locked, kind, salt, rounds, bytes, salt2, rounds2, bytes2, changed, asker, asked, ask_salt, ask_rounds, ask_bytes) VALUES (?1, ?2, ?3, ?4, ?5, ?6, ?7, ?8, ?9, ?10, ?11, ?12, ?13, ?14, ?15, ?16, ?17, ?18, ?19, ?20)",
+        &[
+            id_value(lab),
+            text_value(code),
+            text_value(name),
+            small_value(roles),
+            flag_value(person.retired),
+            small_value(person.failures),
+            moment_or_null(person.locked),
+            small_value(password.kind),
+            salt_or_null(&password.first),
+            rounds_or_null(&password.first),
+            made_or_null(&password.first),
+            salt_or_null(&password.second),
+            rounds_or_null(&password.second),
+            made_or_null(&password.second),
+            moment_or_null(changed),
+            id_or_null(ask.asker),
+            moment_or_null(asked),
+            salt_or_null(&ask.first),
+            rounds_or_null(&ask.first),
+            made_or_null(&ask.first),
+        ],
+    )
+}
+
+/// Adds a person.
+///
+/// Errors: also that nobody has the code of who asked for a one-time word.
+pub fn add_person<W: Writable>(tx: &mut W, lab: RowId, person: &Person) -> Result<(), Error>
+    requires inside { IsInside (W.state tx.old) }
+    ensures same_lender { W.lender tx.new ≡ W.lender tx.old }
+    ensures made { Makes result (AddsPerson lab.id person.now)
+        (W.state tx.old) (W.state tx.new) }
+    ensures kept { HasCleanDisk (W.state tx.new) → KeepsCommit
+        (W.state tx.old) (W.state tx.new) }
+    ensures survives { Survives
+        (W.state tx.old) (W.state tx.new) (λ _. ⊥) }
+{
+    let asker = asker_if_any(tx, lab, &person.ask)?;
+    insert_person(tx, lab, asker, person)?;
+    Ok(())
+}
+
+/// Sets the row.
+fn update_person<W: Writable>(
+    tx: &mut W,
+    id: RowId,
+    lab: RowId,
+    asker: Option<RowId>,
+    person: &Person,
+) -> Result<usize, Error>
+    requires inside { IsInside (W.state tx.old) }
+    ensures same_lender { W.lender tx.new ≡ W.lender tx.old }
+    ensures made { Makes result (λ before after. after
+        ≡ with_row (person_row_of lab.id id.id (option_map row_id asker) person.now) before)
+        (W.state tx.old) (W.state tx.new) }
+    ensures kept { HasCleanDisk (W.state tx.new) → KeepsCommit
+        (W.state tx.old) (W.state tx.new) }
+    ensures survives { Survives
+        (W.state tx.old) (W.state tx.new) (λ _. ⊥) }
+{
+    let code = person.code.as_str();
+    let name = person.name.as_str();
+    let roles = roles_sum(person.roles);
+    let password = password_cells(&person.password);
+    let ask = ask_cells(asker, &person.ask);
+    let changed = password.changed;
+    let asked = ask.asked;
+    run(
+        tx,
+        "UPDATE persons SET lab = ?2, code = ?3, name = ?4, roles = ?5, retired = ?6, failures = ?7, locked = ?8, kind = ?9, salt = ?10, rounds = ?11, bytes = ?12, salt2 = ?13, rounds2 = ?14, bytes2 = ?15, changed = ?16, asker = ?17, asked = ?18, ask_salt = ?19, ask_rounds = ?20, ask_bytes = ?21 WHERE id = ?1",
+        &[
+            id_value(id),
+            id_value(lab),
+            text_value(code),
+            text_value(name),
+            small_value(roles),
+            flag_value(person.retired),
+            small_value(person.failures),
+            moment_or_null(person.locked),
+            small_value(password.kind),
+            salt_or_null(&password.first),
+            rounds_or_null(&password.first),
+            made_or_null(&password.first),
+            salt_or_null(&password.second),
+            rounds_or_null(&password.second),
+            made_or_null(&password.second),
+            moment_or_null(changed),
+            id_or_null(ask.asker),
+            moment_or_null(asked),
+            salt_or_null(&ask.first),
+            rounds_or_null(&ask.first),
+            made_or_null(&ask.first),
+        ],
+    )
+}
+
+/// Sets a person, whom the code names.
+///
+/// Errors: also that nobody has that code, or that of who asked for a one-time word.
+pub fn set_person<W: Writable>(tx: &mut W, lab: RowId, person: &Person) -> Result<(), Error>
+    requires inside { IsInside (W.state tx.old) }
+    ensures same_lender { W.lender tx.new ≡ W.lender tx.old }
+    ensures made { Makes result (SetsPerson lab.id person.now)
+        (W.state tx.old) (W.state tx.new) }
+    ensures kept { HasCleanDisk (W.state tx.new) → KeepsCommit
+        (W.state tx.old) (W.state tx.new) }
+    ensures survives { Survives
+        (W.state tx.old) (W.state tx.new) (λ _. ⊥) }
+{
+    let id = person_id_at(tx, lab, &person.code)?;
+    let asker = asker_if_any(tx, lab, &person.ask)?;
+    update_person(tx, id, lab, asker, person)?;
+    Ok(())
+}

@@ -1,0 +1,142 @@
+//! Sessions.
+
+ghost use Rattle.std.specs.Prelude.{◌≡◌};
+ghost use Rattle.sqlite.specs.State.{HasCleanDisk, KeepsCommit, Survives};
+ghost use Rattle.lab_store_tables.specs.Rows.{LabRow};
+ghost use Rattle.lab_store_tables.specs.Changes.{in_lab, AddsSession, SetsSession, set_session as with_row, session_row_of};
+ghost use Rattle.lab_store_write.specs.Calls.{IsInside, Makes};
+ghost use Rattle.lab_store_write_people.specs.Added.{with_session};
+
+use lab_forms_texts::Ordinal;
+use lab_people_access::Session;
+use lab_store_write::statements::run;
+use lab_store_write::values::{blob_value, flag_value, id_value, moment_value, ordinal_value};
+use lab_store_write::{RowId, Writable, person_id_at, session_id_at};
+use sqlite::Error;
+
+/// Adds the row.
+fn insert_session<W: Writable>(
+    tx: &mut W,
+    lab: RowId,
+    person: RowId,
+    session: &Session,
+) -> Result<usize, Error>
+    requires inside { IsInside (W.state tx.old) }
+    ensures same_lender { W.lender tx.new ≡ W.lender tx.old }
+    ensures made { Makes result (λ before after. after
+        ≡ with_session lab.id person.id session.now before)
+        (W.state tx.old) (W.state tx.new) }
+    ensures kept { HasCleanDisk (W.state tx.new) → KeepsCommit
+        (W.state tx.old) (W.state tx.new) }
+    ensures survives { Survives
+        (W.state tx.old) (W.state tx.new) (λ _. ⊥) }
+{
+    let token = session.token.bytes();
+    run(
+        tx,
+        "INSERT INTO sessions (lab, person, number, token, opened, last, closed, signed) VALUES (?1, ?2, ?3, ?4, ?5, ?6, ?7, ?8)",
+        &[
+            id_value(lab),
+            id_value(person),
+            ordinal_value(session.number),
+            blob_value(&token),
+            moment_value(session.opened),
+            moment_value(session.last),
+            flag_value(session.closed),
+            flag_value(session.signed),
+        ],
+    )
+}
+
+/// Sets how many sessions the laboratory has.
+fn set_sessions<W: Writable>(tx: &mut W, lab: RowId, count: Ordinal) -> Result<usize, Error>
+    requires inside { IsInside (W.state tx.old) }
+    ensures same_lender { W.lender tx.new ≡ W.lender tx.old }
+    ensures made { Makes result (λ before after. after
+        ≡ in_lab lab.id (λ (one : LabRow). record one { sessions = count }) before)
+        (W.state tx.old) (W.state tx.new) }
+    ensures kept { HasCleanDisk (W.state tx.new) → KeepsCommit
+        (W.state tx.old) (W.state tx.new) }
+    ensures survives { Survives
+        (W.state tx.old) (W.state tx.new) (λ _. ⊥) }
+{
+    run(
+        tx,
+        "UPDATE labs SET sessions = ?2 WHERE id = ?1",
+        &[id_value(lab), ordinal_value(count)],
+    )
+}
+
+/// Adds a session.
+///
+/// Errors: also that nobody has the code of its person.
+pub fn add_session<W: Writable>(tx: &mut W, lab: RowId, session: &Session) -> Result<(), Error>
+    requires inside { IsInside (W.state tx.old) }
+    ensures same_lender { W.lender tx.new ≡ W.lender tx.old }
+    ensures made { Makes result (AddsSession lab.id session.now)
+        (W.state tx.old) (W.state tx.new) }
+    ensures kept { HasCleanDisk (W.state tx.new) → KeepsCommit
+        (W.state tx.old) (W.state tx.new) }
+    ensures survives { Survives
+        (W.state tx.old) (W.state tx.new) (λ _. ⊥) }
+{
+    let person = person_id_at(tx, lab, &session.person)?;
+    insert_session(tx, lab, person, session)?;
+    set_sessions(tx, lab, session.number)?;
+    Ok(())
+}
+
+/// Sets the row.
+fn update_session<W: Writable>(
+    tx: &mut W,
+    id: RowId,
+    lab: RowId,
+    person: RowId,
+    session: &Session,
+) -> Result<usize, Error>
+    requires inside { IsInside (W.state tx.old) }
+    ensures same_lender { W.lender tx.new ≡ W.lender tx.old }
+    ensures made { Makes result (λ before after. after
+        ≡ with_row (session_row_of lab.id id.id person.id session.now) before)
+        (W.state tx.old) (W.state tx.new) }
+    ensures kept { HasCleanDisk (W.state tx.new) → KeepsCommit
+        (W.state tx.old) (W.state tx.new) }
+    ensures survives { Survives
+        (W.state tx.old) (W.state tx.new) (λ _. ⊥) }
+{
+    let token = session.token.bytes();
+    run(
+        tx,
+        "UPDATE sessions SET lab = ?2, person = ?3, number = ?4, token = ?5, opened = ?6, last = ?7, closed = ?8, signed = ?9 WHERE id = ?1",
+        &[
+            id_value(id),
+            id_value(lab),
+            id_value(person),
+            ordinal_value(session.number),
+            blob_value(&token),
+            moment_value(session.opened),
+            moment_value(session.last),
+            flag_value(session.closed),
+            flag_value(session.signed),
+        ],
+    )
+}
+
+/// Sets a session, which its token names.
+///
+/// Errors: also that no session has the token, or nobody the code of its person.
+pub fn set_session<W: Writable>(tx: &mut W, lab: RowId, session: &Session) -> Result<(), Error>
+    requires inside { IsInside (W.state tx.old) }
+    ensures same_lender { W.lender tx.new ≡ W.lender tx.old }
+    ensures made { Makes result (SetsSession lab.id session.now)
+        (W.state tx.old) (W.state tx.new) }
+    ensures kept { HasCleanDisk (W.state tx.new) → KeepsCommit
+        (W.state tx.old) (W.state tx.new) }
+    ensures survives { Survives
+        (W.state tx.old) (W.state tx.new) (λ _. ⊥) }
+{
+    let id = session_id_at(tx, lab, &session.token)?;
+    let person = person_id_at(tx, lab, &session.person)?;
+    update_session(tx, id, lab, person, session)?;
+    Ok(())
+}

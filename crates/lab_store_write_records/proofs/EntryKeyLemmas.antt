@@ -1,0 +1,157 @@
+-- Rows that are named by their keys, or by their parents: what each look-up means, and what it finds.
+use Rattle.std.proofs.Common.{◌≡◌, ℕ, ℤ, ◌+◌, ◌&&◌, List, [], ◌∷◌, map, filter, length, codes, slice_get, Some, option_map, refl, sym, ap, ap₂, ◌∙◌}
+use Rattle.std.proofs.lemmas.List.{length-map}
+use Rattle.sqlite_value.specs.declared.value.Value.TheVariants.{Int}
+use Rattle.sqlite_value.specs.Order.{Row}
+use Rattle.sqlite_keyed.proofs.ListLemmas.{slice_get-filter}
+use Rattle.sqlite_sql.specs.Program.{overlay}
+use Rattle.sqlite_sql.specs.Term.{Term, col}
+use Rattle.sqlite_tied.specs.Compute.{everything}
+use Rattle.sqlite.specs.Listing.{understood}
+use Rattle.sqlite.specs.State.{State, Shown}
+use Rattle.lab_store_tables.specs.Rows.{RecordRow, VersionRow, EntryRow, SignatureRow, Tables, tables_in, record_row, record_id, version_row, version_id, entry_row, entry_id, signature_row, signature_id, number}
+use Rattle.lab_store_tables.specs.Changes.{is_record_row, record_named, is_version_row, version_named}
+use Rattle.lab_store_tables.specs.Held.{IsTyped}
+use Rattle.lab_store_columns.proofs.Texts.{Means, is_param}
+use Rattle.lab_store_columns.proofs.Sorted.{equal_ints, equal_numbers, and_true}
+use Rattle.lab_store_write.specs.Calls.{Steps, Finds}
+use Rattle.lab_store_write.specs.Ids.{id_read}
+use Rattle.lab_store_write.proofs.Inside.{steps_weaker}
+use Rattle.lab_store_write.proofs.Lookups.{by_key_query, rows_by_key, first_key}
+use Rattle.lab_store_write_records.specs.VersionsShown.{records_shown, versions_shown, is_entry_of, is_signature_of, entries_shown, signatures_shown, record_read, record_pair}
+
+-- ---- a record, with its current version
+
+abbrev pub record_text : List ℕ
+record_text = codes "SELECT id, current FROM records WHERE lab = ?1 AND number = ?2 ORDER BY id"
+
+abbrev record_tests : List Term
+record_tests = is_param 2 0 ∷ is_param 3 1 ∷ []
+
+pub record_means : Means record_text (by_key_query 15 record_tests (col 1 0 ∷ col 1 7 ∷ [])) (codes "id" ∷ codes "current" ∷ [])
+unfolding understood everything
+record_means = record { read = (_, refl); command = refl; unlisted = refl; plain = (refl, refl) }
+
+pub records_read : (old new : State) (lab : ℤ) (wanted : ℕ) (rows : List Row) → IsTyped old.now
+    → Shown record_text (Int lab ∷ number wanted ∷ []) old new rows → rows ≡ records_shown lab wanted (tables_in old.now.trees)
+records_read old new lab wanted rows typed h =
+    let t = tables_in old.now.trees in
+    rows_by_key 15 record_id record_row (λ _. refl) t.records (overlay old.now.trees []) typed.records typed.rising.records
+    record_text record_tests (col 1 0 ∷ col 1 7 ∷ []) (codes "id" ∷ codes "current" ∷ []) record_means
+    (Int lab ∷ number wanted ∷ []) (is_record_row lab wanted) (λ (one : RecordRow). Int one.id ∷ number one.current ∷ [])
+    (λ x. ap₂ ◌&&◌ (equal_ints x.lab lab) (and_true _ ∙ equal_numbers x.number wanted)) (λ x. refl)
+    old new typed.schema refl rows h
+
+first_record : (lab : ℤ) (wanted : ℕ) (t : Tables)
+    → option_map record_read (slice_get (records_shown lab wanted t) 0) ≡ option_map record_pair (record_named t lab wanted)
+first_record lab wanted t = go (filter (is_record_row lab wanted) t.records)
+    ∙ ap (option_map record_pair) (slice_get-filter (is_record_row lab wanted) t.records)
+  where
+    go : (found : List RecordRow) → option_map record_read (slice_get (map (λ (one : RecordRow). Int one.id ∷ number one.current ∷ []) found) 0)
+        ≡ option_map record_pair (slice_get found 0)
+    go [] = refl
+    go (one ∷ more) = refl
+
+pub record_found : (lab : ℤ) (given wanted : ℕ) (shown rows : List Row) (pair : ℤ × ℕ) (old new : State) → given ≡ wanted → shown ≡ rows
+    → Steps (Finds (λ t. rows ≡ records_shown lab given t)) old new
+    → option_map record_read (slice_get shown 0) ≡ Some pair → Steps (Finds (λ t. option_map record_pair (record_named t lab wanted) ≡ Some pair)) old new
+record_found lab given wanted shown rows pair old new same slice it first =
+    steps_weaker (Finds (λ t. rows ≡ records_shown lab given t)) (Finds (λ t. option_map record_pair (record_named t lab wanted) ≡ Some pair)) old new
+    (λ before after found. (
+      ap (λ (n : ℕ). option_map record_pair (record_named before lab n)) (sym same) ∙ sym (first_record lab given before)
+          ∙ ap (λ (l : List Row). option_map record_read (slice_get l 0)) (sym (slice ∙ found.0)) ∙ first,
+      found.1,
+    ))
+    it
+
+-- ---- a version of a record
+
+abbrev pub version_text : List ℕ
+version_text = codes "SELECT id FROM versions WHERE record = ?1 AND number = ?2 ORDER BY id"
+
+abbrev version_tests : List Term
+version_tests = is_param 2 0 ∷ is_param 3 1 ∷ []
+
+pub version_means : Means version_text (by_key_query 18 version_tests (col 1 0 ∷ [])) (codes "id" ∷ [])
+unfolding understood everything
+version_means = record { read = (_, refl); command = refl; unlisted = refl; plain = (refl, refl) }
+
+pub versions_read : (old new : State) (kept : ℤ) (wanted : ℕ) (rows : List Row) → IsTyped old.now
+    → Shown version_text (Int kept ∷ number wanted ∷ []) old new rows → rows ≡ versions_shown kept wanted (tables_in old.now.trees)
+versions_read old new kept wanted rows typed h =
+    let t = tables_in old.now.trees in
+    rows_by_key 18 version_id version_row (λ _. refl) t.versions (overlay old.now.trees []) typed.versions typed.rising.versions
+    version_text version_tests (col 1 0 ∷ []) (codes "id" ∷ []) version_means
+    (Int kept ∷ number wanted ∷ []) (is_version_row kept wanted) (λ (one : VersionRow). Int one.id ∷ [])
+    (λ x. ap₂ ◌&&◌ (equal_ints x.kept kept) (and_true _ ∙ equal_numbers x.number wanted)) (λ x. refl)
+    old new typed.schema refl rows h
+
+pub version_found : (kept : ℤ) (given wanted : ℕ) (shown rows : List Row) (id : ℤ) (old new : State) → given ≡ wanted → shown ≡ rows
+    → Steps (Finds (λ t. rows ≡ versions_shown kept given t)) old new
+    → option_map id_read (slice_get shown 0) ≡ Some id → Steps (Finds (λ t. version_named t kept wanted ≡ Some id)) old new
+version_found kept given wanted shown rows id old new same slice it first =
+    steps_weaker (Finds (λ t. rows ≡ versions_shown kept given t)) (Finds (λ t. version_named t kept wanted ≡ Some id)) old new
+    (λ before after found. (
+      ap (λ (n : ℕ). version_named before kept n) (sym same) ∙ sym (first_key version_id (is_version_row kept given) before.versions)
+          ∙ ap (λ (l : List Row). option_map id_read (slice_get l 0)) (sym (slice ∙ found.0)) ∙ first,
+      found.1,
+    ))
+    it
+
+-- ---- the place behind the entries of one parent
+
+abbrev pub entries_text : List ℕ
+entries_text = codes "SELECT id FROM entries WHERE version = ?1 ORDER BY id"
+
+pub entries_means : Means entries_text (by_key_query 20 (is_param 2 0 ∷ []) (col 1 0 ∷ [])) (codes "id" ∷ [])
+unfolding understood everything
+entries_means = record { read = (_, refl); command = refl; unlisted = refl; plain = (refl, refl) }
+
+pub entries_read : (old new : State) (parent : ℤ) (rows : List Row) → IsTyped old.now → Shown entries_text (Int parent ∷ []) old new rows
+    → rows ≡ entries_shown parent (tables_in old.now.trees)
+entries_read old new parent rows typed h =
+    let t = tables_in old.now.trees in
+    rows_by_key 20 entry_id entry_row (λ _. refl) t.entries (overlay old.now.trees []) typed.entries typed.rising.entries
+    entries_text (is_param 2 0 ∷ []) (col 1 0 ∷ []) (codes "id" ∷ []) entries_means
+    (Int parent ∷ []) (is_entry_of parent) (λ (one : EntryRow). Int one.id ∷ []) (λ x. and_true _ ∙ equal_ints x.version parent)
+    (λ x. refl) old new typed.schema refl rows h
+
+pub entries_counted : (parent : ℤ) (count place : ℕ) (rows : List Row) (old new : State) → count ≡ length rows → place ≡ count + 1
+    → Steps (Finds (λ t. rows ≡ entries_shown parent t)) old new
+    → Steps (Finds (λ t. place ≡ length (filter (is_entry_of parent) t.entries) + 1)) old new
+entries_counted parent count place rows old new same next it =
+    steps_weaker (Finds (λ t. rows ≡ entries_shown parent t)) (Finds (λ t. place ≡ length (filter (is_entry_of parent) t.entries) + 1)) old new
+    (λ before after found. (
+      next ∙ ap (λ (n : ℕ). n + 1)
+          (same ∙ ap length found.0 ∙ length-map (filter (is_entry_of parent) before.entries) (λ (one : EntryRow). Int one.id ∷ [])),
+      found.1,
+    )) it
+
+-- ---- the place behind the signatures of one parent
+
+abbrev pub signatures_text : List ℕ
+signatures_text = codes "SELECT id FROM signatures WHERE version = ?1 ORDER BY id"
+
+pub signatures_means : Means signatures_text (by_key_query 22 (is_param 2 0 ∷ []) (col 1 0 ∷ [])) (codes "id" ∷ [])
+unfolding understood everything
+signatures_means = record { read = (_, refl); command = refl; unlisted = refl; plain = (refl, refl) }
+
+pub signatures_read : (old new : State) (parent : ℤ) (rows : List Row) → IsTyped old.now → Shown signatures_text (Int parent ∷ []) old new rows
+    → rows ≡ signatures_shown parent (tables_in old.now.trees)
+signatures_read old new parent rows typed h =
+    let t = tables_in old.now.trees in
+    rows_by_key 22 signature_id signature_row (λ _. refl) t.signatures (overlay old.now.trees []) typed.signatures typed.rising.signatures
+    signatures_text (is_param 2 0 ∷ []) (col 1 0 ∷ []) (codes "id" ∷ []) signatures_means
+    (Int parent ∷ []) (is_signature_of parent) (λ (one : SignatureRow). Int one.id ∷ []) (λ x. and_true _ ∙ equal_ints x.version parent)
+    (λ x. refl) old new typed.schema refl rows h
+
+pub signatures_counted : (parent : ℤ) (count place : ℕ) (rows : List Row) (old new : State) → count ≡ length rows → place ≡ count + 1
+    → Steps (Finds (λ t. rows ≡ signatures_shown parent t)) old new
+    → Steps (Finds (λ t. place ≡ length (filter (is_signature_of parent) t.signatures) + 1)) old new
+signatures_counted parent count place rows old new same next it =
+    steps_weaker (Finds (λ t. rows ≡ signatures_shown parent t)) (Finds (λ t. place ≡ length (filter (is_signature_of parent) t.signatures) + 1)) old new
+    (λ before after found. (
+      next ∙ ap (λ (n : ℕ). n + 1)
+          (same ∙ ap length found.0 ∙ length-map (filter (is_signature_of parent) before.signatures) (λ (one : SignatureRow). Int one.id ∷ [])),
+      found.1,
+    )) it

@@ -1,0 +1,76 @@
+-- Rows that are named by their parents: what each look-up means, and what it finds.
+use Rattle.std.proofs.Common.{◌≡◌, ℕ, ℤ, ◌+◌, List, [], ◌∷◌, filter, length, codes, refl, ap, ◌∙◌}
+use Rattle.std.proofs.lemmas.List.{length-map}
+use Rattle.sqlite_value.specs.declared.value.Value.TheVariants.{Int}
+use Rattle.sqlite_value.specs.Order.{Row}
+use Rattle.sqlite_sql.specs.Program.{overlay}
+use Rattle.sqlite_sql.specs.Term.{col}
+use Rattle.sqlite_tied.specs.Compute.{everything}
+use Rattle.sqlite.specs.Listing.{understood}
+use Rattle.sqlite.specs.State.{State, Shown}
+use Rattle.lab_store_tables.specs.Rows.{FieldRow, ChoiceRow, tables_in, field_row, field_id, choice_row, choice_id}
+use Rattle.lab_store_tables.specs.Held.{IsTyped}
+use Rattle.lab_store_columns.proofs.Texts.{Means, is_param}
+use Rattle.lab_store_columns.proofs.Sorted.{equal_ints, and_true}
+use Rattle.lab_store_write.specs.Calls.{Steps, Finds}
+use Rattle.lab_store_write.proofs.Inside.{steps_weaker}
+use Rattle.lab_store_write.proofs.Lookups.{by_key_query, rows_by_key}
+use Rattle.lab_store_write_records.specs.FieldsShown.{is_field_of, is_choice_of, fields_shown, choices_shown}
+
+-- ---- the place behind the fields of one parent
+
+abbrev pub fields_text : List ℕ
+fields_text = codes "SELECT id FROM fields WHERE form = ?1 ORDER BY id"
+
+pub fields_means : Means fields_text (by_key_query 10 (is_param 2 0 ∷ []) (col 1 0 ∷ [])) (codes "id" ∷ [])
+unfolding understood everything
+fields_means = record { read = (_, refl); command = refl; unlisted = refl; plain = (refl, refl) }
+
+pub fields_read : (old new : State) (parent : ℤ) (rows : List Row) → IsTyped old.now → Shown fields_text (Int parent ∷ []) old new rows
+    → rows ≡ fields_shown parent (tables_in old.now.trees)
+fields_read old new parent rows typed h =
+    let t = tables_in old.now.trees in
+    rows_by_key 10 field_id field_row (λ _. refl) t.fields (overlay old.now.trees []) typed.fields typed.rising.fields
+    fields_text (is_param 2 0 ∷ []) (col 1 0 ∷ []) (codes "id" ∷ []) fields_means
+    (Int parent ∷ []) (is_field_of parent) (λ (one : FieldRow). Int one.id ∷ []) (λ x. and_true _ ∙ equal_ints x.form parent)
+    (λ x. refl) old new typed.schema refl rows h
+
+pub fields_counted : (parent : ℤ) (count place : ℕ) (rows : List Row) (old new : State) → count ≡ length rows → place ≡ count + 1
+    → Steps (Finds (λ t. rows ≡ fields_shown parent t)) old new
+    → Steps (Finds (λ t. place ≡ length (filter (is_field_of parent) t.fields) + 1)) old new
+fields_counted parent count place rows old new same next it =
+    steps_weaker (Finds (λ t. rows ≡ fields_shown parent t)) (Finds (λ t. place ≡ length (filter (is_field_of parent) t.fields) + 1)) old new
+    (λ before after found. (
+      next ∙ ap (λ (n : ℕ). n + 1)
+          (same ∙ ap length found.0 ∙ length-map (filter (is_field_of parent) before.fields) (λ (one : FieldRow). Int one.id ∷ [])),
+      found.1,
+    )) it
+
+-- ---- the place behind the choices of one parent
+
+abbrev pub choices_text : List ℕ
+choices_text = codes "SELECT id FROM choices WHERE field = ?1 ORDER BY id"
+
+pub choices_means : Means choices_text (by_key_query 13 (is_param 2 0 ∷ []) (col 1 0 ∷ [])) (codes "id" ∷ [])
+unfolding understood everything
+choices_means = record { read = (_, refl); command = refl; unlisted = refl; plain = (refl, refl) }
+
+pub choices_read : (old new : State) (parent : ℤ) (rows : List Row) → IsTyped old.now → Shown choices_text (Int parent ∷ []) old new rows
+    → rows ≡ choices_shown parent (tables_in old.now.trees)
+choices_read old new parent rows typed h =
+    let t = tables_in old.now.trees in
+    rows_by_key 13 choice_id choice_row (λ _. refl) t.choices (overlay old.now.trees []) typed.choices typed.rising.choices
+    choices_text (is_param 2 0 ∷ []) (col 1 0 ∷ []) (codes "id" ∷ []) choices_means
+    (Int parent ∷ []) (is_choice_of parent) (λ (one : ChoiceRow). Int one.id ∷ []) (λ x. and_true _ ∙ equal_ints x.field parent)
+    (λ x. refl) old new typed.schema refl rows h
+
+pub choices_counted : (parent : ℤ) (count place : ℕ) (rows : List Row) (old new : State) → count ≡ length rows → place ≡ count + 1
+    → Steps (Finds (λ t. rows ≡ choices_shown parent t)) old new
+    → Steps (Finds (λ t. place ≡ length (filter (is_choice_of parent) t.choices) + 1)) old new
+choices_counted parent count place rows old new same next it =
+    steps_weaker (Finds (λ t. rows ≡ choices_shown parent t)) (Finds (λ t. place ≡ length (filter (is_choice_of parent) t.choices) + 1)) old new
+    (λ before after found. (
+      next ∙ ap (λ (n : ℕ). n + 1)
+          (same ∙ ap length found.0 ∙ length-map (filter (is_choice_of parent) before.choices) (λ (one : ChoiceRow). Int one.id ∷ [])),
+      found.1,
+    )) it

@@ -1,0 +1,12 @@
+pub mod Added
+pub mod EntryKeyLemmas
+pub mod EntryWrites
+pub mod FormKeyLemmas
+pub mod FormWrites
+pub mod FormsInTurn
+pub mod KnownEntries
+pub mod KnownForms
+pub mod KnownRecords
+pub mod RecordKeyLemmas
+pub mod RecordWrites
+pub mod RecordsInTurn

@@ -1,0 +1,94 @@
+-- Steps of several calls that add rows in turn: versions and records.
+use Rattle.std.proofs.Common.{◌≡◌, ℕ, ℤ, Some, option_map, sym, ap, subst, ◌∙◌}
+use Rattle.sqlite_keyed.specs.Keyed.{next_key}
+use Rattle.sqlite_keyed.proofs.KeyedLemmas.{next_key_is_free}
+use Rattle.sqlite.specs.State.{State}
+use Rattle.lab_records_kept.specs.declared.records.Record.{Record}
+use Rattle.lab_records_kept.specs.declared.records.Version.{Version}
+use Rattle.lab_store_tables.specs.Rows.{LabRow, Tables, record_id, version_id}
+use Rattle.lab_store_tables.specs.Changes.{in_lab, person_named, form_named, record_named, InTurn, IsFree, put_record, record_row_of, put_version, version_row_of, set_current, AddsEntry, AddsSignature, AddsVersion, AddsRecord, OpensVersion}
+use Rattle.lab_store_tables.specs.Ready.{tables_of}
+use Rattle.lab_store_write.specs.Calls.{Steps, Finds}
+use Rattle.lab_store_write_records.specs.VersionsShown.{record_pair}
+use Rattle.lab_store_write_records.specs.RecordsAdded.{with_record, with_version}
+use Rattle.lab_store_write_records.proofs.Added.{pair_of}
+
+pub version_added : (lab kept : ℤ) (version : Version) (opener id : ℤ) (a b c d e : State)
+    → Steps (Finds (λ t. person_named t lab version.opener ≡ Some opener)) a b
+    → Steps (λ before after. (id ≡ next_key version_id before.versions) × (after ≡ with_version kept opener version before)) b c
+    → Steps (InTurn (AddsEntry lab id) version.rows) c d → Steps (InTurn (AddsSignature lab id) version.signatures) d e
+    → Steps (AddsVersion lab kept version) a e
+version_added lab kept version opener id a b c d e p q r s = record {
+  inside = s.inside;
+  made = λ typed.
+      let one = p.made typed in
+      let two = q.made one.0 in
+      let three = r.made two.0 in
+      let four = s.made three.0 in
+      let t = tables_of a in
+      let is : id ≡ next_key version_id t.versions = two.1.0 ∙ ap (λ (x : Tables). next_key version_id x.versions) one.1.1 in
+      let put : tables_of c ≡ put_version (version_row_of kept id opener version) t =
+      two.1.1 ∙ ap (with_version kept opener version) one.1.1 ∙ ap (λ (i : ℤ). put_version (version_row_of kept i opener version) t) (sym is) in
+      let added : AddsVersion lab kept version (tables_of a) (tables_of e) = record {
+        id = id;
+        free = subst (IsFree version_id t.versions) (sym is) (next_key_is_free version_id t.versions typed.rising.versions);
+        opener = opener;
+        named = one.1.0;
+        entered = tables_of d;
+        rows = subst (λ (x : Tables). InTurn (AddsEntry lab id) version.rows x (tables_of d)) put three.1;
+        signatures = four.1;
+      } in
+      (four.0, added);
+  sound = λ typed rules. let one = p.made typed in let two = q.made one.0 in s.sound (r.made two.0).0 (r.sound two.0 (q.sound one.0 (p.sound typed rules)));
+}
+
+pub record_added : (lab : ℤ) (kept : Record) (form id : ℤ) (a b c d e : State)
+    → Steps (Finds (λ t. form_named t lab kept.form.code kept.form.version ≡ Some form)) a b
+    → Steps (λ before after. (id ≡ next_key record_id before.records) × (after ≡ with_record lab form kept before)) b c
+    → Steps (λ before after. after ≡ in_lab lab (λ (one : LabRow). record one { records = kept.number }) before) c d
+    → Steps (InTurn (AddsVersion lab id) kept.versions) d e → Steps (AddsRecord lab kept) a e
+record_added lab kept form id a b c d e p q r s = record {
+  inside = s.inside;
+  made = λ typed.
+      let one = p.made typed in
+      let two = q.made one.0 in
+      let three = r.made two.0 in
+      let four = s.made three.0 in
+      let t = tables_of a in
+      let counted = in_lab lab (λ (row : LabRow). record row { records = kept.number }) in
+      let is : id ≡ next_key record_id t.records = two.1.0 ∙ ap (λ (x : Tables). next_key record_id x.records) one.1.1 in
+      let put : tables_of d ≡ counted (put_record (record_row_of lab id form kept) t) =
+      three.1 ∙ ap counted (two.1.1 ∙ ap (with_record lab form kept) one.1.1 ∙ ap (λ (i : ℤ). put_record (record_row_of lab i form kept) t) (sym is)) in
+      let added : AddsRecord lab kept (tables_of a) (tables_of e) = record {
+        id = id;
+        free = subst (IsFree record_id t.records) (sym is) (next_key_is_free record_id t.records typed.rising.records);
+        form = form;
+        named = one.1.0;
+        versions = subst (λ (x : Tables). InTurn (AddsVersion lab id) kept.versions x (tables_of e)) put four.1;
+      } in
+      (four.0, added);
+  sound = λ typed rules. let one = p.made typed in let two = q.made one.0 in s.sound (r.made two.0).0 (r.sound two.0 (q.sound one.0 (p.sound typed rules)));
+}
+
+pub version_opened : (lab : ℤ) (wanted : ℕ) (version : Version) (id : ℤ) (current : ℕ) (a b c d : State)
+    → Steps (Finds (λ t. option_map record_pair (record_named t lab wanted) ≡ Some (id, current))) a b
+    → Steps (AddsVersion lab id version) b c → Steps (λ before after. after ≡ set_current id version.origin.number before) c d
+    → Steps (OpensVersion lab wanted version) a d
+version_opened lab wanted version id current a b c d p q r = record {
+  inside = r.inside;
+  made = λ typed.
+      let one = p.made typed in
+      let two = q.made one.0 in
+      let three = r.made two.0 in
+      let it = pair_of (record_named (tables_of a) lab wanted) id current one.1.0 in
+      let opened : OpensVersion lab wanted version (tables_of a) (tables_of d) = record {
+        kept = it.0;
+        found = it.1;
+        opened = tables_of c;
+        added = subst (λ (i : ℤ). AddsVersion lab i version (tables_of a) (tables_of c)) (sym it.2)
+            (subst (λ (t : Tables). AddsVersion lab id version t (tables_of c)) one.1.1 two.1);
+        current = three.1 ∙ ap (λ (i : ℤ). set_current i version.origin.number (tables_of c)) (sym it.2);
+      } in
+      (three.0, opened);
+  sound = λ typed rules. let one = p.made typed in r.sound (q.made one.0).0 (q.sound one.0 (p.sound typed rules));
+}

@@ -1,0 +1,13 @@
+use Rattle.std.proofs.Common.{◌≡◌, take}
+use Rattle.sqlite.specs.State.{HasCleanDisk, KeepsCommit, Survives}
+use Rattle.lab_store_tables.specs.Changes.{InTurn, AddsVersion}
+use Rattle.lab_store_write.specs.Calls.{Steps}
+use Rattle.lab_store_write_records.proofs.records.add_versions.Given as goal
+
+-- those so far were added
+abbrev pub invariant-loop-one : goal.invariant-loop-one
+invariant-loop-one g l =
+    let old = g.W.Writable.state l.fn.tx in
+    let now = g.W.Writable.state l.tx in
+    (g.W.Writable.lender l.tx ≡ g.W.Writable.lender l.fn.tx) × Survives old now (λ _. ⊥) × (HasCleanDisk now → KeepsCommit old now)
+    × (HasCleanDisk now → Steps (InTurn (AddsVersion l.fn.lab.id l.fn.kept.id) (take l.one-index l.versions)) old now)

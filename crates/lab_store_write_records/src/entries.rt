@@ -1,0 +1,104 @@
+//! Rows of a version, each behind those that it has.
+
+ghost use Rattle.std.specs.Prelude.{◌≡◌};
+ghost use Rattle.sqlite.specs.State.{HasCleanDisk, KeepsCommit, Survives};
+ghost use Rattle.lab_records_kept.specs.declared.changes.Change.TheVariants.{RowAdded};
+ghost use Rattle.lab_store_tables.specs.Changes.{AppliesIn, AddsEntry};
+ghost use Rattle.lab_store_write.specs.Calls.{IsInside, Makes};
+ghost use Rattle.lab_store_write_records.specs.EntriesAdded.{with_entry};
+
+use crate::entry_places::entry_place;
+use crate::named::{record_at, version_id_at};
+use crate::texts::note_or_null;
+use lab_forms_texts::Ordinal;
+use lab_seal_versions::EntryRow;
+use lab_store_write::statements::run;
+use lab_store_write::values::{count_value, id_value, moment_value, text_value};
+use lab_store_write::{RowId, Writable, person_id_at};
+use sqlite::Error;
+
+/// Adds the row.
+fn insert_entry<W: Writable>(
+    tx: &mut W,
+    version: RowId,
+    place: u64,
+    person: RowId,
+    entry: &EntryRow,
+) -> Result<usize, Error>
+    requires inside { IsInside (W.state tx.old) }
+    ensures same_lender { W.lender tx.new ≡ W.lender tx.old }
+    ensures made { Makes result (λ before after. after
+        ≡ with_entry version.id place person.id entry.now before)
+        (W.state tx.old) (W.state tx.new) }
+    ensures kept { HasCleanDisk (W.state tx.new) → KeepsCommit
+        (W.state tx.old) (W.state tx.new) }
+    ensures survives { Survives
+        (W.state tx.old) (W.state tx.new) (λ _. ⊥) }
+{
+    let at = count_value(place)?;
+    let key = entry.key.as_str();
+    let value = entry.value.as_str();
+    let unit = entry.unit.as_str();
+    run(
+        tx,
+        "INSERT INTO entries (version, place, key, value, unit, person, moment, reason) VALUES (?1, ?2, ?3, ?4, ?5, ?6, ?7, ?8)",
+        &[
+            id_value(version),
+            at,
+            text_value(key),
+            text_value(value),
+            text_value(unit),
+            id_value(person),
+            moment_value(entry.moment),
+            note_or_null(&entry.reason),
+        ],
+    )
+}
+
+/// Adds an entry behind those that the version has.
+///
+/// Errors: also that nobody has the code of who entered it.
+pub fn add_entry<W: Writable>(
+    tx: &mut W,
+    lab: RowId,
+    version: RowId,
+    entry: &EntryRow,
+) -> Result<(), Error>
+    requires inside { IsInside (W.state tx.old) }
+    ensures same_lender { W.lender tx.new ≡ W.lender tx.old }
+    ensures made { Makes result (AddsEntry lab.id version.id entry.now)
+        (W.state tx.old) (W.state tx.new) }
+    ensures kept { HasCleanDisk (W.state tx.new) → KeepsCommit
+        (W.state tx.old) (W.state tx.new) }
+    ensures survives { Survives
+        (W.state tx.old) (W.state tx.new) (λ _. ⊥) }
+{
+    let person = person_id_at(tx, lab, &entry.person)?;
+    let place = entry_place(tx, version)?;
+    insert_entry(tx, version, place, person, entry)?;
+    Ok(())
+}
+
+/// Adds an entry in the current version of a record.
+///
+/// Errors: also that there is no record of the number, or nobody of the code.
+pub fn enter_row<W: Writable>(
+    tx: &mut W,
+    lab: RowId,
+    wanted: Ordinal,
+    entry: &EntryRow,
+) -> Result<(), Error>
+    requires inside { IsInside (W.state tx.old) }
+    ensures same_lender { W.lender tx.new ≡ W.lender tx.old }
+    ensures made { Makes result (AppliesIn lab.id (RowAdded wanted entry.now))
+        (W.state tx.old) (W.state tx.new) }
+    ensures kept { HasCleanDisk (W.state tx.new) → KeepsCommit
+        (W.state tx.old) (W.state tx.new) }
+    ensures survives { Survives
+        (W.state tx.old) (W.state tx.new) (λ _. ⊥) }
+{
+    let kept = record_at(tx, lab, wanted)?;
+    let version = version_id_at(tx, kept.id, kept.current)?;
+    add_entry(tx, lab, version, entry)?;
+    Ok(())
+}

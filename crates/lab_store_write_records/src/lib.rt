@@ -1,0 +1,23 @@
+//! The calls that file forms, records, versions, entries and signatures in the tables of a file, each
+//! inside a transaction (21 CFR 11.10(e) and 11.70; ISO/IEC 17025:2017, 7.5.2).
+#![tactic(auto)]
+
+mod entries;
+mod entry_places;
+mod field_places;
+mod forms;
+mod kinds;
+mod named;
+mod named_forms;
+mod reason_texts;
+mod records;
+mod signatures;
+mod texts;
+mod versions;
+
+pub use entries::{add_entry, enter_row};
+pub use forms::add_form;
+pub use named::{RecordAt, record_at};
+pub use records::add_record;
+pub use signatures::{add_signature, sign_version};
+pub use versions::open_version;

@@ -1,0 +1,117 @@
+//! Records, each with its versions.
+
+ghost use Rattle.std.specs.Prelude.{◌≡◌};
+ghost use Rattle.sqlite.specs.State.{HasCleanDisk, KeepsCommit, Survives};
+ghost use Rattle.sqlite_keyed.specs.Keyed.{next_key};
+ghost use Rattle.lab_records_kept.specs.declared.changes.Change.TheVariants.{RecordAdded};
+ghost use Rattle.lab_store_tables.specs.Rows.{LabRow, record_id};
+ghost use Rattle.lab_store_tables.specs.Changes.{AppliesIn, in_lab, InTurn, AddsVersion};
+ghost use Rattle.lab_store_write.specs.Calls.{IsInside, Makes, Answers};
+ghost use Rattle.lab_store_write_records.specs.RecordsAdded.{with_record};
+
+use crate::named_forms::form_id_at;
+use crate::versions::add_version;
+use lab_forms_texts::Ordinal;
+use lab_records_kept::{Record, Version};
+use lab_store_write::ids::insert;
+use lab_store_write::statements::run;
+use lab_store_write::values::{count_value, id_value, ordinal_value, text_value};
+use lab_store_write::{RowId, Writable};
+use sqlite::Error;
+
+/// Adds the row.
+fn insert_record<W: Writable>(
+    tx: &mut W,
+    lab: RowId,
+    form: RowId,
+    kept: &Record,
+) -> Result<RowId, Error>
+    requires inside { IsInside (W.state tx.old) }
+    ensures same_lender { W.lender tx.new ≡ W.lender tx.old }
+    ensures placed { Answers result (λ one before after.
+        (one.id ≡ next_key record_id before.records)
+        × (after ≡ with_record lab.id form.id kept.now before))
+        (W.state tx.old) (W.state tx.new) }
+    ensures kept { HasCleanDisk (W.state tx.new) → KeepsCommit
+        (W.state tx.old) (W.state tx.new) }
+    ensures survives { Survives
+        (W.state tx.old) (W.state tx.new) (λ _. ⊥) }
+{
+    let code = kept.form.code.as_str();
+    let sample = kept.sample.as_str();
+    let versions = kept.versions.as_slice();
+    let current = count_value(versions.len() as u64)?;
+    insert(
+        tx,
+        "INSERT INTO records (lab, number, form, form_code, sample, current) VALUES (?1, ?2, ?3, ?4, ?5, ?6)",
+        &[
+            id_value(lab),
+            ordinal_value(kept.number),
+            id_value(form),
+            text_value(code),
+            text_value(sample),
+            current,
+        ],
+    )
+}
+
+/// Sets how many records the laboratory has.
+fn set_records<W: Writable>(tx: &mut W, lab: RowId, count: Ordinal) -> Result<usize, Error>
+    requires inside { IsInside (W.state tx.old) }
+    ensures same_lender { W.lender tx.new ≡ W.lender tx.old }
+    ensures made { Makes result (λ before after. after
+        ≡ in_lab lab.id (λ (one : LabRow). record one { records = count }) before)
+        (W.state tx.old) (W.state tx.new) }
+    ensures kept { HasCleanDisk (W.state tx.new) → KeepsCommit
+        (W.state tx.old) (W.state tx.new) }
+    ensures survives { Survives
+        (W.state tx.old) (W.state tx.new) (λ _. ⊥) }
+{
+    run(
+        tx,
+        "UPDATE labs SET records = ?2 WHERE id = ?1",
+        &[id_value(lab), ordinal_value(count)],
+    )
+}
+
+/// Adds versions, one after the other.
+fn add_versions<W: Writable>(
+    tx: &mut W,
+    lab: RowId,
+    kept: RowId,
+    versions: &[Version],
+) -> Result<(), Error>
+    requires inside { IsInside (W.state tx.old) }
+    ensures same_lender { W.lender tx.new ≡ W.lender tx.old }
+    ensures made { Makes result (InTurn (AddsVersion lab.id kept.id) versions.now)
+        (W.state tx.old) (W.state tx.new) }
+    ensures kept { HasCleanDisk (W.state tx.new) → KeepsCommit
+        (W.state tx.old) (W.state tx.new) }
+    ensures survives { Survives
+        (W.state tx.old) (W.state tx.new) (λ _. ⊥) }
+{
+    for one in versions {
+        add_version(tx, lab, kept, one)?;
+    }
+    Ok(())
+}
+
+/// Adds a record with its versions.
+///
+/// Errors: also that there is no such version of a form, or nobody of a code.
+pub fn add_record<W: Writable>(tx: &mut W, lab: RowId, kept: &Record) -> Result<(), Error>
+    requires inside { IsInside (W.state tx.old) }
+    ensures same_lender { W.lender tx.new ≡ W.lender tx.old }
+    ensures made { Makes result (AppliesIn lab.id (RecordAdded kept.now))
+        (W.state tx.old) (W.state tx.new) }
+    ensures kept { HasCleanDisk (W.state tx.new) → KeepsCommit
+        (W.state tx.old) (W.state tx.new) }
+    ensures survives { Survives
+        (W.state tx.old) (W.state tx.new) (λ _. ⊥) }
+{
+    let form = form_id_at(tx, lab, &kept.form.code, kept.form.version)?;
+    let id = insert_record(tx, lab, form, kept)?;
+    set_records(tx, lab, kept.number)?;
+    add_versions(tx, lab, id, kept.versions.as_slice())?;
+    Ok(())
+}

@@ -1,0 +1,107 @@
+//! Signatures of a version, each behind those that it has.
+
+ghost use Rattle.std.specs.Prelude.{◌≡◌};
+ghost use Rattle.sqlite.specs.State.{HasCleanDisk, KeepsCommit, Survives};
+ghost use Rattle.lab_records_kept.specs.declared.changes.Change.TheVariants.{SignatureAdded};
+ghost use Rattle.lab_store_tables.specs.Changes.{AppliesIn, AddsSignature};
+ghost use Rattle.lab_store_write.specs.Calls.{IsInside, Makes};
+ghost use Rattle.lab_store_write_records.specs.EntriesAdded.{with_signature};
+
+use crate::entry_places::signature_place;
+use crate::named::{record_at, version_id_at};
+use crate::texts::reason_or_null;
+use lab_forms_texts::Ordinal;
+use lab_records_kept::Signature;
+use lab_store_write::statements::run;
+use lab_store_write::values::{blob_value, count_value, id_value, moment_value, text_value};
+use lab_store_write::{RowId, Writable, person_id_at};
+use sqlite::Error;
+
+/// Adds the row.
+fn insert_signature<W: Writable>(
+    tx: &mut W,
+    version: RowId,
+    place: u64,
+    person: RowId,
+    signature: &Signature,
+) -> Result<usize, Error>
+    requires inside { IsInside (W.state tx.old) }
+    ensures same_lender { W.lender tx.new ≡ W.lender tx.old }
+    ensures made { Makes result (λ before after. after
+        ≡ with_signature version.id place person.id signature.now before)
+        (W.state tx.old) (W.state tx.new) }
+    ensures kept { HasCleanDisk (W.state tx.new) → KeepsCommit
+        (W.state tx.old) (W.state tx.new) }
+    ensures survives { Survives
+        (W.state tx.old) (W.state tx.new) (λ _. ⊥) }
+{
+    let at = count_value(place)?;
+    let name = signature.name.as_str();
+    let meaning = signature.meaning.word();
+    let digest = signature.digest.bytes();
+    let seal = signature.seal.bytes();
+    run(
+        tx,
+        "INSERT INTO signatures (version, place, person, name, meaning, moment, reason, digest, seal) VALUES (?1, ?2, ?3, ?4, ?5, ?6, ?7, ?8, ?9)",
+        &[
+            id_value(version),
+            at,
+            id_value(person),
+            text_value(name),
+            text_value(meaning),
+            moment_value(signature.moment),
+            reason_or_null(&signature.meaning),
+            blob_value(&digest),
+            blob_value(&seal),
+        ],
+    )
+}
+
+/// Adds a signature behind those that the version has.
+///
+/// Errors: also that nobody has the code of who signed.
+pub fn add_signature<W: Writable>(
+    tx: &mut W,
+    lab: RowId,
+    version: RowId,
+    signature: &Signature,
+) -> Result<(), Error>
+    requires inside { IsInside (W.state tx.old) }
+    ensures same_lender { W.lender tx.new ≡ W.lender tx.old }
+    ensures made { Makes result (AddsSignature lab.id version.id signature.now)
+        (W.state tx.old) (W.state tx.new) }
+    ensures kept { HasCleanDisk (W.state tx.new) → KeepsCommit
+        (W.state tx.old) (W.state tx.new) }
+    ensures survives { Survives
+        (W.state tx.old) (W.state tx.new) (λ _. ⊥) }
+{
+    let person = person_id_at(tx, lab, &signature.person)?;
+    let place = signature_place(tx, version)?;
+    insert_signature(tx, version, place, person, signature)?;
+    Ok(())
+}
+
+/// Adds a signature of a version of a record.
+///
+/// Errors: also that there is no such version, or nobody of the code.
+pub fn sign_version<W: Writable>(
+    tx: &mut W,
+    lab: RowId,
+    wanted: Ordinal,
+    version: Ordinal,
+    signature: &Signature,
+) -> Result<(), Error>
+    requires inside { IsInside (W.state tx.old) }
+    ensures same_lender { W.lender tx.new ≡ W.lender tx.old }
+    ensures made { Makes result (AppliesIn lab.id (SignatureAdded wanted version signature.now))
+        (W.state tx.old) (W.state tx.new) }
+    ensures kept { HasCleanDisk (W.state tx.new) → KeepsCommit
+        (W.state tx.old) (W.state tx.new) }
+    ensures survives { Survives
+        (W.state tx.old) (W.state tx.new) (λ _. ⊥) }
+{
+    let kept = record_at(tx, lab, wanted)?;
+    let signed = version_id_at(tx, kept.id, version.get())?;
+    add_signature(tx, lab, signed, signature)?;
+    Ok(())
+}

@@ -1,0 +1,177 @@
+//! Versions of records, each with its rows and its signatures.
+
+ghost use Rattle.std.specs.Prelude.{◌≡◌};
+ghost use Rattle.sqlite.specs.State.{HasCleanDisk, KeepsCommit, Survives};
+ghost use Rattle.sqlite_keyed.specs.Keyed.{next_key};
+ghost use Rattle.lab_records_kept.specs.declared.changes.Change.TheVariants.{VersionOpened};
+ghost use Rattle.lab_store_tables.specs.Rows.{version_id};
+ghost use Rattle.lab_store_tables.specs.Columns.{format_number};
+ghost use Rattle.lab_store_tables.specs.Changes.{AppliesIn, InTurn, AddsEntry, AddsSignature, AddsVersion, set_current as with_current};
+ghost use Rattle.lab_store_write.specs.Calls.{IsInside, Makes, Answers};
+ghost use Rattle.lab_store_write_records.specs.RecordsAdded.{with_version};
+
+use crate::reason_texts::cause_or_null;
+use crate::{add_entry, add_signature, record_at};
+use lab_forms_texts::Ordinal;
+use lab_records_kept::{Signature, Version};
+use lab_seal_versions::{EntryRow, Format};
+use lab_store_write::ids::insert;
+use lab_store_write::statements::run;
+use lab_store_write::values::{id_value, moment_value, ordinal_value, small_value};
+use lab_store_write::{RowId, Writable, person_id_at};
+use sqlite::Error;
+
+/// The number of a format.
+fn format_number(format: Format) -> u32
+    ensures { result ≡ format_number format }
+{
+    match format {
+        Format::One => 1,
+        Format::Two { .. } => 2,
+    }
+}
+
+/// Adds the row.
+fn insert_version<W: Writable>(
+    tx: &mut W,
+    kept: RowId,
+    opener: RowId,
+    version: &Version,
+) -> Result<RowId, Error>
+    requires inside { IsInside (W.state tx.old) }
+    ensures same_lender { W.lender tx.new ≡ W.lender tx.old }
+    ensures placed { Answers result (λ one before after.
+        (one.id ≡ next_key version_id before.versions)
+        × (after ≡ with_version kept.id opener.id version.now before))
+        (W.state tx.old) (W.state tx.new) }
+    ensures kept { HasCleanDisk (W.state tx.new) → KeepsCommit
+        (W.state tx.old) (W.state tx.new) }
+    ensures survives { Survives
+        (W.state tx.old) (W.state tx.new) (λ _. ⊥) }
+{
+    let number = version.origin.number();
+    let format = format_number(version.format);
+    insert(
+        tx,
+        "INSERT INTO versions (record, number, format, opener, opened, reason) VALUES (?1, ?2, ?3, ?4, ?5, ?6)",
+        &[
+            id_value(kept),
+            ordinal_value(number),
+            small_value(format),
+            id_value(opener),
+            moment_value(version.opened),
+            cause_or_null(version.origin.amendment()),
+        ],
+    )
+}
+
+/// Adds entries, one behind the other.
+fn add_entries<W: Writable>(
+    tx: &mut W,
+    lab: RowId,
+    version: RowId,
+    rows: &[EntryRow],
+) -> Result<(), Error>
+    requires inside { IsInside (W.state tx.old) }
+    ensures same_lender { W.lender tx.new ≡ W.lender tx.old }
+    ensures made { Makes result (InTurn (AddsEntry lab.id version.id) rows.now)
+        (W.state tx.old) (W.state tx.new) }
+    ensures kept { HasCleanDisk (W.state tx.new) → KeepsCommit
+        (W.state tx.old) (W.state tx.new) }
+    ensures survives { Survives
+        (W.state tx.old) (W.state tx.new) (λ _. ⊥) }
+{
+    for one in rows {
+        add_entry(tx, lab, version, one)?;
+    }
+    Ok(())
+}
+
+/// Adds signatures, one behind the other.
+fn add_signatures<W: Writable>(
+    tx: &mut W,
+    lab: RowId,
+    version: RowId,
+    signatures: &[Signature],
+) -> Result<(), Error>
+    requires inside { IsInside (W.state tx.old) }
+    ensures same_lender { W.lender tx.new ≡ W.lender tx.old }
+    ensures made { Makes result (InTurn (AddsSignature lab.id version.id) signatures.now)
+        (W.state tx.old) (W.state tx.new) }
+    ensures kept { HasCleanDisk (W.state tx.new) → KeepsCommit
+        (W.state tx.old) (W.state tx.new) }
+    ensures survives { Survives
+        (W.state tx.old) (W.state tx.new) (λ _. ⊥) }
+{
+    for one in signatures {
+        add_signature(tx, lab, version, one)?;
+    }
+    Ok(())
+}
+
+/// Adds a version with its rows and its signatures.
+///
+/// Errors: also that nobody has the code of who opened, entered or signed.
+pub(crate) fn add_version<W: Writable>(
+    tx: &mut W,
+    lab: RowId,
+    kept: RowId,
+    version: &Version,
+) -> Result<(), Error>
+    requires inside { IsInside (W.state tx.old) }
+    ensures same_lender { W.lender tx.new ≡ W.lender tx.old }
+    ensures made { Makes result (AddsVersion lab.id kept.id version.now)
+        (W.state tx.old) (W.state tx.new) }
+    ensures kept { HasCleanDisk (W.state tx.new) → KeepsCommit
+        (W.state tx.old) (W.state tx.new) }
+    ensures survives { Survives
+        (W.state tx.old) (W.state tx.new) (λ _. ⊥) }
+{
+    let opener = person_id_at(tx, lab, &version.opener)?;
+    let id = insert_version(tx, kept, opener, version)?;
+    add_entries(tx, lab, id, version.rows.rows())?;
+    add_signatures(tx, lab, id, version.signatures.as_slice())?;
+    Ok(())
+}
+
+/// Sets which version of the record is the current one.
+fn set_current<W: Writable>(tx: &mut W, kept: RowId, version: Ordinal) -> Result<usize, Error>
+    requires inside { IsInside (W.state tx.old) }
+    ensures same_lender { W.lender tx.new ≡ W.lender tx.old }
+    ensures made { Makes result (λ before after. after ≡ with_current kept.id version before)
+        (W.state tx.old) (W.state tx.new) }
+    ensures kept { HasCleanDisk (W.state tx.new) → KeepsCommit
+        (W.state tx.old) (W.state tx.new) }
+    ensures survives { Survives
+        (W.state tx.old) (W.state tx.new) (λ _. ⊥) }
+{
+    run(
+        tx,
+        "UPDATE records SET current = ?2 WHERE id = ?1",
+        &[id_value(kept), ordinal_value(version)],
+    )
+}
+
+/// Adds a version of a record, which is then the current one.
+///
+/// Errors: also that there is no record of the number, or nobody of a code.
+pub fn open_version<W: Writable>(
+    tx: &mut W,
+    lab: RowId,
+    wanted: Ordinal,
+    version: &Version,
+) -> Result<(), Error>
+    requires inside { IsInside (W.state tx.old) }
+    ensures same_lender { W.lender tx.new ≡ W.lender tx.old }
+    ensures made { Makes result (AppliesIn lab.id (VersionOpened wanted version.now))
+        (W.state tx.old) (W.state tx.new) }
+    ensures kept { HasCleanDisk (W.state tx.new) → KeepsCommit
+        (W.state tx.old) (W.state tx.new) }
+    ensures survives { Survives
+        (W.state tx.old) (W.state tx.new) (λ _. ⊥) }
+{
+    let kept = record_at(tx, lab, wanted)?;
+    add_version(tx, lab, kept.id, version)?;
+    set_current(tx, kept.id, version.origin.number())?;
+    Ok(())
+}

@@ -1,4 +1,0 @@
-pub mod Spared
-pub mod EachChange
-pub mod AllChanges
-pub mod KnownValues

@@ -1,0 +1,26 @@
+//! `lab_tests_growths CALLS`: makes each call of the lower crates that takes memory so many times, for a script to refuse it memory. It
+//! prints what each gave.
+#![tactic(auto)]
+
+mod growths;
+mod person_growths;
+mod record_growths;
+mod results;
+
+use crate::growths::print_growths;
+use anyhow::{Context, Result, bail};
+
+fn main(rt: HostRuntime) -> Result<()> {
+    let words: Vec<String> = std::env::args(&rt)?.collect(rt.alloc())?;
+    let calls = number(words.as_slice())?;
+    print_growths(&rt, rt.alloc(), calls)?;
+    Ok(())
+}
+
+// The number of calls that the words name.
+fn number(words: &[String]) -> Result<u32> {
+    match words {
+        [_, calls] => calls.parse::<u32>().context("reading a number"),
+        _ => bail!("lab_growths takes a number of calls"),
+    }
+}

@@ -1,5 +1,0 @@
-pub mod KnownValues
-pub mod Texts
-pub mod Keys
-pub mod Exact
-pub mod TrailsFound

@@ -1,9 +1,0 @@
-//! `labdesk check`: what is found of an inspection copy, told in a line.
-#![tactic(auto)]
-
-mod faults;
-mod verdicts;
-
-pub use faults::StopFault;
-pub use lab_messages::WriteFault;
-pub use verdicts::check;

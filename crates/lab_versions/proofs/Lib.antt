@@ -1,2 +1,0 @@
-pub mod KnownValues
-pub mod RowLemmas

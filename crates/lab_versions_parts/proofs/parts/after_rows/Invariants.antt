@@ -1,6 +1,0 @@
-use Rattle.std.proofs.Common.{◌-◌}
-use Rattle.lab_versions_parts.proofs.RowLemmas.{IsRestOf}
-use Rattle.lab_versions_parts.proofs.parts.after_rows.Given as goal
-
-abbrev pub invariant-loop : goal.invariant-loop
-invariant-loop l = IsRestOf l.count l.text (l.count - l.counter) l.rest

@@ -1,3 +1,0 @@
-pub mod WholeLemmas
-pub mod VersionLemmas
-mod KnownValues

@@ -1,0 +1,121 @@
+-- What an accepted request asks of which laboratory: its route first, then the query or the body
+-- that the route's command has. A query elsewhere is passed over, and so is the body of what is
+-- read.
+use Rattle.std.specs.Prelude.{◌≡◌, ◌<◌, ◌⊎◌, ℕ, List, length, IsTrue, IsSome, IsOk, ⊤, Option, Some, None, Result, Ok, Err}
+use Rattle.std.specs.Str.Parse.{digits_value}
+use Rattle.lab_records_machine.specs.declared.commands.Command.{Command}
+use Rattle.lab_records_machine.specs.declared.commands.Command.TheVariants as command
+use Rattle.lab_records_machine.specs.declared.commands.Instruction.{Instruction}
+use Rattle.lab_wire_members.specs.declared.refusals.BodyRefusal.TheVariants.{BadBody}
+use Rattle.lab_wire_members.specs.Readings.{Reading}
+use Rattle.lab_wire_bodies.specs.Bodies.{post_named, body_named}
+use Rattle.lab_wire.specs.declared.route_refusals.RouteRefusal.{RouteRefusal}
+use Rattle.lab_wire.specs.declared.route_refusals.RouteRefusal.TheVariants.{Body}
+use Rattle.lab_wire.specs.declared.route_refusals.RouteFault.{RouteFault}
+use Rattle.lab_wire.specs.declared.route_refusals.RouteFault.TheVariants.{Refused, Memory}
+use Rattle.lab_wire.specs.declared.routes.Route.{Route}
+use Rattle.lab_wire.specs.declared.routes.Route.TheVariants.{Card, Persons, Form, Record, Version, Records, Trail, Copy, Posted}
+use Rattle.lab_wire.specs.declared.queries.Range.{Range}
+use Rattle.lab_wire_heads.specs.Requests.{RequestParts}
+use Rattle.lab_forms_texts.specs.Names.{is_key}
+use Rattle.lab_wire.specs.declared.commands.Asked.{Asked}
+use Rattle.lab_wire.specs.Numbers.{ordinal_in}
+use Rattle.lab_wire.specs.Paths.{segment_at}
+use Rattle.lab_wire.specs.Queries.{range_in}
+use Rattle.lab_wire.specs.Routes.{Destination, destination_of}
+
+-- ---- the command of a route
+
+-- the number in a segment that the route's row has admitted
+abbrev pub number_at : ℕ → List ℕ → ℕ
+number_at i place = digits_value 10 (segment_at i place)
+
+-- what is read of a range
+abbrev pub ranged : (ℕ → ℕ → Command) → Option Range → Result Command RouteRefusal
+ranged reads None = Err (Body BadBody)
+ranged reads (Some range) = Ok (reads range.from range.to)
+
+-- what a body names, or its refusal
+abbrev pub by_body : Reading Command → Result Command RouteRefusal
+by_body (Err refusal) = Err (Body refusal)
+by_body (Ok named) = Ok named
+
+-- the command of a route at a place, with its query and its body
+unfoldable pub command_at : Route → List ℕ → List ℕ → List ℕ → Result Command RouteRefusal
+command_at Card place query body = Ok command.Card
+command_at Persons place query body = Ok command.ReadPersons
+command_at Form place query body =
+    Ok (command.ReadForm (segment_at 1 place) (number_at 2 place))
+command_at Record place query body = Ok (command.ReadRecord (number_at 1 place))
+command_at Version place query body =
+    Ok (command.ReadVersion (number_at 1 place) (number_at 3 place))
+command_at Records place query body = ranged command.ReadRecords (range_in query)
+command_at Trail place query body = ranged command.ReadTrail (range_in query)
+command_at Copy place query body = ranged command.TakeCopy (range_in query)
+command_at (Posted post) place query body = by_body (body_named (post_named post) body)
+
+-- ---- what the code may count on
+
+-- the segments that a route reads are those that its row admits
+abbrev pub Admitted : Route → List ℕ → Type 0
+Admitted Form place =
+    IsTrue (is_key (segment_at 1 place)) × IsSome (ordinal_in (segment_at 2 place))
+Admitted Record place = IsSome (ordinal_in (segment_at 1 place))
+Admitted Version place =
+    IsSome (ordinal_in (segment_at 1 place)) × IsSome (ordinal_in (segment_at 3 place))
+Admitted _ place = ⊤
+
+-- a body with a byte is posted at the route: JSON is read into memory before it is known to be bad
+abbrev pub PostsBytes : Route → List ℕ → Type 0
+PostsBytes (Posted post) body = 0 < length body
+PostsBytes _ body = ⊥
+
+-- the faults of finding something: the refusal that comes of it; out of memory only where something
+-- is found, which is copied, or where bytes are read into memory
+abbrev pub FaultFits : {A : Type 0} → Type 0 → Result A RouteRefusal → RouteFault → Type 0
+FaultFits reads found (Refused refusal) = found ≡ Err refusal
+FaultFits reads found Memory = IsOk found ⊎ reads
+
+-- ---- what is asked
+
+-- a command, in the session of the token
+abbrev pub instruction_of : Option (List ℕ) → Command → Instruction
+instruction_of token given = record { token = token; command = given }
+
+-- of the laboratory
+abbrev pub asked_of : List ℕ → Option (List ℕ) → Result Command RouteRefusal →
+    Result Asked RouteRefusal
+asked_of lab token (Err refusal) = Err refusal
+asked_of lab token (Ok given) =
+    Ok (record { lab = lab; instruction = instruction_of token given })
+
+abbrev pub asked_at : RequestParts → Result Destination RouteRefusal → Result Asked RouteRefusal
+asked_at request (Err refusal) = Err refusal
+asked_at request (Ok to) =
+    asked_of to.lab request.token (command_at to.route to.place to.query request.body)
+
+-- where a request goes
+unfoldable pub destination_in : RequestParts → Result Destination RouteRefusal
+destination_in request = destination_of request.method request.target
+
+-- what a request asks
+unfoldable pub command_asked : RequestParts → Result Asked RouteRefusal
+command_asked request = asked_at request (destination_in request)
+
+-- a body with a byte is posted where the request goes
+abbrev pub PostsBytesTo : Result Destination RouteRefusal → List ℕ → Type 0
+PostsBytesTo (Err refusal) body = ⊥
+PostsBytesTo (Ok to) body = PostsBytes to.route body
+
+-- something is made of a request: it is known what it asks, whose laboratory and text are copied;
+-- or a body with a byte is posted, which is read into memory
+abbrev pub MakesSomething : RequestParts → Type 0
+MakesSomething request =
+    IsOk (command_asked request) ⊎ PostsBytesTo (destination_in request) request.body
+
+-- The faults of reading it: the refusal that comes of it; out of memory only where something is
+-- made, so that it never hides that there is no such place, no such method at it, that the query is
+-- bad, or that an empty body is.
+abbrev pub RouteFaultFits : RequestParts → RouteFault → Type 0
+RouteFaultFits request (Refused refusal) = command_asked request ≡ Err refusal
+RouteFaultFits request Memory = MakesSomething request

@@ -1,0 +1,220 @@
+//! What a request asks where it goes: the command of its route, with the query or the body that the command has.
+ghost use Rattle.std.specs.Prelude.{◌≡◌, ◌<◌, Ok, Err, IfOk, IfErr, IsTrue, IsSome, length, option_map};
+ghost use Rattle.lab_forms_texts.specs.Names.{is_key, is_lab_code};
+ghost use Rattle.lab_wire_heads.specs.Requests.{parts_shown};
+ghost use Rattle.lab_wire_bodies.specs.Bodies.{post_named, body_named};
+ghost use Rattle.lab_records_machine.specs.declared.commands.Command.TheVariants.{ReadForm, ReadRecord, ReadVersion, ReadRecords, ReadTrail, TakeCopy};
+ghost use Rattle.lab_wire.specs.declared.route_refusals.RouteFault.TheVariants.{Memory};
+ghost use Rattle.lab_wire.specs.Numbers.{ordinal_in};
+ghost use Rattle.lab_wire.specs.Paths.{segment_at};
+ghost use Rattle.lab_wire.specs.Queries.{range_in};
+ghost use Rattle.lab_wire.specs.Commands.{number_at, by_body, command_at, Admitted, PostsBytes, FaultFits, asked_of, command_asked, RouteFaultFits};
+
+use crate::numbers::ordinal_in;
+use crate::paths::segment_at;
+use crate::queries::range_in;
+use crate::route_refusals::{RouteFault, RouteRefusal};
+use crate::routes::{Destination, Route, destination_of};
+use lab_forms_texts::{Key, LabCode, NameFault, Ordinal};
+use lab_records_machine::{Command, Instruction};
+use lab_seal_hashes::Token;
+use lab_wire_bodies::{Post, command_of as command_in};
+use lab_wire_heads::RequestParts;
+use lab_wire_members::{BodyFault, BodyRefusal};
+use std::alloc::Global;
+
+/// What a request asks, of which laboratory.
+#[derive(Drop)]
+pub struct Asked {
+    /// The laboratory.
+    pub lab: LabCode,
+    /// The instruction.
+    pub instruction: Instruction,
+}
+
+/// What is answered where a query gives no range.
+const BAD_QUERY: RouteFault = RouteFault::Refused(RouteRefusal::Body(BodyRefusal::BadBody));
+
+// The number in a segment that the route's row has admitted.
+#[tactic(auto, using(crate::proofs::NumberLemmas::ordinal_is))]
+fn number_at(i: usize, place: &str) -> Ordinal
+    requires { IsSome (ordinal_in (segment_at i place.now)) }
+    ensures { result ≡ number_at i place.now }
+{
+    match ordinal_in(segment_at(i, place)) {
+        Some(number) => number,
+        None => unreachable!(),
+    }
+}
+
+// A version of a form.
+fn form(alloc: Global, place: &str) -> Result<Command, RouteFault>
+    requires key { IsTrue (is_key (segment_at 1 place.now)) }
+    requires version { IsSome (ordinal_in (segment_at 2 place.now)) }
+    ensures read { IfOk result (λ command.
+        command ≡ ReadForm (segment_at 1 place.now) (number_at 2 place.now)) }
+    ensures fault { IfErr result (λ fault. fault ≡ Memory) }
+{
+    let version = number_at(2, place);
+    match Key::parse(alloc, segment_at(1, place)) {
+        Ok(code) => Ok(Command::ReadForm { code, version }),
+        Err(NameFault::Memory(_)) => Err(RouteFault::Memory),
+        Err(NameFault::BadName) => unreachable!(),
+    }
+}
+
+// A record.
+fn record(place: &str) -> Command
+    requires { IsSome (ordinal_in (segment_at 1 place.now)) }
+    ensures { result ≡ ReadRecord (number_at 1 place.now) }
+{
+    let number = number_at(1, place);
+    Command::ReadRecord { number }
+}
+
+// A version of a record.
+fn version(place: &str) -> Command
+    requires record { IsSome (ordinal_in (segment_at 1 place.now)) }
+    requires version { IsSome (ordinal_in (segment_at 3 place.now)) }
+    ensures { result ≡ ReadVersion (number_at 1 place.now) (number_at 3 place.now) }
+{
+    let number = number_at(1, place);
+    let version = number_at(3, place);
+    Command::ReadVersion { number, version }
+}
+
+// Records from a number to a number.
+fn records(query: &str) -> Option<Command>
+    ensures { result ≡ option_map (λ range. ReadRecords range.from range.to)
+        (range_in query.now) }
+{
+    let range = range_in(query)?;
+    Some(Command::ReadRecords {
+        from: range.from,
+        to: range.to,
+    })
+}
+
+// Rows of the trail from a number to a number.
+fn trail(query: &str) -> Option<Command>
+    ensures { result ≡ option_map (λ range. ReadTrail range.from range.to)
+        (range_in query.now) }
+{
+    let range = range_in(query)?;
+    Some(Command::ReadTrail {
+        from: range.from,
+        to: range.to,
+    })
+}
+
+// A copy of records from a number to a number.
+fn copy(query: &str) -> Option<Command>
+    ensures { result ≡ option_map (λ range. TakeCopy range.from range.to)
+        (range_in query.now) }
+{
+    let range = range_in(query)?;
+    Some(Command::TakeCopy {
+        from: range.from,
+        to: range.to,
+    })
+}
+
+// What a body names.
+fn posted(alloc: Global, post: Post, body: &[u8]) -> Result<Command, RouteFault>
+    ensures read { IfOk result (λ command.
+        by_body (body_named (post_named post) body.now) ≡ Ok command) }
+    ensures fault { IfErr result (FaultFits (0 < length body.now)
+        (by_body (body_named (post_named post) body.now))) }
+{
+    match command_in(alloc, post, body) {
+        Ok(command) => Ok(command),
+        Err(BodyFault::Refused(refusal)) => Err(RouteFault::Refused(RouteRefusal::Body(refusal))),
+        Err(BodyFault::Memory) => Err(RouteFault::Memory),
+    }
+}
+
+// The command of a route at a place, with its query and its body.
+#[tactic(auto, using(crate::proofs::CommandLemmas::finding), unfolding(crate::specs::Commands::command_at))]
+fn command_at(alloc: Global, to: &Destination<'_>, body: &[u8]) -> Result<Command, RouteFault>
+    requires { Admitted to.now.route to.now.place.now }
+    ensures read { IfOk result (λ command.
+        command_at to.now.route to.now.place.now to.now.query.now body.now ≡ Ok command) }
+    ensures fault { IfErr result (FaultFits (PostsBytes to.now.route body.now)
+        (command_at to.now.route to.now.place.now to.now.query.now body.now)) }
+{
+    match to.route {
+        Route::Card => Ok(Command::Card),
+        Route::Persons => Ok(Command::ReadPersons),
+        Route::Form => form(alloc, to.place),
+        Route::Record => Ok(record(to.place)),
+        Route::Version => Ok(version(to.place)),
+        Route::Records => records(to.query).ok_or(BAD_QUERY),
+        Route::Trail => trail(to.query).ok_or(BAD_QUERY),
+        Route::Copy => copy(to.query).ok_or(BAD_QUERY),
+        Route::Posted(post) => posted(alloc, post, body),
+    }
+}
+
+// What is asked of the laboratory of the code, by a command that is known.
+fn asked_of(
+    alloc: Global,
+    lab: &str,
+    token: Option<Token>,
+    command: Command,
+) -> Result<Asked, RouteFault>
+    requires { IsTrue (is_lab_code lab.now) }
+    ensures asks { IfOk result (λ asks. asked_of lab.now token (Ok command) ≡ Ok asks) }
+    ensures fault { IfErr result (λ fault. fault ≡ Memory) }
+{
+    match LabCode::parse(alloc, lab) {
+        Ok(lab) => Ok(Asked {
+            lab,
+            instruction: Instruction { token, command },
+        }),
+        Err(NameFault::Memory(_)) => {
+            drop(command);
+            Err(RouteFault::Memory)
+        }
+        Err(NameFault::BadName) => unreachable!(),
+    }
+}
+
+// What a request asks where it goes. Its command is found before its laboratory's code is copied,
+// so a bad query or an empty body is never told as out of memory.
+#[tactic(auto, using(crate::proofs::CommandLemmas::asking))]
+fn asked_at(
+    alloc: Global,
+    token: Option<Token>,
+    to: &Destination<'_>,
+    body: &[u8],
+) -> Result<Asked, RouteFault>
+    requires lab { IsTrue (is_lab_code to.now.lab.now) }
+    requires segments { Admitted to.now.route to.now.place.now }
+    ensures asks { IfOk result (λ asks. asked_of to.now.lab.now token
+        (command_at to.now.route to.now.place.now to.now.query.now body.now) ≡ Ok asks) }
+    ensures fault { IfErr result (FaultFits (PostsBytes to.now.route body.now)
+        (asked_of to.now.lab.now token
+        (command_at to.now.route to.now.place.now to.now.query.now body.now))) }
+{
+    match command_at(alloc, to, body) {
+        Ok(command) => asked_of(alloc, to.lab, token, command),
+        Err(fault) => Err(fault),
+    }
+}
+
+/// What a request asks of which laboratory.
+///
+/// # Errors
+/// - `NoRoute` where the path is of no laboratory whose code reads, or no place in one;
+/// - else `Method` where the place has other methods;
+/// - else `Body` where the query or the body that the command has is refused;
+/// - that memory ran out, where it is known what the request asks, or a body with a byte is posted.
+pub fn command_of(alloc: Global, parts: &RequestParts<'_>) -> Result<Asked, RouteFault>
+    ensures asks { IfOk result (λ asks. command_asked (parts_shown parts.now) ≡ Ok asks) }
+    ensures fault { IfErr result (RouteFaultFits (parts_shown parts.now)) }
+{
+    match destination_of(parts.method, parts.target) {
+        Ok(to) => asked_at(alloc, parts.token, &to, parts.body),
+        Err(refusal) => Err(RouteFault::Refused(refusal)),
+    }
+}

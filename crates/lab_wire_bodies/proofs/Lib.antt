@@ -1,0 +1,5 @@
+pub mod BodyLemmas
+pub mod FoundingLemmas
+pub mod KeyLemmas
+pub mod KnownBodies
+mod KnownRecordBodies

@@ -1,0 +1,11 @@
+pub mod DateLemmas
+pub mod FrontLemmas
+pub mod HeadLaws
+pub mod HeadLemmas
+pub mod KnownHeads
+pub mod KnownMessages
+pub mod LineLemmas
+pub mod MessageLemmas
+pub mod ReadLemmas
+pub mod RequestLaws
+pub mod RequestLemmas

@@ -1,0 +1,12 @@
+pub mod Dates
+pub mod Fields
+pub mod HeadGrammar
+pub mod Heads
+pub mod Interims
+pub mod Lengths
+pub mod Messages
+pub mod Receptions
+pub mod Refusals
+pub mod Requests
+pub mod Sending
+pub mod Tokens

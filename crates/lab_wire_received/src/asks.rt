@@ -1,0 +1,67 @@
+//! Asking a reader for bytes, and not forever.
+
+ghost use Rattle.std.specs.Prelude.{◌<◌, ◌≤◌, OnOk, IfOk};
+ghost use Rattle.std.specs.Io.{ReadsAtMost};
+ghost use Rattle.std.specs.Io.KnownBytes.{ReadConsumes};
+ghost use Rattle.lab_wire_received.specs.Reading.{TakesByte};
+
+use lab_wire_heads::HeadFault;
+use std::io::{ErrorKind, Read};
+
+/// How often a reader is asked for one request before it counts as failed. A request has at most 73,728 bytes.
+pub(crate) const MOST_ASKS: u32 = 80_000;
+
+/// The reader failed, or was asked too often.
+#[derive(Clone, Copy, Debug, PartialEq, Eq)]
+pub(crate) struct ReadFault;
+
+impl From<ReadFault> for HeadFault {
+    ghost use Rattle.std.specs.Prelude.{◌≡◌};
+    ghost use Rattle.lab_wire_heads.specs.declared.refusals.HeadFault.TheVariants.{Read as Unread};
+
+    ghost from_gives = { λ _ fault. fault ≡ Unread };
+
+    fn from(_fault: ReadFault) -> HeadFault {
+        HeadFault::Read
+    }
+}
+
+/// Asks for bytes, while asks are left. Where a signal interrupted the reader, it is asked again.
+pub(crate) fn read_some<R: Read>(
+    reader: &mut R,
+    asks_left: &mut u32,
+    buffer: &mut [u8],
+) -> Result<usize, ReadFault>
+    ensures bound { ReadsAtMost result buffer.new }
+    ensures bytes { ReadConsumes (R.remaining reader.old) (R.remaining reader.new)
+        result buffer.new }
+
+    // Each answer costs an ask, and none is given back.
+    ensures asked { OnOk result (asks_left.new < asks_left.old) }
+    ensures asks { asks_left.new ≤ asks_left.old }
+{
+    while *asks_left > 0 {
+        *asks_left -= 1;
+        match reader.read(buffer) {
+            Ok(count) => return Ok(count),
+            Err(error) if error.kind() == ErrorKind::Interrupted => {}
+            Err(_) => return Err(ReadFault),
+        }
+    }
+    Err(ReadFault)
+}
+
+/// Takes the next byte, and none at the end.
+pub(crate) fn next_byte<R: Read>(
+    reader: &mut R,
+    asks_left: &mut u32,
+) -> Result<Option<u8>, ReadFault>
+    ensures taken { IfOk result (TakesByte (R.remaining reader.old) (R.remaining reader.new)) }
+    ensures asks { asks_left.new ≤ asks_left.old }
+{
+    let mut byte = [0];
+    if read_some(reader, asks_left, &mut byte)? == 0 {
+        return Ok(None);
+    }
+    Ok(Some(byte[0]))
+}

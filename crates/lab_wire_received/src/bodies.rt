@@ -1,0 +1,65 @@
+//! Reading the body behind a head, and no byte behind it.
+
+ghost use Rattle.std.specs.Prelude.{◌<◌, ◌≤◌, length, take, IfOk, IfErr};
+ghost use Rattle.std.specs.Io.KnownBytes.{IsAtEnd};
+ghost use Rattle.lab_wire_heads.specs.Heads.{head_limit};
+ghost use Rattle.lab_wire_heads.specs.Lengths.{body_limit};
+ghost use Rattle.lab_wire_received.specs.Reading.{CameBehind, HasBody, IsBodyFault};
+
+use crate::asks::{ReadFault, read_some};
+use lab_forms_texts::Series;
+use lab_wire_heads::{HeadFault, HeadRefusal};
+use std::alloc::Global;
+use std::io::Read;
+
+/// Reads from that place on until the bytes are full or the reader ends. It answers up to where they came.
+fn fill<R: Read>(
+    reader: &mut R,
+    asks_left: &mut u32,
+    bytes: &mut [u8],
+    start: usize,
+) -> Result<usize, ReadFault>
+    requires { start ≤ length bytes.old }
+    ensures within { IfOk result (λ end. end ≤ length bytes.new) }
+    ensures taken { IfOk result (λ end. CameBehind (take start bytes.old) (take end bytes.new)
+        (R.remaining reader.old) (R.remaining reader.new)) }
+    ensures end { IfOk result (λ end. end < length bytes.new → IsAtEnd (R.remaining reader.new)) }
+    ensures asks { asks_left.new ≤ asks_left.old }
+{
+    let mut end = start;
+    while end < bytes.len() {
+        let count = read_some(reader, asks_left, &mut bytes[end..])?;
+        if count == 0 {
+            return Ok(end);
+        }
+        end += count;
+    }
+    Ok(end)
+}
+
+/// Reads the body behind a head, so many bytes, and gives both.
+///
+/// # Errors
+/// The reader ended before (`ShortBody`), failed or was asked too often, or memory ran out.
+pub(crate) fn read_body<R: Read>(
+    alloc: Global,
+    reader: &mut R,
+    asks_left: &mut u32,
+    head: &[u8],
+    count: usize,
+) -> Result<Series<u8>, HeadFault>
+    requires head { length head.now ≤ head_limit }
+    requires body { count ≤ body_limit }
+    ensures whole { IfOk result (λ request. HasBody head.now count request
+        (R.remaining reader.old) (R.remaining reader.new)) }
+    ensures fault { IfErr result (IsBodyFault (R.remaining reader.old) count) }
+    ensures asks { asks_left.new ≤ asks_left.old }
+{
+    let whole = head.len() + count;
+    let mut bytes = Vec::from_slice(alloc, head)?;
+    bytes.resize(whole, 0)?;
+    if fill(reader, asks_left, &mut bytes, head.len())? < whole {
+        return Err(HeadFault::Refused(HeadRefusal::ShortBody));
+    }
+    Ok(Series::from_vec(bytes))
+}

@@ -1,0 +1,24 @@
+//! The interim answer to a client that waits with its body.
+
+ghost use Rattle.std.specs.Prelude.{◌<◌, length, take, OnOk, IfErr};
+ghost use Rattle.std.specs.Io.KnownBytes.{Appends};
+ghost use Rattle.lab_wire_received.specs.Receptions.{lines_if};
+
+use lab_wire_heads::{WriteFault, write_reply};
+use std::io::Write;
+
+/// The interim answer (RFC 9110, section 15.2.1).
+const INTERIM_LINES: &[u8] = b"HTTP/1.1 100 Continue\r\n\r\n";
+
+/// Writes the interim answer where it is due, and else nothing.
+pub(crate) fn send_interim<W: Write>(writer: &mut W, is_due: bool) -> Result<(), WriteFault>
+    ensures whole { OnOk result
+        (Appends (W.contents writer.old) (W.contents writer.new) (lines_if is_due)) }
+    ensures cut { IfErr result (λ fault.
+        Appends (W.contents writer.old) (W.contents writer.new)
+        (take fault.sent (lines_if is_due))) }
+    ensures short { IfErr result (λ fault. fault.sent < length (lines_if is_due)) }
+{
+    let lines = if is_due { INTERIM_LINES } else { b"" };
+    write_reply(writer, lines)
+}

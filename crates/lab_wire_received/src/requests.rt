@@ -1,0 +1,49 @@
+//! Reading one request from a reader: its head, the interim answer, its body.
+
+ghost use Rattle.std.specs.Prelude.{IfOk, IfSome};
+ghost use Rattle.std.specs.Io.KnownBytes.{Consumes};
+ghost use Rattle.lab_wire_heads.specs.Interims.{interim_text};
+ghost use Rattle.lab_wire_received.specs.Receptions.{IsReception, IsWholeRequest, IsInterimOf};
+
+use crate::asks::MOST_ASKS;
+use crate::bodies::read_body;
+use crate::heads::read_head;
+use crate::interims::send_interim;
+use lab_forms_texts::Series;
+use lab_wire_heads::{HEAD_LIMIT, HeadFault, expected_body};
+use std::alloc::Global;
+use std::io::{Read, Write};
+
+/// Reads one request, and gives its bytes, head and body. What follows the body is left to the reader. A client that waits
+/// with its body is sent the interim answer once its head is accepted; else nothing is written.
+///
+/// The reader is asked for single bytes as far as the head goes, and at most 80,000 times in all.
+///
+/// # Errors
+/// - `Refused`, as `request_parts` has it: the reader's bytes begin with no request that may be read;
+/// - `Read`: the reader failed, or was asked too often;
+/// - `Write`: the writer of the interim answer failed, or took no byte;
+/// - `Memory`: memory for the bytes ran out, once the head was accepted.
+pub fn read_request<R: Read, W: Write>(
+    alloc: Global,
+    reader: &mut R,
+    writer: &mut W,
+) -> Result<Series<u8>, HeadFault>
+    // The answer is by the reader's bytes alone, however they came.
+    ensures exact { IfSome (R.remaining reader.old) (λ bytes. IsReception bytes result) }
+    ensures rest { IfOk result (λ request.
+        Consumes (R.remaining reader.old) (R.remaining reader.new) request) }
+    ensures interim { IfSome (R.remaining reader.old) (λ bytes.
+        IsInterimOf (interim_text bytes) result (W.contents writer.old) (W.contents writer.new)) }
+
+    // Of any reader:
+    ensures whole { IfOk result IsWholeRequest }
+{
+    let mut asks_left = MOST_ASKS;
+    let mut room = [0; HEAD_LIMIT];
+    let count = read_head(reader, &mut asks_left, &mut room)?;
+    let head = &room[..count];
+    let body = expected_body(head)?;
+    send_interim(writer, body.is_interim_due)?;
+    read_body(alloc, reader, &mut asks_left, head, body.length)
+}

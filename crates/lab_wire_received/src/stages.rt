@@ -1,0 +1,42 @@
+//! How far a head has come, so that its end is seen at its last byte, and no byte is looked at twice.
+
+ghost use Rattle.std.specs.Prelude.{◌≡◌};
+ghost use Rattle.lab_wire_received.specs.Stages.{stage_after, has_ended};
+
+/// How far a head has come.
+#[derive(Clone, Copy, Debug, PartialEq, Eq)]
+pub(crate) enum HeadStage {
+    /// Nothing but CR and LF has come.
+    Front,
+    /// A line begins.
+    Empty,
+    /// The line so far is CR.
+    Return,
+    /// The line so far is something else.
+    Line,
+    /// The empty line has come.
+    Ended,
+}
+
+impl HeadStage {
+    /// After one byte more.
+    pub(crate) fn after(self, byte: u8) -> HeadStage
+        ensures { result ≡ stage_after self byte }
+    {
+        match self {
+            HeadStage::Front if byte == b'\r' || byte == b'\n' => HeadStage::Front,
+            HeadStage::Empty | HeadStage::Return if byte == b'\n' => HeadStage::Ended,
+            HeadStage::Empty if byte == b'\r' => HeadStage::Return,
+            HeadStage::Line if byte == b'\n' => HeadStage::Empty,
+            HeadStage::Ended => HeadStage::Ended,
+            _ => HeadStage::Line,
+        }
+    }
+
+    /// Whether the head has come whole.
+    pub(crate) fn has_ended(self) -> bool
+        ensures { result ≡ has_ended self }
+    {
+        matches!(self, HeadStage::Ended)
+    }
+}

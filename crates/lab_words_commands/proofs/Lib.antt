@@ -1,2 +1,0 @@
-pub mod AppLemmas
-mod KnownValues

@@ -1,6 +1,0 @@
--- The command has the argument behind its own.
-use Rattle.lab_words_commands.proofs.AppLemmas.{argued}
-use Rattle.lab_words_commands.proofs.commands.with.Goals as goal
-
-pub returns : goal.returns
-returns c = argued _ _ c.arg.result c.requires c.arg.ensures

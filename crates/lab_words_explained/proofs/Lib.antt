@@ -1,2 +1,0 @@
-pub mod ExplainLemmas
-mod KnownValues

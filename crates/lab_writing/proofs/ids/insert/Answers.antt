@@ -1,5 +1,0 @@
-use Rattle.std.proofs.Common.{rules}
-use Rattle.lab_writing.proofs.ids.insert.Goals as goal
-
-pub returns-clause-ran : goal.returns-clause-ran
-returns-clause-ran g c clean = (c.in_ok-run.field-0, c.in_ok-run.ensures.runs clean, search rules)

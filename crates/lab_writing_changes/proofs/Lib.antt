@@ -1,4 +1,0 @@
-mod Steps
-pub mod LabMore
-pub mod AllRows
-pub mod KnownValues

@@ -1,3 +1,0 @@
-pub mod PersonWrites
-pub mod PersonLemmas
-pub mod KnownValues

@@ -1,6 +1,0 @@
-pub mod SessionWrites
-pub mod Added
-pub mod KnownValues
-pub mod ClosingWrites
-pub mod ClosingLemmas
-pub mod ClosedAlike
