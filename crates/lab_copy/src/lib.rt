@@ -12,7 +12,7 @@ mod places;
 pub use checks::check_copy;
 pub use faults::CheckFault;
 pub use hands::{VersionAtHand, begin, enter, sign};
-pub use lab_copy_rows::{Counts, Flaw, OutOfMemory};
+pub use lab_copy_rows::{CopyOut, CopyOutFault, CopyRow, Counts, Flaw, OutOfMemory, write_copy};
 pub use places::{
     are_same_counts, counts_with, is_first_line, is_first_version, lab_of, was_asked,
 };

@@ -8,4 +8,11 @@ pub mod parts;
 mod reading;
 
 pub use faults::TextFault;
+pub use lab_seal_hashes::{
+    Digest, Half, Token, Verifier, VerifierParts, digest, founder_salts, hmac, pbkdf2, salt,
+};
+pub use lab_seal_versions::{
+    Amendment, EntryRow, EntryRows, Format, Meaning, Origin, OriginParts, Seal, SealParts, State,
+    VersionParts, seal, write_version,
+};
 pub use reading::{one_spelling, read_version};

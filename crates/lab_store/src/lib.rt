@@ -13,5 +13,6 @@ mod tables;
 pub use applying::apply;
 pub use founding::found;
 pub use givers::OneVersionAtATime;
+pub use lab_store_files::{FileFault, create, open};
 pub use store::Store;
 pub use tables::Tables;

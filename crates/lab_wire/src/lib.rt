@@ -23,6 +23,7 @@ pub use lab_wire_heads::{
     HeadRefusal, RequestParts, WriteFault, grammar_of_heads, request_parts, write_reply,
 };
 pub use lab_wire_members::{BodyFault, BodyRefusal};
+pub use lab_wire_received::read_request;
 pub use refusals::{RequestFault, RequestRefusal};
 pub use replies::{Answer, memory_reply, reply_bytes};
 pub use route_refusals::{Allowed, RouteFault, RouteRefusal};
