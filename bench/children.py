@@ -1,12 +1,20 @@
 """Runs a command, and tells what it took: seconds on the wall, and its greatest memory, as Linux tells it of a process that runs."""
 import contextlib
+import os
 import re
 import subprocess
 import threading
 import time
 
+TOP = os.path.dirname(os.path.dirname(os.path.abspath(__file__)))
 EVERY = 0.002
 MEGABYTE = 1_000_000
+
+
+def proved_program():
+    """The path of labdesk, which is proved and built where it isn't."""
+    made = subprocess.run([f"{TOP}/tools/program", "lab_program"], stdout=subprocess.PIPE, check=True, text=True)
+    return made.stdout.strip()
 
 
 class Took:

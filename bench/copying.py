@@ -22,9 +22,11 @@ import subprocess
 import sys
 import tempfile
 
-import files
-from children import best
-from store import found
+TOP = os.path.dirname(os.path.dirname(os.path.abspath(__file__)))
+sys.path.insert(0, f"{TOP}/tests/model")
+import files  # noqa: E402
+from children import best, proved_program  # noqa: E402
+from store import found  # noqa: E402
 
 BAR_OF_TIME, BAR_OF_MEMORY = 5, 64
 SIGNERS = [("dan", "Dan Day"), ("eve", "Eve Ems")]
@@ -156,8 +158,7 @@ def copies(program, room, counts, bars):
 def main(words):
     if words[:1] == ["--read"]:
         return read(*words[1:])
-    here = os.path.dirname(os.path.abspath(__file__))
-    program = words[0] if words else subprocess.run([f"{here}/program", "lab_program"], stdout=subprocess.PIPE, check=True, text=True).stdout.strip()
+    program = words[0] if words else proved_program()
     bars = Bars()
     with tempfile.TemporaryDirectory() as name:
         room = pathlib.Path(name)

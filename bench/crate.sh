@@ -23,7 +23,7 @@ spent() {
     fi
 }
 
-printf '%-14s %8s %8s %8s\n' crate check tests edits
+printf '%-24s %8s %8s %8s\n' crate check tests edits
 for name in "${crates[@]}"; do
     cd "$room/crates/$name"
     # what stands below is built before the clock starts
@@ -33,5 +33,5 @@ for name in "${crates[@]}"; do
     rm -rf out/incremental
     whole=$(spent rt check --test --jobs 1)
     edits=$(find . -path './must-fail/*.edit' | wc -l)
-    printf '%-14s %8d %8d %8d\n' "$name" "$check" $((whole - check)) "$edits"
+    printf '%-24s %8d %8d %8d\n' "$name" "$check" $((whole - check)) "$edits"
 done

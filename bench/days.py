@@ -1,6 +1,6 @@
 #!/usr/bin/env python3
 """Writes the days that lab_tests_days plays, crates/lab_tests_days/stdin, and what it must print of them, crates/lab_tests_days/stdout: the replies
-and the laboratories of bench/laboratory.py, which is no part of the program and takes its hashes from Python's hashlib.
+and the laboratories of tests/model/laboratory.py, which is no part of the program and takes its hashes from Python's hashlib.
 
     bench/days.py            writes both files
     bench/days.py --check    says whether they are as they would be written
@@ -17,7 +17,9 @@ import copy
 import os
 import sys
 
-from laboratory import Machine, Refused, Thing, digest_of, dash, field_words, found, lab_lines, line, refusal, sha, verifier
+sys.path.insert(0, os.path.join(os.path.dirname(os.path.abspath(__file__)), "../tests/model"))
+from laboratory import (  # noqa: E402
+    Machine, Refused, Thing, digest_of, dash, field_words, found, lab_lines, line, refusal, sha, verifier)
 
 LEAD = {"key": "lead", "label": "Lead", "required": True, "kind": "number", "unit": "mg/L", "decimals": 2, "min": "0", "max": None}
 NOTE = {"key": "note", "label": "Note", "required": False, "kind": "text", "size": 200}

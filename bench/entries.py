@@ -18,7 +18,10 @@ import sys
 import threading
 import time
 
-from streams import FOUNDERS, LEAD, NOTE, compact, request_of
+TOP = os.path.dirname(os.path.dirname(os.path.abspath(__file__)))
+sys.path.insert(0, f"{TOP}/tests/model")
+from children import proved_program  # noqa: E402
+from streams import FOUNDERS, LEAD, NOTE, compact, request_of  # noqa: E402
 
 RUNS = 5
 MOMENT = 100
@@ -337,8 +340,7 @@ def two_laboratories(path):
 
 
 def main(words):
-    here = os.path.dirname(os.path.abspath(__file__))
-    path = words[0] if words else subprocess.run([f"{here}/program", "lab_program"], stdout=subprocess.PIPE, check=True, text=True).stdout.strip()
+    path = words[0] if words else proved_program()
     each_kind(path)
     print()
     two_laboratories(path)

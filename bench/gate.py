@@ -111,12 +111,12 @@ def main():
     used = resource.getrusage(resource.RUSAGE_CHILDREN).ru_utime
     wall = time.time() - began
     print(f"{last}: {wall / 60:.1f} min on the wall, {used / 60:.0f} min of processor time, {os.cpu_count()} cores, huge pages {huge_pages()}")
-    print(f"{'crate':<14} {'check':>6} {'tests':>6} {'edits':>6}")
+    print(f"{'crate':<24} {'check':>6} {'tests':>6} {'edits':>6}")
     for folder in sorted(glob.glob("crates/*")):
         crate = os.path.basename(folder)
         edits = len(glob.glob(folder + "/must-fail/*.edit"))
         columns = " ".join(f"{spent[crate, kind]:>6.0f}" for kind in ("check", "tests", "edits"))
-        print(f"{crate:<14} {columns} ({edits})")
+        print(f"{crate:<24} {columns} ({edits})")
     for (crate, edit), seconds in sorted(tries.items()):
         print(f"{crate}/{edit} {seconds:.0f}")
     sys.exit(status)

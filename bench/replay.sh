@@ -40,7 +40,7 @@ beside_cat() {
     done
 }
 
-program=$("$root/bench/program" lab_program)
+program=$("$root/tools/program" lab_program)
 for calls in 1000 100000; do
     stream "$calls" >"$room/in"
     beside_cat "$room/in" "$calls"

@@ -6,7 +6,7 @@ library, through Python's sqlite3, for the same statements on its own copy of th
                                           without counts, at 100, 10,000 and 100,000 records
     bench/store.py --statements           lists what each request asks of the tables, and looks for texts that walk a table
 
-A file is founded and begun by `labdesk`, and then filled by bench/files.py. Of it there are two copies: over one `labdesk serve`
+A file is founded and begun by `labdesk`, and then filled by tests/model/files.py. Of it there are two copies: over one `labdesk serve`
 answers, over the other the C library runs the statements that crates/lab_store_load and crates/lab_store run for the same requests,
 with the texts of their sources, at the moments and with the values that the replies tell. In the end both have the same rows.
 
@@ -31,11 +31,12 @@ import sys
 import tempfile
 import time
 
-import files
-from children import best
-from streams import FOUNDERS, LEAD, NOTE, compact
-
 TOP = pathlib.Path(__file__).resolve().parent.parent
+sys.path.insert(0, str(TOP / "tests/model"))
+import files  # noqa: E402
+from children import best, proved_program  # noqa: E402
+from streams import FOUNDERS, LEAD, NOTE, compact  # noqa: E402
+
 ROUNDS = 10
 # In each round: so many records get so many rows, are signed twice, and are read so often; so many sessions are opened.
 RECORDS, ROWS, READINGS, OPENINGS, CARDS = 10, 10, 5, 20, 50
@@ -546,8 +547,7 @@ def walks(base):
 def main(words):
     if words[:1] == ["--statements"]:
         return statements()
-    here = os.path.dirname(os.path.abspath(__file__))
-    program = words[0] if words else subprocess.run([f"{here}/program", "lab_program"], stdout=subprocess.PIPE, check=True, text=True).stdout.strip()
+    program = words[0] if words else proved_program()
     measure(os.path.abspath(program), [int(word) for word in words[1:]] or [100, 10_000, 100_000])
     return 0
 

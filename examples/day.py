@@ -3,7 +3,7 @@
 
     examples/day.py            writes examples/day.events
     examples/day.py --check    says whether the file is as it would be written
-    examples/day.py --answers  prints what each of its events is answered, by the laboratory of bench/laboratory.py, which is no
+    examples/day.py --answers  prints what each of its events is answered, by the laboratory of tests/model/laboratory.py, which is no
                                part of the program and takes its hashes from Python's hashlib
 
 What a request is sent for, and what it should come to, stands beside it below; the script stops where its laboratory answers
@@ -19,7 +19,7 @@ import os
 import sys
 
 HERE = os.path.dirname(os.path.abspath(__file__))
-sys.path.insert(0, f"{HERE}/../bench")
+sys.path.insert(0, f"{HERE}/../tests/model")
 from laboratory import Machine, Refused, body, digest_of, found, refusal, token_of  # noqa: E402
 
 MIDNIGHT = calendar.timegm((2026, 3, 2, 0, 0, 0))

@@ -1,16 +1,18 @@
 #!/usr/bin/env python3
 """Writes what lab_tests_lists compares: the lines of a short day, and the copy of the laboratory after it, which Python's csv writes
-by docs/COPIES.md of the laboratory of bench/laboratory.py, whose hashes are those of hashlib.
+by docs/COPIES.md of the laboratory of tests/model/laboratory.py, whose hashes are those of hashlib.
 
-    bench/copies.py          prints the day's lines, then the copy of records 1 to 9 for hal, which is examples/copy.csv
-    bench/copies.py nobody   the same with a copy for nobody, as lab_tests_lists has it
-    bench/copies.py 3 5      the copy of records 3 to 5 alone
+    tests/model/copies.py          prints the day's lines, then the copy of records 1 to 9 for hal, which is examples/copy.csv
+    tests/model/copies.py nobody   the same with a copy for nobody, as lab_tests_lists has it
+    tests/model/copies.py 3 5      the copy of records 3 to 5 alone
 """
 import csv
+import os
 import sys
 
-from days import Day, LEAD, NOTE, quick_setup
-from laboratory import copy_rows
+sys.path.insert(0, os.path.join(os.path.dirname(os.path.abspath(__file__)), "../../bench"))
+from days import Day, LEAD, NOTE, quick_setup  # noqa: E402
+from laboratory import copy_rows  # noqa: E402
 
 def played():
     """A record released and amended, one rejected, one whose form wants an approval that it doesn't have yet, and one signed."""

@@ -1,4 +1,4 @@
-"""Streams of events for `labdesk replay`, and what each event must be answered: by the laboratory of bench/laboratory.py, which is
+"""Streams of events for `labdesk replay`, and what each event must be answered: by the laboratory of tests/model/laboratory.py, which is
 no part of the program, and by docs/HTTP.md.
 """
 import email.utils
@@ -28,7 +28,7 @@ PHRASES = {200: "OK", 400: "Bad Request", 401: "Unauthorized", 403: "Forbidden",
            409: "Conflict", 411: "Length Required", 413: "Payload Too Large", 431: "Request Header Fields Too Large",
            501: "Not Implemented", 503: "Service Unavailable"}
 
-# What is posted where, as bench/laboratory.py names it, and the members of the body in the order of its words.
+# What is posted where, as tests/model/laboratory.py names it, and the members of the body in the order of its words.
 POSTED = {
     "/open": ("open", "code password"), "/close": ("close", ""), "/password": ("password", "old new"),
     "/persons": ("enrol", "code name roles"), "/issue": ("issue", "code"), "/confirm": ("confirm", "code"),

@@ -1,15 +1,14 @@
 """A short hour of requests, in which each command is done at least once, and what each event of it is answered, as the laboratory of
-bench/laboratory.py does it, where one of them is refused for memory: the others are answered as if it had never come.
+tests/model/laboratory.py does it, where one of them is refused for memory: the others are answered as if it had never come.
 
-    bench/hours.py             prints the hour as `labdesk replay` reads it
-    bench/hours.py --answers   prints what its events are answered
+    tests/model/hours.py             prints the hour as `labdesk replay` reads it
+    tests/model/hours.py --answers   prints what its events are answered
 """
 import json
 import os
 import sys
 
-ROOT = os.path.dirname(os.path.dirname(os.path.abspath(__file__)))
-sys.path[:0] = [f"{ROOT}/bench", f"{ROOT}/examples"]
+sys.path.insert(0, os.path.join(os.path.dirname(os.path.abspath(__file__)), "../../examples"))
 import day as days  # noqa: E402
 from laboratory import Machine, Refused, body, digest_of, found, refusal  # noqa: E402
 from streams import FOUNDERS, STATUS, WORDS  # noqa: E402

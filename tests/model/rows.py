@@ -1,5 +1,5 @@
 """What checks of laboratories in a file begin with, ask and have to find: the rows of two laboratories, events with their answers, and
-what the tables have to say of each laboratory afterwards. All of it is made by bench/laboratory.py, which is no part of the program,
+what the tables have to say of each laboratory afterwards. All of it is made by tests/model/laboratory.py, which is no part of the program,
 and written and read by Python's sqlite3.
 
 The laboratories are brick and aqua: the same codes, forms, samples and numbers, sessions of the same tokens. Each id is seven times a
@@ -17,7 +17,7 @@ import sqlite3
 import laboratory
 from streams import FOUNDERS, LEAD, NOTE, Stream, reply_of
 
-ROOT = os.path.dirname(os.path.dirname(os.path.abspath(__file__)))
+ROOT = os.path.dirname(os.path.dirname(os.path.dirname(os.path.abspath(__file__))))
 ROLES = ["analyst", "reviewer", "manager", "administrator", "inspector"]
 COLUMNS = {
     "labs": "code name last stray records sessions trail",
