@@ -21,6 +21,6 @@ fn main(rt: HostRuntime) -> Result<()> {
 fn number(words: &[String]) -> Result<u32> {
     match words {
         [_, calls] => calls.parse::<u32>().context("reading a number"),
-        _ => bail!("lab_growths takes a number of calls"),
+        _ => bail!("lab_tests_growths takes a number of calls"),
     }
 }

@@ -1,4 +1,4 @@
-//! A short day of a laboratory, and the copy of it, as `bench/copies.py` prints them: hashes by Python's `hashlib`, rows by its
+//! A short day of a laboratory, and the copy of it, as `tests/model/copies.py` prints them: hashes by Python's `hashlib`, rows by its
 //! `csv`.
 
 /// A record released and amended, one rejected, one reviewed whose form wants an approval, and one that is empty.

@@ -8,7 +8,7 @@ use lab_tests_told::lab_text;
 use std::mem;
 use std::process::Abort;
 
-// The first newborn, as it is changed, in the lines of `bench/laboratory.py`.
+// The first newborn, as it is changed, in the lines of `tests/model/laboratory.py`.
 const CHANGED: &str = "lab|aqua|Aqua Lab|1200|4|4|0|0|0|1|\n\
     person|ann|Ann Roe|analyst |here|1|-|unset|no ask|\n\
     person|cid|Cid Lee|reviewer inspector |here|4|-|unset|no ask|\n\

@@ -1,4 +1,4 @@
-//! Forms, versions and their texts, of which `lab_bench` and `lab_tests_growths` make their calls. The only error is out of memory.
+//! Forms, versions and their texts, of which `lab_tests_growths` makes its calls. The only error is out of memory.
 #![tactic(auto)]
 
 mod results;
