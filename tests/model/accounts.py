@@ -99,9 +99,9 @@ def asks_stand_for_seven_days(s):
     for who in ("ann", "bob", "cid"):
         s.open(1100 + 604800, who)
     for moment, asked, confirmed in ((1200 + 604800, 30, 31), (1201 + 604800, None, 32)):
+        s.post(moment, "bob", "/confirm", code="cid", wants=confirmed)
         s.post(moment, "cid", "/issue", code="cid", wants=29)
         s.post(moment, "cid", "/confirm", code="cid", wants=29)
-        s.post(moment, "bob", "/confirm", code="cid", wants=confirmed)
         if asked is None:
             s.post(moment, "ann", "/confirm", code="cid", wants=32)
         else:
@@ -152,8 +152,108 @@ def a_failed_signing_without_the_code_locks(s):
     s.sign(1300, "dan", 3, 1, "authorship", wants=22)
 
 
+def an_opening_is_refused_for_its_password_first(s):
+    """A wrong password comes before a token that is there already. Of who has no password none is right."""
+    words = s.tokens["aqua", "dan"]
+    s.open(1150, "ann")
+    s.open(1200, "dan", password=WRONG, wants=20)
+    s.open(1200, "dan", password="", wants=20)
+    s.open(1201, "zed", password=RIGHT, wants=20)
+    s.post(1202, "ann", "/persons", code="joe", name="Joe Jay", roles=["analyst"])
+    s.open(1203, "joe", password="", wants=20)
+    s.open(1204, "dan", password=WRONG, words=words, wants=20)
+    s.open(1205, "dan", words=words, wants='{"error":"random_repeated","number":21}')
+    s.post(1206, "dan", "/password", old=WRONG, new="dan password 3", wants=20)
+    s.post(1207, "dan", "/password", old=RIGHT, new="11 bytes on", wants=25)
+    s.post(1208, "dan", "/password", old=RIGHT, new="b" * 129, wants=25)
+    s.post(1209, "dan", "/password", old=RIGHT, new=RIGHT, wants=26)
+    s.change(1210, "dan", "b" * 128)
+    s.change(1211, "dan", "12 bytes now")
+
+
+def accounts_that_are_not_there_or_ones_own(s):
+    """Of nobody and of who is retired each command answers alike, and nobody does any of them of themselves."""
+    s.open(1150, "ann")
+    s.open(1150, "bob")
+    s.open(1150, "fay")
+    s.post(1200, "ann", "/persons", code="dan", name="Dan Day", roles=["analyst"], wants=27)
+    s.post(1201, "ann", "/retire", code="hal", wants={"code": "hal"})
+    s.post(1202, "ann", "/persons", code="hal", name="Hal Hill", roles=["inspector"], wants=27)
+    for moment, place in enumerate(("/issue", "/confirm", "/roles", "/retire", "/unlock"), 1203):
+        roles = ["manager"] if place == "/roles" else None
+        for code, number in (("zed", 33), ("hal", 33), ("ann", 29)):
+            s.post(moment, "ann", place, code=code, roles=roles, wants=number)
+    s.post(1210, "ann", "/confirm", code="dan", wants=32)
+    s.post(1211, "ann", "/issue", code="dan")
+    s.post(1212, "ann", "/issue", code="dan")
+    s.post(1213, "bob", "/issue", code="dan", wants=30)
+    s.post(1214, "ann", "/confirm", code="dan", wants=31)
+    s.post(1215, "ann", "/roles", code="fay", roles=[], wants='{"code":"fay","roles":[]}')
+    s.get(1216, "fay", "/records/1", wants={"number": 24, "rule": "P18"})
+    s.reader = "gus"
+
+
+def an_administrator_is_kept_like_anybody(s):
+    """Enrolled like others, given roles, given a password, locked, unlocked and retired; who is none any more does none of it, and
+    two who were founders are retired by the third."""
+    for who in ("ann", "bob"):
+        s.open(1150, who)
+    for moment, roles in enumerate(([], ["reviewer"], ["manager"], ["inspector"], ["reviewer", "analyst"]), 1190):
+        s.post(moment, "ann", "/persons", code=f"p{moment}", name="Somebody", roles=roles, wants={"code": f"p{moment}"})
+    s.post(1200, "ann", "/persons", code="kim", name="Kim King", roles=["administrator"], wants={"code": "kim"})
+    s.post(1201, "ann", "/roles", code="kim", roles=["inspector", "administrator"], wants={"roles": ["administrator", "inspector"]})
+    first = s.post(1202, "ann", "/issue", code="cid")["half"]
+    s.passwords["aqua", "cid"] = first + s.post(1203, "bob", "/confirm", code="cid")["half"]
+    for moment in range(1204, 1209):
+        s.open(moment, "cid", password="correct horse 9", wants=20)
+    s.post(1209, "ann", "/unlock", code="cid", wants={"code": "cid"})
+    s.post(1210, "ann", "/roles", code="bob", roles=["analyst"], wants={"roles": ["analyst"]})
+    s.post(1211, "bob", "/unlock", code="cid", wants={"number": 24, "rule": "P9"})
+    s.post(1212, "ann", "/roles", code="bob", roles=["reviewer", "administrator"], wants={"roles": ["reviewer", "administrator"]})
+    s.post(1213, "bob", "/retire", code="bob", wants=29)
+    s.post(1214, "bob", "/retire", code="ann", wants={"code": "ann"})
+    s.get(1215, "ann", "/persons", wants=22)
+    s.post(1216, "bob", "/retire", code="cid", wants={"code": "cid"})
+    s.post(1217, "bob", "/retire", code="kim", wants={"code": "kim"})
+    s.post(1218, "bob", "/retire", code="kim", wants=33)
+    assert [one["code"] for one in s.get(1219, "bob", "/persons")["persons"] if one["retired"]] == ["ann", "cid", "kim"]
+
+
+def who_is_retired_is_so_for_good(s):
+    """Their sessions are closed, their code is given once, and nobody retires them again."""
+    s.open(1150, "bob")
+    s.post(1201, "bob", "/retire", code="dan", wants={"code": "dan"})
+    s.get(1202, "dan", "/records/1", wants=22)
+    s.open(1203, "dan", wants=20)
+    s.post(1204, "bob", "/persons", code="dan", name="Dan Day", roles=["analyst"], wants=27)
+    s.post(1205, "bob", "/retire", code="dan", wants=33)
+    s.post(1206, "bob", "/retire", code="zed", wants=33)
+    s.post(1207, "bob", "/unlock", code="eve", wants={"code": "eve"})
+    s.post(1208, "bob", "/close", wants={"session": 9})
+    s.get(1209, "bob", "/persons", wants=22)
+
+
+def what_a_due_password_refuses_comes_before_the_role(s):
+    s.open(86000, "hal")
+    s.change(86399, "hal", "hal password 2")
+    s.open(7862399, "hal", wants={"due": False})
+    s.post(7862400, "hal", "/persons", code="ivy", name="Ivy Inn", roles=[], wants=23)
+    s.change(7862403, "hal", "hal password 3")
+    s.post(7862404, "hal", "/persons", code="ivy", name="Ivy Inn", roles=[], wants={"number": 24, "rule": "P3"})
+
+
+def the_fifth_failed_password_at_a_signing_locks(s):
+    """Guessing by signing is guessing (21 CFR 11.300(d))."""
+    for moment in range(1300, 1305):
+        s.sign(moment, "dan", 1, 1, "authorship", code="dan", password=WRONG, wants=20)
+    s.get(1305, "dan", "/records/1", wants=22)
+    s.open(1306, "dan", wants=20)
+
+
 FROM_NOTHING = [foundings_that_are_refused_found_nothing]
 FROM_SETUP = [
     the_card_asks_for_no_session, zeros_behind_a_password_change_nothing, a_new_password_is_another_of_12_to_128_bytes,
     a_wrong_old_password_comes_before_a_bad_new_one_and_locks, both_halves_of_a_one_time_password_one_after_the_other,
-    asks_stand_for_seven_days, accounts_of_who_is_locked, a_failed_signing_without_the_code_locks]
+    asks_stand_for_seven_days, accounts_of_who_is_locked, a_failed_signing_without_the_code_locks,
+    an_opening_is_refused_for_its_password_first, accounts_that_are_not_there_or_ones_own, an_administrator_is_kept_like_anybody,
+    who_is_retired_is_so_for_good, what_a_due_password_refuses_comes_before_the_role, the_fifth_failed_password_at_a_signing_locks]

@@ -72,6 +72,15 @@ def setup():
 
 
 @functools.cache
+def all_are_in():
+    """The same, where each of them has a session, but for cid."""
+    s = copy.deepcopy(setup())
+    for moment, who in enumerate(["ann", "bob", "eve", "fay", "gus", "hal"], 1150):
+        s.open(moment, who)
+    return s
+
+
+@functools.cache
 def founders():
     """aqua alone, where ann is also an analyst and a manager, and bob a reviewer, and both have come in; and a form."""
     s = Stream()
@@ -231,8 +240,8 @@ def a_one_time_password_takes_two_administrators(s):
     s.post(1203, "ann", "/confirm", code="ann", wants='{"error":"own_issue","number":29}')
     s.post(1204, "bob", "/confirm", code="ivy", words=31, wants={"half": second})
     s.open(1205, "ivy", password=first, wants=20)
-    s.open(1205, "ivy", password=first + second, wants={"due": True})
-    s.post(1206, "bob", "/confirm", code="ivy", wants='{"error":"no_issue","number":32}')
+    s.open(1206, "ivy", password=first + second, wants={"due": True})
+    s.post(1207, "bob", "/confirm", code="ivy", wants='{"error":"no_issue","number":32}')
     s.open(1204 + 604800, "ivy", password=first + second, wants={"due": True})
     s.open(1205 + 604800, "ivy", password=first + second, wants=20)
 
@@ -243,9 +252,9 @@ def a_laboratory_has_five_hundred_persons_and_each_code_once(s):
     for number in range(492):
         s.post(1200, "ann", "/persons", code=f"p{number}", name=f"Person {number}", roles=["analyst"])
     s.post(1201, "ann", "/persons", code="last", name="The Last", roles=[], wants='{"error":"lab_full","number":28}')
-    s.post(1201, "ann", "/persons", code="dan", name="Dan Day", roles=[], wants='{"error":"code_taken","number":27}')
-    s.post(1201, "ann", "/retire", code="zed", wants='{"error":"no_such_person","number":33}')
-    s.post(1201, "ann", "/retire", code="ann", wants=29)
+    s.post(1202, "ann", "/persons", code="dan", name="Dan Day", roles=[], wants='{"error":"code_taken","number":27}')
+    s.post(1203, "ann", "/retire", code="zed", wants='{"error":"no_such_person","number":33}')
+    s.post(1204, "ann", "/retire", code="ann", wants=29)
 
 
 @case(setup)
@@ -353,8 +362,9 @@ def what_makes_a_form_bad(s):
 def a_form_has_ninety_nine_versions(s):
     for version in range(2, 100):
         s.post(10, "ann", "/forms", form="water", fields=[LEAD, NOTE], approval=version % 2 == 0, wants={"version": version})
-    s.post(10, "ann", "/forms", form="water", fields=[LEAD, NOTE], wants=48)
-    s.post(10, "ann", "/forms", form="water", fields=[LEAD, NOTE], approval=True, wants=28)
+    s.post(11, "ann", "/forms", form="water", fields=[LEAD, NOTE], wants=48)
+    s.post(12, "ann", "/forms", form="water", fields=[LEAD, NOTE], approval=True, wants=28)
+    s.post(13, "ann", "/forms", form="soil", fields=[LEAD], approval=True, wants={"version": 1})
 
 
 # ---- records, entries, amendments and signatures
@@ -440,13 +450,13 @@ def what_is_released_is_amended_and_nothing_overwritten(s):
     record_1_is_released(s)
     same, other = ({"key": "lead", "value": value, "unit": "mg/L"} for value in ("7.50", "7.5"))
     s.post(1400, "dan", "/amendments", record=1, reason="one decimal is meant", altered=[], wants=48)
-    s.post(1400, "dan", "/amendments", record=1, reason="one decimal is meant", altered=[same],
+    s.post(1401, "dan", "/amendments", record=1, reason="one decimal is meant", altered=[same],
            wants='{"error":"not_altered","key":"lead","number":49}')
-    s.post(1400, "dan", "/amendments", record=1, altered=[other], wants=47)
-    s.post(1400, "dan", "/amendments", record=1, reason="one decimal is meant", altered=[other], wants={"version": 2})
-    assert len(s.get(1400, "dan", "/records/1/versions/1")["signatures"]) == 2
-    s.get(1400, "dan", "/records/1/versions/2", wants={"signatures": [], "state": "open", "altered": ["lead"]})
-    s.post(1400, "dan", "/amendments", record=1, reason="once more", altered=[same], wants='{"error":"amendment_open","number":50}')
+    s.post(1402, "dan", "/amendments", record=1, altered=[other], wants=47)
+    s.post(1403, "dan", "/amendments", record=1, reason="one decimal is meant", altered=[other], wants={"version": 2})
+    assert len(s.get(1404, "dan", "/records/1/versions/1")["signatures"]) == 2
+    s.get(1405, "dan", "/records/1/versions/2", wants={"signatures": [], "state": "open", "altered": ["lead"]})
+    s.post(1406, "dan", "/amendments", record=1, reason="once more", altered=[same], wants='{"error":"amendment_open","number":50}')
     # What is signed is what was read: the digest names it. A version is signed once by its author.
     stale, present = s.digest(1, 1), s.digest(1, 2)
     s.sign(1410, "dan", 1, 2, "authorship", digest=stale, wants='{"digest":"%s","error":"stale_digest","number":52}' % present)
@@ -454,6 +464,7 @@ def what_is_released_is_amended_and_nothing_overwritten(s):
     s.sign(1410, "dan", 1, 2, "authorship", wants='{"error":"already_signed","number":53}')
     # Who reviewed the version before may review this one.
     s.sign(1420, "eve", 1, 2, "review", wants={"state": "released"})
+    s.get(1450, "dan", "/records/1", wants={"current": 2})
 
 
 @case(setup)
@@ -523,23 +534,23 @@ def a_form_that_wants_an_approval_is_released_by_three(s):
     s.post(1200, "gus", "/forms", form="water", fields=[LEAD, NOTE], approval=True, wants='{"form":"water","version":2}')
     s.post(1200, "gus", "/forms", form="water", fields=[LEAD, NOTE], approval=True, wants=48)
     record_2_is_entered(s, 1200)
-    s.sign(1210, "dan", 2, 1, "authorship", code="dan", wants={"state": "signed"})
-    s.sign(1210, "gus", 2, 1, "approval", code="gus", wants=56)
-    s.sign(1210, "eve", 2, 1, "review", code="eve", wants={"state": "reviewed"})
-    s.post(1210, "dan", "/amendments", record=2, reason="one decimal", altered=[{"key": "lead", "value": "7.5", "unit": "mg/L"}], wants=50)
-    s.post(1210, "dan", "/entries", record=2, key="note", value="clear", unit="", wants=46)
-    s.sign(1210, "eve", 2, 1, "approval", wants='{"error":"role_wanted","number":24,"rule":"P23"}')
+    s.sign(1204, "dan", 2, 1, "authorship", code="dan", wants={"state": "signed"})
+    s.sign(1205, "gus", 2, 1, "approval", code="gus", wants=56)
+    s.sign(1206, "eve", 2, 1, "review", code="eve", wants={"state": "reviewed"})
+    s.post(1207, "dan", "/amendments", record=2, reason="one decimal", altered=[{"key": "lead", "value": "7.5", "unit": "mg/L"}], wants=50)
+    s.post(1208, "dan", "/entries", record=2, key="note", value="clear", unit="", wants=46)
+    s.sign(1209, "eve", 2, 1, "approval", wants='{"error":"role_wanted","number":24,"rule":"P23"}')
     s.open(1210, "ann")
-    s.post(1210, "ann", "/roles", code="eve", roles=["manager", "analyst", "reviewer"],
+    s.post(1211, "ann", "/roles", code="eve", roles=["manager", "analyst", "reviewer"],
            wants='{"code":"eve","roles":["analyst","reviewer","manager"]}')
-    s.sign(1210, "eve", 2, 1, "approval", wants=54)
-    s.sign(1210, "gus", 2, 1, "rejection", code="gus", wants=47)
-    s.sign(1210, "gus", 2, 1, "approval", code="gus", wants={"state": "released"})
-    s.sign(1210, "gus", 2, 1, "approval", wants=53)
+    s.sign(1212, "eve", 2, 1, "approval", wants=54)
+    s.sign(1213, "gus", 2, 1, "rejection", code="gus", wants=47)
+    s.sign(1214, "gus", 2, 1, "approval", code="gus", wants={"state": "released"})
+    s.sign(1215, "gus", 2, 1, "approval", wants=53)
     # Record 1 is of the form's first version, which wants none.
     s.sign(1220, "dan", 1, 1, "authorship")
-    s.sign(1220, "gus", 1, 1, "approval", wants='{"error":"approval_not_wanted","number":58}')
-    s.sign(1220, "gus", 1, 1, "rejection", reason="not our scale", wants={"state": "rejected"})
+    s.sign(1221, "gus", 1, 1, "approval", wants='{"error":"approval_not_wanted","number":58}')
+    s.sign(1221, "gus", 1, 1, "rejection", reason="not our scale", wants={"state": "rejected"})
 
 
 @case(setup)
@@ -566,6 +577,266 @@ def a_version_has_the_text_of_which_its_digest_is_made(s):
     s.get(1200, "dan", "/records/1/versions/1", wants={"digest": digest, "format": 2, "approval": False})
     s.sign(1300, "dan", 1, 1, "authorship", digest=digest, code="dan", wants={
         "seal": sha(f"64:{digest}\n4:aqua\n3:dan\n7:Dan Day\n10:authorship\n20:1970-01-01T00:21:40Z\n0:\n".encode())})
+
+
+# ---- a record's limits
+
+
+@case(setup)
+def a_version_has_two_hundred_rows(s):
+    again = {"record": 1, "key": "lead", "unit": "mg/L"}
+    for number in range(199):
+        s.post(1200, "dan", "/entries", **again, value=f"{number % 7}.5", reason=f"reading {number}", wants={"rows": number + 2})
+    s.post(1201, "dan", "/entries", **again, value="1", wants=47)
+    s.post(1202, "dan", "/entries", **again, value="1", reason="one more", wants='{"error":"lab_full","number":28}')
+    s.sign(1203, "dan", 1, 1, "authorship", code="dan", wants={"state": "signed"})
+
+
+@case(setup)
+def a_record_has_ninety_nine_versions(s):
+    s.open(1190, "eve")
+    for version in range(1, 100):
+        if version > 1:
+            altered = [{"key": "lead", "value": f"{version}.5", "unit": "mg/L"}]
+            s.post(1200 + version, "dan", "/amendments", record=1, reason=f"reading {version}", altered=altered, wants={"version": version})
+        s.sign(1200 + version, "dan", 1, version, "authorship", code="dan", wants={"state": "signed"})
+        s.sign(1200 + version, "eve", 1, version, "review", code="eve", wants={"state": "released"})
+    same, other = ({"key": "lead", "value": value, "unit": "mg/L"} for value in ("99.5", "7.5"))
+    s.post(1400, "dan", "/amendments", record=1, reason="once more", altered=[same], wants='{"error":"not_altered","key":"lead","number":49}')
+    s.post(1401, "dan", "/amendments", record=1, reason="once more", altered=[other], wants='{"error":"lab_full","number":28}')
+    s.get(1402, "dan", "/records/1", wants={"current": 99})
+
+
+# ---- the rules of each command, in the order in which they are looked at (docs/RECORDS.md)
+
+
+def any_of(s, moment, who, place, members, wants):
+    """What is posted has members, and what is read has none."""
+    if members is None:
+        return s.get(moment, who, place, wants)
+    return s.post(moment, who, place, wants, **members)
+
+
+def every_command(s):
+    """Each command in a session with what it may be asked of the laboratory: a place, the members of the body, and who may not ask
+    it by which rule."""
+    def sign(meaning):
+        return {"record": 1, "version": 1, "digest": s.digest(1, 1), "meaning": meaning, "password": "dan password 1", "code": "dan"}
+    dan, lead = {"code": "dan"}, {"key": "lead", "value": "7.5", "unit": "mg/L"}
+    return [
+        ("/close", {}, None, None), ("/password", {"old": "dan password 1", "new": "dan password 2"}, None, None),
+        ("/persons", {"code": "ivy", "name": "Ivy Inn", "roles": ["analyst"]}, "gus", "P3"), ("/persons", None, "eve", "P4"),
+        ("/issue", dan, "gus", "P5"), ("/confirm", dan, "gus", "P6"), ("/roles", {**dan, "roles": ["manager"]}, "gus", "P7"),
+        ("/retire", dan, "gus", "P8"), ("/unlock", dan, "gus", "P9"),
+        ("/forms", {"form": "water", "approval": True, "fields": [LEAD, NOTE]}, "ann", "P10"), ("/forms/water/1", None, "ann", "P11"),
+        ("/records", {"form": "water", "sample": "S2"}, "fay", "P12"),
+        ("/entries", {"record": 1, "key": "note", "value": "clear", "unit": ""}, "fay", "P13"),
+        ("/amendments", {"record": 1, "reason": "misread", "altered": [lead]}, "fay", "P14"),
+        ("/signatures", sign("authorship"), "fay", "P15"), ("/signatures", sign("review"), "dan", "P16"),
+        ("/signatures", sign("rejection"), "dan", "P17"), ("/signatures", sign("approval"), "eve", "P23"),
+        ("/records/1", None, "ann", "P18"), ("/records/1/versions/1", None, "ann", "P19"), ("/records?from=1&to=100", None, "ann", "P20"),
+        ("/trail?from=1&to=100", None, "eve", "P21"), ("/copy?from=1&to=100", None, "dan", "P22"),
+    ]
+
+
+@case(all_are_in)
+def the_clock_the_session_the_password_and_the_role_come_first(s):
+    """In this order, of every command: whatever else would refuse it."""
+    every_role = ["analyst", "reviewer", "manager", "administrator", "inspector"]
+    s.post(1160, "ann", "/persons", code="ivy", name="Ivy Inn", roles=every_role)
+    first = s.post(1161, "ann", "/issue", code="ivy")["half"]
+    s.passwords["aqua", "ivy"] = first + s.post(1162, "bob", "/confirm", code="ivy")["half"]
+    s.open(1163, "ivy", wants={"due": True})
+    # A token that was never given.
+    s.tokens["aqua", "stranger"] = 77
+    s.get(1162, None, "", wants='{"error":"clock_behind","number":41}')
+    s.open(1162, "dan", wants=41)
+    moment = 1200
+    for place, members, other, rule in every_command(s):
+        any_of(s, 1162, "dan", place, members, wants=41)
+        any_of(s, moment, None, place, members, wants=22)
+        any_of(s, moment, "stranger", place, members, wants=22)
+        if place not in ("/close", "/password"):
+            any_of(s, moment + 1, "ivy", place, members, wants='{"error":"password_due","number":23}')
+        if other is not None:
+            any_of(s, moment + 2, other, place, members, wants={"number": 24, "rule": rule})
+        moment += 3
+
+
+@case(all_are_in)
+def entries_of_each_kind_and_what_refuses_them(s):
+    fields = [{"key": "amount", "label": "Amount", "required": True, "kind": "number", "unit": "%", "decimals": 0, "min": "-5", "max": "10"},
+              {"key": "colour", "label": "Colour", "required": False, "kind": "choice", "choices": ["red", "blue green"]},
+              {"key": "taken", "label": "Taken", "required": False, "kind": "date"},
+              {"key": "clear", "label": "Clear", "required": False, "kind": "yesno"},
+              {"key": "note", "label": "Note", "required": False, "kind": "text", "size": 5}]
+    s.post(1200, "gus", "/forms", form="water", fields=[LEAD, NOTE], wants=48)
+    s.get(1201, "gus", "/forms/soil/1", wants=42)
+    s.get(1202, "gus", "/forms/water/2", wants=42)
+    s.get(1203, "gus", "/forms/water/1", wants={"form": "water", "version": 1})
+    s.post(1204, "gus", "/forms", form="soil", approval=True, fields=fields, wants={"version": 1})
+    s.get(1205, "gus", "/forms/soil/1", wants={"form": "soil", "version": 1})
+    s.post(1206, "dan", "/records", form="air", sample="S1", wants=42)
+    s.post(1207, "dan", "/records", form="water", sample="S1", wants=43)
+    s.post(1208, "dan", "/records", form="soil", sample="S1", wants={"record": 2})
+
+    def enter(moment, key, value, unit, wants=None, record=2, reason=None):
+        return s.post(moment, "dan", "/entries", record=record, key=key, value=value, unit=unit, reason=reason, wants=wants)
+    enter(1209, "lead", "7.5", "mg/L", 44, record=3, reason="misread")
+    enter(1210, "lead", "7.5", "mg/L", 7)
+    for key, bad in (("amount", "1.5"), ("colour", "green"), ("taken", "1970-1-1"), ("taken", "2023-02-29"), ("clear", "maybe"),
+                     ("note", "123456"), ("note", "")):
+        enter(1211, key, bad, "", 8)
+    enter(1212, "amount", "10", "", 9)
+    enter(1213, "clear", "yes", "%", 9)
+    enter(1214, "amount", "11", "%", 10)
+    enter(1215, "amount", "-6", "%", 10)
+    good = [("amount", "<-5", "%"), ("colour", "blue green", ""), ("taken", "2000-02-29", ""), ("clear", "no", ""), ("note", "a, b", "")]
+    for rows, (key, value, unit) in enumerate(good, 1):
+        enter(1216, key, value, unit, {"rows": rows})
+    enter(1217, "clear", "no", "", 47)
+    enter(1218, "clear", "no", "", {"rows": 6}, reason="once more")
+    s.get(1219, "dan", "/records/2/versions/1", wants={"altered": ["amount", "colour", "taken", "clear", "note"], "state": "open"})
+    s.get(1220, "dan", "/records/3", wants=44)
+    s.get(1221, "dan", "/records/3/versions/1", wants=44)
+    s.get(1222, "dan", "/records/2/versions/2", wants=45)
+    assert len(s.get(1223, "dan", "/records?from=2&to=2")["records"]) == 1
+
+
+@case(all_are_in)
+def signatures_of_an_open_version_and_of_a_signed_one(s):
+    digest = s.digest(1, 1)
+    s.sign(1200, "dan", 1, 1, "authorship", wants=57)
+    s.sign(1201, "dan", 1, 1, "authorship", password="dan password 2", code="dan", wants=20)
+    s.sign(1202, "dan", 1, 1, "authorship", code="eve", wants=20)
+    s.sign(1203, "dan", 2, 1, "authorship", digest=digest, code="dan", wants=44)
+    s.sign(1204, "dan", 1, 2, "authorship", digest=digest, code="dan", wants=45)
+    s.sign(1205, "gus", 1, 1, "approval", code="gus", wants=58)
+    s.sign(1206, "fay", 1, 1, "review", code="fay", wants=56)
+    s.sign(1207, "fay", 1, 1, "rejection", code="fay", wants=56)
+    s.sign(1208, "dan", 1, 1, "authorship", code="dan", digest="0" * 64, wants='{"digest":"%s","error":"stale_digest","number":52}' % digest)
+    s.sign(1209, "eve", 1, 1, "authorship", code="eve", wants=55)
+    s.post(1210, "dan", "/records", form="water", sample="S2", wants={"record": 2})
+    s.post(1211, "dan", "/entries", record=2, key="note", value="clear", unit="", wants={"rows": 1})
+    s.sign(1212, "dan", 2, 1, "authorship", code="dan", wants=51)
+    s.post(1213, "eve", "/entries", record=1, key="note", value="clear", unit="", wants={"rows": 2})
+    s.sign(1214, "dan", 1, 1, "authorship", code="dan", wants={"state": "signed"})
+    s.sign(1215, "dan", 1, 1, "authorship", wants=53)
+    s.post(1216, "dan", "/entries", record=1, key="note", value="cloudy", unit="", reason="misread", wants=46)
+    other = [{"key": "lead", "value": "7.5", "unit": "mg/L"}]
+    s.post(1217, "dan", "/amendments", record=9, reason="misread", altered=other, wants=44)
+    s.post(1218, "dan", "/amendments", record=1, reason="misread", altered=other, wants=50)
+    s.sign(1219, "eve", 1, 1, "review", code="eve", wants=54)
+    s.sign(1220, "eve", 1, 1, "rejection", code="eve", wants=54)
+    s.sign(1221, "fay", 1, 1, "review", code="fay", digest="f" * 64, wants=52)
+    s.sign(1222, "fay", 1, 1, "rejection", code="fay", wants=47)
+    s.sign(1223, "fay", 1, 1, "rejection", code="fay", reason="the scale was off", wants={"state": "rejected"})
+
+
+@case(all_are_in)
+def what_is_rejected_is_amended(s):
+    """Each refusal of an amendment, then a version of two values of which no value stands again."""
+    s.sign(1210, "dan", 1, 1, "authorship", code="dan")
+    s.sign(1220, "fay", 1, 1, "rejection", code="fay", reason="the scale was off", wants={"state": "rejected"})
+    for meaning in ("review", "rejection"):
+        s.sign(1224, "fay", 1, 1, meaning, wants=53)
+    s.sign(1224, "dan", 1, 1, "authorship", wants=53)
+
+    def amend(moment, reason, *altered, wants):
+        members = [dict(zip(("key", "value", "unit"), one)) for one in altered]
+        s.post(moment, "dan", "/amendments", record=1, reason=reason, altered=members, wants=wants)
+    amend(1225, None, ("lead", "7.5", "mg/L"), wants=47)
+    amend(1226, "misread", wants=48)
+    amend(1227, "misread", ("iron", "7.5", "mg/L"), wants=7)
+    amend(1228, "misread", ("lead", "7.505", "mg/L"), wants=8)
+    amend(1229, "misread", ("lead", "7.5", "g/L"), wants=9)
+    amend(1230, "misread", ("lead", "-7.5", "mg/L"), wants=10)
+    amend(1231, "misread", ("lead", "7.50", "mg/L"), ("iron", "1", ""), wants='{"error":"not_altered","key":"lead","number":49}')
+    amend(1231, "misread", ("note", "cloudy", ""), ("iron", "1", ""), wants=7)
+    amend(1232, "misread", ("lead", "7.5", "mg/L"), ("note", "cloudy", ""), wants={"version": 2})
+    s.sign(1233, "fay", 1, 1, "review", wants=53)
+    s.post(1234, "dan", "/entries", record=1, key="lead", value="7.50", unit="mg/L", wants=47)
+    s.post(1235, "dan", "/entries", record=1, key="lead", value="7.50", unit="mg/L", reason="it was right", wants={"rows": 3, "version": 2})
+    s.get(1236, "dan", "/records/1/versions/2", wants={"altered": ["note"], "signatures": [], "state": "open"})
+    s.get(1237, "dan", "/records/1", wants={"current": 2})
+    s.sign(1238, "dan", 1, 2, "authorship", wants={"state": "signed"})
+
+
+@case(all_are_in)
+def a_version_whose_values_are_the_old_ones_again_alters_nothing(s):
+    s.post(1200, "eve", "/entries", record=1, key="note", value="clear", unit="")
+    s.sign(1210, "dan", 1, 1, "authorship", code="dan")
+    s.sign(1220, "fay", 1, 1, "review", code="fay", wants={"state": "released"})
+    altered = [{"key": "lead", "value": "7.5", "unit": "mg/L"}, {"key": "note", "value": "cloudy", "unit": ""}]
+    s.post(1231, "dan", "/amendments", record=1, reason="misread", wants={"key": "note", "number": 49},
+           altered=[{"key": "note", "value": "clear", "unit": ""}, {"key": "iron", "value": "1", "unit": ""}])
+    s.post(1232, "dan", "/amendments", record=1, reason="misread", altered=altered, wants={"version": 2})
+    s.post(1233, "dan", "/entries", record=1, key="lead", value="7.50", unit="mg/L", reason="it was right", wants={"rows": 3})
+    s.post(1234, "dan", "/entries", record=1, key="note", value="clear", unit="", reason="it was right", wants={"rows": 4})
+    s.sign(1235, "dan", 1, 2, "authorship", wants='{"error":"nothing_altered","number":48}')
+    s.get(1236, "dan", "/records/1/versions/2", wants={"altered": [], "state": "open"})
+    s.get(1237, "dan", "/records/1", wants={"current": 2})
+
+
+@case(all_are_in)
+def signatures_of_a_version_that_wants_an_approval(s):
+    s.post(1200, "gus", "/forms", form="water", fields=[LEAD, NOTE], approval=True, wants={"version": 2})
+    record_2_is_entered(s, 1201)
+    s.sign(1203, "gus", 2, 1, "approval", code="gus", wants=56)
+    s.sign(1204, "dan", 2, 1, "authorship", code="dan", wants={"state": "signed"})
+    s.sign(1205, "gus", 2, 1, "approval", code="gus", wants=56)
+    s.sign(1206, "fay", 2, 1, "review", code="fay", wants={"state": "reviewed"})
+    s.post(1207, "dan", "/entries", record=2, key="note", value="clear", unit="", wants=46)
+    other = {"key": "lead", "value": "7.51", "unit": "mg/L"}
+    s.post(1208, "dan", "/amendments", record=2, reason="misread", altered=[other], wants=50)
+    s.sign(1209, "eve", 2, 1, "review", code="eve", wants=53)
+    s.sign(1210, "dan", 2, 1, "authorship", wants=53)
+    s.sign(1211, "fay", 2, 1, "rejection", wants=54)
+    s.sign(1212, "gus", 2, 1, "approval", code="gus", digest="f" * 64, wants=52)
+    s.sign(1213, "gus", 2, 1, "rejection", code="gus", reason="not our scale", wants={"state": "rejected"})
+    s.post(1214, "dan", "/amendments", record=2, reason="another scale", altered=[other], wants={"version": 2})
+    s.sign(1215, "dan", 2, 2, "authorship", wants={"state": "signed"})
+    s.sign(1216, "eve", 2, 2, "review", code="eve", wants={"state": "reviewed"})
+    s.sign(1217, "gus", 2, 2, "approval", wants={"state": "released"})
+    for who, meaning in (("dan", "authorship"), ("eve", "review"), ("gus", "rejection"), ("gus", "approval")):
+        s.sign(1218, who, 2, 2, meaning, wants=53)
+
+
+@case(all_are_in)
+def of_several_refusals_of_a_signature_the_first_is_told(s):
+    """The code, the password, the record, the version, whether an approval is wanted, the state, the digest, whose work it is, what
+    is missing or altered, and the reason."""
+    for who, meaning in (("dan", "authorship"), ("fay", "review"), ("fay", "rejection"), ("gus", "approval")):
+        none, wrong = "0" * 64, f"{who} password 2"
+        s.sign(1200, who, 9, 9, meaning, digest=none, password=wrong, wants=57)
+        s.sign(1200, who, 9, 9, meaning, digest=none, password=wrong, code=who, wants=20)
+        s.sign(1200, who, 9, 9, meaning, digest=none, code="ann", wants=20)
+        s.sign(1200, who, 9, 9, meaning, digest=none, code=who, wants=44)
+        s.sign(1200, who, 1, 9, meaning, digest=none, code=who, wants=45)
+        s.sign(1200, who, 1, 1, meaning, digest=none, code=who, wants={"authorship": 52, "approval": 58}.get(meaning, 56))
+    s.post(1201, "dan", "/records", form="water", sample="S2")
+    s.post(1202, "dan", "/entries", record=2, key="note", value="clear", unit="")
+    s.sign(1203, "eve", 2, 1, "authorship", code="eve", digest="0" * 64, wants=52)
+    s.sign(1204, "eve", 2, 1, "authorship", code="eve", wants=55)
+    s.post(1205, "eve", "/entries", record=1, key="note", value="clear", unit="")
+
+    def enter(moment, key, value, unit, wants):
+        s.post(moment, "dan", "/entries", record=1, key=key, value=value, unit=unit, wants=wants)
+    enter(1206, "iron", "", "g/L", 7)
+    enter(1207, "lead", "-7.505", "g/L", 8)
+    enter(1208, "lead", "-7.5", "g/L", 9)
+    enter(1209, "lead", "-7.5", "mg/L", 10)
+    s.post(1210, "dan", "/amendments", record=1, altered=[], wants=50)
+    s.sign(1211, "dan", 1, 1, "authorship", code="dan")
+    enter(1212, "iron", "", "g/L", 46)
+    s.sign(1213, "dan", 1, 1, "authorship", digest="0" * 64, wants=53)
+    s.sign(1214, "eve", 1, 1, "rejection", code="eve", digest="0" * 64, wants=52)
+    s.sign(1215, "eve", 1, 1, "rejection", code="eve", wants=54)
+    s.sign(1216, "fay", 1, 1, "rejection", code="fay", wants=47)
+    # It clears the failed passwords of fay, of which there are four.
+    s.sign(1217, "fay", 1, 1, "rejection", code="fay", reason="not our scale", wants={"state": "rejected"})
+    s.post(1218, "dan", "/amendments", record=1, altered=[], wants=47)
+    s.post(1219, "dan", "/amendments", record=1, reason="misread", altered=[], wants=48)
 
 
 

@@ -244,6 +244,39 @@ def quotes_of_a_copy_are_doubled_and_its_length_is_in_bytes(s):
     s.get(5000, None, "", wants=r'{"lab":"aqua","name":"Aqua, \"Lab\" é€"}')
 
 
+@case("setup")
+def copies_of_what_is_signed(s):
+    """A record that is released, one that is signed, and a version that amends with a reason in quotes."""
+    s.sign(1300, "dan", 1, 1, "authorship", code="dan")
+    s.open(1310, "eve")
+    s.sign(1320, "eve", 1, 1, "review", code="eve", wants={"state": "released"})
+    s.post(1330, "dan", "/records", form="water", sample="S2", wants={"record": 2})
+    s.post(1340, "dan", "/entries", record=2, key="lead", value="7.50", unit="mg/L")
+    s.sign(1350, "dan", 2, 1, "authorship", wants={"state": "signed"})
+    s.open(1400, "hal")
+    for first, last, end in ((1, 1, "1,1,1,2"), (1, 5, "2,2,2,3"), (2, 2, "1,1,1,1")):
+        copied(s, 1410, "hal", first, last)
+        assert s.answers[-1].endswith(f"\nend,aqua,{end},,,,,,,\n".encode())
+    states = [(one["record"], one["state"]) for one in s.get(1420, "dan", "/records?from=1&to=100")["records"]]
+    assert states == [(1, "released"), (2, "signed")]
+    altered = [{"key": "lead", "value": "7.5", "unit": "mg/L"}]
+    s.post(1440, "dan", "/amendments", record=1, reason='misread: "7,50"', altered=altered, wants={"version": 2})
+    copied(s, 1450, "hal", 1, 1)
+    assert b',"misread: ""7,50""",' in s.answers[-1] and s.answers[-1].endswith(b"\nend,aqua,1,2,2,2,,,,,,,\n")
+
+
+@case("setup")
+def managers_and_inspectors_take_copies_and_nobody_else(s):
+    for moment, who in enumerate(("ann", "eve", "fay", "gus", "hal"), 1200):
+        s.open(moment, who)
+    s.post(1212, "ann", "/roles", code="eve", roles=[])
+    for who in ("gus", "hal"):
+        copied(s, 1213, who, 1, 1)
+        assert s.answers[-1].partition(b"\r\n\r\n")[2].count(b"\n") == 6
+    for moment, who in enumerate(("dan", "ann", "eve", "fay"), 1220):
+        s.get(moment, who, "/copy?from=1&to=1", wants='{"error":"role_wanted","number":24,"rule":"P22"}')
+
+
 # ---- bodies
 
 

@@ -1,51 +1,56 @@
 #!/usr/bin/env python3
-"""Writes what lab_tests_lists compares: the lines of a short day, and the copy of the laboratory after it, which Python's csv writes
-by docs/COPIES.md of the laboratory of tests/model/laboratory.py, whose hashes are those of hashlib.
+"""Writes the copy of a short day, which lab_tests_lists and tests/copies compare: Python's csv writes it by docs/COPIES.md of the
+laboratory of tests/model/laboratory.py, whose hashes are those of hashlib.
 
-    tests/model/copies.py          prints the day's lines, then the copy of records 1 to 9 for hal, which is examples/copy.csv
-    tests/model/copies.py nobody   the same with a copy for nobody, as lab_tests_lists has it
-    tests/model/copies.py 3 5      the copy of records 3 to 5 alone
+    tests/model/copies.py          the copy of records 1 to 9 for hal, which is examples/copy.csv
+    tests/model/copies.py nobody   the same for nobody, as lab_tests_lists has it
+    tests/model/copies.py 3 5      the copy of records 3 to 5, for nobody
 """
+import copy
 import csv
-import os
 import sys
 
-sys.path.insert(0, os.path.join(os.path.dirname(os.path.abspath(__file__)), "../../bench"))
-from days import Day, LEAD, NOTE, quick_setup  # noqa: E402
-from laboratory import copy_rows  # noqa: E402
+from cases import setup
+from laboratory import copy_rows
+from streams import LEAD, NOTE
+
 
 def played():
-    """A record released and amended, one rejected, one whose form wants an approval that it doesn't have yet, and one signed."""
-    day = Day()
-    quick_setup(day)
-    day.open(1110, "eve")
-    day.open(1111, "fay")
-    day.sign(1200, "dan", "signed|", 1, 1, "authorship", code="dan")
-    day.sign(1210, "eve", "signed|", 1, 1, "review", code="eve")
-    day.do(1220, "dan", "amended|1|2|", "amend", 1, 'misread: "7,50"', ("lead", "7.5", "mg/L"))
-    day.do(1230, "dan", "record opened|2|1|", "record", "water", "Sample, two")
-    day.do(1240, "dan", "entered|2|1|1|", "entry", 2, "lead", "<0.05", "mg/L", None)
-    day.do(1250, "dan", "entered|2|1|2|", "entry", 2, "note", 'it says "clear"', "", None)
-    day.sign(1260, "dan", "signed|", 2, 1, "authorship")
-    day.sign(1270, "fay", "signed|", 2, 1, "rejection", code="fay", reason="no blank")
-    day.do(1280, "gus", "form made|water|2|", "form", "water", True, LEAD, NOTE)
-    day.do(1290, "dan", "record opened|3|1|", "record", "water", "S3")
-    day.do(1300, "dan", "entered|3|1|1|", "entry", 3, "lead", "8", "mg/L", None)
-    day.sign(1310, "dan", "signed|", 3, 1, "authorship")
-    day.sign(1320, "eve", "signed|", 3, 1, "review")
-    day.do(1330, "dan", "record opened|4|1|", "record", "water", "S4")
-    return day
+    """A record released and amended, one rejected, one whose form wants an approval that it doesn't have yet, and one that is open."""
+    s = copy.deepcopy(setup())
+
+    def opened(moment, sample, number):
+        s.post(moment, "dan", "/records", form="water", sample=sample, wants={"record": number})
+
+    def entered(moment, record, key, value, unit):
+        s.post(moment, "dan", "/entries", record=record, key=key, value=value, unit=unit)
+    for moment, who in ((1110, "gus"), (1110, "eve"), (1111, "fay")):
+        s.open(moment, who)
+    s.sign(1200, "dan", 1, 1, "authorship", code="dan")
+    s.sign(1210, "eve", 1, 1, "review", code="eve")
+    altered = [{"key": "lead", "value": "7.5", "unit": "mg/L"}]
+    s.post(1220, "dan", "/amendments", record=1, reason='misread: "7,50"', altered=altered)
+    opened(1230, "Sample, two", 2)
+    entered(1240, 2, "lead", "<0.05", "mg/L")
+    entered(1250, 2, "note", 'it says "clear"', "")
+    s.sign(1260, "dan", 2, 1, "authorship")
+    s.sign(1270, "fay", 2, 1, "rejection", code="fay", reason="no blank")
+    s.post(1280, "gus", "/forms", form="water", approval=True, fields=[LEAD, NOTE])
+    opened(1290, "S3", 3)
+    entered(1300, 3, "lead", "8", "mg/L")
+    s.sign(1310, "dan", 3, 1, "authorship")
+    s.sign(1320, "eve", 3, 1, "review")
+    opened(1330, "S4", 4)
+    return s.labs["aqua"]
 
 
-def main():
-    day = played()
-    out = csv.writer(sys.stdout, lineterminator="\n")
-    if len(sys.argv) > 2:
-        first, last = map(int, sys.argv[1:3])
-        out.writerows(copy_rows(day.lab, first, last, None, 6000))
+def main(words):
+    lab, out = played(), csv.writer(sys.stdout, lineterminator="\n")
+    if len(words) == 2:
+        out.writerows(copy_rows(lab, int(words[0]), int(words[1]), None, 6000))
     else:
-        print("\n".join(day.asked))
-        out.writerows(copy_rows(day.lab, 1, 9, None if "nobody" in sys.argv else "hal", 5000))
+        out.writerows(copy_rows(lab, 1, 9, None if words == ["nobody"] else "hal", 5000))
 
 
-main()
+if __name__ == "__main__":
+    main(sys.argv[1:])

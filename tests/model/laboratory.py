@@ -187,6 +187,15 @@ def about(r):
 # ---- what a laboratory keeps
 
 
+def set_counts(lab, **counts):
+    """Gives a laboratory so many sessions, records or rows of the trail, of which those that there are so far are a part."""
+    lab.further = {name: count - len(getattr(lab, name)) for name, count in counts.items()}
+
+
+def count_of(lab, name):
+    return len(getattr(lab, name)) + getattr(lab, "further", {}).get(name, 0)
+
+
 def lab_lines(lab):
     lines = [line("lab", lab.code, lab.name, lab.last, lab.strays, len(lab.persons), len(lab.sessions),
                   len(lab.forms), len(lab.records), len(lab.trail))]
@@ -315,12 +324,11 @@ def accepts(p, password, now):
 
 
 class Machine:
-    """One instruction at a tick, on a laboratory that it changes. The counts stand in place of the laboratory's own."""
+    """One instruction at a tick, on a laboratory that it changes."""
 
-    def __init__(self, lab, now, first, counts=None):
+    def __init__(self, lab, now, first):
         self.lab, self.now, self.words = lab, now, words_of(first)
-        counts = counts or (len(lab.persons), len(lab.sessions), len(lab.records), len(lab.trail))
-        self.persons, self.sessions, self.records, self.rows = counts
+        self.persons, self.sessions, self.records, self.rows = (count_of(lab, name) for name in ("persons", "sessions", "records", "trail"))
 
     def person(self, code):
         return next((p for p in self.lab.persons if p.code == code), None)
@@ -342,7 +350,7 @@ class Machine:
     def try_password(self, p, good, occasion):
         """Counts a failed password; an accepted one is cleared by `accept` once nothing else refuses."""
         if p is None or p.retired or p.password is None:
-            self.lab.strays += 1
+            self.lab.strays = min(self.lab.strays + 1, 2**63 - 1)
             raise Refused(20)
         if is_locked(p, self.now):
             self.tell(p.code, "refuse", occasion)

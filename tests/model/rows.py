@@ -111,8 +111,8 @@ class Rows:
         return self.random.sample(list(things), len(things))
 
     def add_lab(self, lab):
-        own = self.add("labs", code=lab.code, name=lab.name, last=lab.last, stray=lab.strays, records=len(lab.records),
-                       sessions=len(lab.sessions), trail=len(lab.trail))
+        counts = {name: laboratory.count_of(lab, name) for name in ("records", "sessions", "trail")}
+        own = self.add("labs", code=lab.code, name=lab.name, last=lab.last, stray=lab.strays, **counts)
         persons = {}
         for p in sorted(self.mixed(lab.persons), key=lambda p: p.ask is not None):
             asker = None if p.ask is None else persons[p.ask[0]]

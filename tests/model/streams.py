@@ -40,7 +40,7 @@ POSTED = {
 GOT = {
     "": "card", "/persons": "persons", r"/forms/(\w+)/(\d+)": "read form", r"/records/(\d+)": "read record",
     r"/records/(\d+)/versions/(\d+)": "read version", r"/records\?from=(\d+)&to=(\d+)": "records",
-    r"/trail\?from=(\d+)&to=(\d+)": "trail",
+    r"/trail\?from=(\d+)&to=(\d+)": "trail", r"/copy\?from=(\d+)&to=(\d+)": "copy",
 }
 
 # Who founds a laboratory, and two fields of a form.

@@ -3,7 +3,7 @@
 #![tactic(auto)]
 
 #[cfg(test)]
-mod days;
+mod copies;
 #[cfg(test)]
 mod keeper_tests;
 #[cfg(test)]
@@ -12,3 +12,5 @@ mod kept;
 mod made;
 #[cfg(test)]
 mod tests;
+#[cfg(test)]
+mod told;

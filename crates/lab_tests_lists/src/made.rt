@@ -1,6 +1,9 @@
 //! What a laboratory and changes are made of.
 use lab_forms_texts::{Rule, Text};
-use lab_records_kept::{Change, Moment, Newborn, Password, Person, Role, Roles, Series};
+use lab_records_kept::{
+    Action, Change, Closing, Digest, Moment, Newborn, Ordinal, Password, Person, Role, Roles,
+    Series, Session, Subject, TrailRow,
+};
 use std::process::Abort;
 
 // A code or a name.
@@ -8,7 +11,7 @@ pub(crate) fn text<R: Rule>(rt: &(impl Abort + AllocGlobal), text: &str) -> Text
     Text::parse(rt.alloc(), text).expect(rt, "a text that its rule admits")
 }
 
-fn moment(rt: &impl Abort, seconds: i64) -> Moment {
+pub(crate) fn moment(rt: &impl Abort, seconds: i64) -> Moment {
     Moment::from_seconds(seconds).expect(rt, "a moment")
 }
 
@@ -63,13 +66,59 @@ pub(crate) fn newborn(rt: &(impl Abort + AllocGlobal), name: &str) -> Newborn {
     }
 }
 
-/// A later moment, four strays, and a person.
+/// The digest of a token.
+pub(crate) fn token() -> Digest {
+    Digest::from_bytes([7; 32])
+}
+
+// The first session, of ann.
+fn session(rt: &(impl Abort + AllocGlobal), last: i64, signed: bool) -> Session {
+    Session {
+        number: Ordinal::FIRST,
+        person: text(rt, "ann"),
+        token: token(),
+        opened: moment(rt, 1000),
+        last: moment(rt, last),
+        closed: false,
+        signed,
+    }
+}
+
+// The second row of the trail tells that eve enrolled cid.
+fn enrolment(rt: &(impl Abort + AllocGlobal)) -> TrailRow {
+    let subject = String::from_str(rt.alloc(), "cid reviewer inspector").expect(rt, "memory");
+    TrailRow {
+        number: Ordinal::new(2).expect(rt, "an ordinal"),
+        moment: moment(rt, 900),
+        person: Some(text(rt, "eve")),
+        action: Action::Enrol,
+        subject: Subject::new(subject),
+    }
+}
+
+// cid as one who has left.
+fn left(rt: &(impl Abort + AllocGlobal)) -> Person {
+    let mut left = cid(rt);
+    left.retired = true;
+    left
+}
+
+/// A later moment, four strays, a person who comes and leaves, a session in which something is signed, and which is closed, and
+/// a row of the trail.
 pub(crate) fn changes(rt: &(impl Abort + AllocGlobal)) -> Series<Change> {
     let mut changes = Series::new(rt.alloc());
     for change in [
         Change::Last(moment(rt, 1200)),
         Change::Strays(4),
         Change::PersonAdded(cid(rt)),
+        Change::PersonSet(left(rt)),
+        Change::SessionAdded(session(rt, 1000, false)),
+        Change::SessionSet(session(rt, 1150, true)),
+        Change::SessionsClosed {
+            person: text(rt, "ann"),
+            closing: Closing::All,
+        },
+        Change::TrailAdded(enrolment(rt)),
     ] {
         changes.push(change).expect(rt, "memory");
     }

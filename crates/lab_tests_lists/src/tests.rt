@@ -1,14 +1,15 @@
 //! A copy that goes out of a list.
-use crate::days::COPY;
-use crate::kept::{lists, moment, text};
+use crate::copies::COPY;
+use crate::kept::lists;
+use crate::made::{moment, text};
 use lab_records_kept::{LabCode, Ordinal};
 use lab_records_walks::{Unheard, WholeRecords, copy_out};
 use std::process::Abort;
 
-// The copy of records 1 to 9 at second 5000 goes out, and is this text.
+// The copy of records 1 and 2 at second 6000 goes out, and is this text.
 fn assert_copied<R: Abort + AllocGlobal>(rt: &R, code: &LabCode, wanted: &str) {
-    let to = Ordinal::new(9).expect(rt, "an ordinal");
-    let moment = moment(rt, 5000);
+    let to = Ordinal::new(2).expect(rt, "an ordinal");
+    let moment = moment(rt, 6000);
     let mut lists = lists(rt, code);
     let mut out = Vec::new(rt.alloc());
     let done = copy_out(
