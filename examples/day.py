@@ -24,8 +24,9 @@ from laboratory import Machine, Refused, body, digest_of, found, refusal, token_
 
 MIDNIGHT = calendar.timegm((2026, 3, 2, 0, 0, 0))
 # The statuses of the refusals that this day has (docs/REFUSALS.md), and the words of those that no laboratory gives.
-STATUSES = {8: 400, 10: 400, 20: 401, 22: 401, 23: 403, 24: 403, 27: 409, 30: 409, 31: 403, 40: 404, 41: 503, 43: 409, 46: 409,
-            47: 400, 49: 409, 50: 409, 51: 409, 52: 409, 53: 409, 54: 403, 56: 409, 57: 403, 83: 411, 86: 404, 87: 405, 88: 400}
+STATUSES = {8: 400, 10: 400, 20: 401, 22: 401, 23: 403, 24: 403, 27: 409, 29: 403, 30: 409, 31: 403, 40: 404, 41: 503, 43: 409,
+            46: 409, 47: 400, 49: 409, 50: 409, 51: 409, 52: 409, 53: 409, 54: 403, 56: 409, 57: 403, 83: 411, 86: 404, 87: 405,
+            88: 400}
 WORDS = {40: "no_such_lab", 64: "lab_exists", 83: "length_wanted", 86: "no_route", 87: "method", 88: "bad_body"}
 FURTHER_FIELDS = {401: "WWW-Authenticate: LabSession\r\n"}
 
