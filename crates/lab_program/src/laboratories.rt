@@ -10,7 +10,7 @@ ghost use Rattle.lab_program.specs.Laboratories.{IsCopied, IsCopiedIf, IsFounded
 use crate::hosts::Host;
 use lab_forms_texts::{LabCode, Moment, Ordinal};
 use lab_program_app::explain_order;
-use lab_program_files::{Closing, Progress, Shelf, copy, found};
+use lab_program_files::{Closing, Progress, Shelf, Trouble, copy, found};
 use lab_program_outside::{Chance, Clock, tell};
 use lab_program_serve::rehearse;
 use lab_wire_heads::WriteFault;
@@ -53,16 +53,20 @@ where
         (X.coming host.old.chance) (X.coming host.new.chance)) lab.now
         (body_in (R.remaining input)) }
 {
-    let lab = match LabCode::parse(alloc, lab) {
-        Ok(lab) => lab,
-        Err(fault) => return decline(errors, fault.word()),
+    let code = match LabCode::parse(alloc, lab) {
+        Ok(code) => code,
+        Err(fault) => {
+            let status = decline(errors, fault.word());
+            host.shelf.advise(Trouble::OfCode(lab));
+            return status;
+        }
     };
     let mut body = input.take(BODY_LIMIT);
     found(
         alloc,
         &mut host.shelf,
         file,
-        &lab,
+        &code,
         &mut host.clock,
         &mut host.chance,
         &mut body,
@@ -95,15 +99,19 @@ where
         (E.contents errors.old) (E.contents errors.new) result
         (C.coming host.old.clock) (C.coming host.new.clock) lab.now from to }
 {
-    let lab = match LabCode::parse(alloc, lab) {
-        Ok(lab) => lab,
-        Err(fault) => return decline(errors, fault.word()),
+    let code = match LabCode::parse(alloc, lab) {
+        Ok(code) => code,
+        Err(fault) => {
+            let status = decline(errors, fault.word());
+            host.shelf.advise(Trouble::OfCode(lab));
+            return status;
+        }
     };
     copy(
         alloc,
         &mut host.shelf,
         file,
-        &lab,
+        &code,
         from,
         to,
         &mut host.clock,

@@ -1,5 +1,5 @@
 -- How a founding over a keeper ends, and what is printed of it.
-use Rattle.std.proofs.Common.{◌≡◌, ℕ, List, Option, None, Some, refl, subst, sym}
+use Rattle.std.proofs.Common.{◌≡◌, ℕ, List, Option, None, Some, inl, inr, refl, subst, sym}
 use Rattle.std.specs.Prelude.{Err, IfErr, IfSome, IsSome, Ok, Result}
 use Rattle.std.specs.Io.KnownBytes.{Keeps}
 use Rattle.lab_forms_texts.specs.declared.tick.Tick.{Tick}
@@ -12,6 +12,7 @@ use Rattle.lab_program_outside.specs.declared.faults.ServerFault.{ServerFault}
 use Rattle.lab_program_outside.specs.declared.faults.ServerFault.TheVariants.{Memory, Read, Write}
 use Rattle.lab_program_outside.specs.Faults.{IsReaderFault}
 use Rattle.lab_program_outside.proofs.ReadLemmas.{for_known, known_as}
+use Rattle.lab_program_shelves.specs.Faults.{IsUnopened}
 use Rattle.lab_program_shelves.specs.declared.faults.TaskFault.{TaskFault}
 use Rattle.lab_program_shelves.specs.declared.faults.TaskFault.TheVariants.{Copying, File, Founding, Server}
 use Rattle.lab_program_files.specs.Foundings.{Drawing, Ends, EndsFounding, EndsInFile, IsDrawn, IsFounded, Prints, drawing_of}
@@ -92,4 +93,23 @@ module _ {S : Type 0} (world : S → World) (places : S → S → Lab → Type 0
   in_file opened known old new (Err (File fault)) is ends = tt
   in_file opened known old new (Err (Founding fault)) is ends = (old, new, is, ends)
   in_file opened known old new (Err (Copying fault)) is ends = (old, new, is, ends)
-  in_file opened known old new (Err (Server fault)) is ends = (old, new, is, ends)
+  in_file opened known old new (Err (Server fault)) is ends = inr (old, new, is, ends)
+
+-- no file was opened
+pub unopened_ends : {S : Type 0} (world : S → World) (places : S → S → Lab → Type 0) (drawing : Drawing)
+    (opened : S → Type 0) (code : List ℕ) (known : Option (List ℕ)) (fault : TaskFault) →
+    IsUnopened fault → EndsInFile world places drawing opened code known (Err fault)
+unopened_ends world places drawing opened code known (File fault) is = tt
+unopened_ends world places drawing opened code known (Founding fault) is = absurd is
+unopened_ends world places drawing opened code known (Copying fault) is = absurd is
+unopened_ends world places drawing opened code known (Server fault) is = inl is
+
+-- and nothing was printed
+pub unopened_prints : (line : List ℕ) (fault : TaskFault) (known : Option (List ℕ)) → IsUnopened fault →
+    Keeps known known → Prints line (Err fault) known known
+unopened_prints line (File fault) known is keeps = keeps
+unopened_prints line (Founding fault) known is keeps = absurd is
+unopened_prints line (Copying fault) known is keeps = absurd is
+unopened_prints line (Server Read) known is keeps = keeps
+unopened_prints line (Server Write) known is keeps = absurd is
+unopened_prints line (Server Memory) known is keeps = absurd is

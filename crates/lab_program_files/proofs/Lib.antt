@@ -1,2 +1,3 @@
 pub mod FoundingLemmas
 pub mod KnownValues
+pub mod ServingLemmas

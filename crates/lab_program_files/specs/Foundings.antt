@@ -1,6 +1,6 @@
 -- Founding a laboratory over a keeper, and in a file: how it ended, what it made, and what was
 -- printed (ISO/IEC 17025:2017, 7.11.2; docs/FORMATS.md has the body and the line).
-use Rattle.std.specs.Prelude.{◌≡◌, ◌<◌, ℕ, List, [], ◌∷◌, Option, Result, Ok, Err, IfSome, IsSome, length, take}
+use Rattle.std.specs.Prelude.{◌≡◌, ◌⊎◌, ◌<◌, ℕ, List, [], ◌∷◌, Option, Result, Ok, Err, IfSome, IsSome, length, take}
 use Rattle.std.specs.Io.KnownBytes.{Appends, Keeps}
 use Rattle.lab_forms_texts.specs.declared.tick.Tick.{Tick}
 use Rattle.lab_wire_heads.specs.declared.sending.WriteFault.{WriteFault as Untold}
@@ -12,7 +12,7 @@ use Rattle.lab_program_outside.specs.Sources.{Gives}
 use Rattle.lab_program_outside.specs.declared.faults.ServerFault.TheVariants.{Read, Write, Memory}
 use Rattle.lab_program_shelves.specs.declared.faults.TaskFault.{TaskFault}
 use Rattle.lab_program_shelves.specs.declared.faults.TaskFault.TheVariants.{File, Founding, Copying, Server}
-use Rattle.lab_program_shelves.specs.Faults.{TellsTask}
+use Rattle.lab_program_shelves.specs.Faults.{IsUnopened, TellsTask}
 
 -- ---- what was printed
 
@@ -85,13 +85,15 @@ module _ {S : Type 0} (world : S → World) (places : S → S → Lab → Type 0
     EndsOver code body ending =
         (old : S) × (new : S) × opened old × Ends code body old new ending
 
-    -- over the keeper of a file, where one was opened
+    -- over the keeper of a file, where one was opened: it may not be where the fault is the file's
+    -- or that of the source of random words
     abbrev pub EndsInFile : List ℕ → Option (List ℕ) → Result (Unit {0}) TaskFault → Type 0
     EndsInFile code body (Ok done) = EndsOver code body (Ok done)
     EndsInFile code body (Err (File fault)) = Unit {0}
     EndsInFile code body (Err (Founding fault)) = EndsOver code body (Err (Founding fault))
     EndsInFile code body (Err (Copying fault)) = EndsOver code body (Err (Copying fault))
-    EndsInFile code body (Err (Server fault)) = EndsOver code body (Err (Server fault))
+    EndsInFile code body (Err (Server fault)) =
+        IsUnopened (Server fault) ⊎ EndsOver code body (Err (Server fault))
 
     -- the task `found`, by its status, what was printed and what was told
     pub record IsFounding (code : List ℕ) (body : Option (List ℕ))

@@ -7,7 +7,7 @@ ghost use Rattle.lab_program_shelves.specs.Files.{IsOurs};
 use crate::leaving::leave;
 use lab_forms_texts::{LabCode, Moment, Ordinal};
 use lab_program_outside::Clock;
-use lab_program_shelves::{Closing, Shelf, TaskFault, decline, open_file};
+use lab_program_shelves::{Closing, Shelf, TaskFault, Trouble, decline, open_file};
 use lab_records_walks::{Progress, copy_out};
 use lab_store::{OneVersionAtATime, Store};
 use lab_wire_heads::WriteFault;
@@ -82,6 +82,10 @@ where
 {
     match copy_file(alloc, shelf, path, lab, from, to, clock, output, progress) {
         Ok(()) => Ok(0),
-        Err(fault) => decline(alloc, errors, fault),
+        Err(fault) => {
+            let status = decline(alloc, errors, fault);
+            shelf.advise(Trouble::OverFile { path, fault });
+            status
+        }
     }
 }

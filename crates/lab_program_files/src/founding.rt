@@ -11,9 +11,9 @@ ghost use Rattle.lab_program_shelves.specs.declared.faults.TaskFault.TheVariants
 
 use crate::leaving::leave;
 use lab_forms_texts::{LabCode, OutOfMemory};
-use lab_program_outside::{Chance, Clock, ServerFault, draw, read_all};
+use lab_program_outside::{Chance, Clock, FoundFault, ServerFault, draw, read_all};
 use lab_program_serve::{Desk, Keeper};
-use lab_program_shelves::{Closing, Shelf, TaskFault, decline, make_file};
+use lab_program_shelves::{Closing, Shelf, TaskFault, Trouble, decline, make_file};
 use lab_store::Store;
 use lab_wire_heads::{WriteFault, write_reply};
 use sqlite::Connection;
@@ -39,14 +39,30 @@ fn print<W: Write>(output: &mut W, line: &[u8]) -> Result<(), TaskFault>
     }
 }
 
+// What became of a founding. Bytes that are none are noted, so that a person can be advised.
+fn noted<H: Shelf>(
+    alloc: Global,
+    shelf: &mut H,
+    body: &[u8],
+    founded: Result<(), FoundFault>,
+) -> Result<(), FoundFault>
+    ensures { result ≡ founded }
+{
+    if let Err(FoundFault::Body(_)) = founded {
+        shelf.note(alloc, body);
+    }
+    founded
+}
+
 /// Founds a laboratory from a body, and prints that it is founded. The tick is drawn once the body
 /// is read.
 ///
 /// # Errors
 /// Those of the founding; the body, the clock or the source of random words failed, or memory ran
 /// out before: nothing was done. Where the output failed, the laboratory is founded all the same.
-pub fn found_over<S: Keeper + Drop, C: Clock, X: Chance, B: Read, W: Write>(
+pub fn found_over<H: Shelf, S: Keeper + Drop, C: Clock, X: Chance, B: Read, W: Write>(
     alloc: Global,
+    shelf: &mut H,
     desk: &mut Desk<S>,
     lab: &LabCode,
     clock: &mut C,
@@ -64,7 +80,8 @@ pub fn found_over<S: Keeper + Drop, C: Clock, X: Chance, B: Read, W: Write>(
     let line = founded_line(alloc, lab)?;
     let bytes = read_all(alloc, body)?;
     let tick = draw(clock, chance)?;
-    desk.found(lab, &tick, bytes.as_slice())?;
+    let founded = desk.found(lab, &tick, bytes.as_slice());
+    noted(alloc, shelf, bytes.as_slice(), founded)?;
     print(output, line.as_slice())
 }
 
@@ -90,7 +107,7 @@ where
 {
     let conn = make_file(alloc, shelf, path)?;
     let mut desk = Desk::new(alloc, Store::new(alloc, conn))?;
-    let done = found_over(alloc, &mut desk, lab, clock, chance, body, output);
+    let done = found_over(alloc, shelf, &mut desk, lab, clock, chance, body, output);
     leave(desk.into_keeper());
     done
 }
@@ -124,6 +141,10 @@ where
 {
     match found_in_file(alloc, shelf, path, lab, clock, chance, body, output) {
         Ok(()) => Ok(0),
-        Err(fault) => decline(alloc, errors, fault),
+        Err(fault) => {
+            let status = decline(alloc, errors, fault);
+            shelf.advise(Trouble::OverFile { path, fault });
+            status
+        }
     }
 }

@@ -13,6 +13,6 @@ pub use founding::{found, found_over};
 pub use lab_program_outside::{Chance, Clock};
 pub use lab_program_shelves::{
     Closing, HostShelf, Progress, Shelf, SystemChance, SystemClock, TaskFault, TerminalProgress,
-    Unheard,
+    Trouble, Unheard,
 };
 pub use serving::serve;

@@ -6,9 +6,9 @@ ghost use Rattle.lab_program_files.specs.Serving.{IsUnprepared, ServesFile};
 ghost use Rattle.std.specs.Prelude.{IfErr, IfOk};
 
 use crate::leaving::leave;
-use lab_program_outside::{Chance, Clock};
+use lab_program_outside::{Chance, Clock, ServerFault};
 use lab_program_serve::{Desk, listen};
-use lab_program_shelves::{Closing, Shelf, TaskFault, decline, open_file};
+use lab_program_shelves::{Closing, Shelf, TaskFault, Trouble, decline, open_file};
 use lab_store::Store;
 use lab_wire_heads::WriteFault;
 use sqlite::Connection;
@@ -31,6 +31,14 @@ fn prepared<N: Net, H: Shelf>(
     let desk = Desk::new(alloc, Store::new(alloc, conn))?;
     let listener = listen(net, port)?;
     Ok((desk, listener))
+}
+
+// What stopped a server before it began: nothing is read before the port is listened at.
+fn trouble_of(path: &str, port: u16, fault: TaskFault) -> Trouble<'_> {
+    match fault {
+        TaskFault::Server(ServerFault::Read) => Trouble::AtPort(port),
+        fault => Trouble::OverFile { path, fault },
+    }
 }
 
 /// `labdesk serve`: opens the file at the path, listens at a port of this machine (0 is any that is
@@ -66,6 +74,10 @@ where
             leave(desk.into_keeper());
             status
         }
-        Err(fault) => decline(alloc, errors, fault),
+        Err(fault) => {
+            let status = decline(alloc, errors, fault);
+            shelf.advise(trouble_of(path, port, fault));
+            status
+        }
     }
 }

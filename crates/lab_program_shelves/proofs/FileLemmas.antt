@@ -3,7 +3,7 @@ use Rattle.std.proofs.Common.{◌≡◌, ◌∙◌, Bool, true, false, inl, inr,
 use Rattle.std.specs.Prelude.{Err, IfOk, IsTrue, Ok, Result}
 use Rattle.sqlite_trees.specs.declared.store.Store.{Ghosts}
 use Rattle.sqlite.specs.Held.{Held}
-use Rattle.lab_store_files.specs.declared.faults.FileFault.{FileFault}
+use Rattle.lab_program_shelves.specs.declared.faults.TaskFault.{TaskFault}
 use Rattle.lab_program_shelves.specs.Files.{IsNew, IsOpened, IsOurs}
 
 ok_is_no_fault : {A E : Type 0} (value : A) (fault : E) → ◌≡◌ {A = Result A E} (Ok value) (Err fault) → ⊥
@@ -16,12 +16,12 @@ untaken true value fault refused = absurd (ok_is_no_fault value fault (refused r
 untaken false value fault refused = refl
 
 module _ {S : Type 0} (disk : Ghosts S) where
-  pub ours_is_opened : (result : Result (Held S) FileFault) → IfOk result (IsOurs disk) →
+  pub ours_is_opened : (result : Result (Held S) TaskFault) → IfOk result (IsOurs disk) →
       IfOk result (IsOpened disk)
   ours_is_opened (Ok conn) ours = inl ours
   ours_is_opened (Err fault) ours = ours
 
-  pub new_is_opened : (result : Result (Held S) FileFault) → IfOk result (IsNew disk) →
+  pub new_is_opened : (result : Result (Held S) TaskFault) → IfOk result (IsNew disk) →
       IfOk result (IsOpened disk)
   new_is_opened (Ok conn) made = inr made
   new_is_opened (Err fault) made = made

@@ -7,6 +7,7 @@ use Rattle.lab_store_files.specs.declared.faults.FileFault.TheVariants.{Memory a
 use Rattle.lab_store_files.specs.Faults.{file_fault_entry, file_fault_value}
 use Rattle.lab_desk_foundings.specs.Faults.{found_fault_entry}
 use Rattle.lab_records_walks.specs.Faults.{copy_fault_word}
+use Rattle.lab_program_outside.specs.declared.faults.ServerFault.TheVariants.{Read, Write, Memory}
 use Rattle.lab_program_outside.specs.Faults.{IsTold, server_fault_word, told_line}
 use Rattle.lab_program_shelves.specs.declared.faults.TaskFault.{TaskFault}
 use Rattle.lab_program_shelves.specs.declared.faults.TaskFault.TheVariants.{File, Founding, Copying, Server}
@@ -28,6 +29,15 @@ task_fault_value (Server fault) = None
 -- memory ran out before a file was opened
 abbrev pub unopened_fault : TaskFault
 unopened_fault = File FileMemory
+
+-- a fault before a file was opened: the file's own, or the source of random words failed
+abbrev pub IsUnopened : TaskFault → Type 0
+IsUnopened (File fault) = Unit {0}
+IsUnopened (Founding fault) = ⊥
+IsUnopened (Copying fault) = ⊥
+IsUnopened (Server Read) = Unit {0}
+IsUnopened (Server Write) = ⊥
+IsUnopened (Server Memory) = ⊥
 
 -- a word and, where there is one, a space and the value
 abbrev pub valued : List ℕ → Option ℕ → List ℕ

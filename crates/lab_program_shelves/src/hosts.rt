@@ -1,15 +1,20 @@
 //! The files, the clock and the source of chance of this machine, and its terminal.
 
+ghost use Rattle.std.specs.Prelude.{IfErr};
+ghost use Rattle.lab_program_shelves.specs.Faults.{IsUnopened};
+
+use crate::advice::{Spot, Trouble, write_advice};
+use crate::faults::TaskFault;
 use crate::shelves::Shelf;
 use lab_forms_texts::Moment;
-use lab_program_outside::{Chance, Clock, DrawFault};
+use lab_program_outside::{Chance, Clock, DrawFault, ServerFault};
 use lab_records_walks::Progress;
 use lab_store_files::FileFault;
 use rand::TryRng;
 use rand::rngs::SysRng;
 use sqlite::{Connection, Error, ErrorCode, FileFrom, FileStore, Wary};
 use std::alloc::Global;
-use std::fs::File;
+use std::fs;
 use std::io::{IsTerminal, Write};
 use std::time::{SystemTime, UNIX_EPOCH};
 
@@ -18,12 +23,27 @@ use std::time::{SystemTime, UNIX_EPOCH};
 #[derive(Drop)]
 pub struct HostShelf<'a> {
     rt: &'a HostRuntime,
+    spot: Option<Spot>,
 }
 
 impl<'a> HostShelf<'a> {
     /// The files of the machine of this runtime.
     pub fn new(rt: &'a HostRuntime) -> HostShelf<'a> {
-        HostShelf { rt }
+        HostShelf { rt, spot: None }
+    }
+
+    // Looks before a file is opened: a path that is no regular file could be waited at for ever,
+    // and the log of a file wants random words.
+    fn look(&self, path: &str) -> Result<(), TaskFault>
+        ensures { IfErr result IsUnopened }
+    {
+        if fs::metadata(self.rt, path).is_ok_and(|found| !found.is_file()) {
+            return Err(TaskFault::File(FileFault::NotADeskFile));
+        }
+        match SysRng::new(self.rt).try_next_u64() {
+            Ok(_) => Ok(()),
+            Err(_) => Err(TaskFault::Server(ServerFault::Read)),
+        }
     }
 }
 
@@ -31,19 +51,38 @@ impl<'a> Shelf for HostShelf<'a> {
     type Disk = FileStore<FileFrom<Wary>>;
 
     fn has(&self, path: &str) -> bool {
-        File::open(self.rt, path).is_ok()
+        fs::metadata(self.rt, path).is_ok()
     }
 
     fn connect(
         &mut self,
         _alloc: Global,
         path: &str,
-    ) -> Result<Connection<FileStore<FileFrom<Wary>>>, FileFault> {
+    ) -> Result<Connection<FileStore<FileFrom<Wary>>>, TaskFault> {
+        self.look(path)?;
         match Connection::open_from(self.rt, path, false, Wary) {
             Ok(conn) => Ok(conn),
-            Err((Error::SqliteFailure(ErrorCode::NotADatabase), _)) => Err(FileFault::NotADeskFile),
-            Err((error, _)) => Err(FileFault::from(error)),
+            Err((error, _)) => Err(TaskFault::File(opening_fault(error))),
         }
+    }
+
+    fn note(&mut self, alloc: Global, body: &[u8]) {
+        self.spot = Some(Spot::of(alloc, body));
+    }
+
+    fn advise(&mut self, trouble: Trouble<'_>) {
+        let mut errors = self.rt.stderr();
+        if errors.is_terminal() {
+            let _ = write_advice(self.rt, self.spot, &mut errors, trouble);
+        }
+    }
+}
+
+// Why a database was not opened.
+fn opening_fault(error: Error) -> FileFault {
+    match error {
+        Error::SqliteFailure(ErrorCode::NotADatabase) => FileFault::NotADeskFile,
+        error => FileFault::from(error),
     }
 }
 

@@ -3,12 +3,14 @@
 //! error.
 #![tactic(auto)]
 
+mod advice;
 mod faults;
 mod files;
 mod hosts;
 mod shelves;
 mod telling;
 
+pub use crate::advice::Trouble;
 pub use crate::faults::TaskFault;
 pub use crate::files::{make_file, open_file};
 pub use crate::hosts::{HostShelf, SystemChance, SystemClock, TerminalProgress};

@@ -1,14 +1,16 @@
-//! Where the files of laboratories lie.
+//! Where the files of laboratories lie, and who is advised where a task over one stops.
 
-ghost use Rattle.std.specs.Prelude.{IfOk};
+ghost use Rattle.std.specs.Prelude.{IfOk, IfErr};
 ghost use Rattle.sqlite.specs.Held.{state};
 ghost use Rattle.lab_store_tables.specs.Ready.{IsAtRest};
+ghost use Rattle.lab_program_shelves.specs.Faults.{IsUnopened};
 
-use lab_store_files::FileFault;
+use crate::advice::Trouble;
+use crate::faults::TaskFault;
 use sqlite::{Alter, Connection, Error, FileFrom, FileStore, MemStore, Wary};
 use std::alloc::Global;
 
-/// Where files lie, each at a path.
+/// Where files lie, each at a path, and who is advised where a task over one stops.
 pub trait Shelf {
     /// What keeps a file.
     type Disk: Alter + Drop;
@@ -19,9 +21,17 @@ pub trait Shelf {
     /// A connection to the file at the path, which is made, without a table, where there is none.
     ///
     /// # Errors
-    /// The file is no database, the store refused, or memory ran out.
-    fn connect(&mut self, alloc: Global, path: &str) -> Result<Connection<Self::Disk>, FileFault>
-        ensures at_rest { IfOk result (λ conn. IsAtRest (state Self.Disk.Store conn)) };
+    /// The file is no database, the source of random words failed, the store refused, or memory ran
+    /// out.
+    fn connect(&mut self, alloc: Global, path: &str) -> Result<Connection<Self::Disk>, TaskFault>
+        ensures at_rest { IfOk result (λ conn. IsAtRest (state Self.Disk.Store conn)) }
+        ensures fault { IfErr result IsUnopened };
+
+    /// Notes bytes that are no founding, for the advice.
+    fn note(&mut self, alloc: Global, body: &[u8]);
+
+    /// Advises a person at a terminal, in a line, what to do about the trouble.
+    fn advise(&mut self, trouble: Trouble<'_>);
 }
 
 /// What can be closed.

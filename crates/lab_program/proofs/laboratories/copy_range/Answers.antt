@@ -7,7 +7,7 @@ pub returns-in-Err : goal.returns-in-Err
 returns-in-Err g c =
     declined _ _ _ _ _ _ (no_copying _ _ _ _ _ _ _ _ _ _ _ _ _)
     c.args.lab.now c.in-Err.fault c.in-Err.ensures.fault
-    (Keeps-refl _, rw c.word.ensures at c.decline.ensures)
+    (Keeps-refl _, rw c.word.ensures at c.decline-status.ensures)
 
 pub returns : goal.returns
 returns g c = done_of_code _ _ _ _ _ _ c.args.lab.now c.in-Ok.ensures.admitted

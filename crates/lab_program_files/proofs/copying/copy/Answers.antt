@@ -14,5 +14,5 @@ pub returns-in-Err : goal.returns-in-Err
 returns-in-Err g c = record {
   ending = c.copy_file.result;
   copies = c.copy_file.ensures;
-  told = rw c.in-Err.is c.decline.ensures;
+  told = rw c.in-Err.is c.decline-status.ensures;
 }

@@ -16,5 +16,5 @@ returns-in-Err g c = record {
   ending = c.found_in_file.result;
   ends = c.found_in_file.ensures.ends;
   prints = c.found_in_file.ensures.prints;
-  told = rw c.in-Err.is c.decline.ensures;
+  told = rw c.in-Err.is c.decline-status.ensures;
 }

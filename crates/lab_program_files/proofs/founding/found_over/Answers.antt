@@ -1,5 +1,5 @@
 -- Where the line, the body or the tick fails nothing is done; then the founding tells.
-use Rattle.std.proofs.Common.{◌∙◌}
+use Rattle.std.proofs.Common.{◌∙◌, sym}
 use Rattle.std.proofs.KnownBytes.{Keeps-refl}
 use Rattle.std.proofs.lemmas.Result.{err_from_is_err_and}
 use Rattle.lab_desk_foundings.specs.Foundings.{founded_line}
@@ -45,32 +45,35 @@ returns-in_err-tick-clause-prints g c =
     c.from_residual-in_err-tick.ensures.1 in
     rw (fault.1, fault.2) (Keeps-refl _)
 
-pub returns-in_err-found-clause-ends : goal.returns-in_err-found-clause-ends
-returns-in_err-found-clause-ends g c =
-    let fault = err_from_is_err_and c.from_residual-in_err-found.result
-    c.from_residual-in_err-found.ensures.1 in
+pub returns-in_err-noted-clause-ends : goal.returns-in_err-noted-clause-ends
+returns-in_err-noted-clause-ends g c =
+    let fault = err_from_is_err_and c.from_residual-in_err-noted.result
+    c.from_residual-in_err-noted.ensures.1 in
+    let refused = sym c.in_err-noted.ensures in
     rw (fault.1, fault.2) (ends_refused g.S.Keeper.world g.S.Keeper.places _ c.args.lab.now
     (g.B.Read.remaining c.args.body.now) c.as_slice.result.now c.in_ok-bytes.bytes.items
-    c.args.desk.now.keeper c.found.new.self.keeper c.in_ok-tick.tick _
+    c.args.desk.now.keeper c.found-founded.new.self.keeper c.in_ok-tick.tick _
     (c.in_ok-tick.ensures.moment, c.in_ok-tick.ensures.words) c.as_slice.ensures.value
-    c.in_ok-bytes.ensures.bytes c.in_err-found.ensures.fault c.in_err-found.ensures.err)
+    c.in_ok-bytes.ensures.bytes (rw refused at c.found-founded.ensures.fault)
+    (rw refused at c.found-founded.ensures.err))
 
-pub returns-in_err-found-clause-prints : goal.returns-in_err-found-clause-prints
-returns-in_err-found-clause-prints g c =
-    let fault = err_from_is_err_and c.from_residual-in_err-found.result
-    c.from_residual-in_err-found.ensures.1 in
+pub returns-in_err-noted-clause-prints : goal.returns-in_err-noted-clause-prints
+returns-in_err-noted-clause-prints g c =
+    let fault = err_from_is_err_and c.from_residual-in_err-noted.result
+    c.from_residual-in_err-noted.ensures.1 in
     rw (fault.1, fault.2) (Keeps-refl _)
 
 pub returns-clause-ends : goal.returns-clause-ends
 returns-clause-ends g c =
+    let founded = sym c.in_ok-noted.ensures in
     ends_founded g.S.Keeper.world g.S.Keeper.places _ c.args.lab.now
     (g.B.Read.remaining c.args.body.now) c.as_slice.result.now c.in_ok-bytes.bytes.items
-    c.args.desk.now.keeper c.found.new.self.keeper c.in_ok-tick.tick _
+    c.args.desk.now.keeper c.found-founded.new.self.keeper c.in_ok-tick.tick _
     (c.in_ok-tick.ensures.moment, c.in_ok-tick.ensures.words) c.as_slice.ensures.value
-    c.in_ok-bytes.ensures.bytes c.print.ensures.fault c.in_ok-found.ensures.founded
-    c.in_ok-found.ensures.durable
+    c.in_ok-bytes.ensures.bytes c.print.ensures.fault (rw founded at c.found-founded.ensures.founded)
+    (rw founded at c.found-founded.ensures.durable)
 
 pub returns-clause-prints : goal.returns-clause-prints
 returns-clause-prints g c =
-    let line = c.as_slice-2.ensures.value ∙ c.in_ok-line.ensures in
+    let line = c.as_slice-3.ensures.value ∙ c.in_ok-line.ensures in
     rw line at c.print.ensures.printed

@@ -2,6 +2,7 @@
 use Rattle.std.proofs.lemmas.Result.{err_from_is_err_and}
 use Rattle.lab_program_shelves.specs.Files.{IsOurs}
 use Rattle.lab_program_shelves.proofs.FileLemmas.{kept_so}
+use Rattle.lab_program_files.proofs.ServingLemmas.{unopened_unprepared}
 use Rattle.lab_program_files.proofs.serving.prepared.Goals as goal
 
 pub returns-in_err-conn-clause-ours : goal.returns-in_err-conn-clause-ours
@@ -12,7 +13,7 @@ returns-in_err-conn-clause-ours g c =
 pub returns-in_err-conn-clause-fault : goal.returns-in_err-conn-clause-fault
 returns-in_err-conn-clause-fault g c =
     let fault = err_from_is_err_and c.from_residual.result c.from_residual.ensures.1 in
-    rw (fault.1, fault.2) tt
+    rw (fault.1, fault.2) (unopened_unprepared _ c.in_err-conn.ensures.fault)
 
 pub returns-in_err-desk-clause-ours : goal.returns-in_err-desk-clause-ours
 returns-in_err-desk-clause-ours g c =

@@ -14,4 +14,4 @@ returns-in-Ok g c = inl (
 
 pub returns-in-Err : goal.returns-in-Err
 returns-in-Err g c =
-    inr (_, rw c.in-Err.is at c.prepared.ensures.fault, Keeps-refl _, c.decline.ensures)
+    inr (_, rw c.in-Err.is at c.prepared.ensures.fault, Keeps-refl _, c.decline-status.ensures)

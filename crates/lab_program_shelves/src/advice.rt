@@ -1,0 +1,153 @@
+//! What a person at a terminal is advised to do, below the line that says why a task stopped.
+
+use crate::faults::TaskFault;
+use lab_program_outside::{FoundFault, ServerFault};
+use lab_records_kept::PlacingFault;
+use lab_records_walks::CopyOutFault;
+use lab_store_files::FileFault;
+use serde_json::Value;
+use std::alloc::Global;
+use std::fs::{self, File};
+use std::io::{self, Write};
+
+/// What stopped a task, with what its words said.
+#[derive(Clone, Copy, Debug, PartialEq, Eq)]
+pub enum Trouble<'a> {
+    /// A task over the file at the path stopped for the fault.
+    OverFile {
+        /// The path.
+        path: &'a str,
+        /// The fault.
+        fault: TaskFault,
+    },
+    /// The port can't be listened at.
+    AtPort(u16),
+    /// The text is no code of a laboratory.
+    OfCode(&'a str),
+}
+
+/// Where bytes cease to be a founding.
+#[derive(Clone, Copy, Debug, PartialEq, Eq)]
+pub(crate) enum Spot {
+    /// At this line and column they cease to be JSON.
+    Json { line: usize, column: usize },
+    /// They are JSON, and no founding.
+    Members,
+}
+
+impl Spot {
+    /// Where these bytes cease to be a founding, which they aren't.
+    pub(crate) fn of(alloc: Global, bytes: &[u8]) -> Spot {
+        match Value::from_slice(alloc, bytes) {
+            Ok(_) => Spot::Members,
+            Err(error) => Spot::Json {
+                line: error.line(),
+                column: error.column(),
+            },
+        }
+    }
+
+    fn write<W: Write>(self, errors: &mut W) -> io::Result<()> {
+        match self {
+            Spot::Json { line, column } => writeln!(
+                errors,
+                "Standard input holds no founding: its JSON breaks at line {line}, column {column}."
+            ),
+            Spot::Members => writeln!(
+                errors,
+                "Standard input holds JSON, but no founding: 'name', and 'founders' with the 'code', 'name' and 'password' of three persons."
+            ),
+        }
+    }
+}
+
+/// Writes what a person should look at.
+pub(crate) fn write_advice<W: Write>(
+    rt: &HostRuntime,
+    spot: Option<Spot>,
+    errors: &mut W,
+    trouble: Trouble<'_>,
+) -> io::Result<()> {
+    match trouble {
+        Trouble::OverFile { path, fault } => write_of_task(rt, spot, errors, path, fault),
+        Trouble::AtPort(port) => writeln!(
+            errors,
+            "Port {port} can't be listened at; perhaps another program has it. --port 0 takes any that is free."
+        ),
+        Trouble::OfCode(text) => writeln!(
+            errors,
+            "{text:?} is no laboratory's code: 1 to 12 of a to z, 0 to 9 and '-', a letter first."
+        ),
+    }
+}
+
+// Of a task over a file, by its fault.
+fn write_of_task<W: Write>(
+    rt: &HostRuntime,
+    spot: Option<Spot>,
+    errors: &mut W,
+    path: &str,
+    fault: TaskFault,
+) -> io::Result<()> {
+    match fault {
+        TaskFault::File(FileFault::NotADeskFile) => write_of_kind(rt, errors, path),
+        TaskFault::File(FileFault::SchemaOld(_) | FileFault::SchemaNew(_)) => {
+            writeln!(
+                errors,
+                "A labdesk of another version made {path}: take that version."
+            )
+        }
+        TaskFault::File(FileFault::Storage)
+        | TaskFault::Founding(FoundFault::Placing(PlacingFault::Storage))
+        | TaskFault::Copying(CopyOutFault::Storage) => write_of_storage(rt, errors, path),
+        TaskFault::Founding(FoundFault::Body(_)) => spot.map_or(Ok(()), |spot| spot.write(errors)),
+        TaskFault::Founding(FoundFault::Placing(PlacingFault::LabExists)) => {
+            writeln!(
+                errors,
+                "{path} has that laboratory already; nothing was changed."
+            )
+        }
+        TaskFault::Copying(CopyOutFault::NoSuchLab) => {
+            writeln!(errors, "{path} has no laboratory of that code.")
+        }
+        TaskFault::Server(ServerFault::Read) => {
+            writeln!(
+                errors,
+                "Standard input, the clock or the source of random words failed."
+            )
+        }
+        _ => Ok(()),
+    }
+}
+
+// Of a file that isn't one of laboratories, by what lies at the path.
+fn write_of_kind<W: Write>(rt: &HostRuntime, errors: &mut W, path: &str) -> io::Result<()> {
+    match fs::metadata(rt, path) {
+        Ok(found) if !found.is_file() => writeln!(errors, "{path} is no regular file."),
+        Ok(_) => writeln!(
+            errors,
+            "{path} holds no laboratories, or is damaged: look at the path, or put a backup in its place."
+        ),
+        Err(_) => writeln!(
+            errors,
+            "There is no file {path}; 'labdesk found' makes one."
+        ),
+    }
+}
+
+// Of a file that the store refused, by whether it may be read.
+fn write_of_storage<W: Write>(rt: &HostRuntime, errors: &mut W, path: &str) -> io::Result<()> {
+    if fs::metadata(rt, path).is_err() {
+        writeln!(
+            errors,
+            "{path} can't be made: look whether its folder is there, and may be written."
+        )
+    } else if File::open(rt, path).is_err() {
+        writeln!(errors, "{path} may not be read by this user.")
+    } else {
+        writeln!(
+            errors,
+            "{path} can't be used: look whether another program holds it (a server that runs), whether you may write it and its folder, and whether the disk is full."
+        )
+    }
+}
