@@ -1,5 +1,5 @@
 -- The laws of accounts, by cases on the tests of the definitions.
-use Rattle.std.proofs.Common.{◌≡◌, ◌≢◌, ◌<◌, ◌+◌, ℕ, suc, Bool, true, false, cond, ◌||◌, ◌&&◌, not, List, [], ◌∷◌, ◌++◌, length, Option, Some, None, Result, Ok, Err, refl, sym, ◌∙◌, ap, subst, nat_lt, nat_le, arith}
+use Rattle.std.proofs.Common.{◌≡◌, ◌≢◌, ◌<◌, ◌+◌, ◌-◌, ℕ, suc, Bool, true, false, cond, ◌||◌, ◌&&◌, not, List, [], ◌∷◌, ◌++◌, length, Option, Some, None, Result, Ok, Err, refl, sym, ◌∙◌, ap, subst, nat_lt, nat_le, arith}
 use Rattle.std.specs.Prelude.{bytes_eq, option_and_then, is_some}
 use Rattle.std.proofs.lemmas.Slice.Eq.{bytes_eq-Decides}
 use Rattle.std.proofs.lemmas.Bool.Decides.{nat_tests}
@@ -20,7 +20,7 @@ use Rattle.lab_people_access.specs.Refusals.{failure_person, failure_closing}
 use Rattle.lab_people_access.specs.Passwords.{is_set, accepts}
 use Rattle.lab_people_access.specs.Persons.{person_of, is_locked, unlocked_person, stands, standing_ask}
 use Rattle.lab_people_access.specs.Sessions.{session_of, closed_session, sessions_after}
-use Rattle.lab_people_access.specs.Attempts.{failure_count, counted_person, locked_person, failure_of, attempt_by, attempt_of, is_own_code, signing_attempt}
+use Rattle.lab_people_access.specs.Attempts.{failure_count, failures_to_lock, counted_person, locked_person, failure_of, attempt_by, attempt_of, signing_attempt}
 use Rattle.lab_people_access.specs.Openings.{new_opening, numbered_opening, opening_by, opening, token_digest}
 use Rattle.lab_people.specs.Accounts.{newcomer, enrolling, person_meant, meant_then, retiring}
 use Rattle.lab_people.specs.Issues.{with_one_time_word, confirming_of}
@@ -304,7 +304,7 @@ tests_lock false false true person after moment failure sessions h left free loc
 tests_lock false false false person after moment failure sessions h left free lock =
     let count = failure_count person.locked person.failures in
     let same : failure_of person moment ≡ failure = cc in
-    failed_locks (nat_lt (count + 1) 5) (counted_person (count + 1) person) (locked_person moment person) after person moment failure sessions refl same left lock
+    failed_locks (nat_lt (count + 1) failures_to_lock) (counted_person (count + 1) person) (locked_person moment person) after person moment failure sessions refl same left lock
 
 -- an attempt that locks a person closes all of the person's sessions
 pub lock_closes : (person after : Person) (is_own : Bool) (text : List ℕ) (moment : ℕ) (failure : Failure) (sessions : List Session)
@@ -325,33 +325,33 @@ many_by : (few : Bool) (counted locked : Person) → few ≡ false → cond few 
 many_by true counted locked h = absurd (cc)
 many_by false counted locked h = refl
 
--- a wrong password where fewer than four count
+-- a wrong password with which too few count to lock
 pub wrong_counted : (person : Person) (one : Try) (count : ℕ) → HasAccount person → is_locked person.locked one.moment ≡ false
-    → IsWrong person one → failure_count person.locked person.failures ≡ count → nat_lt (count + 1) 5 ≡ true
+    → IsWrong person one → failure_count person.locked person.failures ≡ count → nat_lt (count + 1) failures_to_lock ≡ true
     → person_left (attempt_of (Some person) one.text one.moment) ≡ Some (counted_person (count + 1) person)
 wrong_counted person one count has free wrong counts few =
     let before = failure_count person.locked person.failures in
     ap person_left (wrong_attempt person one has free wrong)
-    ∙ ap failure_person (few_by (nat_lt (before + 1) 5) (counted_person (before + 1) person) (locked_person one.moment person) (ap (λ n. nat_lt (n + 1) 5) counts ∙ few))
+    ∙ ap failure_person (few_by (nat_lt (before + 1) failures_to_lock) (counted_person (before + 1) person) (locked_person one.moment person) (ap (λ n. nat_lt (n + 1) failures_to_lock) counts ∙ few))
     ∙ ap (λ n. Some (counted_person (n + 1) person)) counts
 
--- and where four or more do
+-- and with which enough do
 pub wrong_locks : (person : Person) (one : Try) (count : ℕ) → HasAccount person → is_locked person.locked one.moment ≡ false
-    → IsWrong person one → failure_count person.locked person.failures ≡ count → nat_lt (count + 1) 5 ≡ false
+    → IsWrong person one → failure_count person.locked person.failures ≡ count → nat_lt (count + 1) failures_to_lock ≡ false
     → attempt_of (Some person) one.text one.moment ≡ Err (Locking (locked_person one.moment person))
 wrong_locks person one count has free wrong counts many =
     let before = failure_count person.locked person.failures in
     wrong_attempt person one has free wrong
-    ∙ ap (λ failure. Err failure) (many_by (nat_lt (before + 1) 5) (counted_person (before + 1) person) (locked_person one.moment person) (ap (λ n. nat_lt (n + 1) 5) counts ∙ many))
+    ∙ ap (λ failure. Err failure) (many_by (nat_lt (before + 1) failures_to_lock) (counted_person (before + 1) person) (locked_person one.moment person) (ap (λ n. nat_lt (n + 1) failures_to_lock) counts ∙ many))
 
 counted_has : (person : Person) (count : ℕ) → HasAccount person → HasAccount (counted_person count person)
 counted_has person count has = record { here = has.here; set = has.set }
 
-few_left : (n l : ℕ) → n + suc l < 5 → nat_lt (n + 1) 5 ≡ true
+few_left : (n l : ℕ) → n + suc l < failures_to_lock → nat_lt (n + 1) failures_to_lock ≡ true
 few_left n l h = grind (arith, nat_tests)
 
--- each wrong password counts, until there are five
-pub counted_on : (person : Person) (n : ℕ) (tries : List Try) → HasAccount person → AreWrong person tries → n + length tries < 5
+-- each wrong password counts, until there are enough to lock
+pub counted_on : (person : Person) (n : ℕ) (tries : List Try) → HasAccount person → AreWrong person tries → n + length tries < failures_to_lock
     → person_after (counted_person n person) tries ≡ Some (counted_person (n + length tries) person)
 counted_on person n [] has wrong few = ap (λ k. Some (counted_person k person)) (omega arith)
 counted_on person n (one ∷ others) has wrong few =
@@ -373,16 +373,17 @@ after_more person [] others = refl
 after_more person (one ∷ tries) others =
     after_one (person_left (attempt_of (Some person) one.text one.moment)) tries others (λ left. after_more left tries others)
 
--- the fifth locks
-pub fifth_locks : (person : Person) (n : ℕ) (before : List Try) (last : Try) → HasAccount person → AreWrong person before
-    → n + length before ≡ 4 → IsWrong person last
+-- the last of them locks
+pub last_locks : (person : Person) (n : ℕ) (before : List Try) (last : Try) → HasAccount person → AreWrong person before
+    → n + length before ≡ failures_to_lock - 1 → IsWrong person last
     → person_after (counted_person n person) (before ++ (last ∷ [])) ≡ Some (locked_person last.moment person)
-fifth_locks person n before last has wrong long is =
+last_locks person n before last has wrong long is =
+    let few = failures_to_lock - 1 in
     after_more (counted_person n person) before (last ∷ [])
     ∙ ap (option_and_then (λ left. person_after left (last ∷ []))) (counted_on person n before has wrong (omega arith))
     ∙ ap (λ k. person_after (counted_person k person) (last ∷ [])) long
     ∙ ap (λ answer. option_and_then (λ left. Some left) (person_left answer))
-    (wrong_locks (counted_person 4 person) last 4 (counted_has person 4 has) refl is refl refl)
+    (wrong_locks (counted_person few person) last few (counted_has person few has) refl is refl refl)
 
 -- a person who isn't locked is as they are with their failures
 pub unlocked_as_is : (person : Person) → person.locked ≡ None → person ≡ counted_person person.failures person

@@ -24,5 +24,5 @@ pub use lab_people_access::{
 pub use lab_seal_hashes::{Digest, Half, Token, Verifier, VerifierParts, founder_salts, salt};
 pub use password_laws::{
     a_lock_closes_all_sessions, a_lock_lasts_half_an_hour, an_attempt_leaves_a_lock,
-    another_code_is_a_wrong_password, the_fifth_failure_locks, the_halves_make_the_word,
+    another_code_is_a_wrong_password, repeated_failures_lock, the_halves_make_the_word,
 };

@@ -1,6 +1,6 @@
 //! Laws of passwords, which users rely on. Each function does nothing: its contract says the law, for all persons, texts and
 //! moments.
-ghost use Rattle.std.specs.Prelude.{◌≡◌, ◌≢◌, ℕ, Bool, ◌+◌, ◌<◌, List, [], ◌∷◌, ◌++◌, length, nat_lt, true, false, Option, Some, None, Ok, Err};
+ghost use Rattle.std.specs.Prelude.{◌≡◌, ◌≢◌, ℕ, Bool, ◌+◌, ◌-◌, ◌<◌, List, [], ◌∷◌, ◌++◌, length, nat_lt, true, false, Option, Some, None, Ok, Err};
 ghost use Rattle.hex.specs.Hex.{encode_lower};
 ghost use Rattle.lab_forms_texts.specs.declared.tick.Tick.{Tick as AnyTick};
 ghost use Rattle.lab_seal_hashes.specs.Words.{one_time_word};
@@ -12,21 +12,24 @@ ghost use Rattle.lab_people.specs.declared.issues.Issued.{Issued as AnyIssued};
 ghost use Rattle.lab_people.specs.Laws.{Try, person_after, HasAccount, IsWrong, AreWrong, IsWordGiven, AreClosed};
 ghost use Rattle.lab_people_access.specs.Passwords.{accepts, serves};
 ghost use Rattle.lab_people_access.specs.Persons.{is_locked, unlocked_person};
-ghost use Rattle.lab_people_access.specs.Attempts.{attempt_by, attempt_of, signing_attempt, counted_person, locked_person};
+ghost use Rattle.lab_people_access.specs.Attempts.{failures_to_lock, attempt_by, attempt_of, signing_attempt, counted_person, locked_person};
 ghost use Rattle.lab_people_access.specs.Refusals.{failure_person, failure_closing};
 ghost use Rattle.lab_people_access.specs.Sessions.{sessions_after};
 
-/// Law: wrong passwords that follow one another are counted, and the one with which five count locks. No earlier one does.
-pub fn the_fifth_failure_locks()
+/// Law: wrong passwords that follow one another are counted, and the one with which `failures_to_lock` count locks. No earlier one
+/// does.
+pub fn repeated_failures_lock()
     ensures earlier { (person : AnyPerson) (tries : List Try) → HasAccount person →
-        person.locked ≡ None → AreWrong person tries → person.failures + length tries < 5 →
+        person.locked ≡ None → AreWrong person tries →
+        person.failures + length tries < failures_to_lock →
         person_after person tries ≡ Some (counted_person (person.failures + length tries) person) }
-    ensures fifth { (person : AnyPerson) (before : List Try) (last : Try) → HasAccount person →
-        person.locked ≡ None → AreWrong person before → person.failures + length before ≡ 4 →
+    ensures last { (person : AnyPerson) (before : List Try) (last : Try) → HasAccount person →
+        person.locked ≡ None → AreWrong person before →
+        person.failures + length before ≡ failures_to_lock - 1 →
         IsWrong person last →
         person_after person (before ++ (last ∷ [])) ≡ Some (locked_person last.moment person) }
     ensures locking { (person : AnyPerson) (last : Try) → HasAccount person → person.locked ≡ None →
-        person.failures ≡ 4 → IsWrong person last →
+        person.failures ≡ failures_to_lock - 1 → IsWrong person last →
         attempt_of (Some person) last.text last.moment
         ≡ Err (Locking (locked_person last.moment person)) }
 {}
