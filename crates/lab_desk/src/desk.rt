@@ -17,13 +17,14 @@ use lab_desk_requests::answer_asked;
 use lab_desk_runs::Event;
 use lab_forms_texts::{LabCode, OutOfMemory, Tick};
 use lab_records_kept::{Keeper, KeeperFault};
-use lab_wire::{Answer, RequestFault, RequestRefusal, ask, memory_reply, reply_bytes};
+use lab_wire::{Answer, RequestFault, RequestRefusal, Routes, ask, memory_reply, reply_bytes};
 use std::alloc::Global;
 use std::marker::Model;
 
 /// A desk over a keeper: it answers requests, and founds laboratories.
 pub struct Desk<S> {
     alloc: Global,
+    routes: Routes,
     keeper: S,
     memory: Vec<u8>,
     last: Option<Vec<u8>>,
@@ -34,6 +35,7 @@ impl<S: Drop> Drop for Desk<S> {
     fn drop(self) {
         let Desk {
             alloc: _,
+            routes: _,
             keeper: _,
             memory: _,
             last: _,
@@ -57,7 +59,7 @@ impl<S> Model for Desk<S> {
 }
 
 impl<S: Keeper + Drop> Desk<S> {
-    /// A desk over a keeper, with the reply for lack of memory prepared. An error drops the keeper.
+    /// A desk over a keeper, with the routes and the reply for lack of memory prepared. An error drops the keeper.
     ///
     /// # Errors
     /// Only that memory ran out.
@@ -66,8 +68,10 @@ impl<S: Keeper + Drop> Desk<S> {
         ensures reply { IfOk result (λ desk. desk.reply ≡ []) }
     {
         let memory = memory_reply(alloc)?;
+        let routes = Routes::new(alloc)?;
         Ok(Desk {
             alloc,
+            routes,
             keeper,
             memory,
             last: Some(Vec::new(alloc)),
@@ -135,7 +139,7 @@ impl<S: Keeper + Drop> Desk<S> {
             (S.world self.new.keeper).is_reached }
         ensures passes { Passes (S.world self.old.keeper) (S.world self.new.keeper) }
     {
-        match ask(self.alloc, bytes) {
+        match ask(self.alloc, &self.routes, bytes) {
             Ok(asked) => {
                 let answered = answer_asked(self.alloc, &mut self.keeper, tick, asked);
                 self.keep(tick, answered)
@@ -296,6 +300,7 @@ impl<S: Keeper + Drop> Desk<S> {
     {
         let Desk {
             alloc: _,
+            routes: _,
             keeper,
             memory: _,
             last: _,

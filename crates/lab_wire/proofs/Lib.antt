@@ -1,11 +1,17 @@
 pub mod AskLemmas
 pub mod CommandLemmas
+pub mod InsertLemmas
 pub mod KnownRequests
 pub mod KnownRoutes
 pub mod MemoryLaws
+pub mod MethodLemmas
 pub mod NumberLemmas
 pub mod Parts
 pub mod PathLemmas
+pub mod PlaceLaws
+pub mod PlaceLemmas
 pub mod QueryLemmas
 pub mod ReplyLemmas
+pub mod RouterLaws
 pub mod TableLemmas
+pub mod WalkLemmas

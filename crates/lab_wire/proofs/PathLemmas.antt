@@ -4,7 +4,7 @@ use Rattle.std.specs.Prelude.{MatchOption, option_map, nat_eq, not}
 use Rattle.std.specs.Str.Pattern.{FindsTextPrefix, StripsPrefix}
 use Rattle.std.specs.List.{starts_with, position_or_len, after_first, slice_split}
 use Rattle.std.proofs.lemmas.Slice.Eq.{starts_is}
-use Rattle.std.proofs.lemmas.Bool.Decides.{Decides-eqb}
+use Rattle.std.proofs.lemmas.Bool.Decides.{Decides-eqb, nat_tests}
 use Rattle.std.proofs.lemmas.Str.Pattern.{starts_text}
 use Rattle.std.proofs.lemmas.List.Splits.{slice_split_first, slice_split-cons_yes}
 use Rattle.std.proofs.lemmas.List.Sums.{passes_at_first, prefix_len-le-length}
@@ -32,27 +32,37 @@ place_behind rest = rw (begins_with_front (position_or_len is_slash rest) rest) 
 
 -- ---- segments
 
--- where the first segment is all
+-- where the first segment is all, the place is empty
+all_lab : (rest : List ℕ) → position_or_len is_slash rest ≡ length rest → lab_in rest ≡ rest
+all_lab rest none = ap (λ k. take k rest) none ∙ take_all (length rest) rest (omega arith)
+
+no_place : (rest : List ℕ) → position_or_len is_slash rest ≡ length rest → place_in rest ≡ []
+no_place rest none =
+    let over : drop (length rest) rest ≡ [] = grind (arith, common_steps) in
+    ap (λ l. drop (length l) rest) (all_lab rest none) ∙ over
+
 last_segment : (rest : List ℕ) → position_or_len is_slash rest ≡ length rest
     → slice_split is_slash rest ≡ lab_in rest ∷ segments (place_in rest)
 unfolding segments
 last_segment rest none =
-    let all : lab_in rest ≡ rest = ap (λ k. take k rest) none ∙ take_all (length rest) rest (omega arith) in
-    let over : drop (length rest) rest ≡ [] = grind (arith, common_steps) in
-    let nothing : place_in rest ≡ [] = ap (λ l. drop (length l) rest) all ∙ over in
-    one_part is_slash rest none ∙ ap (λ l. l ∷ []) (sym all) ∙ ap (λ l. lab_in rest ∷ segments l) (sym nothing)
+    one_part is_slash rest none ∙ ap (λ l. l ∷ []) (sym (all_lab rest none)) ∙ ap (λ l. lab_in rest ∷ segments l) (sym (no_place rest none))
 
--- where a slash follows it
+-- where a slash follows it, it begins the place
+pub slash_begins : (rest : List ℕ) → position_or_len is_slash rest < length rest
+    → place_in rest ≡ get_or rest (position_or_len is_slash rest) 0 ∷ after_first is_slash rest
+slash_begins rest found =
+    let k : ℕ = position_or_len is_slash rest in
+    let size : length (lab_in rest) ≡ k = grind (arith, common_steps, length-take) in
+    let slashed : drop k rest ≡ get_or rest k 0 ∷ after_first is_slash rest = rw add-one (drop-cons rest k 0 found) in
+    ap (λ n. drop n rest) size ∙ slashed
+
 more_segments : (rest : List ℕ) → position_or_len is_slash rest < length rest
     → slice_split is_slash rest ≡ lab_in rest ∷ segments (place_in rest)
 unfolding segments
 more_segments rest found =
     let k : ℕ = position_or_len is_slash rest in
-    let size : length (lab_in rest) ≡ k = grind (arith, common_steps, length-take) in
-    let slashed : drop k rest ≡ get_or rest k 0 ∷ after_first is_slash rest = rw add-one (drop-cons rest k 0 found) in
-    let here : place_in rest ≡ get_or rest k 0 ∷ after_first is_slash rest = ap (λ n. drop n rest) size ∙ slashed in
     let split = slice_split-cons_yes is_slash (get_or rest k 0) (after_first is_slash rest) (passes_at_first is_slash rest 0 found) in
-    let rest_split : segments (place_in rest) ≡ slice_split is_slash (after_first is_slash rest) = ap segments here ∙ ap (drop 1) split in
+    let rest_split : segments (place_in rest) ≡ slice_split is_slash (after_first is_slash rest) = ap segments (slash_begins rest found) ∙ ap (drop 1) split in
     slice_split_first is_slash rest 0 found ∙ ap (λ l. lab_in rest ∷ l) (sym rest_split)
 
 -- a place that isn't within is the end
@@ -65,6 +75,17 @@ one_or_more : (rest : List ℕ) (b : Bool) → nat_lt (position_or_len is_slash 
     → slice_split is_slash rest ≡ lab_in rest ∷ segments (place_in rest)
 one_or_more rest true is = more_segments rest (grind (arith, common_steps))
 one_or_more rest false is = last_segment rest (all_passed is_slash rest is)
+
+-- what follows a laboratory's code is empty, or begins with a slash
+pub slash_follows : (rest : List ℕ) → nat_lt (position_or_len is_slash rest) (length rest) ≡ true → place_in rest ≡ 47 ∷ after_first is_slash rest
+slash_follows rest is =
+    let found : position_or_len is_slash rest < length rest = grind (arith, common_steps) in
+    let slashed : is_slash (get_or rest (position_or_len is_slash rest) 0) ≡ true = passes_at_first is_slash rest 0 found in
+    let same : get_or rest (position_or_len is_slash rest) 0 ≡ 47 = grind (arith, nat_tests) in
+    slash_begins rest found ∙ ap (λ b. b ∷ after_first is_slash rest) same
+
+pub nothing_follows : (rest : List ℕ) → nat_lt (position_or_len is_slash rest) (length rest) ≡ false → place_in rest ≡ []
+nothing_follows rest is = no_place rest (all_passed is_slash rest is)
 
 -- a place without a slash has no segment
 pub no_segment : (place : List ℕ) → position_or_len is_slash place ≡ length place → segments place ≡ []

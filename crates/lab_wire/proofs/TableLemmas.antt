@@ -16,11 +16,11 @@ some_of : {A : Type 0} (o : Option A) → is_some o ≡ true → IsSome o
 some_of None is = absurd (cc)
 some_of (Some x) is = refl
 
-true_first : (a b : Bool) → (a && b) ≡ true → a ≡ true
+pub true_first : (a b : Bool) → (a && b) ≡ true → a ≡ true
 true_first true b is = refl
 true_first false b is = is
 
-true_last : (a b : Bool) → (a && b) ≡ true → b ≡ true
+pub true_last : (a b : Bool) → (a && b) ≡ true → b ≡ true
 true_last true b is = is
 true_last false b is = absurd (cc)
 

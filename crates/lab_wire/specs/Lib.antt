@@ -2,9 +2,11 @@ pub mod Asked
 pub mod Commands
 pub mod Numbers
 pub mod Paths
+pub mod Places
 pub mod Queries
 pub mod Refusals
 pub mod Replies
+pub mod Router
 pub mod RouteRefusals
 pub mod Routes
 pub mod Statuses

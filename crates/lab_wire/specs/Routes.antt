@@ -11,7 +11,6 @@ use Rattle.lab_wire.specs.declared.route_refusals.Allowed.{Allowed}
 use Rattle.lab_wire.specs.declared.route_refusals.Allowed.TheVariants.{Get as GetAlone, Post as PostAlone, GetOrPost}
 use Rattle.lab_wire.specs.declared.routes.Route.{Route}
 use Rattle.lab_wire.specs.declared.routes.Route.TheVariants.{Card, Persons, Form, Record, Version, Records, Trail, Copy, Posted}
-use Rattle.lab_wire.specs.declared.routes.Row.{Row as RowOfCode}
 use Rattle.lab_wire.specs.declared.routes.Destination.{Destination as Found}
 use Rattle.lab_wire.specs.Numbers.{ordinal_in}
 use Rattle.lab_wire.specs.Paths.{path_of, query_of, behind, labs_prefix, lab_in, place_in, segments}
@@ -65,10 +64,6 @@ routes =
     ∷ gets (codes "/trail") Trail
     ∷ gets (codes "/copy") Copy
     ∷ []
-
--- as the code has a row
-abbrev pub row_shown : RowOfCode → Row
-row_shown r = record { method = r.method.now; place = r.place.now; route = r.route }
 
 -- ---- which rows a place has
 

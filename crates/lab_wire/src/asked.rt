@@ -3,7 +3,7 @@ ghost use Rattle.std.specs.Prelude.{◌≡◌, Ok, IfOk, IfErr};
 ghost use Rattle.lab_wire.specs.Asked.{asked, RequestFaultFits};
 
 use crate::refusals::{RequestFault, RequestRefusal};
-use crate::{Asked, RouteFault, command_of};
+use crate::{Asked, RouteFault, Routes, command_of};
 use lab_wire_heads::request_parts;
 use std::alloc::Global;
 
@@ -16,12 +16,12 @@ use std::alloc::Global;
 /// - `Route(Method)` where the place has other methods;
 /// - `Route(Body)` where the query or the body that the command has is refused;
 /// - that memory ran out, where it is known what the request asks, or it posts a body with a byte.
-pub fn ask(alloc: Global, bytes: &[u8]) -> Result<Asked, RequestFault>
+pub fn ask(alloc: Global, routes: &Routes, bytes: &[u8]) -> Result<Asked, RequestFault>
     ensures asks { IfOk result (λ asks. asked bytes.now ≡ Ok asks) }
     ensures fault { IfErr result (RequestFaultFits bytes.now) }
 {
     match request_parts(bytes) {
-        Ok(parts) => match command_of(alloc, &parts) {
+        Ok(parts) => match command_of(alloc, routes, &parts) {
             Ok(asks) => Ok(asks),
             Err(RouteFault::Refused(refusal)) => {
                 Err(RequestFault::Refused(RequestRefusal::Route(refusal)))

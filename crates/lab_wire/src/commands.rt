@@ -14,7 +14,7 @@ use crate::numbers::ordinal_in;
 use crate::paths::segment_at;
 use crate::queries::range_in;
 use crate::route_refusals::{RouteFault, RouteRefusal};
-use crate::routes::{Destination, Route, destination_of};
+use crate::routes::{Destination, Route, Routes};
 use lab_forms_texts::{Key, LabCode, NameFault, Ordinal};
 use lab_records_machine::{Command, Instruction};
 use lab_seal_hashes::Token;
@@ -209,11 +209,15 @@ fn asked_at(
 /// - else `Method` where the place has other methods;
 /// - else `Body` where the query or the body that the command has is refused;
 /// - that memory ran out, where it is known what the request asks, or a body with a byte is posted.
-pub fn command_of(alloc: Global, parts: &RequestParts<'_>) -> Result<Asked, RouteFault>
+pub fn command_of(
+    alloc: Global,
+    routes: &Routes,
+    parts: &RequestParts<'_>,
+) -> Result<Asked, RouteFault>
     ensures asks { IfOk result (λ asks. command_asked (parts_shown parts.now) ≡ Ok asks) }
     ensures fault { IfErr result (RouteFaultFits (parts_shown parts.now)) }
 {
-    match destination_of(parts.method, parts.target) {
+    match routes.destination_of(parts.method, parts.target) {
         Ok(to) => asked_at(alloc, parts.token, &to, parts.body),
         Err(refusal) => Err(RouteFault::Refused(refusal)),
     }

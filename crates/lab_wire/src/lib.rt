@@ -27,4 +27,4 @@ pub use lab_wire_received::read_request;
 pub use refusals::{RequestFault, RequestRefusal};
 pub use replies::{Answer, memory_reply, reply_bytes};
 pub use route_refusals::{Allowed, RouteFault, RouteRefusal};
-pub use routes::{Destination, Route, destination_of};
+pub use routes::{Destination, Route, Routes};

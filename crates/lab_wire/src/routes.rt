@@ -1,13 +1,22 @@
-//! Where a request goes, by its method and its path: a table with a row for each command. Nothing here takes memory.
-ghost use Rattle.std.specs.Prelude.{◌≡◌, option_map, map, find, Ok, Err, IfOk, IfErr};
-ghost use Rattle.std.specs.List.{list_any};
-ghost use Rattle.lab_wire.specs.Routes.{row_shown, is_number_mark, is_key_mark, admits, is_row_to, is_place, is_row, row_of, has_row, allowed, route_of, destination_shown, destination_of};
+//! Where a request goes, by its method and its path: a table with each place in a laboratory, and
+//! the router of it.
+ghost use Rattle.std.specs.Prelude.{◌≡◌, ◌<◌, length, option_map, map, Ok, Err, IfOk, IfErr};
+ghost use Rattle.matchit.specs.Seek.{first};
+ghost use Rattle.matchit.specs.declared.error.InsertError.TheVariants.{OutOfMemory as MemoryRanOut};
+ghost use Rattle.lab_wire.specs.Paths.{place_in, segments};
+ghost use Rattle.lab_wire.specs.Routes.{is_number_mark, is_key_mark, admits, all_admitted, route_of, destination_shown, destination_of};
+ghost use Rattle.lab_wire.specs.Places.{place_shown, place_at, texts, places, asked_by, allowed_at, place_to, route_or_methods};
+ghost use Rattle.lab_wire.specs.Router.{text_at, router_of_table};
 
 use crate::numbers::ordinal_in;
 use crate::paths::{behind, lab_in, next_segment, path_of, place_in, query_of};
 use crate::route_refusals::{Allowed, RouteRefusal};
-use lab_forms_texts::{Keys, LabCodes, Rule};
+use http::Method;
+use lab_forms_texts::{Keys, LabCodes, OutOfMemory, Rule};
 use lab_wire_bodies::Post;
+use matchit::{InsertError, Router};
+use std::alloc::Global;
+use std::marker::Model;
 
 /// What is asked of a laboratory, by a method and a place.
 #[derive(Clone, Copy, Debug, PartialEq, Eq, Drop)]
@@ -32,15 +41,16 @@ pub enum Route {
     Posted(Post),
 }
 
-/// A row of the table: in its place `{form}` stands for a key, `{record}` and `{version}` for a number.
+/// A place in a laboratory. In its text `{form}` stands for a key, `{record}` and `{version}` for a
+/// number.
 #[derive(Clone, Copy, Drop)]
-pub struct Row {
-    /// The method.
-    pub method: &'static str,
-    /// The place in a laboratory.
-    pub place: &'static str,
-    /// What is asked so.
-    pub route: Route,
+pub struct Place {
+    /// How the table writes it.
+    pub text: &'static str,
+    /// What is read there.
+    pub get: Option<Route>,
+    /// What is posted there.
+    pub post: Option<Route>,
 }
 
 /// Where a request goes.
@@ -56,24 +66,35 @@ pub struct Destination<'t> {
     pub route: Route,
 }
 
-// What is read.
+// A place that is read alone.
 macro_rules! gets {
-    ($place:literal, $route:ident) => {
-        Row {
-            method: "GET",
-            place: $place,
-            route: Route::$route,
+    ($text:literal, $route:ident) => {
+        Place {
+            text: $text,
+            get: Some(Route::$route),
+            post: None,
         }
     };
 }
 
-// What is posted with a body.
+// A place that is posted to alone.
 macro_rules! posts {
-    ($place:literal, $post:ident) => {
-        Row {
-            method: "POST",
-            place: $place,
-            route: Route::Posted(Post::$post),
+    ($text:literal, $post:ident) => {
+        Place {
+            text: $text,
+            get: None,
+            post: Some(Route::Posted(Post::$post)),
+        }
+    };
+}
+
+// A place that is read, and posted to.
+macro_rules! both {
+    ($text:literal, $route:ident, $post:ident) => {
+        Place {
+            text: $text,
+            get: Some(Route::$route),
+            post: Some(Route::Posted(Post::$post)),
         }
     };
 }
@@ -81,14 +102,13 @@ macro_rules! posts {
 /// What the paths of laboratories begin with.
 const LABS_PREFIX: &str = "/labs/";
 
-/// A row for each command.
-const ROUTES: [Row; 22] = [
+/// The places of the table, each once.
+const PLACES: [Place; 20] = [
     gets!("", Card),
     posts!("/open", Open),
     posts!("/close", Close),
     posts!("/password", ChangePassword),
-    posts!("/persons", Enrol),
-    gets!("/persons", Persons),
+    both!("/persons", Persons, Enrol),
     posts!("/issue", AskIssue),
     posts!("/confirm", ConfirmIssue),
     posts!("/roles", SetRoles),
@@ -96,16 +116,42 @@ const ROUTES: [Row; 22] = [
     posts!("/unlock", Unlock),
     posts!("/forms", MakeForm),
     gets!("/forms/{form}/{version}", Form),
-    posts!("/records", OpenRecord),
     posts!("/entries", Enter),
     posts!("/amendments", Amend),
     posts!("/signatures", Sign),
     gets!("/records/{record}", Record),
     gets!("/records/{record}/versions/{version}", Version),
-    gets!("/records", Records),
+    both!("/records", Records, OpenRecord),
     gets!("/trail", Trail),
     gets!("/copy", Copy),
 ];
+
+// The places of the table, each once.
+fn places() -> &'static [Place]
+    ensures shown { map place_shown result.now ≡ places }
+    ensures count { length result.now ≡ length texts }
+{
+    &PLACES
+}
+
+// The place of a number.
+fn numbered(number: usize) -> Place
+    requires { number < length texts }
+    ensures { place_shown result ≡ place_at (text_at number) }
+{
+    let table = places();
+    table[number]
+}
+
+// Why a place of the table doesn't go into a router: its text reads, and it conflicts with none.
+fn memory_alone(fault: InsertError) -> OutOfMemory
+    requires { fault ≡ MemoryRanOut }
+{
+    match fault {
+        InsertError::OutOfMemory => OutOfMemory,
+        _ => unreachable!(),
+    }
+}
 
 fn is_number_mark(mark: &str) -> bool
     ensures { result ≡ is_number_mark mark.now }
@@ -133,11 +179,11 @@ fn admits(mark: &str, segment: &str) -> bool
     }
 }
 
-// Whether a row is to a place: as many segments, each admitted.
-fn is_row_to(place: &str, row: &Row) -> bool
-    ensures { result ≡ is_row_to place.now (row_shown row.now) }
+// Whether a place's text admits a place: as many segments, each admitted.
+fn is_to(place: &str, text: &str) -> bool
+    ensures { result ≡ all_admitted (segments text.now) (segments place.now) }
 {
-    let mut marks = row.place;
+    let mut marks = text;
     let mut rest = place;
     while let Some((mark, marks_after)) = next_segment(marks) {
         match next_segment(rest) {
@@ -151,107 +197,160 @@ fn is_row_to(place: &str, row: &Row) -> bool
     next_segment(rest).is_none()
 }
 
-fn is_one_to(place: &str, rows: &[Row]) -> bool
-    ensures { result ≡ list_any (λ row. is_row_to place.now (row_shown row)) rows.now }
-{
-    rows.iter().any(|row| is_row_to(place, row))
-}
-
-// Whether a row of the table is to a place.
-#[tactic(auto, unfolding(crate::specs::Routes::is_place))]
-fn is_place(place: &str) -> bool
-    ensures { result ≡ is_place place.now }
-{
-    is_one_to(place, &ROUTES)
-}
-
-fn is_row(method: &[u8], place: &str, row: &Row) -> bool
-    ensures { result ≡ is_row method.now place.now (row_shown row.now) }
-{
-    row.method.as_bytes() == method && is_row_to(place, row)
-}
-
-fn row_among(method: &[u8], place: &str, rows: &[Row]) -> Option<Row>
-    ensures { option_map row_shown result
-        ≡ find (is_row method.now place.now) (map row_shown rows.now) }
-{
-    for row in rows {
-        if is_row(method, place, row) {
-            return Some(*row);
-        }
-    }
-    None
-}
-
-// The row by a method to a place.
-#[tactic(auto, unfolding(crate::specs::Routes::row_of))]
-fn row_of(method: &[u8], place: &str) -> Option<Row>
-    ensures { option_map row_shown result ≡ row_of method.now place.now }
-{
-    row_among(method, place, &ROUTES)
-}
-
-fn has_row(method: &[u8], place: &str) -> bool
-    ensures { result ≡ has_row method.now place.now }
-{
-    row_of(method, place).is_some()
-}
-
-// The methods that a place has rows for.
-fn allowed(place: &str) -> Allowed
-    ensures { result ≡ allowed place.now }
-{
-    if has_row(b"GET", place) {
-        if has_row(b"POST", place) {
-            Allowed::GetOrPost
+impl Place {
+    // What is asked by the method of a name.
+    fn named(&self, name: &str) -> Option<Route>
+        ensures { result ≡ asked_by name.now (place_shown self.now) }
+    {
+        if "GET" == name {
+            self.get
+        } else if "POST" == name {
+            self.post
         } else {
-            Allowed::Get
+            None
         }
-    } else {
-        Allowed::Post
+    }
+
+    // What is asked by a method. Only a method of more than 15 bytes takes memory. Where there is
+    // none, it isn't read, and no place has such a method.
+    fn by(&self, alloc: Global, method: &[u8]) -> Option<Route>
+        ensures { result ≡ asked_by method.now (place_shown self.now) }
+    {
+        match Method::from_bytes(alloc, method) {
+            Ok(method) => self.named(method.as_str()),
+            Err(_) => None,
+        }
+    }
+
+    // The route by a method, which has to be one of its own.
+    fn route_by(&self, alloc: Global, method: &[u8]) -> Result<Route, RouteRefusal>
+        ensures { result ≡ route_or_methods (asked_by method.now (place_shown self.now))
+            (allowed_at (place_shown self.now)) }
+    {
+        match self.by(alloc, method) {
+            Some(route) => Ok(route),
+            None => Err(RouteRefusal::Method(self.allowed())),
+        }
+    }
+
+    // The methods by which something is asked.
+    fn allowed(&self) -> Allowed
+        ensures { result ≡ allowed_at (place_shown self.now) }
+    {
+        match (self.get, self.post) {
+            (Some(_), Some(_)) => Allowed::GetOrPost,
+            (Some(_), None) => Allowed::Get,
+            (None, _) => Allowed::Post,
+        }
     }
 }
 
-// The route by a method to a place: first the place has to be one, then the method one of its own.
-#[tactic(auto, unfolding(crate::specs::Routes::route_of))]
-fn route_of(method: &[u8], place: &str) -> Result<Route, RouteRefusal>
-    ensures { result ≡ route_of method.now place.now }
-{
-    if !is_place(place) {
-        return Err(RouteRefusal::NoRoute);
-    }
-    match row_of(method, place) {
-        Some(row) => Ok(row.route),
-        None => Err(RouteRefusal::Method(allowed(place))),
-    }
+/// The routes of a laboratory: each place of the table, found by its words.
+#[derive(Drop)]
+pub struct Routes {
+    alloc: Global,
+    // The number of each place in the table.
+    router: Router<usize>,
 }
 
-/// Where a method and a target go.
-///
-/// # Errors
-/// - `NoRoute` where the path is of no laboratory whose code reads, or no place in one;
-/// - else `Method` where the place has other methods.
-#[tactic(auto, unfolding(crate::specs::Routes::destination_of))]
-pub fn destination_of<'t>(method: &[u8], target: &'t str) -> Result<Destination<'t>, RouteRefusal>
-    ensures found { IfOk result (λ to.
-        destination_of method.now target.now ≡ Ok (destination_shown to)) }
-    ensures refused { IfErr result (λ refusal. destination_of method.now target.now ≡ Err refusal) }
-{
-    let Some(rest) = behind(LABS_PREFIX, path_of(target)) else {
-        return Err(RouteRefusal::NoRoute);
-    };
-    let lab = lab_in(rest);
-    if !LabCodes::admits(lab) {
-        return Err(RouteRefusal::NoRoute);
+impl Model for Routes {
+    ghost use Rattle.std.specs.Prelude.{◌≡◌, ⊤};
+    ghost use Rattle.lab_wire.specs.Router.{router_of_table};
+
+    ghost Value = { ⊤ };
+
+    ghost view = { λ _. tt };
+
+    ghost invariant = { λ routes. routes.router ≡ router_of_table };
+}
+
+impl Routes {
+    /// The routes of the table.
+    ///
+    /// # Errors
+    /// Only that memory ran out.
+    pub fn new(alloc: Global) -> Result<Routes, OutOfMemory> {
+        let table = places();
+        let mut router = Router::new(alloc);
+        let mut number = 0;
+        while number < table.len() {
+            match router.insert(table[number].text, number) {
+                Ok(()) => number += 1,
+                Err(fault) => return Err(memory_alone(fault)),
+            }
+        }
+        Ok(Routes { alloc, router })
     }
-    let place = place_in(rest);
-    match route_of(method, place) {
-        Ok(route) => Ok(Destination {
-            lab,
-            place,
-            query: query_of(target),
-            route,
-        }),
-        Err(refusal) => Err(refusal),
+
+    // The number of the place that the router finds, by its words alone.
+    fn number_of(&self, place: &str) -> Option<usize>
+        ensures { result ≡ option_map (λ found. found.value) (first router_of_table place.now) }
+    {
+        match self.router.at(place) {
+            Ok(found) => Some(*found.value),
+            Err(_) => None,
+        }
+    }
+
+    // The place of the table for what follows a laboratory's code. The router finds it by its
+    // words; then each segment is looked at: it has to be admitted.
+    fn place_to(&self, rest: &str) -> Option<Place>
+        ensures { option_map place_shown result ≡ place_to (place_in rest.now) }
+    {
+        let place = place_in(rest);
+        let Some(number) = self.number_of(place) else {
+            return None;
+        };
+        let near = numbered(number);
+        if is_to(place, near.text) {
+            Some(near)
+        } else {
+            None
+        }
+    }
+
+    // The route by a method to the place behind a laboratory's code: first the place has to be one,
+    // then the method one of its own.
+    fn route_of(&self, method: &[u8], rest: &str) -> Result<Route, RouteRefusal>
+        ensures { result ≡ route_of method.now (place_in rest.now) }
+    {
+        match self.place_to(rest) {
+            Some(place) => place.route_by(self.alloc, method),
+            None => Err(RouteRefusal::NoRoute),
+        }
+    }
+
+    /// Where a method and a target go.
+    ///
+    /// # Errors
+    /// - `NoRoute` where the path is of no laboratory whose code reads, or no place in one;
+    /// - else `Method` where the place has other methods.
+    #[tactic(auto, unfolding(crate::specs::Routes::destination_of))]
+    pub fn destination_of<'t>(
+        &self,
+        method: &[u8],
+        target: &'t str,
+    ) -> Result<Destination<'t>, RouteRefusal>
+        ensures found { IfOk result (λ to.
+            destination_of method.now target.now ≡ Ok (destination_shown to)) }
+        ensures refused { IfErr result (λ refusal.
+            destination_of method.now target.now ≡ Err refusal) }
+    {
+        let Some(rest) = behind(LABS_PREFIX, path_of(target)) else {
+            return Err(RouteRefusal::NoRoute);
+        };
+        let lab = lab_in(rest);
+        if !LabCodes::admits(lab) {
+            return Err(RouteRefusal::NoRoute);
+        }
+        match self.route_of(method, rest) {
+            Ok(route) => Ok(Destination {
+                lab,
+                place: place_in(rest),
+                query: query_of(target),
+                route,
+            }),
+            Err(refusal) => Err(refusal),
+        }
     }
 }
