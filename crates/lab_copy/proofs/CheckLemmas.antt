@@ -16,8 +16,9 @@ use Rattle.lab_copy.specs.Kept.{IsAt, IsTaken, edition_by, kept_none, verdict_ke
 use Rattle.lab_copy.specs.Left.{AnswersRest, IsLeftOf}
 use Rattle.lab_copy.specs.declared.faults.CheckFault.{CheckFault}
 use Rattle.lab_copy.specs.declared.faults.CheckFault.TheVariants.{Flawed, Read, Memory}
-use Rattle.lab_copy_lines.specs.declared.faults.RowFault.{RowFault}
-use Rattle.lab_copy_lines.specs.declared.faults.RowFault.TheVariants as row_fault
+use Rattle.lab_forms_texts.specs.declared.refusals.Fault.{Fault}
+use Rattle.lab_forms_texts.specs.declared.refusals.Fault.TheVariants as row_fault
+use Rattle.lab_copy_lines.specs.declared.faults.BadRow.{BadRow}
 use Rattle.lab_copy.specs.declared.kept.Kept.{Kept}
 use Rattle.lab_copy.proofs.ReadLemmas.{record_reads, when_known, no_header, bad_header, begun_left, at_end, bad_row, taken_left, taken_fault}
 
@@ -71,12 +72,12 @@ module _ {R : Type 0} (rem : R → Option (List ℕ)) (found : Result Counts Fla
       answer
 
   module _ (read : ReadRecord rem old new true fields) where
-    pub next_unread : (fault : RowFault) → IsRead (line_at (edition_by kept.copy) fields) (Err fault)
+    pub next_unread : (fault : Fault BadRow) → IsRead (line_at (edition_by kept.copy) fields) (Err fault)
         → IsAnswer found (Err (fault_at row fault))
-    next_unread row_fault.BadRow none =
+    next_unread (row_fault.Refused _) none =
         bad_row found kept row (reader_state old) (reader_state new) (source_of rem old) (source_of rem new) fields left
         (record_reads rem old new true fields config read) none
-    next_unread (row_fault.Memory _) none = tt
+    next_unread row_fault.Memory none = tt
 
     module _ (line : Line) (is_line : line_at (edition_by kept.copy) fields ≡ Some line) where
       pub next_taken : (more : Kept)

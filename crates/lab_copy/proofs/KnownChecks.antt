@@ -15,7 +15,7 @@ use Rattle.lab_seal.specs.Reading.{number_of}
 use Rattle.lab_copy_rows.specs.Copies.{last_told, verdict, verdict_after, flaw_of_line, flaw_at_end, flaw_of_signature, flaw_of_last_version, is_in_place}
 use Rattle.lab_copy_rows.specs.Reading.{line_of, copy_line, record_line, version_line, entry_line, signature_line, end_line}
 use Rattle.lab_copy_rows.specs.declared.flaws.Flaw.TheVariants.{BadRow, NoEnd, Digest}
-use Rattle.lab_copy_lines.specs.declared.faults.RowFault.TheVariants as row_fault
+use Rattle.lab_forms_texts.specs.declared.refusals.Fault.TheVariants as row_fault
 use Rattle.lab_copy.specs.Checks.{fault_at, rows_of}
 use Rattle.lab_copy.specs.declared.faults.CheckFault.TheVariants.{Flawed, Memory}
 use Rattle.lab_seal_versions.specs.declared.versions.Format.TheVariants as format
@@ -49,7 +49,7 @@ known_found = (refl, refl, refl, refl)
 
 -- a row that is none is told with its number, and of one that memory didn't suffice for nothing is told
 pub known_faults : (fault : OutOfMemory)
-    → (fault_at 5 (row_fault.Memory fault) ≡ Memory fault) × (fault_at 5 row_fault.BadRow ≡ Flawed (BadRow 5))
+    → (fault_at 5 row_fault.Memory ≡ Memory fault) × (fault_at 5 (row_fault.Refused (record {})) ≡ Flawed (BadRow 5))
 known_faults fault = (refl, refl)
 
 abbrev copy : ℕ → ℕ → Line

@@ -2,8 +2,9 @@
 use Rattle.std.specs.Prelude.{ℕ, List}
 use Rattle.csv.specs.Reading.{default_config, records, strip_bom}
 use Rattle.lab_copy_rows.specs.declared.flaws.Flaw.TheVariants as flaw
-use Rattle.lab_copy_lines.specs.declared.faults.RowFault.{RowFault}
-use Rattle.lab_copy_lines.specs.declared.faults.RowFault.TheVariants as row_fault
+use Rattle.lab_forms_texts.specs.declared.refusals.Fault.{Fault}
+use Rattle.lab_forms_texts.specs.declared.refusals.Fault.TheVariants as row_fault
+use Rattle.lab_copy_lines.specs.declared.faults.BadRow.{BadRow}
 use Rattle.lab_copy.specs.declared.faults.CheckFault.{CheckFault}
 use Rattle.lab_copy.specs.declared.faults.CheckFault.TheVariants.{Flawed, Memory}
 
@@ -13,6 +14,6 @@ abbrev pub rows_of : List ℕ → List (List (List ℕ))
 rows_of bytes = records default_config (strip_bom bytes)
 
 -- the fault of a check whose row wasn't read
-abbrev pub fault_at : ℕ → RowFault → CheckFault
-fault_at row row_fault.BadRow = Flawed (flaw.BadRow row)
-fault_at row (row_fault.Memory fault) = Memory fault
+abbrev pub fault_at : ℕ → Fault BadRow → CheckFault
+fault_at row (row_fault.Refused _) = Flawed (flaw.BadRow row)
+fault_at row row_fault.Memory = Memory (record {})

@@ -105,7 +105,7 @@ version_by row about version _ = None
 abbrev pub version_with : ℕ → Kept → Line → Option VersionAtHand
 version_with row kept line = version_by row kept.about kept.version line
 
--- the same but for the kind of the last line and the numbers of lines
+-- the parts at hand with a line, but for the kind of the last line and the counts of lines
 abbrev pub with_parts : ℕ → Kept → Line → Kept
 with_parts row kept line = record kept {
   copy = copy_with line kept.copy;
@@ -200,8 +200,8 @@ is_kept_made about version (Entry line) = is_some version
 is_kept_made about version (Signature line) = is_some version
 is_kept_made about version _ = false
 
--- the same of lines: a line out of its place isn't told so, nor a signature that shows a flaw, nor
--- a line of another kind behind which no version's rows end
+-- where memory may run out behind these lines: not at a line out of its place, nor at a signature
+-- that shows a flaw, nor at a line of another kind behind which no version's rows end
 abbrev pub MayRunOut : List Line → Line → Type 0
 MayRunOut lines (Version line) = is_in_place lines (Version line) ≡ true
 MayRunOut lines (Entry line) = flaw_of_line lines (Entry line) ≡ None

@@ -38,7 +38,7 @@ abbrev pub AnswersRest : State → Option (List ℕ) → Result Counts CheckFaul
 AnswersRest state source result =
     (found : Result Counts Flaw) → IsLeftOf found kept_none 2 state source → IsAnswer found result
 
--- what is left to find behind the header is left at this row too
+-- the loop's invariant: to check from this row on gives the verdict on the whole copy
 abbrev pub LeavesAt : State → Option (List ℕ) → Kept → ℕ → State → Option (List ℕ) → Type 0
 LeavesAt state source kept row later rest =
     (found : Result Counts Flaw) → IsLeftOf found kept_none 2 state source

@@ -25,6 +25,9 @@ const MOST_ROWS: u64 = 1_000_000_000_000;
 
 /// Reads a copy as CSV to its end, and answers how many rows of each kind it has, where it is sound; else the first flaw that
 /// is told. It recomputes every digest and every seal.
+///
+/// # Errors
+/// The copy's first flaw, a reader that failed, or memory that ran out.
 pub fn check_copy<R: Read + Drop>(alloc: Global, reader: R) -> Result<Counts, CheckFault>
     ensures { IfSome (R.remaining reader) (λ bytes. IsAnswer (verdict (rows_of bytes)) result) }
 {
@@ -118,7 +121,7 @@ fn fault_at(row: u64, fault: RowFault) -> CheckFault
     ensures { result ≡ fault_at row fault }
 {
     match fault {
-        RowFault::BadRow => CheckFault::Flawed(Flaw::BadRow(row)),
-        RowFault::Memory(fault) => CheckFault::Memory(fault),
+        RowFault::Refused(_) => CheckFault::Flawed(Flaw::BadRow(row)),
+        RowFault::Memory => CheckFault::Memory(OutOfMemory),
     }
 }

@@ -30,7 +30,7 @@ pub struct VersionAtHand {
     signers: Series<PersonCode>,
 }
 
-// It is written out, so that a caller doesn't prove again how each part is dropped.
+// `drop` is written out, so that a caller doesn't prove again how each part is dropped.
 impl Drop for VersionAtHand {
     fn drop(self) {
         let VersionAtHand {
@@ -46,6 +46,9 @@ impl Drop for VersionAtHand {
 
 impl VersionAtHand {
     /// The version that begins in the row, of the record and behind the version before.
+    ///
+    /// # Errors
+    /// Memory ran out.
     pub fn begin(
         alloc: Global,
         row: u64,
@@ -81,6 +84,9 @@ impl VersionAtHand {
     }
 
     /// Keeps an entry.
+    ///
+    /// # Errors
+    /// Memory ran out.
     pub fn enter(&mut self, alloc: Global, row: EntryRow) -> Result<(), OutOfMemory>
         ensures { OnOk result (self.new ≡ with_entry row self.old) }
     {
@@ -88,6 +94,9 @@ impl VersionAtHand {
     }
 
     /// Keeps a signature.
+    ///
+    /// # Errors
+    /// Memory ran out.
     pub fn sign(&mut self, person: PersonCode, meaning: Meaning) -> Result<(), OutOfMemory>
         ensures { OnOk result (self.new ≡ with_signature person meaning self.old) }
     {
@@ -120,6 +129,9 @@ impl VersionAtHand {
     }
 
     /// What is wrong with the version, once its rows have come. Its text is made to find it.
+    ///
+    /// # Errors
+    /// Memory ran out.
     pub fn check(&self, alloc: Global) -> Result<Option<Flaw>, OutOfMemory>
         ensures { IfOk result (λ shown. shown ≡ flaw_of_hand self.now) }
     {
@@ -176,6 +188,9 @@ impl VersionAtHand {
 }
 
 /// The version that begins in the row, where a record's row came.
+///
+/// # Errors
+/// Memory ran out.
 pub fn begin(
     alloc: Global,
     row: u64,
@@ -195,6 +210,9 @@ pub fn begin(
 }
 
 /// Keeps an entry of the version at hand, where there is one.
+///
+/// # Errors
+/// Memory ran out.
 pub fn enter(
     version: &mut Option<VersionAtHand>,
     alloc: Global,
@@ -210,6 +228,9 @@ pub fn enter(
 }
 
 /// Keeps a signature of the version at hand, where there is one.
+///
+/// # Errors
+/// Memory ran out.
 pub fn sign(
     version: &mut Option<VersionAtHand>,
     person: PersonCode,

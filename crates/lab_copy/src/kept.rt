@@ -33,7 +33,7 @@ pub struct Kept {
     counts: Counts,
 }
 
-// It is written out, so that a caller doesn't prove again how each part is dropped.
+// `drop` is written out, so that a caller doesn't prove again how each part is dropped.
 impl Drop for Kept {
     fn drop(self) {
         let Kept {
@@ -76,6 +76,9 @@ impl Kept {
     }
 
     /// Takes the line in the row, and keeps of it what the next ones are compared with; or else tells what it shows.
+    ///
+    /// # Errors
+    /// The copy's first flaw, a reader that failed, or memory that ran out.
     pub fn take(&mut self, alloc: Global, row: u64, line: Line) -> Result<(), CheckFault>
         requires { IsReasoned line }
         ensures { (lines : List Line) → row ≡ length lines + 2 → IsAt self.old lines
@@ -92,6 +95,9 @@ impl Kept {
     }
 
     /// What is found at the end of the input.
+    ///
+    /// # Errors
+    /// The copy's first flaw, a reader that failed, or memory that ran out.
     pub fn finish(&self, alloc: Global) -> Result<Counts, CheckFault>
         ensures value { IsAnswer (verdict_kept self.now) result }
         ensures fault { IfErr result (IsEndFault self.now) }

@@ -15,7 +15,7 @@ use Rattle.lab_copy_rows.specs.declared.lines.Edition.TheVariants.{Two}
 use Rattle.lab_copy_rows.specs.declared.lines.Line.TheVariants as line
 use Rattle.lab_copy_lines.specs.Lines.{IsRead, field_in, line_at}
 use Rattle.lab_copy_lines.specs.Kinds.{is_end_kind, may_come_after}
-use Rattle.lab_copy_lines.specs.declared.faults.RowFault.TheVariants.{BadRow}
+use Rattle.lab_forms_texts.specs.declared.refusals.Fault.TheVariants.{Refused}
 use Rattle.lab_copy_lines.specs.declared.kinds.Kind.TheVariants.{Copy, Record, Version, Entry, Signature, End}
 
 abbrev entry : List ℕ → List ℕ → List (List ℕ)
@@ -68,5 +68,5 @@ some_is : {A : Type 0} (one : A) → Some one ≡ None → ⊥
 some_is one wrong = absurd cc
 
 -- a row that stands for something is never told as a bad one
-pub known_told : IsRead {A = ℕ} None (Err BadRow) × (IsRead {A = ℕ} (Some 7) (Err BadRow) → ⊥) × (IsRead {A = ℕ} (Some 7) (Ok 8) → ⊥)
+pub known_told : IsRead {A = ℕ} None (Err (Refused (record {}))) × (IsRead {A = ℕ} (Some 7) (Err (Refused (record {}))) → ⊥) × (IsRead {A = ℕ} (Some 7) (Ok 8) → ⊥)
 known_told = (refl, λ same. some_is 7 same, λ same. true≢false (ap (λ found. unwrap_or found 0 == 7) same))

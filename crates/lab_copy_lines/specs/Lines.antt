@@ -12,15 +12,16 @@ use Rattle.lab_copy_rows.specs.declared.lines.Edition.{Edition}
 use Rattle.lab_copy_rows.specs.declared.lines.Line.{Line}
 use Rattle.lab_copy_rows.specs.declared.lines.Line.TheVariants.{Version}
 use Rattle.lab_copy_lines.specs.Fields.{HasReasonUnlessFirst}
-use Rattle.lab_copy_lines.specs.declared.faults.RowFault.{RowFault}
-use Rattle.lab_copy_lines.specs.declared.faults.RowFault.TheVariants.{BadRow, Memory}
+use Rattle.lab_forms_texts.specs.declared.refusals.Fault.{Fault}
+use Rattle.lab_forms_texts.specs.declared.refusals.Fault.TheVariants.{Refused, Memory}
+use Rattle.lab_copy_lines.specs.declared.faults.BadRow.{BadRow}
 
 -- what is found is what is there, and a bad row is told where nothing is; out of memory only where
 -- there is something, whose texts are copied
-abbrev pub IsRead : {A : Type 0} → Option A → Result A RowFault → Type 0
+abbrev pub IsRead : {A : Type 0} → Option A → Result A (Fault BadRow) → Type 0
 IsRead found (Ok value) = found ≡ Some value
-IsRead found (Err BadRow) = found ≡ None
-IsRead found (Err (Memory _)) = IsSome found
+IsRead found (Err (Refused _)) = found ≡ None
+IsRead found (Err Memory) = IsSome found
 
 -- a field, or nothing where there are fewer
 abbrev pub field_in : List (List ℕ) → ℕ → List ℕ
@@ -44,7 +45,7 @@ within edition line_with found = do
 abbrev pub line_by : Edition → Columns → Option Line
 line_by edition columns = within edition (λ line. line) (line_of columns)
 
--- the same of a row
+-- what a row stands for in a copy of an edition
 abbrev pub line_at : Edition → List (List ℕ) → Option Line
 line_at edition row = do
   columns ← columns_of row

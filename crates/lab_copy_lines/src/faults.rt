@@ -1,23 +1,10 @@
 //! Why a row wasn't read.
 
-use lab_copy_rows::OutOfMemory;
+use lab_forms_texts::Fault;
 
-/// Why a row wasn't read.
+/// The row is none that a copy can have.
 #[derive(Clone, Copy, Debug, PartialEq, Eq)]
-pub enum RowFault {
-    /// The row is none that a copy can have.
-    BadRow,
-    /// There was no memory for what the row tells.
-    Memory(OutOfMemory),
-}
+pub struct BadRow;
 
-impl From<OutOfMemory> for RowFault {
-    ghost use Rattle.std.specs.Prelude.{◌≡◌};
-    ghost use Rattle.lab_copy_lines.specs.declared.faults.RowFault.TheVariants.{Memory};
-
-    ghost from_gives = { λ fault e. e ≡ Memory fault };
-
-    fn from(fault: OutOfMemory) -> RowFault {
-        RowFault::Memory(fault)
-    }
-}
+/// Why a row wasn't read. Want of memory is the answer only where the row is one that a copy can have.
+pub type RowFault = Fault<BadRow>;

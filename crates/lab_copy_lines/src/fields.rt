@@ -3,16 +3,15 @@ ghost use Rattle.std.specs.Prelude.{◌≡◌, ◌==◌, length, IfOk, IfSome, I
 ghost use Rattle.std.specs.List.{list_all};
 ghost use Rattle.std.specs.Str.{bytes_eq};
 ghost use Rattle.lab_seal_hashes.specs.Digits.{bytes_of_digits};
-ghost use Rattle.lab_seal.specs.Reading.{number_of, text_where, ordinal_in, reason_in, moment_in};
+ghost use Rattle.lab_seal.specs.Reading.{text_where, ordinal_in, reason_in, moment_in};
 ghost use Rattle.lab_copy_rows.specs.Reading.{all_empty, person_in, count_in, edition_in, format_in, state_in, meaning_in, version_reason_in};
 ghost use Rattle.lab_copy_lines.specs.Fields.{HasReasonUnlessFirst, IsMeaningText, IsNoteOrNone, IsPersonOrNone, meaning_of};
 
-use itoa::Buffer;
 use lab_copy_rows::{
     Digest, Edition, Format, Meaning, Moment, Note, Ordinal, OutOfMemory, PersonCode, Seal, State,
 };
 use lab_forms_texts::{Notes, PersonCodes, Rule};
-use lab_seal::fields::{moment_of, own, text_in};
+use lab_seal::fields::{moment_of, own, text_in, value_of};
 use std::alloc::Global;
 
 /// The most rows of one kind that an end row can tell of.
@@ -37,6 +36,9 @@ pub fn text<R: Rule>(bytes: &[u8]) -> Option<&str>
 }
 
 /// A copy of a reason, if there is one.
+///
+/// # Errors
+/// Memory ran out.
 pub fn own_reason(alloc: Global, reason: Option<&str>) -> Result<Option<Note>, OutOfMemory>
     requires { IsNoteOrNone (option_map (λ note. note.now) reason) }
     ensures { IfOk result (λ copy. copy ≡ option_map (λ note. note.now) reason.entry) }
@@ -48,6 +50,9 @@ pub fn own_reason(alloc: Global, reason: Option<&str>) -> Result<Option<Note>, O
 }
 
 /// A copy of a person's code, if there is one.
+///
+/// # Errors
+/// Memory ran out.
 pub fn own_person(alloc: Global, person: Option<&str>) -> Result<Option<PersonCode>, OutOfMemory>
     requires { IsPersonOrNone (option_map (λ code. code.now) person) }
     ensures { IfOk result (λ copy. copy ≡ option_map (λ code. code.now) person.entry) }
@@ -101,25 +106,11 @@ pub fn version_reason(number: Ordinal, bytes: &[u8]) -> Option<Option<&str>>
 
 // ---- numbers, moments and digests
 
-// The number of which these are the decimal digits, without leading zeros.
-fn number(digits: &[u8]) -> Option<u64>
-    ensures { result ≡ number_of digits.now }
-{
-    let text = str::from_utf8(digits).ok()?;
-    let value = text.parse::<u64>().ok()?;
-    let mut buffer = Buffer::new();
-    if buffer.format(value).as_bytes() == digits {
-        Some(value)
-    } else {
-        None
-    }
-}
-
 /// The number of a record, a version or a form's version.
 pub fn ordinal(digits: &[u8]) -> Option<Ordinal>
     ensures { result ≡ ordinal_in digits.now }
 {
-    let number = u32::try_from(number(digits)?).ok()?;
+    let number = u32::try_from(value_of(digits)?).ok()?;
     Ordinal::new(number)
 }
 
@@ -127,7 +118,7 @@ pub fn ordinal(digits: &[u8]) -> Option<Ordinal>
 pub fn count(digits: &[u8]) -> Option<u64>
     ensures { result ≡ count_in digits.now }
 {
-    let count = number(digits)?;
+    let count = value_of(digits)? as u64;
     if count <= LAST_COUNT {
         Some(count)
     } else {
@@ -251,6 +242,9 @@ pub fn meaning<'a>(word: &[u8], reason: &'a [u8]) -> Option<MeaningParts<'a>>
 }
 
 /// A copy of a meaning.
+///
+/// # Errors
+/// Memory ran out.
 pub fn own_meaning(alloc: Global, meaning: MeaningParts<'_>) -> Result<Meaning, OutOfMemory>
     requires { IsMeaningText meaning }
     ensures { IfOk result (λ copy. copy ≡ meaning_of meaning.entry) }

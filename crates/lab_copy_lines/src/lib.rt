@@ -13,7 +13,7 @@ mod version_row_parts;
 
 pub use byte_records::is_header;
 pub use columns::RowFields;
-pub use faults::RowFault;
+pub use faults::{BadRow, RowFault};
 pub use kinds::Kind;
 pub use lines::read_line;
 pub use version_row_parts::{

@@ -9,7 +9,7 @@ ghost use Rattle.lab_copy_lines.specs.Lines.{IsRead, IsReasoned, line_at, line_b
 ghost use Rattle.lab_copy_lines.specs.VersionRowParts.{signature_of, version_of};
 
 use crate::byte_records::row_fields;
-use crate::faults::RowFault;
+use crate::faults::{BadRow, RowFault};
 use crate::fields::{MeaningParts, is_word, own_meaning, own_person, own_reason};
 use crate::parts::{copy_parts, end_parts, record_parts};
 use crate::{
@@ -25,13 +25,16 @@ use lab_seal::fields::own;
 use std::alloc::Global;
 
 /// What a row stands for in a copy of the edition. `BadRow` where it stands for nothing.
+///
+/// # Errors
+/// The row is none that a copy can have, or memory ran out.
 pub fn read_line(alloc: Global, edition: Edition, row: &ByteRecord) -> Result<Line, RowFault>
     ensures value { IsRead (line_at edition (fields_of row.now)) result }
     ensures reasoned { IfOk result IsReasoned }
 {
     match row_fields(row) {
         Some(columns) => line_by(alloc, edition, &columns),
-        None => Err(RowFault::BadRow),
+        None => Err(RowFault::Refused(BadRow)),
     }
 }
 
@@ -54,7 +57,7 @@ fn line_by(alloc: Global, edition: Edition, row: &RowFields<'_>) -> Result<Line,
     } else if is_word(row.kind, "end") {
         Ok(Line::End(end_line(alloc, row)?))
     } else {
-        Err(RowFault::BadRow)
+        Err(RowFault::Refused(BadRow))
     }
 }
 
@@ -62,7 +65,7 @@ fn copy_line(alloc: Global, row: &RowFields<'_>) -> Result<CopyLine, RowFault>
     ensures { IsRead (copy_line (columns_in row.now)) result }
 {
     let Some(parts) = copy_parts(row) else {
-        return Err(RowFault::BadRow);
+        return Err(RowFault::Refused(BadRow));
     };
     Ok(CopyLine {
         edition: parts.edition,
@@ -79,7 +82,7 @@ fn record_line(alloc: Global, row: &RowFields<'_>) -> Result<RecordLine, RowFaul
     ensures { IsRead (record_line (columns_in row.now)) result }
 {
     let Some(parts) = record_parts(row) else {
-        return Err(RowFault::BadRow);
+        return Err(RowFault::Refused(BadRow));
     };
     Ok(RecordLine {
         lab: own::<LabCodes>(alloc, parts.lab)?,
@@ -100,10 +103,10 @@ fn version_line(
     ensures reasoned { IfOk result (λ line. HasReasonUnlessFirst line.number line.reason) }
 {
     let Some(parts) = version_parts(row) else {
-        return Err(RowFault::BadRow);
+        return Err(RowFault::Refused(BadRow));
     };
     if !has_version(edition, &parts) {
-        return Err(RowFault::BadRow);
+        return Err(RowFault::Refused(BadRow));
     }
     Ok(VersionLine {
         lab: own::<LabCodes>(alloc, parts.lab)?,
@@ -142,7 +145,7 @@ fn entry_line(alloc: Global, row: &RowFields<'_>) -> Result<EntryLine, RowFault>
     ensures { IsRead (entry_line (columns_in row.now)) result }
 {
     let Some(parts) = entry_parts(row) else {
-        return Err(RowFault::BadRow);
+        return Err(RowFault::Refused(BadRow));
     };
     Ok(EntryLine {
         lab: own::<LabCodes>(alloc, parts.lab)?,
@@ -168,10 +171,10 @@ fn signature_line(
         (signature_line (columns_in row.now))) result }
 {
     let Some(parts) = signature_parts(row) else {
-        return Err(RowFault::BadRow);
+        return Err(RowFault::Refused(BadRow));
     };
     if !has_signature(edition, &parts) {
-        return Err(RowFault::BadRow);
+        return Err(RowFault::Refused(BadRow));
     }
     Ok(SignatureLine {
         record_number: parts.record_number,
@@ -208,7 +211,7 @@ fn end_line(alloc: Global, row: &RowFields<'_>) -> Result<EndLine, RowFault>
     ensures { IsRead (end_line (columns_in row.now)) result }
 {
     let Some(parts) = end_parts(row) else {
-        return Err(RowFault::BadRow);
+        return Err(RowFault::Refused(BadRow));
     };
     Ok(EndLine {
         lab: own::<LabCodes>(alloc, parts.lab)?,

@@ -11,6 +11,9 @@ use std::alloc::Global;
 use std::io::Write;
 
 /// Writes rows as CSV (RFC 4180), each ended by a line feed. The first write that fails or takes no byte is the fault.
+///
+/// # Errors
+/// The writer failed, or memory ran out.
 pub fn write_copy<W: Write>(
     alloc: Global,
     writer: &mut W,
@@ -42,7 +45,7 @@ pub struct CopyOut {
     fault: Option<CopyOutFault>,
 }
 
-// It is written out, so that a caller doesn't prove again how each part is dropped.
+// `drop` is written out, so that a caller doesn't prove again how each part is dropped.
 impl Drop for CopyOut {
     fn drop(self) {
         let CopyOut {
@@ -55,6 +58,9 @@ impl Drop for CopyOut {
 
 impl CopyOut {
     /// Writes the header and the copy row.
+    ///
+    /// # Errors
+    /// The writer failed, or memory ran out.
     #[tactic(auto, using(crate::proofs::SendLemmas::none_went))]
     pub fn start<W: Write>(
         alloc: Global,
@@ -78,6 +84,9 @@ impl CopyOut {
     }
 
     /// Writes a row.
+    ///
+    /// # Errors
+    /// The writer failed, or memory ran out.
     #[tactic(auto, using(crate::proofs::SendLemmas::none_went))]
     pub fn row<W: Write>(
         &mut self,
@@ -105,6 +114,9 @@ impl CopyOut {
     }
 
     /// Writes the end row, and answers how many rows of each kind were given.
+    ///
+    /// # Errors
+    /// The writer failed, or memory ran out.
     #[tactic(auto, using(crate::proofs::SendLemmas::none_went))]
     pub fn finish<W: Write>(self, alloc: Global, writer: &mut W) -> Result<Counts, CopyOutFault>
         ensures text { Sends (W.contents writer.old) (W.contents writer.new)

@@ -20,7 +20,7 @@ pub struct CopyRow {
     fields: Vec<String>,
 }
 
-// It is written out, so that a caller doesn't prove again how each part is dropped.
+// `drop` is written out, so that a caller doesn't prove again how each part is dropped.
 impl Drop for CopyRow {
     fn drop(self) {
         let CopyRow { fields: _ } = self;
@@ -37,6 +37,9 @@ impl Model for CopyRow {
 
 impl CopyRow {
     /// The header: the names of the columns. The only error of a maker is out of memory.
+    ///
+    /// # Errors
+    /// Memory ran out.
     pub fn header(alloc: Global) -> Result<CopyRow, OutOfMemory>
         ensures { IfOk result (λ row. row ≡ fields_in header_row) }
     {
@@ -50,6 +53,9 @@ impl CopyRow {
     }
 
     /// The row after the header: of which records the copy is, who asked for it, and when it was made.
+    ///
+    /// # Errors
+    /// Memory ran out.
     pub fn copy(alloc: Global, line: &CopyLine) -> Result<CopyRow, OutOfMemory>
         ensures { IfOk result (λ row. row ≡ fields_in (copy_row line.now)) }
     {
@@ -76,6 +82,9 @@ impl CopyRow {
     }
 
     /// The row with which a record begins.
+    ///
+    /// # Errors
+    /// Memory ran out.
     pub fn record(alloc: Global, line: &RecordLine) -> Result<CopyRow, OutOfMemory>
         ensures { IfOk result (λ row. row ≡ fields_in (record_row line.now)) }
     {
@@ -101,6 +110,9 @@ impl CopyRow {
     }
 
     /// The row with which a version begins.
+    ///
+    /// # Errors
+    /// Memory ran out.
     pub fn version(alloc: Global, line: &VersionLine) -> Result<CopyRow, OutOfMemory>
         ensures { IfOk result (λ row. row ≡ fields_in (version_row line.now)) }
     {
@@ -128,6 +140,9 @@ impl CopyRow {
     }
 
     /// The row of a value that was entered.
+    ///
+    /// # Errors
+    /// Memory ran out.
     pub fn entry(alloc: Global, line: &EntryLine) -> Result<CopyRow, OutOfMemory>
         ensures { IfOk result (λ row. row ≡ fields_in (entry_row line.now)) }
     {
@@ -154,6 +169,9 @@ impl CopyRow {
     }
 
     /// The row of a signature.
+    ///
+    /// # Errors
+    /// Memory ran out.
     pub fn signature(alloc: Global, line: &SignatureLine) -> Result<CopyRow, OutOfMemory>
         ensures { IfOk result (λ row. row ≡ fields_in (signature_row line.now)) }
     {
@@ -182,6 +200,9 @@ impl CopyRow {
     }
 
     /// The last row: how many rows of each kind there are.
+    ///
+    /// # Errors
+    /// Memory ran out.
     pub fn end(alloc: Global, line: &EndLine) -> Result<CopyRow, OutOfMemory>
         ensures { IfOk result (λ row. row ≡ fields_in (end_row line.now)) }
     {

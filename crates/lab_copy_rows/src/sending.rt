@@ -11,6 +11,9 @@ use std::alloc::Global;
 use std::io::Write;
 
 /// Writes a row as CSV.
+///
+/// # Errors
+/// The writer failed, or memory ran out.
 #[tactic(auto, using(crate::proofs::SendLemmas::taken_went, crate::proofs::SendLemmas::all_went, crate::proofs::SendLemmas::none_went))]
 pub(crate) fn send_row<W: Write>(
     alloc: Global,

@@ -6,12 +6,12 @@ use Rattle.std.proofs.lemmas.Bool.{false≢true}
 use Rattle.std.proofs.lemmas.Slice.Eq.{bytes_eq-Decides}
 use Rattle.lab_forms_texts.specs.declared.tick.Tick.{Tick}
 use Rattle.lab_records_kept.specs.declared.labs.Lab.{Lab}
-use Rattle.lab_records_kept.specs.Worlds.{World, Meaning, SameMeaning}
+use Rattle.lab_records_kept.specs.Worlds.{World, Meaning}
 use Rattle.lab_records_machine.specs.Machine.{step}
 use Rattle.lab_wire.specs.declared.commands.Asked.{Asked}
 use Rattle.lab_wire.specs.Replies.{memory_text}
 use Rattle.lab_desk_runs.specs.Requests.{Asks, Steps, TakesRequest, RefusesRequest}
-use Rattle.lab_desk.specs.Twins.{Agree, AgreeOn, IsElsewhere, SameButForMemory, both}
+use Rattle.lab_desk.specs.Twins.{Agree, IsElsewhere, SameButForMemory}
 
 -- ---- one keeper
 

@@ -1,5 +1,5 @@
 -- Small instances, so that a wrong rule in the definitions does not check: on which laboratories two keepers agree.
-use Rattle.std.proofs.Common.{◌≡◌, refl, if◌then◌else◌, List, Option, Some, None}
+use Rattle.std.proofs.Common.{◌≡◌, refl, if◌then◌else◌, Some, None}
 use Rattle.std.specs.Prelude.{codes, bytes_eq}
 use Rattle.lab_records_kept.specs.declared.labs.Lab.{Lab}
 use Rattle.lab_records_kept.specs.Worlds.{Meaning, World}

@@ -1,4 +1,5 @@
 pub mod Agreeing
+pub mod HandlingLemmas
 mod KnownRuns
 pub mod KnownTwins
 pub mod OwnEvents

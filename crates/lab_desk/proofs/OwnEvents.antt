@@ -1,5 +1,5 @@
 -- A laboratory's own events rest on the events alone, and on which of them were taken.
-use Rattle.std.proofs.Common.{◌≡◌, ℕ, Bool, List, [], ◌∷◌, Option, Some, None, refl, sym, ◌∙◌, ap, cond, map}
+use Rattle.std.proofs.Common.{◌≡◌, ℕ, Bool, List, [], ◌∷◌, None, refl, sym, ◌∙◌, ap, cond, map}
 use Rattle.std.specs.List.{cons_option}
 use Rattle.lab_desk_runs.specs.declared.events.Event.{Event}
 use Rattle.lab_desk_runs.specs.Alone.{Own, own_of}

@@ -1,3 +1,4 @@
 pub mod Desk
+pub mod Handling
 pub mod Serving
 pub mod Twins

@@ -1,16 +1,15 @@
 //! The desk: one body for every keeper.
 
-ghost use Rattle.std.specs.Prelude.{◌≡◌, ◌≤◌, length, vec_capacity, [], true, false, Ok, Err, IsTrue, IsFalse, IsSome, IfOk, IfErr, OnOk, OnErr, option_map};
-ghost use Rattle.lab_records_kept.specs.Worlds.{Passes, Given, Leaves, Lives, Quiet, CommitsAs, IsDurable, StaysSafe};
-ghost use Rattle.lab_wire.specs.declared.refusals.RequestRefusal.{RequestRefusal as OneRefusal};
+ghost use Rattle.std.specs.Prelude.{◌≡◌, ◌≤◌, length, vec_capacity, [], true, false, IsSome, IfOk, IfErr, OnOk, OnErr, option_map};
+ghost use Rattle.lab_records_kept.specs.Worlds.{Passes, Given, Leaves, Lives, Quiet, CommitsAs, IsDurable};
 ghost use Rattle.lab_wire.specs.declared.replies.Answer.TheVariants.{Refused as RefusedAnswer};
 ghost use Rattle.lab_wire.specs.Asked.{asked};
 ghost use Rattle.lab_wire.specs.Replies.{reply_text, memory_text};
-ghost use Rattle.lab_desk_runs.specs.Requests.{TakesRequest, RefusesRequest, TellsFault, MovesFor, Steps, is_idle_request};
-ghost use Rattle.lab_desk_runs.specs.Keeping.{AreWithin, AreReleasing, KeptFrom, Stays};
+ghost use Rattle.lab_desk_runs.specs.Requests.{TellsFault};
+ghost use Rattle.lab_desk_runs.specs.Keeping.{Stays};
 ghost use Rattle.lab_desk_foundings.specs.Foundings.{founding_in, Founds, Births, TakesFounding, RefusesFounding, shown};
 ghost use Rattle.lab_desk_foundings.specs.Faults.{FoundFaultFits, OnBody, OnKept, OnUncommitted};
-ghost use Rattle.lab_desk.specs.Serving.{IsNobodysReply};
+ghost use Rattle.lab_desk.specs.Handling.{Handles};
 
 use lab_desk_foundings::{FoundFault, Line, founded, newborn_of, unfounded};
 use lab_desk_requests::answer_asked;
@@ -30,7 +29,7 @@ pub struct Desk<S> {
     last: Option<Vec<u8>>,
 }
 
-// It is written out, so that a caller doesn't prove again how each part is dropped.
+// `drop` is written out, so that a caller doesn't prove again how each part is dropped.
 impl<S: Drop> Drop for Desk<S> {
     fn drop(self) {
         let Desk {
@@ -81,63 +80,19 @@ impl<S: Keeper + Drop> Desk<S> {
     /// Handles a request: `reply` has its reply, and the keeper what became of its laboratory.
     /// Answers whether the request was taken: it was, unless memory ran out or the store refused;
     /// then the reply says so and nothing is changed. Every laboratory keeps what was.
+    ///
+    /// Each fact has a name, as a field of `Handles` (`specs/Handling.antt`): of a request that was
+    /// taken `taken` and `rows`, of one that was refused `refused` and `rows_refused`; of bytes that
+    /// ask nothing `untouched` and `nobodys`; of what a crash may leave `crash`, `quiet` and
+    /// `durable`; and `stays` and `passes`, what stays true (`stays` has `within`, `releasing`,
+    /// `keeps`, `reached` and `safe`).
     pub fn handle(&mut self, tick: &Tick, bytes: &[u8]) -> bool
-        ensures taken { AreWithin (S.world self.old.keeper) →
-            Given (S.world self.old.keeper) (S.world self.new.keeper) (result ≡ true →
-            TakesRequest (S.world self.old.keeper) (S.world self.new.keeper) tick.now
-            (asked bytes.now) self.new.reply) }
-        ensures refused { Given (S.world self.old.keeper) (S.world self.new.keeper)
-            (result ≡ false →
-            RefusesRequest (S.world self.old.keeper) (S.world self.new.keeper) tick.now
-            (asked bytes.now) self.new.reply) }
-
-        // The rows:
-        ensures rows { AreWithin (S.world self.old.keeper) →
-            Given (S.world self.old.keeper) (S.world self.new.keeper) (result ≡ true →
-            MovesFor (S.world self.old.keeper).meaning tick.now (asked bytes.now)
-            (S.rests self.old.keeper self.new.keeper) (S.moves self.old.keeper self.new.keeper)) }
-        ensures rows_refused { Given (S.world self.old.keeper) (S.world self.new.keeper)
-            (result ≡ false →
-            (S.world self.new.keeper).is_live → S.rests self.old.keeper self.new.keeper) }
-
-        // Bytes that ask nothing:
-        ensures untouched { (refusal : OneRefusal) → asked bytes.now ≡ Err refusal →
-            self.new.keeper ≡ self.old.keeper }
-        ensures nobodys { IsNobodysReply tick.now (asked bytes.now) self.new.reply }
-
-        // What a crash may leave:
-        ensures crash { AreWithin (S.world self.old.keeper) →
-            Given (S.world self.old.keeper) (S.world self.new.keeper)
-            (CommitsAs (Steps tick.now (asked bytes.now)) (S.world self.old.keeper)
-            (S.world self.new.keeper)) }
-        ensures quiet { IsTrue (is_idle_request (S.world self.old.keeper).meaning tick.now
-            (asked bytes.now)) →
-            Given (S.world self.old.keeper) (S.world self.new.keeper)
-            (Quiet (S.world self.old.keeper) (S.world self.new.keeper)) }
-        ensures durable { AreWithin (S.world self.old.keeper) →
-            IsFalse (is_idle_request (S.world self.old.keeper).meaning tick.now
-            (asked bytes.now)) →
-            Given (S.world self.old.keeper) (S.world self.new.keeper)
-            (result ≡ true → IsDurable (S.world self.new.keeper)) }
-        ensures safe { AreWithin (S.world self.old.keeper) →
-            Given (S.world self.old.keeper) (S.world self.new.keeper)
-            (StaysSafe (S.world self.old.keeper) (S.world self.new.keeper)) }
-
-        // What stays true:
-        ensures within { AreWithin (S.world self.old.keeper) →
-            Given (S.world self.old.keeper) (S.world self.new.keeper)
-            (AreWithin (S.world self.new.keeper)) }
-        ensures releasing { AreWithin (S.world self.old.keeper) →
-            AreReleasing (S.world self.old.keeper) →
-            Given (S.world self.old.keeper) (S.world self.new.keeper)
-            (AreReleasing (S.world self.new.keeper)) }
-        ensures keeps { AreWithin (S.world self.old.keeper) →
-            Given (S.world self.old.keeper) (S.world self.new.keeper)
-            (KeptFrom (S.world self.old.keeper) (S.world self.new.keeper)) }
-        ensures reached { AreWithin (S.world self.old.keeper) →
-            Given (S.world self.old.keeper) (S.world self.new.keeper)
-            (S.world self.new.keeper).is_reached }
-        ensures passes { Passes (S.world self.old.keeper) (S.world self.new.keeper) }
+        ensures { Handles S.Keeper self.old.keeper self.new.keeper (record {
+          tick = tick.now;
+          asks = asked bytes.now;
+          is_taken = result;
+          reply = self.new.reply;
+        }) }
     {
         match ask(self.alloc, &self.routes, bytes) {
             Ok(asked) => {
@@ -170,8 +125,8 @@ impl<S: Keeper + Drop> Desk<S> {
         false
     }
 
-    /// Keeps the reply of a laboratory that was asked, or one that tells of the keeper's fault.
-    /// Answers whether the laboratory replied.
+    // Keeps the reply of a laboratory that was asked, or one that tells of the keeper's fault.
+    // Answers whether the laboratory replied.
     fn keep(&mut self, tick: &Tick, answered: Result<Vec<u8>, KeeperFault>) -> bool
         ensures replied { IfOk answered (λ reply.
             (result ≡ true) × (self.new.reply ≡ reply.items)) }
@@ -234,20 +189,10 @@ impl<S: Keeper + Drop> Desk<S> {
             (OnUncommitted result (Quiet (S.world self.old.keeper) (S.world self.new.keeper))) }
         ensures durable { Given (S.world self.old.keeper) (S.world self.new.keeper)
             (OnOk result (IsDurable (S.world self.new.keeper))) }
-        ensures safe { Given (S.world self.old.keeper) (S.world self.new.keeper)
-            (StaysSafe (S.world self.old.keeper) (S.world self.new.keeper)) }
 
         // What stays true:
-        ensures within { AreWithin (S.world self.old.keeper) →
-            Given (S.world self.old.keeper) (S.world self.new.keeper)
-            (AreWithin (S.world self.new.keeper)) }
-        ensures releasing { AreReleasing (S.world self.old.keeper) →
-            Given (S.world self.old.keeper) (S.world self.new.keeper)
-            (AreReleasing (S.world self.new.keeper)) }
-        ensures keeps { Given (S.world self.old.keeper) (S.world self.new.keeper)
-            (KeptFrom (S.world self.old.keeper) (S.world self.new.keeper)) }
-        ensures reached { Given (S.world self.old.keeper) (S.world self.new.keeper)
-            (S.world self.new.keeper).is_reached }
+        ensures stays { Given (S.world self.old.keeper) (S.world self.new.keeper)
+            (Stays (S.world self.old.keeper) (S.world self.new.keeper)) }
         ensures passes { Passes (S.world self.old.keeper) (S.world self.new.keeper) }
     {
         let newborn = newborn_of(self.alloc, lab, tick, body)?;
@@ -287,6 +232,9 @@ impl<S: Keeper + Drop> Desk<S> {
     }
 
     /// Room for one word an event.
+    ///
+    /// # Errors
+    /// Memory ran out.
     pub(crate) fn room_for(&self, events: &[Event]) -> Result<Vec<bool>, OutOfMemory>
         ensures empty { IfOk result (λ taken. taken.items ≡ []) }
         ensures room { IfOk result (λ taken. length events.now ≤ vec_capacity taken) }

@@ -3,7 +3,8 @@
 ghost use Rattle.std.specs.Prelude.{◌≡◌, Err};
 ghost use Rattle.lab_wire.specs.declared.refusals.RequestRefusal.{RequestRefusal};
 ghost use Rattle.lab_wire.specs.Asked.{asked};
-ghost use Rattle.lab_desk.specs.Twins.{IsHandled, AreTaken, AgreeOnAsked, StayAgreed, StayAgreedElsewhere, SameButForMemory, GivenBoth, both};
+ghost use Rattle.lab_desk.specs.Handling.{Handles};
+ghost use Rattle.lab_desk.specs.Twins.{AreTaken, AgreeOnAsked, StayAgreed, StayAgreedElsewhere, SameButForMemory, GivenBoth, both};
 
 use crate::{Desk, Keeper, Tick};
 
@@ -27,10 +28,18 @@ pub fn twin<S: Keeper + Drop, T: Keeper + Drop>(
     bytes: &[u8],
 ) -> Twins
     // Each desk by itself:
-    ensures one { IsHandled S.world S.rests S.moves tick.now (asked bytes.now)
-        desk.old desk.new result.one }
-    ensures other { IsHandled T.world T.rests T.moves tick.now (asked bytes.now)
-        other.old other.new result.other }
+    ensures one { Handles S.Keeper desk.old.keeper desk.new.keeper (record {
+      tick = tick.now;
+      asks = asked bytes.now;
+      is_taken = result.one;
+      reply = desk.new.reply;
+    }) }
+    ensures other { Handles T.Keeper other.old.keeper other.new.keeper (record {
+      tick = tick.now;
+      asks = asked bytes.now;
+      is_taken = result.other;
+      reply = other.new.reply;
+    }) }
 
     // Both desks:
     ensures replies { let old = both (S.world desk.old.keeper) (T.world other.old.keeper) in

@@ -3,8 +3,8 @@
 
 ghost use Rattle.std.specs.Prelude.{◌≡◌, ℕ, List, [], ◌∷◌, IfOk, IfErr};
 ghost use Rattle.std.specs.Io.KnownBytes.{Keeps};
-ghost use Rattle.lab_records_kept.specs.Worlds.{Passes, Given};
-ghost use Rattle.lab_desk_runs.specs.Keeping.{AreWithin, AreReleasing, RetainedFrom, ReleasedFrom, Stays};
+ghost use Rattle.lab_records_kept.specs.Worlds.{Passes};
+ghost use Rattle.lab_desk_runs.specs.Keeping.{GivenWithin, Stays, StaysOn};
 ghost use Rattle.lab_desk_runs.specs.Runs.{IsRun, Runs, RunsCut, Sends};
 ghost use Rattle.lab_desk_foundings.specs.RunFaults.{IfWrite, IfMemory};
 
@@ -15,7 +15,7 @@ use lab_records_kept::Keeper;
 use lab_wire_heads::{WriteFault, write_reply};
 use std::io::Write;
 
-/// How one event was answered.
+// How one event was answered.
 #[derive(Clone, Copy)]
 struct Answered {
     taken: bool,
@@ -29,42 +29,26 @@ impl<S: Keeper + Drop> Desk<S> {
     /// those of its own small machine, run over its own taken events alone; every event has one
     /// answer, in order, and nothing else is written. The answers are so also where a fault shut
     /// the store. Each laboratory keeps what was at each event, and has in the end all that was
-    /// recorded at the start.
+    /// recorded at the start: `stays` has `within`, `releasing`, `retains`, `released`, `reached`
+    /// and `safe`.
     ///
     /// # Errors
     /// That memory ran out for the list that is told, made first: nothing is handled or written. A
     /// write fault: the events up to it stand, their answers went out, the last of them cut to its
     /// first bytes.
     pub fn run<W: Write>(&mut self, events: &[Event], writer: &mut W) -> Result<Vec<bool>, RunFault>
-        ensures alone { AreWithin (S.world self.old.keeper) →
-            Given (S.world self.old.keeper) (S.world self.new.keeper)
+        ensures alone { GivenWithin (S.world self.old.keeper) (S.world self.new.keeper)
             (IfOk result (λ taken.
             Runs (S.world self.old.keeper) (S.world self.new.keeper) events.now taken.items
             (W.contents writer.old) (W.contents writer.new))) }
-        ensures cut { AreWithin (S.world self.old.keeper) →
-            Given (S.world self.old.keeper) (S.world self.new.keeper)
+        ensures cut { GivenWithin (S.world self.old.keeper) (S.world self.new.keeper)
             (IfErr result (IfWrite (λ taken sent.
             RunsCut (S.world self.old.keeper) (S.world self.new.keeper) events.now taken sent
             (W.contents writer.old) (W.contents writer.new)))) }
         ensures memory { IfErr result (IfMemory
             ((self.new ≡ self.old) × Keeps (W.contents writer.old) (W.contents writer.new))) }
-        ensures within { AreWithin (S.world self.old.keeper) →
-            Given (S.world self.old.keeper) (S.world self.new.keeper)
-            (AreWithin (S.world self.new.keeper)) }
-        ensures releasing { AreWithin (S.world self.old.keeper) →
-            AreReleasing (S.world self.old.keeper) →
-            Given (S.world self.old.keeper) (S.world self.new.keeper)
-            (AreReleasing (S.world self.new.keeper)) }
-        ensures retains { AreWithin (S.world self.old.keeper) →
-            Given (S.world self.old.keeper) (S.world self.new.keeper)
-            (RetainedFrom (S.world self.old.keeper) (S.world self.new.keeper)) }
-        ensures released { AreWithin (S.world self.old.keeper) →
-            AreReleasing (S.world self.old.keeper) →
-            Given (S.world self.old.keeper) (S.world self.new.keeper)
-            (ReleasedFrom (S.world self.old.keeper) (S.world self.new.keeper)) }
-        ensures reached { AreWithin (S.world self.old.keeper) →
-            Given (S.world self.old.keeper) (S.world self.new.keeper)
-            (S.world self.new.keeper).is_reached }
+        ensures stays { GivenWithin (S.world self.old.keeper) (S.world self.new.keeper)
+            (StaysOn (S.world self.old.keeper) (S.world self.new.keeper)) }
         ensures passes { Passes (S.world self.old.keeper) (S.world self.new.keeper) }
     {
         let Ok(mut taken) = self.room_for(events) else {
@@ -83,16 +67,14 @@ impl<S: Keeper + Drop> Desk<S> {
         Ok(taken)
     }
 
-    /// Handles one event, and writes its answer.
+    // Handles one event, and writes its answer.
     fn answer<W: Write>(&mut self, event: &Event, writer: &mut W) -> Answered
-        ensures answered { AreWithin (S.world self.old.keeper) →
-            Given (S.world self.old.keeper) (S.world self.new.keeper)
+        ensures answered { GivenWithin (S.world self.old.keeper) (S.world self.new.keeper)
             ((answer : List ℕ)
             × IsRun (S.world self.old.keeper) (S.world self.new.keeper)
             (record { event = event.now; taken = result.taken; answer = answer } ∷ [])
             × Sends answer result.sent (W.contents writer.old) (W.contents writer.new)) }
-        ensures stays { AreWithin (S.world self.old.keeper) →
-            Given (S.world self.old.keeper) (S.world self.new.keeper)
+        ensures stays { GivenWithin (S.world self.old.keeper) (S.world self.new.keeper)
             (Stays (S.world self.old.keeper) (S.world self.new.keeper)) }
         ensures passes { Passes (S.world self.old.keeper) (S.world self.new.keeper) }
     {

@@ -29,9 +29,11 @@ impl<S: Keeper + Drop> Desk<S> {
         writer: &mut W,
         tick: &Tick,
     ) -> Result<(), ServeFault>
-        ensures serves { Serves (R.remaining reader.old) (S.world self.old.keeper)
-            (S.world self.new.keeper) tick.now (S.rests self.old.keeper self.new.keeper)
-            (S.moves self.old.keeper self.new.keeper) self.new.reply result }
+        ensures serves { Serves S.Keeper self.old.keeper self.new.keeper (record {
+          known = R.remaining reader.old;
+          tick = tick.now;
+          reply = self.new.reply;
+        }) result }
         ensures written { IfSome (R.remaining reader.old) (λ bytes.
             Writes (interim_text bytes) self.new.reply result
             (W.contents writer.old) (W.contents writer.new)) }
@@ -51,9 +53,11 @@ impl<S: Keeper + Drop> Desk<S> {
         writer: &mut W,
         tick: &Tick,
     ) -> Result<(), ServeFault>
-        ensures serves { Serves (R.remaining reader.old) (S.world self.old.keeper)
-            (S.world self.new.keeper) tick.now (S.rests self.old.keeper self.new.keeper)
-            (S.moves self.old.keeper self.new.keeper) self.new.reply result }
+        ensures serves { Serves S.Keeper self.old.keeper self.new.keeper (record {
+          known = R.remaining reader.old;
+          tick = tick.now;
+          reply = self.new.reply;
+        }) result }
         ensures interim { IfSome (R.remaining reader.old) (λ bytes.
             GreetsBy (interim_text bytes) result (W.contents writer.old) (W.contents writer.new)) }
         ensures untouched { OnErr result (self.new ≡ self.old) }

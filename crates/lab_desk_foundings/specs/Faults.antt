@@ -2,8 +2,9 @@
 use Rattle.std.specs.Prelude.{◌≡◌, ℕ, List, Bool, true, false, Result, Ok, Err}
 use Rattle.lab_forms_texts.specs.Faults.{Entry}
 use Rattle.lab_forms_texts.specs.declared.tick.Tick.{Tick}
-use Rattle.lab_wire_members.specs.declared.refusals.BodyFault.{BodyFault}
-use Rattle.lab_wire_members.specs.declared.refusals.BodyFault.TheVariants.{Refused, Memory as NotRead}
+use Rattle.lab_forms_texts.specs.declared.refusals.Fault.{Fault}
+use Rattle.lab_wire_members.specs.declared.refusals.BodyRefusal.{BodyRefusal}
+use Rattle.lab_forms_texts.specs.declared.refusals.Fault.TheVariants.{Refused, Memory as NotRead}
 use Rattle.lab_wire_members.specs.Refusals.{body_entry}
 use Rattle.lab_records_kept.specs.declared.faults.PlacingFault.TheVariants.{LabExists, Storage, Memory as NoMemory}
 use Rattle.lab_records_kept.specs.Faults.{placing_fault_entry}
@@ -19,7 +20,7 @@ found_fault_entry (OfBirth refusal) = birth_entry refusal
 found_fault_entry (Placing fault) = placing_fault_entry fault
 
 -- the fault of a founding whose body was not read
-abbrev pub fault_of_body : BodyFault → FoundFault
+abbrev pub fault_of_body : Fault BodyRefusal → FoundFault
 fault_of_body (Refused refusal) = OfBody refusal
 fault_of_body NotRead = Placing NoMemory
 
@@ -31,8 +32,8 @@ is_taken (Placing LabExists) = true
 is_taken (Placing Storage) = false
 is_taken (Placing NoMemory) = false
 
--- the body's refusal where it is that; where the body reads, why none is born from it; and where
--- one is born, that the laboratory exists where it does, and the store's where it may refuse
+-- which fault a founding may give: first the body's refusal; where the body reads, why no
+-- laboratory is born from it; where one is, that it was there already, or that the store refused
 abbrev pub FoundFaultFits : Type 0 → Type 0 → List ℕ → Tick → Body → FoundFault → Type 0
 FoundFaultFits may_refuse exists code tick body (OfBody refusal) = body ≡ Err refusal
 FoundFaultFits may_refuse exists code tick body (OfBirth refusal) =

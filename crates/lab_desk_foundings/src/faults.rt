@@ -3,7 +3,7 @@
 ghost use Rattle.std.specs.Prelude.{◌≡◌, Some};
 ghost use Rattle.lab_desk_foundings.specs.Faults.{found_fault_entry, is_taken};
 
-use lab_forms_texts::OutOfMemory;
+use lab_forms_texts::{OutOfMemory, RefusalKind};
 use lab_records_kept::PlacingFault;
 use lab_records_machine::BirthRefusal;
 use lab_wire_members::{BodyFault, BodyRefusal};

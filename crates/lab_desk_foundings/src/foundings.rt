@@ -15,6 +15,9 @@ use lab_wire_bodies::founding_of;
 use std::alloc::Global;
 
 /// What a keeper founds the laboratory of the code from, by its body.
+///
+/// # Errors
+/// The founding's refusal, the store's, or memory that ran out.
 pub fn newborn_of(
     alloc: Global,
     lab: &LabCode,
@@ -35,6 +38,9 @@ pub fn newborn_of(
 }
 
 /// The line that tells of a founding.
+///
+/// # Errors
+/// Memory ran out.
 pub fn founded(alloc: Global, lab: &LabCode) -> Result<Vec<u8>, OutOfMemory>
     ensures { IfOk result (λ line. line.items ≡ founded_line lab.now) }
 {
@@ -42,7 +48,7 @@ pub fn founded(alloc: Global, lab: &LabCode) -> Result<Vec<u8>, OutOfMemory>
     Ok(format!(in alloc; "founded {code}\n")?.into_bytes())
 }
 
-/// The line that tells of a refused founding.
+// The line that tells of a refused founding.
 fn refused(alloc: Global, fault: &FoundFault) -> Result<Vec<u8>, OutOfMemory>
     ensures { IfOk result (λ line. line.items ≡ refused_line (found_fault_entry fault.now)) }
 {

@@ -40,7 +40,7 @@ pub built_on : (lab : Lab) (tick : Tick) (instruction : Instruction) →
     (decided (part (need_of tick instruction) lab) tick instruction.command).changes
 unfolding changes_for
 built_on lab tick instruction formed =
-    let is = decided_is lab tick instruction.token instruction.command in
+    let is = decided_is lab tick instruction in
     record {
       replied = ap (λ told. reply_text tick (Replied told)) is.reply;
       fit = λ within. is.fits (within.strays, formed);

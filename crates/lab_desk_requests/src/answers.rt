@@ -18,6 +18,9 @@ use lab_wire::{Answer, Asked, reply_bytes};
 use std::alloc::Global;
 
 /// The reply where there is no laboratory of the code.
+///
+/// # Errors
+/// The store refused, or memory ran out.
 pub fn no_such_lab(alloc: Global, tick: &Tick) -> Result<Vec<u8>, KeeperFault>
     ensures reply { IfOk result (λ reply. reply.items ≡ reply_text tick.now
         (Replied (Reply.Refused Refusal.NoSuchLab))) }
@@ -31,6 +34,9 @@ pub fn no_such_lab(alloc: Global, tick: &Tick) -> Result<Vec<u8>, KeeperFault>
 
 /// Answers by the part of the laboratory: what is decided on it is replied, and its changes are
 /// made. After an error every laboratory means what it meant.
+///
+/// # Errors
+/// The store refused, or memory ran out.
 pub fn answer_on<S: Keeper>(
     alloc: Global,
     keeper: &mut S,

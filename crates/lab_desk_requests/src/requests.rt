@@ -39,6 +39,9 @@ fn load_needed<S: Keeper>(
 }
 
 /// Answers what a laboratory was asked. After an error every laboratory means what it meant.
+///
+/// # Errors
+/// The store refused, or memory ran out.
 pub fn answer_asked<S: Keeper>(
     alloc: Global,
     keeper: &mut S,

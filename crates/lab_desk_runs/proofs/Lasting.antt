@@ -1,9 +1,13 @@
--- What stays true where nothing was touched, and over one event more.
-use Rattle.lab_records_kept.specs.Worlds.{World, Given, Passes}
-use Rattle.lab_desk_runs.specs.Keeping.{AreWithin, Stays, StaysOn}
-use Rattle.lab_desk_runs.proofs.Keeping.{still_keeps}
+-- What stays true where nothing was touched, where every laboratory means what it meant, and over
+-- one event more.
+use Rattle.lab_records_kept.specs.Limits.{IsWithin}
+use Rattle.lab_records_kept.specs.Worlds.{World, Leaves, Passes, StaysSafe}
+use Rattle.lab_records_laws.specs.Runs.{IsReleasing}
+use Rattle.lab_desk_runs.specs.Keeping.{AreWithin, GivenWithin, Stays, StaysOn}
+use Rattle.lab_desk_runs.proofs.Keeping.{left_keeps, still_keeps}
 use Rattle.lab_desk_runs.proofs.Releasing.{released_stay}
 use Rattle.lab_desk_runs.proofs.Retaining.{retained_on, still_retained}
+use Rattle.lab_desk_runs.proofs.Staying.{left_holds}
 
 -- nothing was touched
 pub still_stays : (world : World) → world.is_reached → Stays world world
@@ -13,6 +17,17 @@ still_stays world reached = record {
   keeps = still_keeps world;
   reached = reached;
   safe = λ live safe. safe;
+}
+
+-- every laboratory means what it meant
+pub left_stays : (old new : World) → (new.is_live → old.is_live) → Leaves old new →
+    new.is_reached → StaysSafe old new → Stays old new
+left_stays old new back left reached safe = record {
+  within = left_holds IsWithin old new back left;
+  releasing = left_holds IsReleasing old new back left;
+  keeps = left_keeps old new left;
+  reached = reached;
+  safe = safe;
 }
 
 -- before the first event
@@ -42,9 +57,8 @@ stays_more old mid new back so next =
 
 -- so it is by what a call says of the event
 pub stays_after : (old mid new : World) → Passes mid new →
-    (AreWithin old → Given old mid (StaysOn old mid)) →
-    (AreWithin mid → Given mid new (Stays mid new)) →
-    AreWithin old → Given old new (StaysOn old new)
+    GivenWithin old mid (StaysOn old mid) → GivenWithin mid new (Stays mid new) →
+    GivenWithin old new (StaysOn old new)
 stays_after old mid new passes so next = λ within honest reached.
     let before = so within (passes.honest honest) reached in
     stays_more old mid new (passes.live honest) before (next before.within honest before.reached)

@@ -9,15 +9,15 @@ use Rattle.lab_records_kept.specs.Changes.{SameSession}
 use Rattle.lab_records_kept.specs.Keeping.{Extends, IsPrefix, KeepsPersons, KeepsForms, KeepsRecord, Keeps}
 use Rattle.lab_records_kept.specs.Limits.{IsWithin}
 use Rattle.lab_records_kept.specs.Values.{version_state}
-use Rattle.lab_records_kept.specs.Worlds.{World, Meaning, StaysSafe}
+use Rattle.lab_records_kept.specs.Worlds.{World, Meaning, Given, StaysSafe}
 use Rattle.lab_records_laws.specs.Runs.{IsReleasing}
 use Rattle.lab_records_laws.specs.Stepping.{HoldsOf, WhereThere}
 
--- it holds of every laboratory
+-- what holds of every laboratory
 abbrev pub OfAll : (Lab → Type 0) → Meaning → Type 0
 OfAll Holds meaning = (code : List ℕ) → WhereThere Holds (meaning code)
 
--- so it does, where the keeper is there to tell
+-- what holds of every laboratory of a keeper, where the keeper is live
 abbrev pub HoldsIn : (Lab → Type 0) → World → Type 0
 HoldsIn Holds world = world.is_live → OfAll Holds world.meaning
 
@@ -30,13 +30,18 @@ AreWithin world = HoldsIn IsWithin world
 abbrev pub AreReleasing : World → Type 0
 AreReleasing world = HoldsIn IsReleasing world
 
+-- the premises of a call of the desk: every laboratory was within its limits at its start, the
+-- keeper is honest at its end, and its tables were well kept at its start
+abbrev pub GivenWithin : World → World → Type 0 → Type 0
+GivenWithin old new P = AreWithin old → Given old new P
+
 -- ---- from one moment to a later one
 
 -- a laboratory that was there is there, and the two are related so
 abbrev pub Follows : (Lab → Lab → Type 0) → Option Lab → Option Lab → Type 0
 Follows Relates before after = WhereThere (λ lab. HoldsOf (Relates lab) after) before
 
--- so it is of every laboratory
+-- every laboratory that was there is there, and the two are related so
 abbrev pub EachFollows : (Lab → Lab → Type 0) → Meaning → Meaning → Type 0
 EachFollows Relates old new = (code : List ℕ) → Follows Relates (old code) (new code)
 

@@ -25,7 +25,7 @@ pub enum Event {
     },
 }
 
-// It is written out, so that a caller doesn't prove again how each part is dropped.
+// `drop` is written out, so that a caller doesn't prove again how each part is dropped.
 impl Drop for Event {
     fn drop(self) {
         match self {

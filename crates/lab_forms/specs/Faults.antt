@@ -1,11 +1,9 @@
 -- The numbers and words by which the interface of the laboratories tells what was wrong with a form
 -- or a value.
 use Rattle.std.specs.Prelude.{codes}
-use Rattle.lab_forms_texts.specs.Faults.{Entry, memory_entry}
+use Rattle.lab_forms_texts.specs.Faults.{Entry}
 use Rattle.lab_forms.specs.declared.faults.FormRefusal.{FormRefusal}
 use Rattle.lab_forms.specs.declared.faults.FormRefusal.TheVariants.{NoFields, KeyTwice, TooManyFields, BadField, NoSuchField, BadValue, WrongUnit, OutOfRange}
-use Rattle.lab_forms.specs.declared.faults.FormFault.{FormFault}
-use Rattle.lab_forms.specs.declared.faults.FormFault.TheVariants.{Refused, Memory}
 
 abbrev pub form_refusal_entry : FormRefusal → Entry
 form_refusal_entry NoFields = record { number = 3; word = codes "no_fields" }
@@ -16,7 +14,3 @@ form_refusal_entry NoSuchField = record { number = 7; word = codes "no_such_fiel
 form_refusal_entry BadValue = record { number = 8; word = codes "bad_value" }
 form_refusal_entry WrongUnit = record { number = 9; word = codes "wrong_unit" }
 form_refusal_entry OutOfRange = record { number = 10; word = codes "out_of_range" }
-
-abbrev pub form_fault_entry : FormFault → Entry
-form_fault_entry (Refused refusal) = form_refusal_entry refusal
-form_fault_entry (Memory _) = memory_entry

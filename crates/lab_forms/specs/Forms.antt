@@ -9,8 +9,8 @@ use Rattle.lab_forms.specs.declared.kinds.Kind.{Kind}
 use Rattle.lab_forms.specs.declared.forms.Field.{Field}
 use Rattle.lab_forms.specs.declared.faults.FormRefusal.{FormRefusal}
 use Rattle.lab_forms.specs.declared.faults.FormRefusal.TheVariants.{NoFields, KeyTwice, TooManyFields, BadField, NoSuchField, BadValue, WrongUnit, OutOfRange}
-use Rattle.lab_forms.specs.declared.faults.FormFault.{FormFault}
-use Rattle.lab_forms.specs.declared.faults.FormFault.TheVariants.{Refused, Memory}
+use Rattle.lab_forms_texts.specs.declared.refusals.Fault.{Fault}
+use Rattle.lab_forms_texts.specs.declared.refusals.Fault.TheVariants.{Refused, Memory}
 use Rattle.lab_forms.specs.Words.{has_text_twice}
 use Rattle.lab_forms.specs.Kinds.{is_kind, kind_eq, is_value, unit_of, is_in_range, fits}
 
@@ -87,6 +87,6 @@ value_refusal fields key text unit =
 
 -- the fault that a call tells: the first thing that is wrong, and out of memory only where nothing
 -- is
-abbrev pub IsTold : Option FormRefusal → FormFault → Type 0
+abbrev pub IsTold : Option FormRefusal → Fault FormRefusal → Type 0
 IsTold first (Refused refusal) = first ≡ Some refusal
-IsTold first (Memory _) = first ≡ None
+IsTold first Memory = first ≡ None

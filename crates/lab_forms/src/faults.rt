@@ -1,7 +1,5 @@
 //! Why a form was not made, or a value not read. Each refusal has a number and a word, by which the interface tells it.
-ghost use Rattle.std.specs.Prelude.{◌≡◌, Some};
-
-use lab_forms_texts::OutOfMemory;
+use lab_forms_texts::{Fault, RefusalKind};
 use std::fmt;
 use thiserror::Error;
 
@@ -26,13 +24,12 @@ pub enum FormRefusal {
     OutOfRange,
 }
 
-impl FormRefusal {
+impl RefusalKind for FormRefusal {
     ghost use Rattle.lab_forms.specs.Faults.{form_refusal_entry};
 
-    fn entry(&self) -> (u32, &'static str)
-        ensures number { result.0 ≡ (form_refusal_entry self.now).number }
-        ensures word { result.1.now ≡ (form_refusal_entry self.now).word }
-    {
+    ghost listed = { form_refusal_entry };
+
+    fn entry(&self) -> (u32, &'static str) {
         match self {
             FormRefusal::NoFields => (3, "no_fields"),
             FormRefusal::KeyTwice => (4, "key_twice"),
@@ -43,20 +40,6 @@ impl FormRefusal {
             FormRefusal::WrongUnit => (9, "wrong_unit"),
             FormRefusal::OutOfRange => (10, "out_of_range"),
         }
-    }
-
-    /// The refusal's number.
-    pub fn number(&self) -> Option<u32>
-        ensures { result ≡ Some (form_refusal_entry self.now).number }
-    {
-        Some(self.entry().0)
-    }
-
-    /// The refusal's word.
-    pub fn word(&self) -> &'static str
-        ensures { result.now ≡ (form_refusal_entry self.now).word }
-    {
-        self.entry().1
     }
 }
 
@@ -72,45 +55,4 @@ impl fmt::Display for FormRefusal {
 }
 
 /// Why a value was not read.
-#[derive(Clone, Copy, Debug, PartialEq, Eq, Error)]
-pub enum FormFault {
-    /// It is none of the form.
-    Refused(FormRefusal),
-    /// There was no memory for it.
-    Memory(OutOfMemory),
-}
-
-impl FormFault {
-    ghost use Rattle.lab_forms.specs.Faults.{form_fault_entry};
-
-    /// The fault's number.
-    pub fn number(&self) -> Option<u32>
-        ensures { result ≡ Some (form_fault_entry self.now).number }
-    {
-        match self {
-            FormFault::Refused(refusal) => refusal.number(),
-            FormFault::Memory(fault) => fault.number(),
-        }
-    }
-
-    /// The fault's word.
-    pub fn word(&self) -> &'static str
-        ensures { result.now ≡ (form_fault_entry self.now).word }
-    {
-        match self {
-            FormFault::Refused(refusal) => refusal.word(),
-            FormFault::Memory(fault) => fault.word(),
-        }
-    }
-}
-
-impl fmt::Display for FormFault {
-    ghost use Rattle.std.specs.Prelude.{Some};
-    ghost use Rattle.lab_forms.specs.Faults.{form_fault_entry};
-
-    ghost output = { λ fault. Some (form_fault_entry fault).word };
-
-    fn fmt<W: fmt::Write>(&self, f: &mut fmt::Formatter<W>) -> fmt::Result {
-        f.write_str(self.word())
-    }
-}
+pub type FormFault = Fault<FormRefusal>;

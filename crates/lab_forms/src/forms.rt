@@ -30,7 +30,7 @@ pub struct Field {
     pub kind: Kind,
 }
 
-// It is written out, so that a caller doesn't prove again how each part is dropped.
+// `drop` is written out, so that a caller doesn't prove again how each part is dropped.
 impl Drop for Field {
     fn drop(self) {
         let Field {
@@ -44,6 +44,9 @@ impl Drop for Field {
 
 impl Field {
     /// A copy.
+    ///
+    /// # Errors
+    /// Memory ran out.
     pub fn copy(&self) -> Result<Field, OutOfMemory>
         ensures { IfOk result (λ copy. copy ≡ self.now) }
     {
@@ -110,7 +113,7 @@ pub struct Form {
     approval: bool,
 }
 
-// It is written out, so that a caller doesn't prove again how each part is dropped.
+// `drop` is written out, so that a caller doesn't prove again how each part is dropped.
 impl Drop for Form {
     fn drop(self) {
         let Form {
@@ -134,6 +137,9 @@ impl Model for Form {
 impl Form {
     /// Makes a form of these fields. The first thing that is wrong is told: `NoFields`, `KeyTwice`, `TooManyFields`,
     /// `BadField`.
+    ///
+    /// # Errors
+    /// Why the fields make no form.
     #[tactic(auto, unfolding(crate::specs::Forms::is_form, crate::specs::Forms::form_refusal))]
     pub fn make(fields: Vec<Field>, approval: bool) -> Result<Form, FormRefusal>
         ensures made { result ≡ form_made fields.items approval }
@@ -171,6 +177,9 @@ impl Form {
 
     /// Reads a text as the value of a field. The first that is wrong is told: `NoSuchField`, `BadValue`, `WrongUnit`,
     /// `OutOfRange`.
+    ///
+    /// # Errors
+    /// The value's refusal, or memory ran out.
     pub fn read_value(
         &self,
         alloc: Global,
@@ -199,6 +208,9 @@ impl Form {
     }
 
     /// A copy.
+    ///
+    /// # Errors
+    /// Memory ran out.
     pub fn copy(&self) -> Result<Form, OutOfMemory>
         ensures { IfOk result (λ copy. copy ≡ self.now) }
     {
@@ -273,7 +285,7 @@ fn read_as(kind: &Kind, alloc: Global, text: &str, unit: &Unit) -> Result<Value,
     }
     match Note::parse(alloc, text) {
         Ok(note) => Ok(Value::of_note(note)),
-        Err(NameFault::BadName) => Err(FormFault::Refused(FormRefusal::BadValue)),
-        Err(NameFault::Memory(fault)) => Err(FormFault::Memory(fault)),
+        Err(NameFault::Refused(_)) => Err(FormFault::Refused(FormRefusal::BadValue)),
+        Err(NameFault::Memory) => Err(FormFault::Memory),
     }
 }

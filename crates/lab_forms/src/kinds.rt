@@ -29,7 +29,7 @@ pub struct Choices {
     names: Vec<Name>,
 }
 
-// It is written out, so that a caller doesn't prove again how each part is dropped.
+// `drop` is written out, so that a caller doesn't prove again how each part is dropped.
 impl Drop for Choices {
     fn drop(self) {
         let Choices { names: _ } = self;
@@ -59,15 +59,10 @@ impl Choices {
         self.names.as_slice()
     }
 
-    /// Gives the list back.
-    pub fn into_names(self) -> Vec<Name>
-        ensures { result.items ≡ self }
-    {
-        let Choices { names: list } = self;
-        list
-    }
-
     /// A copy.
+    ///
+    /// # Errors
+    /// Memory ran out.
     pub fn copy(&self) -> Result<Choices, OutOfMemory>
         ensures { IfOk result (λ copy. copy ≡ self.now) }
     {
@@ -132,7 +127,7 @@ pub enum Kind {
     YesNo,
 }
 
-// It is written out, so that a caller doesn't prove again how each part is dropped.
+// `drop` is written out, so that a caller doesn't prove again how each part is dropped.
 impl Drop for Kind {
     fn drop(self) {
         match self {
@@ -180,6 +175,9 @@ impl Kind {
     ghost use Rattle.lab_forms.specs.Kinds.{has_form, is_value, unit_of, is_in_range, is_kind};
 
     /// A copy.
+    ///
+    /// # Errors
+    /// Memory ran out.
     pub fn copy(&self) -> Result<Kind, OutOfMemory>
         ensures { IfOk result (λ copy. copy ≡ self.now) }
     {

@@ -15,7 +15,7 @@ pub struct Value {
     text: Note,
 }
 
-// It is written out, so that a caller doesn't prove again how each part is dropped.
+// `drop` is written out, so that a caller doesn't prove again how each part is dropped.
 impl Drop for Value {
     fn drop(self) {
         let Value { text: _ } = self;
@@ -54,6 +54,9 @@ impl Value {
     }
 
     /// A copy.
+    ///
+    /// # Errors
+    /// Memory ran out.
     pub fn copy(&self) -> Result<Value, OutOfMemory>
         ensures { IfOk result (λ copy. copy ≡ self.now) }
     {

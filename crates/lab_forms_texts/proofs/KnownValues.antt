@@ -7,7 +7,7 @@ use Rattle.lab_forms_texts.specs.Calendar.{day_of, is_leap_year, days_of_spans, 
 use Rattle.lab_forms_texts.specs.Moment.{last_moment, last_day, moment_text, moment_of}
 use Rattle.lab_forms_texts.proofs.CalendarLemmas.{IsDateOf, AreSame, own_date, same_date}
 use Rattle.lab_forms_texts.specs.Faults.{memory_entry, name_fault_entry, moment_fault_entry}
-use Rattle.lab_forms_texts.specs.declared.faults.NameFault.TheVariants.{BadName}
+use Rattle.lab_forms_texts.specs.declared.refusals.Fault.TheVariants.{Refused}
 use Rattle.lab_forms_texts.specs.declared.faults.MomentFault.TheVariants.{BadMoment}
 use Rattle.lab_forms_texts.specs.Names.{is_lab_code, is_person_code, is_key, is_name, is_note, is_unit}
 
@@ -78,6 +78,6 @@ known_units = (refl, rw (plain (codes "mg/L") refl refl), refl, rw (plain (codes
 
 -- numbers and words of docs/REFUSALS.md
 pub known_faults : (memory_entry.number ≡ 90) × (memory_entry.word ≡ codes "memory")
-    × ((name_fault_entry BadName).number ≡ 1) × ((name_fault_entry BadName).word ≡ codes "bad_name")
+    × ((name_fault_entry (Refused (record {}))).number ≡ 1) × ((name_fault_entry (Refused (record {}))).word ≡ codes "bad_name")
     × ((moment_fault_entry BadMoment).number ≡ 2) × ((moment_fault_entry BadMoment).word ≡ codes "bad_moment")
 known_faults = (refl, refl, refl, refl, refl, refl)

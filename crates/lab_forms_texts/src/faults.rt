@@ -1,6 +1,7 @@
 //! Why a name or a moment was not made. Each fault has a number and a word, by which the interface tells it.
 ghost use Rattle.std.specs.Prelude.{◌≡◌, Some};
 
+use crate::{Fault, RefusalKind};
 use std::alloc::{AllocError, AllocFailed};
 use std::fmt;
 use thiserror::Error;
@@ -61,63 +62,22 @@ impl<T: Drop> From<AllocFailed<T>> for OutOfMemory {
     }
 }
 
-/// Why a text was not made a name.
-#[derive(Clone, Copy, Debug, PartialEq, Eq, Error)]
-pub enum NameFault {
-    /// The text is none that the name's rule admits.
-    BadName,
-    /// The text is admitted, and there was no memory for it.
-    Memory(OutOfMemory),
-}
+/// The text is none that the name's rule admits.
+#[derive(Clone, Copy, Debug, PartialEq, Eq)]
+pub struct BadName;
 
-impl NameFault {
-    ghost use Rattle.lab_forms_texts.specs.Faults.{name_fault_entry};
+impl RefusalKind for BadName {
+    ghost use Rattle.lab_forms_texts.specs.Faults.{name_entry};
 
-    fn entry(&self) -> (u32, &'static str)
-        ensures number { result.0 ≡ (name_fault_entry self.now).number }
-        ensures word { result.1.now ≡ (name_fault_entry self.now).word }
-    {
-        match self {
-            NameFault::BadName => (1, "bad_name"),
-            NameFault::Memory(fault) => fault.entry(),
-        }
-    }
+    ghost listed = { λ _. name_entry };
 
-    /// The fault's number.
-    pub fn number(&self) -> Option<u32>
-        ensures { result ≡ Some (name_fault_entry self.now).number }
-    {
-        Some(self.entry().0)
-    }
-
-    /// The fault's word.
-    pub fn word(&self) -> &'static str
-        ensures { result.now ≡ (name_fault_entry self.now).word }
-    {
-        self.entry().1
+    fn entry(&self) -> (u32, &'static str) {
+        (1, "bad_name")
     }
 }
 
-impl fmt::Display for NameFault {
-    ghost use Rattle.std.specs.Prelude.{Some};
-    ghost use Rattle.lab_forms_texts.specs.Faults.{name_fault_entry};
-
-    ghost output = { λ fault. Some (name_fault_entry fault).word };
-
-    fn fmt<W: fmt::Write>(&self, f: &mut fmt::Formatter<W>) -> fmt::Result {
-        f.write_str(self.word())
-    }
-}
-
-impl From<AllocError> for NameFault {
-    ghost use Rattle.lab_forms_texts.specs.declared.faults.NameFault.TheVariants.{Memory};
-
-    ghost from_gives = { λ _ e. e ≡ Memory (record {}) };
-
-    fn from(_error: AllocError) -> NameFault {
-        NameFault::Memory(OutOfMemory)
-    }
-}
+/// Why a text was not made a name. Want of memory is the answer only where the name's rule admits the text.
+pub type NameFault = Fault<BadName>;
 
 /// Why a number or a text was not made a moment.
 #[derive(Clone, Copy, Debug, PartialEq, Eq, Error)]

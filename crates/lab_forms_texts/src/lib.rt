@@ -5,18 +5,20 @@ mod faults;
 mod moment;
 mod names;
 mod ordinals;
+mod refusals;
 mod series;
 mod text;
 mod tick;
 mod typed;
 
-pub use faults::{MomentFault, NameFault, OutOfMemory};
+pub use faults::{BadName, MomentFault, NameFault, OutOfMemory};
 pub use moment::Moment;
 pub use names::{
     Key, Keys, LabCode, LabCodes, Name, Names, Note, Notes, PersonCode, PersonCodes, Unit, Units,
     Writing, Writings,
 };
 pub use ordinals::Ordinal;
+pub use refusals::{Fault, RefusalKind};
 pub use series::Series;
 pub use text::{Rule, Text};
 pub use tick::Tick;

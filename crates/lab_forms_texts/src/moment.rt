@@ -42,6 +42,9 @@ impl Model for Moment {
 
 impl Moment {
     /// The moment so many seconds after 1970-01-01T00:00:00Z.
+    ///
+    /// # Errors
+    /// The number or the text is that of no moment.
     pub fn from_seconds(seconds: i64) -> Result<Moment, MomentFault>
         ensures value { IfOk result (λ moment. IsTrue (is_moment moment) × (seconds ≡ pos moment)) }
         ensures fault { IfErr result (λ _. (n : ℕ) → IsTrue (is_moment n) → seconds ≢ pos n) }
@@ -91,6 +94,9 @@ impl Moment {
     }
 
     /// Reads the text that `print` writes, and no other text.
+    ///
+    /// # Errors
+    /// The number or the text is that of no moment.
     pub fn parse(text: &str) -> Result<Moment, MomentFault>
         ensures read { result ≡ ok_or (moment_of text.now) MomentFault.BadMoment }
         ensures value { IfOk result

@@ -12,7 +12,7 @@ pub struct Series<T> {
     list: Vec<T>,
 }
 
-// It is written out, so that a caller doesn't prove again how each part is dropped.
+// `drop` is written out, so that a caller doesn't prove again how each part is dropped.
 impl<T: Drop> Drop for Series<T> {
     fn drop(self) {
         let Series { list: _ } = self;
@@ -69,6 +69,9 @@ impl<T> Series<T> {
 
 impl<T: Drop> Series<T> {
     /// One value more, at the end. The only error is that memory ran out, and the series is then as before.
+    ///
+    /// # Errors
+    /// Memory ran out.
     pub fn push(&mut self, value: T) -> Result<(), AllocError>
         ensures ok { OnOk result (self.new ≡ self.old ++ value ∷ []) }
         ensures err { OnErr result (self.new ≡ self.old) }

@@ -5,7 +5,7 @@ ghost use Rattle.std.specs.Cmp.Lexicographic.{pointwise, slice_cmp, nat_list_eq_
 ghost use Rattle.std.specs.Cmp.{partial_equiv_from_equiv};
 ghost use Rattle.lab_forms_texts.specs.Faults.{NameFaultFits};
 
-use crate::{NameFault, OutOfMemory, Writings};
+use crate::{BadName, NameFault, OutOfMemory, Writings};
 use std::alloc::{AllocError, Global};
 use std::cmp::Ordering;
 use std::fmt;
@@ -29,7 +29,7 @@ pub struct Text<R: Rule> {
     rule: PhantomData<R>,
 }
 
-// It is written out, so that a caller doesn't prove again how each part is dropped.
+// `drop` is written out, so that a caller doesn't prove again how each part is dropped.
 impl<R: Rule> Drop for Text<R> {
     fn drop(self) {
         let Text { text: _, rule: _ } = self;
@@ -48,13 +48,16 @@ impl<R: Rule> Model for Text<R> {
 
 impl<R: Rule> Text<R> {
     /// Reads a text, and copies it. `BadName` where the rule does not admit it.
+    ///
+    /// # Errors
+    /// The rule doesn't admit the text, or memory ran out.
     pub fn parse(alloc: Global, text: &str) -> Result<Text<R>, NameFault>
         ensures admitted { IfOk result (λ _. IsTrue (R.admits text.now)) }
         ensures value { IfOk result (λ read. read ≡ text.now) }
         ensures fault { IfErr result (NameFaultFits (R.admits text.now)) }
     {
         if !R::admits(text) {
-            return Err(NameFault::BadName);
+            return Err(NameFault::Refused(BadName));
         }
         let text = String::from_str(alloc, text)?;
         Ok(Text {
@@ -72,6 +75,9 @@ impl<R: Rule> Text<R> {
     }
 
     /// A copy.
+    ///
+    /// # Errors
+    /// Memory ran out.
     pub fn copy(&self) -> Result<Text<R>, OutOfMemory>
         ensures { IfOk result (λ copy. copy ≡ self.now) }
     {

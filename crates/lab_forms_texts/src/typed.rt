@@ -12,7 +12,7 @@ pub struct Typed {
     text: String,
 }
 
-// It is written out, so that a caller doesn't prove again how each part is dropped.
+// `drop` is written out, so that a caller doesn't prove again how each part is dropped.
 impl Drop for Typed {
     fn drop(self) {
         let Typed { text: _ } = self;

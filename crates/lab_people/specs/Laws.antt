@@ -8,9 +8,16 @@ use Rattle.lab_people_access.specs.declared.sessions.Session.{Session}
 use Rattle.lab_people_access.specs.declared.refusals.Failure.{Failure}
 use Rattle.lab_people_access.specs.declared.refusals.PeopleRefusal.{PeopleRefusal}
 use Rattle.lab_people_access.specs.declared.refusals.PeopleRefusal.TheVariants.{OwnIssue, NoSuchPerson}
+use Rattle.lab_people_access.specs.declared.refusals.Failure.TheVariants.{Stray}
+use Rattle.lab_people_access.specs.declared.refusals.PeopleFault.TheVariants.{Failed}
+use Rattle.lab_people_access.specs.declared.roles.Roles.{Roles}
+use Rattle.lab_people_access.specs.declared.sessions.Closing.{Closing}
 use Rattle.lab_people_access.specs.Passwords.{is_set, accepts}
-use Rattle.lab_people_access.specs.Attempts.{attempt_of}
+use Rattle.lab_people_access.specs.Attempts.{attempt_of, signing_attempt}
+use Rattle.lab_people_access.specs.Openings.{opening}
+use Rattle.lab_people_access.specs.Sessions.{is_live, session_after, touched_session, signed_session}
 use Rattle.lab_people_access.specs.Refusals.{failure_person}
+use Rattle.lab_people.specs.Accounts.{changing, with_new_password, setting_roles, retiring, unlocking}
 use Rattle.lab_people.specs.Issues.{asking, confirming}
 use Rattle.lab_people.specs.declared.issues.Issued.{Issued}
 
@@ -66,7 +73,7 @@ pub record IsWordGiven (person : Option Person) (caller other : List ℕ) (tick 
 abbrev pub own_refusal : Person → PeopleRefusal
 own_refusal person = if person.retired then NoSuchPerson else OwnIssue
 
--- it is refused
+-- a rule on persons refuses
 abbrev pub IsRefused : {A : Type 0} → Result A PeopleRefusal → Type 0
 IsRefused (Ok value) = ⊥
 IsRefused (Err refusal) = Unit {0}
@@ -75,3 +82,30 @@ IsRefused (Err refusal) = Unit {0}
 abbrev pub AreClosed : List ℕ → List Session → Type 0
 AreClosed person sessions =
     AllByRecursion (λ session. session.person ≡ person → session.closed ≡ true) sessions
+
+-- each command that one person gives about another's account is refused, for this reason
+pub record AreRefused (caller : List ℕ) (person : Person) (tick : Tick) (roles : Roles)
+    (why : PeopleRefusal) : Type 0 where
+  pub asks : asking caller (Some person) tick ≡ Err why
+  pub confirms : confirming caller (Some person) tick ≡ Err why
+  pub sets_roles : setting_roles caller (Some person) roles ≡ Err why
+  pub retires : retiring caller (Some person) ≡ Err why
+  pub unlocks : unlocking caller (Some person) ≡ Err why
+
+-- no password of the person is accepted, whichever was given: not in a session, nor at an opening, nor
+-- where a new one is to take its place
+pub record AcceptsNone (person : Person) (session : Session) (code text new : List ℕ)
+    (given : Option (List ℕ)) (tick : Tick) (sessions : ℕ) (repeated : Option Session)
+    : Type 0 where
+  pub signs : signing_attempt person given text tick.moment ≡ Err Stray
+  pub opens : opening code (Some person) text tick sessions repeated ≡ Err (Failed Stray)
+  pub changes : changing person session text new tick ≡ Err (Failed Stray)
+
+-- the session doesn't live, and is closed still after each thing that befalls sessions
+pub record StaysClosed (session : Session) (closing : Closing) (code new : List ℕ)
+    (person : Person) (tick : Tick) (moment : ℕ) : Type 0 where
+  pub rests : is_live session moment ≡ false
+  pub closing_again : (session_after closing code session).closed ≡ true
+  pub request : (touched_session moment session).closed ≡ true
+  pub signing : (signed_session session).closed ≡ true
+  pub new_password : (with_new_password person session new tick).session.closed ≡ true

@@ -12,7 +12,7 @@ ghost use Rattle.lab_people_access.specs.declared.refusals.Failure.TheVariants.{
 ghost use Rattle.lab_people_access.specs.declared.refusals.PeopleFault.TheVariants.{Failed};
 ghost use Rattle.lab_people_access.specs.declared.refusals.PeopleRefusal.TheVariants.{SamePerson, NoSuchPerson};
 ghost use Rattle.lab_people.specs.declared.accounts.Effect.{Effect as AnyEffect};
-ghost use Rattle.lab_people.specs.Laws.{IsNewCode, IsNewToken, IsRefused, AreClosed, own_refusal};
+ghost use Rattle.lab_people.specs.Laws.{IsNewCode, IsNewToken, IsRefused, AreClosed, AreRefused, AcceptsNone, StaysClosed, own_refusal};
 ghost use Rattle.lab_people_access.specs.Persons.{person_of, stands};
 ghost use Rattle.lab_people_access.specs.Sessions.{is_live, session_of, session_after, sessions_after, touched_session, signed_session};
 ghost use Rattle.lab_people_access.specs.Attempts.{attempt_by, signing_attempt};
@@ -39,11 +39,7 @@ pub fn a_token_is_given_once()
 /// Law: nobody asks, confirms, sets roles, retires or unlocks for the own account.
 pub fn accounts_are_kept_by_others()
     ensures { (person : AnyPerson) (tick : AnyTick) (roles : AnyRoles) →
-        (asking person.code (Some person) tick ≡ Err (own_refusal person))
-        × (confirming person.code (Some person) tick ≡ Err (own_refusal person))
-        × (setting_roles person.code (Some person) roles ≡ Err (own_refusal person))
-        × (retiring person.code (Some person) ≡ Err (own_refusal person))
-        × (unlocking person.code (Some person) ≡ Err (own_refusal person)) }
+        AreRefused person.code person tick roles (own_refusal person) }
 {}
 
 /// Law: who asked for a one-time word for another doesn't confirm it, and is told so while it stands.
@@ -67,21 +63,11 @@ pub fn retirement_is_for_good()
     ensures no_password { (person : AnyPerson) (session : AnySession) (code text new : List ℕ)
         (given : Option (List ℕ)) (tick : AnyTick) (sessions : ℕ) (repeated : Option AnySession) →
         person.retired ≡ true →
-        (signing_attempt person given text tick.moment ≡ Err Stray)
-        × (opening code (Some person) text tick sessions repeated ≡ Err (Failed Stray))
-        × (changing person session text new tick ≡ Err (Failed Stray)) }
+        AcceptsNone person session code text new given tick sessions repeated }
     ensures no_command { (person : AnyPerson) (caller : List ℕ) (tick : AnyTick)
         (roles : AnyRoles) → person.retired ≡ true →
-        (asking caller (Some person) tick ≡ Err NoSuchPerson)
-        × (confirming caller (Some person) tick ≡ Err NoSuchPerson)
-        × (setting_roles caller (Some person) roles ≡ Err NoSuchPerson)
-        × (retiring caller (Some person) ≡ Err NoSuchPerson)
-        × (unlocking caller (Some person) ≡ Err NoSuchPerson) }
+        AreRefused caller person tick roles NoSuchPerson }
     ensures closed { (closing : AnyClosing) (code new : List ℕ) (person : AnyPerson)
         (session : AnySession) (tick : AnyTick) (moment : ℕ) → session.closed ≡ true →
-        (is_live session moment ≡ false)
-        × ((session_after closing code session).closed ≡ true)
-        × ((touched_session moment session).closed ≡ true)
-        × ((signed_session session).closed ≡ true)
-        × ((with_new_password person session new tick).session.closed ≡ true) }
+        StaysClosed session closing code new person tick moment }
 {}

@@ -7,7 +7,7 @@ use Rattle.lab_people_access.specs.declared.policy.Rule.TheVariants.{CloseSessio
 use Rattle.lab_people_access.specs.declared.sessions.Session.{Session}
 use Rattle.lab_people_access.specs.declared.passwords.Password.TheVariants.{Chosen, Unset}
 use Rattle.lab_people_access.specs.declared.refusals.PeopleRefusal.TheVariants.{Credentials, NoSuchPerson}
-use Rattle.lab_people_access.specs.Roles.{no_roles, with_role, role_list, role_set}
+use Rattle.lab_people_access.specs.Roles.{no_roles, with_role, role_list}
 use Rattle.lab_people_access.specs.Policy.{is_open_to, rule_word}
 use Rattle.lab_people_access.specs.Passwords.{is_due, serves}
 use Rattle.lab_people_access.specs.Persons.{is_locked}
@@ -56,11 +56,9 @@ pub known_session : (session : Session)
     × (is_live (record session { opened = 900; last = 1300; closed = false }) 2201 ≡ false)
 known_session session = (refl, refl)
 
--- roles are told in one order, and none is given twice
-pub known_lists : (role_set (Inspector ∷ (Analyst ∷ [])) ≡ Some (with_role (with_role no_roles Analyst) Inspector))
-    × (role_list (with_role (with_role no_roles Inspector) Analyst) ≡ Analyst ∷ (Inspector ∷ []))
-    × (role_set (Analyst ∷ (Manager ∷ (Analyst ∷ []))) ≡ None)
-known_lists = (refl, refl, refl)
+-- roles are listed in one order, whichever was given first
+pub known_lists : role_list (with_role (with_role no_roles Inspector) Analyst) ≡ Analyst ∷ (Inspector ∷ [])
+known_lists = refl
 
 pub known_refusals : ((people_refusal_entry Credentials).number ≡ 20)
     × ((people_refusal_entry NoSuchPerson).word ≡ codes "no_such_person")

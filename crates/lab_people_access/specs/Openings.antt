@@ -45,8 +45,8 @@ abbrev pub numbered_opening : Option ℕ → List ℕ → Tick → Person → Re
 numbered_opening None code tick person = Err (Refused LabFull)
 numbered_opening (Some number) code tick person = Ok (new_opening number code tick person)
 
--- what follows on the password that was given, where the laboratory gave so many numbers of
--- sessions before, and where one of its sessions has the tick's token, or none has
+-- what follows on the password that was given: `sessions` is how many sessions there have been,
+-- and `repeated` is one that has the token already that the tick's words make
 abbrev pub opening_by : Result Person Failure → List ℕ → Tick → ℕ → Option Session
     → Result Opened PeopleFault
 opening_by (Err failure) code tick sessions repeated = Err (Failed failure)

@@ -45,13 +45,3 @@ all_roles = Analyst ∷ Reviewer ∷ Manager ∷ Administrator ∷ Inspector ∷
 -- a person's roles in that order
 abbrev pub role_list : Roles → List Role
 role_list roles = filter (has_role roles) all_roles
-
--- roles and those of a list, of which none is among them and none stands twice; else none
-abbrev pub with_each : Roles → List Role → Option Roles
-with_each roles [] = Some roles
-with_each roles (role ∷ others) =
-    if has_role roles role then None else with_each (with_role roles role) others
-
--- the roles of a list, in which none stands twice
-abbrev pub role_set : List Role → Option Roles
-role_set list = with_each no_roles list

@@ -36,7 +36,7 @@ pub struct Person {
     pub ask: Option<Ask>,
 }
 
-// It is written out, so that a caller doesn't prove again how each part is dropped.
+// `drop` is written out, so that a caller doesn't prove again how each part is dropped.
 impl Drop for Person {
     fn drop(self) {
         let Person {
@@ -62,7 +62,7 @@ pub struct Ask {
     pub first: Verifier,
 }
 
-// It is written out, so that a caller doesn't prove again how each part is dropped.
+// `drop` is written out, so that a caller doesn't prove again how each part is dropped.
 impl Drop for Ask {
     fn drop(self) {
         let Ask {
@@ -75,6 +75,9 @@ impl Drop for Ask {
 
 impl Ask {
     /// A copy. The only error is out of memory.
+    ///
+    /// # Errors
+    /// Memory ran out.
     pub fn copy(&self) -> Result<Ask, OutOfMemory>
         ensures { IfOk result (λ copy. copy ≡ self.now) }
     {
@@ -99,6 +102,9 @@ impl Clone for Ask {
 
 impl Person {
     /// A copy. The only error is out of memory.
+    ///
+    /// # Errors
+    /// Memory ran out.
     pub fn copy(&self) -> Result<Person, OutOfMemory>
         ensures { IfOk result (λ copy. copy ≡ self.now) }
     {

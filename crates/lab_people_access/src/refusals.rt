@@ -7,6 +7,7 @@ ghost use Rattle.lab_people_access.specs.Refusals.{people_refusal_entry, fault_r
 use crate::persons::Person;
 use crate::policy::Rule;
 use crate::sessions::Closing;
+use lab_forms_texts::RefusalKind;
 use std::fmt;
 use thiserror::Error;
 
@@ -43,12 +44,10 @@ pub enum PeopleRefusal {
     NoSuchPerson,
 }
 
-impl PeopleRefusal {
-    // The refusal's number and word.
-    fn entry(&self) -> (u32, &'static str)
-        ensures number { result.0 ≡ (people_refusal_entry self.now).number }
-        ensures word { result.1.now ≡ (people_refusal_entry self.now).word }
-    {
+impl RefusalKind for PeopleRefusal {
+    ghost listed = { people_refusal_entry };
+
+    fn entry(&self) -> (u32, &'static str) {
         match self {
             PeopleRefusal::Credentials => (20, "credentials"),
             PeopleRefusal::RandomRepeated => (21, "random_repeated"),
@@ -65,20 +64,6 @@ impl PeopleRefusal {
             PeopleRefusal::NoIssue => (32, "no_issue"),
             PeopleRefusal::NoSuchPerson => (33, "no_such_person"),
         }
-    }
-
-    /// The number by which the refusal is known.
-    pub fn number(&self) -> Option<u32>
-        ensures { result ≡ Some (people_refusal_entry self.now).number }
-    {
-        Some(self.entry().0)
-    }
-
-    /// The word by which the refusal is known.
-    pub fn word(&self) -> &'static str
-        ensures { result.now ≡ (people_refusal_entry self.now).word }
-    {
-        self.entry().1
     }
 }
 

@@ -1,6 +1,6 @@
 //! The roles that a person may have.
 ghost use Rattle.std.specs.Prelude.{◌≡◌, IfOk};
-ghost use Rattle.lab_people_access.specs.Roles.{has_role, role_word, with_role, no_roles, role_list, role_set};
+ghost use Rattle.lab_people_access.specs.Roles.{has_role, role_word, with_role, no_roles, role_list};
 
 use lab_forms_texts::OutOfMemory;
 use std::alloc::Global;
@@ -115,6 +115,9 @@ impl Roles {
     }
 
     /// The roles as a list, in the order in which they are told. The only error is out of memory.
+    ///
+    /// # Errors
+    /// Memory ran out.
     pub fn list(&self, alloc: Global) -> Result<Vec<Role>, OutOfMemory>
         ensures { IfOk result (λ list. list.items ≡ role_list self.now) }
     {
@@ -125,19 +128,5 @@ impl Roles {
             }
         }
         Ok(list)
-    }
-
-    /// The roles of a list, in any order; none where one stands twice.
-    pub fn from_list(list: &[Role]) -> Option<Roles>
-        ensures { result ≡ role_set list.now }
-    {
-        let mut roles = Roles::none();
-        for role in list {
-            if roles.has(*role) {
-                return None;
-            }
-            roles = roles.with(*role);
-        }
-        Some(roles)
     }
 }

@@ -10,7 +10,7 @@ use lab_seal_hashes::Digest;
 use std::alloc::AllocError;
 
 /// The most seconds since its last request at which a session lives.
-const SECONDS_OF_REST: u64 = 900;
+const REST_SPAN: u64 = 900;
 
 /// The most seconds since its opening at which a session lives.
 const SECONDS_OF_SESSION: u64 = 28_800;
@@ -34,7 +34,7 @@ pub struct Session {
     pub signed: bool,
 }
 
-// It is written out, so that a caller doesn't prove again how each part is dropped.
+// `drop` is written out, so that a caller doesn't prove again how each part is dropped.
 impl Drop for Session {
     fn drop(self) {
         let Session {
@@ -51,6 +51,9 @@ impl Drop for Session {
 
 impl Session {
     /// A copy. The only error is out of memory.
+    ///
+    /// # Errors
+    /// Memory ran out.
     pub fn copy(&self) -> Result<Session, OutOfMemory>
         ensures { IfOk result (λ copy. copy ≡ self.now) }
     {
@@ -62,7 +65,7 @@ impl Session {
         ensures { result ≡ is_live self.now moment }
     {
         !self.closed
-            && seconds_since(self.last, moment) <= SECONDS_OF_REST
+            && seconds_since(self.last, moment) <= REST_SPAN
             && seconds_since(self.opened, moment) <= SECONDS_OF_SESSION
     }
 

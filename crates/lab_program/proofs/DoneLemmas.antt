@@ -8,8 +8,7 @@ use Rattle.sqlite_trees.specs.declared.store.Store.{Ghosts}
 use Rattle.lab_forms_texts.specs.Faults.{memory_entry}
 use Rattle.lab_forms_texts.specs.Names.{is_lab_code}
 use Rattle.lab_wire_heads.specs.declared.sending.WriteFault.{WriteFault as Untold}
-use Rattle.lab_records_kept.specs.declared.changes.Change.{Change}
-use Rattle.lab_records_kept.specs.Worlds.{World}
+use Rattle.lab_records_kept.specs.declared.keeper.Keeper.{Ghosts as KeeperOf}
 use Rattle.lab_desk_runs.specs.Runs.{IsAnswer}
 use Rattle.lab_program_replay.specs.declared.fault.ReplayFault.TheVariants.{Memory as ReplayMemory}
 use Rattle.lab_program_replay.specs.Event.{next_event}
@@ -19,24 +18,25 @@ use Rattle.lab_copy.specs.Checks.{rows_of}
 use Rattle.lab_program_check.specs.declared.faults.StopFault.TheVariants.{Memory as StopMemory}
 use Rattle.lab_program_check.specs.Verdicts.{IsCheck}
 use Rattle.lab_program_shelves.specs.Faults.{unopened_fault}
-use Rattle.lab_program_files.specs.FileWorlds.{file_moves, file_places, file_rests, file_world}
+use Rattle.lab_program_files.specs.FileWorlds.{file_keeper}
 use Rattle.lab_program_shelves.specs.Files.{IsOpened, IsOurs}
-use Rattle.lab_program_files.specs.Foundings.{Drawing}
+use Rattle.lab_program_outside.specs.Sources.{Drawing}
+use Rattle.lab_program_files.specs.Copying.{CopyTask}
 use Rattle.lab_program_replay.specs.Replays.{IsReplay, ReplaysFromNothing}
 use Rattle.lab_program_files.specs.Serving.{ServesFile}
 use Rattle.lab_program.specs.CommandLine.{IsDone}
 use Rattle.lab_program_app.specs.Explaining.{Stopped}
 use Rattle.lab_program.specs.Laboratories.{IsCopiedIf, body_in}
-use Rattle.lab_program.proofs.UnbegunLemmas.{IsUnbegun, declines_task, never_begun, no_copying, no_founding, no_rehearsal, printed_none}
+use Rattle.lab_program.proofs.UnbegunLemmas.{IsUnbegun, declines_task, never_begun, no_copying, no_founding, no_rehearsal, printed_none, seen}
 use Rattle.lab_program_words.specs.Tasks.{Asked, founds, serves, copies, checks, replays, rehearses}
 
 -- ---- each task, not begun
 
 module _ (before after told_before told_after : Option (List ℕ)) (status : Result ℕ Untold) where
-  no_serving : {S : Type 0} (world : S → World) (rests : S → S → Type 0) (moves : S → S → List ℕ → List Change → Type 0)
-      (opened : S → Type 0) (count : ℕ) → IsUnbegun before after told_before told_after status
-      → ServesFile world rests moves opened count before after told_before told_after status
-  no_serving world rests moves opened count told =
+  no_serving : {S : Type 0} (keeper : KeeperOf S) (count : ℕ) (opened : S → Type 0)
+      → IsUnbegun before after told_before told_after status
+      → ServesFile keeper count opened (seen before after told_before told_after status)
+  no_serving keeper count opened told =
       inr (unopened_fault, tt, told.0, declines_task before after told_before told_after status told)
 
   -- the input may have anything
@@ -91,27 +91,35 @@ no_check (Some bytes) before after told_before told_after status told =
 
 module _ {S : Type 0} (disk : Ghosts S) (drawing : Drawing) (before after told_before told_after : Option (List ℕ))
     (status : Result ℕ Untold) where
-  no_copy_if : (lab : List ℕ) (from to : ℕ) (ordered : Bool) → IsUnbegun before after told_before told_after status
-      → IsCopiedIf disk before after told_before told_after status drawing.moments drawing.later lab from to ordered
-  no_copy_if lab from to true told = never_begun before after told_before told_after status _
-      (no_copying before after told_before told_after status (file_world disk) (file_rests disk) (IsOurs disk) drawing.moments drawing.later lab from to)
-      (is_lab_code lab) told
-  no_copy_if lab from to false told = (OutOfMemory, inl refl, told)
+  no_copy_if : (task : CopyTask) (ordered : Bool) → IsUnbegun before after told_before told_after status
+      → IsCopiedIf disk task ordered (seen before after told_before told_after status)
+  no_copy_if task true told = never_begun before after told_before told_after status _
+      (no_copying before after told_before told_after status (file_keeper disk) task (IsOurs disk))
+      (is_lab_code task.code) told
+  no_copy_if task false told = (OutOfMemory, inl refl, told)
 
   pub never_done : (asked : Asked) (input : Option (List ℕ)) → IsUnbegun before after told_before told_after status
-      → IsDone disk drawing asked input before after told_before told_after status
+      → IsDone disk drawing asked input (seen before after told_before told_after status)
   never_done (founds file lab) input told = never_begun before after told_before told_after status _
-      (no_founding before after told_before told_after status (file_world disk) (file_places disk) drawing (IsOpened disk) lab (body_in input))
+      (no_founding before after told_before told_after status (file_keeper disk)
+      (record { drawing = drawing; code = lab; body = body_in input }) (IsOpened disk))
       (is_lab_code lab) told
   never_done (serves file port count) input told =
-      no_serving before after told_before told_after status (file_world disk) (file_rests disk) (file_moves disk) (IsOurs disk) count told
-  never_done (copies file lab from to) input told = no_copy_if lab from to (nat_le from to) told
+      no_serving before after told_before told_after status (file_keeper disk) count (IsOurs disk) told
+  never_done (copies file lab from to) input told = no_copy_if (record {
+    moments = drawing.moments;
+    later = drawing.later;
+    code = lab;
+    from = from;
+    to = to;
+  }) (nat_le from to) told
   never_done checks input told = no_check input before after told_before told_after status told
   never_done replays input told = no_replay input before after told_before told_after status told
   never_done (rehearses lab moment) input told = never_begun before after told_before told_after status _
       (no_rehearsal before after told_before told_after status lab (body_in input)) (is_lab_code lab) told
 
   pub done_as : (asked other : Asked) (input : Option (List ℕ)) → asked ≡ other
-      → IsDone disk drawing other input before after told_before told_after status
-      → IsDone disk drawing asked input before after told_before told_after status
-  done_as asked other input is done = subst (λ a. IsDone disk drawing a input before after told_before told_after status) (sym is) done
+      → IsDone disk drawing other input (seen before after told_before told_after status)
+      → IsDone disk drawing asked input (seen before after told_before told_after status)
+  done_as asked other input is done =
+      subst (λ a. IsDone disk drawing a input (seen before after told_before told_after status)) (sym is) done

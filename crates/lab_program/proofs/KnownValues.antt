@@ -1,21 +1,21 @@
 -- Values from outside, so that a wrong rule in the definitions does not check: the body that the input bears, and what is done for a word that
 -- is no laboratory's code (docs/FORMATS.md).
-use Rattle.std.proofs.Common.{◌≡◌, refl, List, ℕ, codes, Some, None}
-use Rattle.std.specs.Prelude.{Option, Result}
+use Rattle.std.proofs.Common.{◌≡◌, refl, codes, Some, None}
 use Rattle.lab_forms_texts.specs.Names.{is_lab_code}
-use Rattle.lab_forms_texts.specs.declared.faults.NameFault.{NameFault}
-use Rattle.lab_wire_heads.specs.declared.sending.WriteFault.{WriteFault as Untold}
+use Rattle.lab_forms_texts.specs.declared.faults.BadName.{BadName}
+use Rattle.lab_forms_texts.specs.declared.refusals.Fault.{Fault}
+use Rattle.lab_program_outside.specs.TaskEnds.{TaskEnd}
 use Rattle.lab_program.specs.Laboratories.{body_in, OfCode}
 
 pub known_bodies : (body_in None ≡ None) × (body_in (Some (codes "{}")) ≡ Some (codes "{}"))
 known_bodies = (refl, refl)
 
 -- a task is done for a code; for a text that is none a fault of names is told
-module _ (before after told_before told_after : Option (List ℕ)) (status : Result ℕ Untold) (Done : Type 0) where
-  pub known_code : OfCode before after told_before told_after status Done (codes "aqua") → Done
+module _ (end : TaskEnd) (Done : Type 0) where
+  pub known_code : OfCode end Done (codes "aqua") → Done
   unfolding is_lab_code
   known_code held = held
 
-  pub known_no_code : OfCode before after told_before told_after status Done (codes "Aqua") → NameFault
+  pub known_no_code : OfCode end Done (codes "Aqua") → Fault BadName
   unfolding is_lab_code
   known_no_code told = told.0

@@ -6,19 +6,30 @@ use Rattle.std.specs.Io.KnownBytes.{Appends, Keeps}
 use Rattle.std.proofs.KnownBytes.{Appends-kept, Appends-nil}
 use Rattle.lab_forms_texts.specs.Faults.{NameFaultFits, memory_entry, name_fault_entry}
 use Rattle.lab_forms_texts.specs.Names.{is_lab_code}
-use Rattle.lab_forms_texts.specs.declared.faults.NameFault.{NameFault}
-use Rattle.lab_forms_texts.specs.declared.faults.NameFault.TheVariants.{BadName, Memory as NoMemory}
+use Rattle.lab_forms_texts.specs.declared.faults.BadName.{BadName}
+use Rattle.lab_forms_texts.specs.declared.refusals.Fault.{Fault}
+use Rattle.lab_forms_texts.specs.declared.refusals.Fault.TheVariants.{Refused, Memory as NoMemory}
 use Rattle.lab_wire_heads.specs.declared.sending.WriteFault.{WriteFault as Untold}
-use Rattle.lab_records_kept.specs.declared.labs.Lab.{Lab}
-use Rattle.lab_records_kept.specs.Worlds.{World}
+use Rattle.lab_records_kept.specs.declared.keeper.Keeper.{Ghosts as KeeperOf}
+use Rattle.lab_program_outside.specs.TaskEnds.{TaskEnd}
 use Rattle.lab_program_serve.specs.RehearseTask.{FoundsBy, IsRehearsal}
 use Rattle.lab_program_outside.specs.declared.faults.RehearsalFault.TheVariants.{Server as RehearsalServer}
 use Rattle.lab_program_outside.specs.declared.faults.ServerFault.TheVariants.{Memory as ServerMemory}
 use Rattle.lab_program_shelves.specs.Faults.{Declines as DeclinesTask, unopened_fault}
-use Rattle.lab_program_files.specs.Copying.{IsCopying}
-use Rattle.lab_program_files.specs.Foundings.{Drawing, IsFounding}
+use Rattle.lab_program_files.specs.Copying.{CopyTask, IsCopying}
+use Rattle.lab_program_files.specs.Foundings.{FoundTask, IsFounding}
 use Rattle.lab_program_app.specs.Explaining.{Stopped}
 use Rattle.lab_program.specs.Laboratories.{Declines, OfCode, OfCodeIf}
+
+-- a task's end, seen so
+abbrev pub seen : (before after told_before told_after : Option (List ℕ)) → Result ℕ Untold → TaskEnd
+seen before after told_before told_after status = record {
+  before = before;
+  after = after;
+  told_before = told_before;
+  told_after = told_after;
+  status = status;
+}
 
 -- ---- of a code
 
@@ -28,31 +39,32 @@ module _ (before after told_before told_after : Option (List ℕ)) (status : Res
   IsUnbegun = Keeps before after × Stopped memory_entry.word told_before told_after status
 
   module _ (Done : Type 0) (unbegun : IsUnbegun → Done) where
-    refused : (admitted : Bool) (fault : NameFault) → NameFaultFits admitted fault
-        → Declines (name_fault_entry fault).word before after told_before told_after status
-        → OfCodeIf before after told_before told_after status Done admitted
-    refused true BadName fits declines = absurd (cc)
-    refused true (NoMemory missing) fits declines = unbegun declines
+    refused : (admitted : Bool) (fault : Fault BadName) → NameFaultFits admitted fault
+        → Declines (name_fault_entry fault).word (seen before after told_before told_after status)
+        → OfCodeIf (seen before after told_before told_after status) Done admitted
+    refused true (Refused _) fits declines = absurd (cc)
+    refused true NoMemory fits declines = unbegun declines
     refused false fault fits declines = (fault, declines)
 
     -- a text that was refused as a code
-    pub declined : (lab : List ℕ) (fault : NameFault) → NameFaultFits (is_lab_code lab) fault
-        → Declines (name_fault_entry fault).word before after told_before told_after status
-        → OfCode before after told_before told_after status Done lab
+    pub declined : (lab : List ℕ) (fault : Fault BadName) → NameFaultFits (is_lab_code lab) fault
+        → Declines (name_fault_entry fault).word (seen before after told_before told_after status)
+        → OfCode (seen before after told_before told_after status) Done lab
     declined lab fault fits declines = refused (is_lab_code lab) fault fits declines
 
-    pub never_begun : (admitted : Bool) → IsUnbegun → OfCodeIf before after told_before told_after status Done admitted
+    pub never_begun : (admitted : Bool) → IsUnbegun
+        → OfCodeIf (seen before after told_before told_after status) Done admitted
     never_begun true told = unbegun told
-    never_begun false told = (NoMemory (record {}), told)
+    never_begun false told = (NoMemory, told)
 
   admitted_done : (Done : Type 0) (admitted : Bool) → admitted ≡ true → Done
-      → OfCodeIf before after told_before told_after status Done admitted
+      → OfCodeIf (seen before after told_before told_after status) Done admitted
   admitted_done Done true is done = done
   admitted_done Done false is done = absurd (cc)
 
   -- a text that is one
   pub done_of_code : (Done : Type 0) (lab : List ℕ) → is_lab_code lab ≡ true → Done
-      → OfCode before after told_before told_after status Done lab
+      → OfCode (seen before after told_before told_after status) Done lab
   done_of_code Done lab is done = admitted_done Done (is_lab_code lab) is done
 
 -- ---- each task, not begun
@@ -61,20 +73,20 @@ module _ (before after told_before told_after : Option (List ℕ)) (status : Res
   pub declines_task : IsUnbegun before after told_before told_after status → DeclinesTask unopened_fault status told_before told_after
   declines_task told = (told.1.0, inl told.1.1)
 
-  pub no_founding : {S : Type 0} (world : S → World) (places : S → S → Lab → Type 0) (drawing : Drawing) (opened : S → Type 0)
-      (code : List ℕ) (body : Option (List ℕ)) → IsUnbegun before after told_before told_after status
-      → IsFounding world places drawing opened code body before after told_before told_after status
-  no_founding world places drawing opened code body told = record {
+  pub no_founding : {S : Type 0} (keeper : KeeperOf S) (task : FoundTask) (opened : S → Type 0)
+      → IsUnbegun before after told_before told_after status
+      → IsFounding keeper task opened (seen before after told_before told_after status)
+  no_founding keeper task opened told = record {
     ending = Err unopened_fault;
     ends = tt;
     prints = told.0;
     told = declines_task told;
   }
 
-  pub no_copying : {S : Type 0} (world : S → World) (rests : S → S → Type 0) (opened : S → Type 0) (moments later : Option (List ℕ))
-      (code : List ℕ) (from to : ℕ) → IsUnbegun before after told_before told_after status
-      → IsCopying world rests opened moments later code from to before after told_before told_after status
-  no_copying world rests opened moments later code from to told = record {
+  pub no_copying : {S : Type 0} (keeper : KeeperOf S) (task : CopyTask) (opened : S → Type 0)
+      → IsUnbegun before after told_before told_after status
+      → IsCopying keeper task opened (seen before after told_before told_after status)
+  no_copying keeper task opened told = record {
     ending = Err unopened_fault;
     copies = told.0;
     told = declines_task told;
@@ -88,7 +100,7 @@ module _ (before after told_before told_after : Option (List ℕ)) (status : Res
   founds_none code (Some bytes) = tt
 
   pub no_rehearsal : (code : List ℕ) (body : Option (List ℕ)) → IsUnbegun before after told_before told_after status
-      → IsRehearsal body code before after told_before told_after status
+      → IsRehearsal body code (seen before after told_before told_after status)
   no_rehearsal code body told = record {
     ending = Err (RehearsalServer ServerMemory);
     founded = founds_none code body;

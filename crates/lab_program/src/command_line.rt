@@ -2,30 +2,27 @@
 
 ghost use Rattle.std.specs.Prelude.{map};
 ghost use Rattle.clap.specs.Words.{fault_of};
-ghost use Rattle.lab_program_files.specs.Foundings.{drawing_of};
+ghost use Rattle.lab_program_outside.specs.Sources.{drawing_of};
 ghost use Rattle.lab_program_app.specs.Apps.{labdesk_app};
 ghost use Rattle.lab_program.specs.CommandLine.{IsDone};
 ghost use Rattle.lab_program_app.specs.Explaining.{IsExplained};
 ghost use Rattle.lab_program_words.specs.Tasks.{Asked, Asks, IsTask};
 
-use crate::hosts::Host;
 use crate::laboratories::{copy_for, found_for, rehearse_for};
 use lab_program_app::explain;
 use lab_program_check::check;
 use lab_program_files::{Closing, Progress, Shelf, serve};
-use lab_program_outside::{Chance, Clock};
+use lab_program_outside::{Chance, Clock, Host};
 use lab_program_replay::replay;
 use lab_program_words::{Task, task_of};
 use lab_wire_heads::WriteFault;
 use sqlite::Connection;
-use std::alloc::Global;
 use std::convert::AsStr;
 use std::io::{Read, Write};
 use std::net::Net;
 
 // Does a task, and answers the status.
 fn do_task<N: Net, H: Shelf, C: Clock, X: Chance, P: Progress, R: Read + Drop, W: Write, E: Write>(
-    alloc: Global,
     host: &mut Host<'_, N, H, C, X, P>,
     task: Task<'_>,
     input: R,
@@ -36,35 +33,26 @@ where
     Connection<H::Disk>: Closing,
     ensures { (asked : Asked) → IsTask task.entry asked →
         IsDone H.Disk.Store (drawing_of (C.coming host.old.clock) (C.coming host.new.clock)
-        (X.coming host.old.chance) (X.coming host.new.chance)) asked (R.remaining input)
-        (W.contents output.old) (W.contents output.new)
-        (E.contents errors.old) (E.contents errors.new) result }
+        (X.coming host.old.chance) (X.coming host.new.chance)) asked (R.remaining input) (record {
+          before = W.contents output.old;
+          after = W.contents output.new;
+          told_before = E.contents errors.old;
+          told_after = E.contents errors.new;
+          status = result;
+        }) }
 {
     match task {
-        Task::Found { file, lab } => found_for(alloc, host, file, lab, input, output, errors),
-        Task::Serve { file, port, count } => serve(
-            host.net,
-            alloc,
-            &mut host.shelf,
-            file,
-            port,
-            count,
-            &mut host.clock,
-            &mut host.chance,
-            output,
-            errors,
-        ),
+        Task::Found { file, lab } => found_for(host, file, lab, input, output, errors),
+        Task::Serve { file, port, count } => serve(host, file, port, count, output, errors),
         Task::Copy {
             file,
             lab,
             from,
             to,
-        } => copy_for(alloc, host, file, lab, from, to, output, errors),
-        Task::Check => check(alloc, input, output, errors),
-        Task::Replay => replay(alloc, input, output, errors),
-        Task::Rehearse { lab, seconds } => {
-            rehearse_for(host.net, alloc, lab, seconds, input, output, errors)
-        }
+        } => copy_for(host, file, lab, from, to, output, errors),
+        Task::Check => check(host.alloc, input, output, errors),
+        Task::Replay => replay(host.alloc, input, output, errors),
+        Task::Rehearse { lab, seconds } => rehearse_for(host, lab, seconds, input, output, errors),
     }
 }
 
@@ -84,7 +72,6 @@ pub fn labdesk<
     W: Write,
     E: Write,
 >(
-    alloc: Global,
     host: &mut Host<'_, N, H, C, X, P>,
     words: &[S],
     input: R,
@@ -95,15 +82,19 @@ where
     Connection<H::Disk>: Closing,
     ensures done { (asked : Asked) → Asks asked (map S.text words.now) →
         IsDone H.Disk.Store (drawing_of (C.coming host.old.clock) (C.coming host.new.clock)
-        (X.coming host.old.chance) (X.coming host.new.chance)) asked (R.remaining input)
-        (W.contents output.old) (W.contents output.new)
-        (E.contents errors.old) (E.contents errors.new) result }
+        (X.coming host.old.chance) (X.coming host.new.chance)) asked (R.remaining input) (record {
+          before = W.contents output.old;
+          after = W.contents output.new;
+          told_before = E.contents errors.old;
+          told_after = E.contents errors.new;
+          status = result;
+        }) }
     ensures explained { IsExplained (fault_of labdesk_app (map S.text words.now))
         (W.contents output.old) (W.contents output.new)
         (E.contents errors.old) (E.contents errors.new) result }
 {
-    match task_of(alloc, words) {
-        Ok(task) => do_task(alloc, host, task, input, output, errors),
+    match task_of(host.alloc, words) {
+        Ok(task) => do_task(host, task, input, output, errors),
         Err(error) => explain(&error, output, errors),
     }
 }

@@ -4,18 +4,16 @@ ghost use Rattle.std.specs.Prelude.{◌≡◌, ℕ, pos, List, IsTrue, Err, nat_
 ghost use Rattle.lab_forms_texts.specs.Moment.{is_moment};
 ghost use Rattle.lab_forms_texts.specs.Ordinals.{is_ordinal};
 ghost use Rattle.lab_program_outside.specs.Faults.{Tells};
-ghost use Rattle.lab_program_files.specs.Foundings.{drawing_of};
+ghost use Rattle.lab_program_outside.specs.Sources.{drawing_of};
 ghost use Rattle.lab_program.specs.Laboratories.{IsCopied, IsCopiedIf, IsFounded, IsRehearsed, body_in};
 
-use crate::hosts::Host;
 use lab_forms_texts::{LabCode, Moment, Ordinal};
 use lab_program_app::explain_order;
 use lab_program_files::{Closing, Progress, Shelf, Trouble, copy, found};
-use lab_program_outside::{Chance, Clock, tell};
+use lab_program_outside::{Chance, Clock, Host, tell};
 use lab_program_serve::rehearse;
 use lab_wire_heads::WriteFault;
 use sqlite::Connection;
-use std::alloc::Global;
 use std::io::{Read, Write};
 use std::net::Net;
 
@@ -37,7 +35,6 @@ fn decline<E: Write>(errors: &mut E, word: &str) -> Result<u8, WriteFault>
 /// # Errors
 /// A fault could not be told whole, as standard error failed.
 pub fn found_for<N, H: Shelf, C: Clock, X: Chance, P, R: Read + Drop, W: Write, E: Write>(
-    alloc: Global,
     host: &mut Host<'_, N, H, C, X, P>,
     file: &str,
     lab: &str,
@@ -47,13 +44,20 @@ pub fn found_for<N, H: Shelf, C: Clock, X: Chance, P, R: Read + Drop, W: Write, 
 ) -> Result<u8, WriteFault>
 where
     Connection<H::Disk>: Closing,
-    ensures { IsFounded H.Disk.Store (W.contents output.old) (W.contents output.new)
-        (E.contents errors.old) (E.contents errors.new) result
-        (drawing_of (C.coming host.old.clock) (C.coming host.new.clock)
-        (X.coming host.old.chance) (X.coming host.new.chance)) lab.now
-        (body_in (R.remaining input)) }
+    ensures { IsFounded H.Disk.Store (record {
+      drawing = drawing_of (C.coming host.old.clock) (C.coming host.new.clock)
+          (X.coming host.old.chance) (X.coming host.new.chance);
+      code = lab.now;
+      body = body_in (R.remaining input);
+    }) (record {
+      before = W.contents output.old;
+      after = W.contents output.new;
+      told_before = E.contents errors.old;
+      told_after = E.contents errors.new;
+      status = result;
+    }) }
 {
-    let code = match LabCode::parse(alloc, lab) {
+    let code = match LabCode::parse(host.alloc, lab) {
         Ok(code) => code,
         Err(fault) => {
             let status = decline(errors, fault.word());
@@ -62,17 +66,7 @@ where
         }
     };
     let mut body = input.take(BODY_LIMIT);
-    found(
-        alloc,
-        &mut host.shelf,
-        file,
-        &code,
-        &mut host.clock,
-        &mut host.chance,
-        &mut body,
-        output,
-        errors,
-    )
+    found(host, file, &code, &mut body, output, errors)
 }
 
 // The number of a record. clap lets no other number through.
@@ -84,7 +78,6 @@ fn ordinal(number: u32) -> Ordinal
 
 // A copy of the records of a range, of the laboratory of this text.
 fn copy_range<N, H: Shelf, C: Clock, X, P: Progress, W: Write, E: Write>(
-    alloc: Global,
     host: &mut Host<'_, N, H, C, X, P>,
     file: &str,
     lab: &str,
@@ -95,11 +88,21 @@ fn copy_range<N, H: Shelf, C: Clock, X, P: Progress, W: Write, E: Write>(
 ) -> Result<u8, WriteFault>
 where
     Connection<H::Disk>: Closing,
-    ensures { IsCopied H.Disk.Store (W.contents output.old) (W.contents output.new)
-        (E.contents errors.old) (E.contents errors.new) result
-        (C.coming host.old.clock) (C.coming host.new.clock) lab.now from to }
+    ensures { IsCopied H.Disk.Store (record {
+      moments = C.coming host.old.clock;
+      later = C.coming host.new.clock;
+      code = lab.now;
+      from = from;
+      to = to;
+    }) (record {
+      before = W.contents output.old;
+      after = W.contents output.new;
+      told_before = E.contents errors.old;
+      told_after = E.contents errors.new;
+      status = result;
+    }) }
 {
-    let code = match LabCode::parse(alloc, lab) {
+    let code = match LabCode::parse(host.alloc, lab) {
         Ok(code) => code,
         Err(fault) => {
             let status = decline(errors, fault.word());
@@ -107,18 +110,7 @@ where
             return status;
         }
     };
-    copy(
-        alloc,
-        &mut host.shelf,
-        file,
-        &code,
-        from,
-        to,
-        &mut host.clock,
-        output,
-        errors,
-        &mut host.progress,
-    )
+    copy(host, file, &code, from, to, output, errors)
 }
 
 /// `labdesk copy`, of the records from a number to a number, of the laboratory of this text in the
@@ -127,7 +119,6 @@ where
 /// # Errors
 /// A fault could not be told whole, as standard error failed.
 pub fn copy_for<N, H: Shelf, C: Clock, X, P: Progress, W: Write, E: Write>(
-    alloc: Global,
     host: &mut Host<'_, N, H, C, X, P>,
     file: &str,
     lab: &str,
@@ -139,23 +130,24 @@ pub fn copy_for<N, H: Shelf, C: Clock, X, P: Progress, W: Write, E: Write>(
 where
     Connection<H::Disk>: Closing,
     ensures { IsTrue (is_ordinal from) → IsTrue (is_ordinal to) →
-        IsCopiedIf H.Disk.Store (W.contents output.old) (W.contents output.new)
-        (E.contents errors.old) (E.contents errors.new) result
-        (C.coming host.old.clock) (C.coming host.new.clock) lab.now from to (nat_le from to) }
+        IsCopiedIf H.Disk.Store (record {
+          moments = C.coming host.old.clock;
+          later = C.coming host.new.clock;
+          code = lab.now;
+          from = from;
+          to = to;
+        }) (nat_le from to) (record {
+          before = W.contents output.old;
+          after = W.contents output.new;
+          told_before = E.contents errors.old;
+          told_after = E.contents errors.new;
+          status = result;
+        }) }
 {
     if from > to {
-        return explain_order(alloc, output, errors);
+        return explain_order(host.alloc, output, errors);
     }
-    copy_range(
-        alloc,
-        host,
-        file,
-        lab,
-        ordinal(from),
-        ordinal(to),
-        output,
-        errors,
-    )
+    copy_range(host, file, lab, ordinal(from), ordinal(to), output, errors)
 }
 
 /// `labdesk rehearse`, of the laboratory of this text after so many seconds, its body being the
@@ -163,9 +155,8 @@ where
 ///
 /// # Errors
 /// A fault could not be told whole, as standard error failed.
-pub fn rehearse_for<N: Net, R: Read + Drop, W: Write, E: Write>(
-    net: &N,
-    alloc: Global,
+pub fn rehearse_for<N: Net, H, C, X, P, R: Read + Drop, W: Write, E: Write>(
+    host: &mut Host<'_, N, H, C, X, P>,
     lab: &str,
     seconds: i64,
     input: R,
@@ -173,18 +164,22 @@ pub fn rehearse_for<N: Net, R: Read + Drop, W: Write, E: Write>(
     errors: &mut E,
 ) -> Result<u8, WriteFault>
     ensures { (moment : ℕ) → IsTrue (is_moment moment) → seconds ≡ pos moment →
-        IsRehearsed (W.contents output.old) (W.contents output.new)
-        (E.contents errors.old) (E.contents errors.new) result lab.now
-        (body_in (R.remaining input)) }
+        IsRehearsed lab.now (body_in (R.remaining input)) (record {
+          before = W.contents output.old;
+          after = W.contents output.new;
+          told_before = E.contents errors.old;
+          told_after = E.contents errors.new;
+          status = result;
+        }) }
 {
     let moment = match Moment::from_seconds(seconds) {
         Ok(moment) => moment,
         Err(fault) => return decline(errors, fault.word()),
     };
-    let lab = match LabCode::parse(alloc, lab) {
+    let lab = match LabCode::parse(host.alloc, lab) {
         Ok(lab) => lab,
         Err(fault) => return decline(errors, fault.word()),
     };
     let mut body = input.take(BODY_LIMIT);
-    rehearse(net, alloc, &lab, moment, &mut body, output, errors)
+    rehearse(host, &lab, moment, &mut body, output, errors)
 }

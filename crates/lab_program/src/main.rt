@@ -3,12 +3,10 @@
 #![tactic(auto)]
 
 mod command_line;
-mod hosts;
 mod laboratories;
 
 use command_line::labdesk;
-use hosts::Host;
-use lab_program_files::{HostShelf, SystemChance, SystemClock, TerminalProgress};
+use lab_program_files::{Host, HostShelf, SystemChance, SystemClock, TerminalProgress};
 use std::io;
 use std::process::ExitCode;
 
@@ -19,6 +17,7 @@ fn main(rt: HostRuntime) -> io::Result<ExitCode> {
     let words: Vec<String> = std::env::args(&rt)?.collect(rt.alloc())?;
     let (mut output, mut errors) = (rt.stdout(), rt.stderr());
     let mut host = Host {
+        alloc: rt.alloc(),
         net: &rt,
         shelf: HostShelf::new(&rt),
         clock: SystemClock::new(&rt),
@@ -26,13 +25,6 @@ fn main(rt: HostRuntime) -> io::Result<ExitCode> {
         progress: TerminalProgress::new(&rt),
     };
     let input = rt.stdin();
-    let status = labdesk(
-        rt.alloc(),
-        &mut host,
-        &words,
-        input,
-        &mut output,
-        &mut errors,
-    );
+    let status = labdesk(&mut host, &words, input, &mut output, &mut errors);
     Ok(ExitCode::from(status.unwrap_or(UNTOLD)))
 }

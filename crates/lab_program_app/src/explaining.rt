@@ -65,7 +65,7 @@ fn order_fault(alloc: Global) -> Result<Error, AllocError>
     misordered(copy)
 }
 
-// The same, or that memory ran out.
+// The refusal of a range whose numbers are out of order, or that memory ran out.
 fn order_error(alloc: Global) -> Error
     ensures { HasKind (ValueValidation ∷ []) result }
 {

@@ -1,9 +1,10 @@
 -- Values from outside, computed on the definitions: small instances of what a founding printed and of a tick that was drawn.
-use Rattle.std.proofs.Common.{◌≡◌, codes, lit<, refl, ap, ℕ, List, [], ◌∷◌, true≢false, Some, Ok, Err}
+use Rattle.std.proofs.Common.{codes, lit<, refl, ap, ℕ, List, [], ◌∷◌, true≢false, Some, Ok, Err}
 use Rattle.std.specs.Str.{bytes_eq}
 use Rattle.lab_program_outside.specs.declared.faults.ServerFault.TheVariants.{Write, Memory, Read}
 use Rattle.lab_program_shelves.specs.declared.faults.TaskFault.TheVariants.{Server, File}
-use Rattle.lab_program_files.specs.Foundings.{Prints, IsDrawn, drawing_of}
+use Rattle.lab_program_outside.specs.Sources.{IsDrawn, drawing_of}
+use Rattle.lab_program_files.specs.Foundings.{Prints}
 use Rattle.lab_store_files.specs.declared.faults.FileFault.TheVariants.{NotADeskFile}
 use Rattle.lab_program_files.specs.Serving.{IsUnprepared}
 

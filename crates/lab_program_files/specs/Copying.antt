@@ -1,9 +1,10 @@
 -- The inspection copy of a laboratory of a file (21 CFR 11.10(b); docs/COPIES.md has its text).
 use Rattle.std.specs.Prelude.{◌≡◌, ℕ, List, [], ◌∷◌, Option, None, Result, Ok, Err, IfErr, IsSome}
 use Rattle.std.specs.Io.KnownBytes.{Keeps}
-use Rattle.lab_wire_heads.specs.declared.sending.WriteFault.{WriteFault as Untold}
-use Rattle.lab_records_kept.specs.Worlds.{World, Given}
+use Rattle.lab_records_kept.specs.declared.keeper.Keeper.{Ghosts}
+use Rattle.lab_records_kept.specs.Worlds.{Given}
 use Rattle.lab_program_outside.specs.Sources.{Gives}
+use Rattle.lab_program_outside.specs.TaskEnds.{TaskEnd}
 use Rattle.lab_program_outside.specs.declared.faults.ServerFault.TheVariants.{Read, Write, Memory}
 use Rattle.lab_copy_rows.specs.Outs.{Sends}
 use Rattle.lab_records_walks.specs.declared.faults.CopyOutFault.{CopyOutFault}
@@ -14,8 +15,18 @@ use Rattle.lab_program_shelves.specs.declared.faults.TaskFault.{TaskFault}
 use Rattle.lab_program_shelves.specs.declared.faults.TaskFault.TheVariants.{File, Founding, Copying, Server}
 use Rattle.lab_program_shelves.specs.Faults.{TellsTask}
 
-module _ {S : Type 0} (world : S → World) (rests : S → S → Type 0) (opened : S → Type 0)
-    (moments later : Option (List ℕ)) (code : List ℕ) (from to : ℕ)
+-- what the task `copy` is given
+pub record CopyTask : Type 0 where
+  -- the moments that the clock gives before it and after it, where they are known
+  pub moments : Option (List ℕ)
+  pub later : Option (List ℕ)
+  -- the laboratory
+  pub code : List ℕ
+  -- the numbers of its first and of its last record
+  pub from : ℕ
+  pub to : ℕ
+
+module _ {S : Type 0} (keeper : Ghosts S) (task : CopyTask) (opened : S → Type 0)
     (before after : Option (List ℕ)) where
   -- over a keeper that was opened, at the moment that the clock gave: the copy's text went out, or
   -- its first bytes where a fault came; and the rows are as they were
@@ -24,14 +35,18 @@ module _ {S : Type 0} (world : S → World) (rests : S → S → Type 0) (opened
     pub new : S
     pub begins : opened old
     pub moment : ℕ
-    pub given : Gives moments later (moment ∷ [])
-    pub text : CanWalk (world old) code → Given (world old) (world new)
-        (Sends before after (copy_text (desk_order from to moment) ((world old).meaning code))
+    pub given : Gives task.moments task.later (moment ∷ [])
+    pub text : CanWalk (keeper.world old) task.code →
+        Given (keeper.world old) (keeper.world new) (Sends before after
+        (copy_text (desk_order task.from task.to moment) ((keeper.world old).meaning task.code))
         ending)
     pub fault : IfErr ending (CopyFaultFits
-        (Given (world old) (world new) ((world old).meaning code ≡ None)) (world old).may_refuse
-        (Given (world old) (world new) (IsSome ((world old).meaning code))))
-    pub read : IsRead world rests old new
+        (Given (keeper.world old) (keeper.world new)
+        ((keeper.world old).meaning task.code ≡ None))
+        (keeper.world old).may_refuse
+        (Given (keeper.world old) (keeper.world new)
+        (IsSome ((keeper.world old).meaning task.code))))
+    pub read : IsRead keeper.world keeper.rests old new
 
   -- by how the task ended: where the file wasn't opened or the clock failed, nothing went out; and
   -- there is no other fault
@@ -44,9 +59,9 @@ module _ {S : Type 0} (world : S → World) (rests : S → S → Type 0) (opened
   CopiesBy (Err (Server Write)) = ⊥
   CopiesBy (Err (Server Memory)) = ⊥
 
-  -- the task `copy`, by its status and what was told
-  pub record IsCopying (told_before told_after : Option (List ℕ)) (status : Result ℕ Untold)
-      : Type 0 where
-    pub ending : Result (Unit {0}) TaskFault
-    pub copies : CopiesBy ending
-    pub told : TellsTask ending status told_before told_after
+-- the task `copy`, by its status and what was told
+pub record IsCopying {S : Type 0} (keeper : Ghosts S) (task : CopyTask) (opened : S → Type 0)
+    (end : TaskEnd) : Type 0 where
+  pub ending : Result (Unit {0}) TaskFault
+  pub copies : CopiesBy keeper task opened end.before end.after ending
+  pub told : TellsTask ending end.status end.told_before end.told_after

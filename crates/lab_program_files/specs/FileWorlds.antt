@@ -2,6 +2,7 @@
 -- as a keeper's (21 CFR 11.10(c); ISO/IEC 17025:2017, 7.11.3).
 use Rattle.std.specs.Prelude.{◌≡◌, ℕ, List}
 use Rattle.sqlite_trees.specs.declared.store.Store.{Ghosts}
+use Rattle.lab_records_kept.specs.declared.keeper.Keeper.{Ghosts as KeeperOf}
 use Rattle.sqlite.specs.Held.{Held, state}
 use Rattle.lab_records_kept.specs.declared.labs.Lab.{Lab}
 use Rattle.lab_records_kept.specs.declared.changes.Change.{Change}
@@ -28,3 +29,12 @@ module _ {S : Type 0} (disk : Ghosts S) where
   -- the rows are as they were but for a laboratory that is new
   abbrev pub file_places : Held S → Held S → Lab → Type 0
   file_places old new lab = PlacesLab lab (tables_of (state disk old)) (tables_of (state disk new))
+
+  -- the file as a keeper
+  abbrev pub file_keeper : KeeperOf (Held S)
+  file_keeper = record {
+    world = file_world;
+    rests = file_rests;
+    moves = file_moves;
+    places = file_places;
+  }

@@ -1,14 +1,14 @@
 -- Founding a laboratory over a keeper, and in a file: how it ended, what it made, and what was
 -- printed (ISO/IEC 17025:2017, 7.11.2; docs/FORMATS.md has the body and the line).
-use Rattle.std.specs.Prelude.{◌≡◌, ◌⊎◌, ◌<◌, ℕ, List, [], ◌∷◌, Option, Result, Ok, Err, IfSome, IsSome, length, take}
+use Rattle.std.specs.Prelude.{◌≡◌, ◌⊎◌, ◌<◌, ℕ, List, Option, Result, Ok, Err, IfSome, IsSome, length, take}
 use Rattle.std.specs.Io.KnownBytes.{Appends, Keeps}
 use Rattle.lab_forms_texts.specs.declared.tick.Tick.{Tick}
-use Rattle.lab_wire_heads.specs.declared.sending.WriteFault.{WriteFault as Untold}
-use Rattle.lab_records_kept.specs.declared.labs.Lab.{Lab}
-use Rattle.lab_records_kept.specs.Worlds.{World, Given, Leaves, IsDurable}
+use Rattle.lab_records_kept.specs.declared.keeper.Keeper.{Ghosts}
+use Rattle.lab_records_kept.specs.Worlds.{Given, Leaves, IsDurable}
 use Rattle.lab_desk_foundings.specs.Faults.{FoundFaultFits}
 use Rattle.lab_desk_foundings.specs.Foundings.{Founds, founded_line, founding_in}
-use Rattle.lab_program_outside.specs.Sources.{Gives}
+use Rattle.lab_program_outside.specs.Sources.{Drawing, IsDrawn}
+use Rattle.lab_program_outside.specs.TaskEnds.{TaskEnd}
 use Rattle.lab_program_outside.specs.declared.faults.ServerFault.TheVariants.{Read, Write, Memory}
 use Rattle.lab_program_shelves.specs.declared.faults.TaskFault.{TaskFault}
 use Rattle.lab_program_shelves.specs.declared.faults.TaskFault.TheVariants.{File, Founding, Copying, Server}
@@ -29,34 +29,25 @@ Prints line (Err (Server Write)) before after =
     (sent : ℕ) × (sent < length line) × Appends before after (take sent line)
 Prints line (Err (Server Memory)) before after = Keeps before after
 
--- ---- the tick
-
--- what a clock and a source of random words give before a task and after it, where that is known
-pub record Drawing : Type 0 where
-  pub moments : Option (List ℕ)
-  pub later : Option (List ℕ)
-  pub words : Option (List (List ℕ))
-  pub further : Option (List (List ℕ))
-
-abbrev pub drawing_of : Option (List ℕ) → Option (List ℕ) → Option (List (List ℕ)) →
-    Option (List (List ℕ)) → Drawing
-drawing_of moments later words further =
-    record { moments = moments; later = later; words = words; further = further }
-
--- the tick is of the moment and the words that they gave
-abbrev pub IsDrawn : Drawing → Tick → Type 0
-IsDrawn drawing tick = Gives drawing.moments drawing.later (tick.moment ∷ [])
-    × Gives drawing.words drawing.further (tick.words ∷ [])
-
 -- ---- what was made
 
-module _ {S : Type 0} (world : S → World) (places : S → S → Lab → Type 0) (drawing : Drawing) where
-  module _ (code : List ℕ) (body : List ℕ) (old new : S) where
+-- what the task `found` is given
+pub record FoundTask : Type 0 where
+  -- what the clock and the source of random words give, of which its tick is
+  pub drawing : Drawing
+  -- the laboratory
+  pub code : List ℕ
+  -- the body, where it is known
+  pub body : Option (List ℕ)
+
+module _ {S : Type 0} (keeper : Ghosts S) (task : FoundTask) where
+  module _ (bytes : List ℕ) (old new : S) where
     -- at the tick that was drawn the laboratory was founded from the body, and its rows last
     abbrev pub IsFounded : Type 0
-    IsFounded = (tick : Tick) × IsDrawn drawing tick
-        × Founds (world old) (world new) (places old new) code tick (founding_in body)
-        × IsDurable (world new)
+    IsFounded = (tick : Tick) × IsDrawn task.drawing tick
+        × Founds (keeper.world old) (keeper.world new) (keeper.places old new) task.code tick
+        (founding_in bytes)
+        × IsDurable (keeper.world new)
 
     -- by how it ended: where the output failed the laboratory is founded all the same; a refusal is
     -- the founding's, at the tick, and every laboratory means what it meant; where body, clock or
@@ -64,42 +55,40 @@ module _ {S : Type 0} (world : S → World) (places : S → S → Lab → Type 0
     abbrev pub EndsFounding : Result (Unit {0}) TaskFault → Type 0
     EndsFounding (Ok _) = IsFounded
     EndsFounding (Err (File fault)) = ⊥
-    EndsFounding (Err (Founding fault)) = (tick : Tick) × IsDrawn drawing tick
-        × FoundFaultFits (world old).may_refuse
-        (Given (world old) (world new) (IsSome ((world old).meaning code))) code tick
-        (founding_in body) fault
-        × Leaves (world old) (world new)
+    EndsFounding (Err (Founding fault)) = (tick : Tick) × IsDrawn task.drawing tick
+        × FoundFaultFits (keeper.world old).may_refuse
+        (Given (keeper.world old) (keeper.world new)
+        (IsSome ((keeper.world old).meaning task.code))) task.code tick
+        (founding_in bytes) fault
+        × Leaves (keeper.world old) (keeper.world new)
     EndsFounding (Err (Copying fault)) = ⊥
     EndsFounding (Err (Server Read)) = new ≡ old
     EndsFounding (Err (Server Write)) = IsFounded
     EndsFounding (Err (Server Memory)) = new ≡ old
 
-  -- the same of a body that is known in part or whole
-  abbrev pub Ends : List ℕ → Option (List ℕ) → S → S → Result (Unit {0}) TaskFault → Type 0
-  Ends code body old new ending = Given (world old) (world new)
-      (IfSome body (λ bytes. EndsFounding code bytes old new ending))
+  -- how a founding ends, where its body is known
+  abbrev pub Ends : S → S → Result (Unit {0}) TaskFault → Type 0
+  Ends old new ending = Given (keeper.world old) (keeper.world new)
+      (IfSome task.body (λ bytes. EndsFounding bytes old new ending))
 
   module _ (opened : S → Type 0) where
-    -- so it was over a keeper that was opened
-    abbrev pub EndsOver : List ℕ → Option (List ℕ) → Result (Unit {0}) TaskFault → Type 0
-    EndsOver code body ending =
-        (old : S) × (new : S) × opened old × Ends code body old new ending
+    -- the founding ended so over a keeper that was opened
+    abbrev pub EndsOver : Result (Unit {0}) TaskFault → Type 0
+    EndsOver ending = (old : S) × (new : S) × opened old × Ends old new ending
 
     -- over the keeper of a file, where one was opened: it may not be where the fault is the file's
     -- or that of the source of random words
-    abbrev pub EndsInFile : List ℕ → Option (List ℕ) → Result (Unit {0}) TaskFault → Type 0
-    EndsInFile code body (Ok done) = EndsOver code body (Ok done)
-    EndsInFile code body (Err (File fault)) = Unit {0}
-    EndsInFile code body (Err (Founding fault)) = EndsOver code body (Err (Founding fault))
-    EndsInFile code body (Err (Copying fault)) = EndsOver code body (Err (Copying fault))
-    EndsInFile code body (Err (Server fault)) =
-        IsUnopened (Server fault) ⊎ EndsOver code body (Err (Server fault))
+    abbrev pub EndsInFile : Result (Unit {0}) TaskFault → Type 0
+    EndsInFile (Ok done) = EndsOver (Ok done)
+    EndsInFile (Err (File fault)) = Unit {0}
+    EndsInFile (Err (Founding fault)) = EndsOver (Err (Founding fault))
+    EndsInFile (Err (Copying fault)) = EndsOver (Err (Copying fault))
+    EndsInFile (Err (Server fault)) =
+        IsUnopened (Server fault) ⊎ EndsOver (Err (Server fault))
 
     -- the task `found`, by its status, what was printed and what was told
-    pub record IsFounding (code : List ℕ) (body : Option (List ℕ))
-        (before after told_before told_after : Option (List ℕ)) (status : Result ℕ Untold)
-        : Type 0 where
+    pub record IsFounding (end : TaskEnd) : Type 0 where
       pub ending : Result (Unit {0}) TaskFault
-      pub ends : EndsInFile code body ending
-      pub prints : Prints (founded_line code) ending before after
-      pub told : TellsTask ending status told_before told_after
+      pub ends : EndsInFile ending
+      pub prints : Prints (founded_line task.code) ending end.before end.after
+      pub told : TellsTask ending end.status end.told_before end.told_after

@@ -1,11 +1,10 @@
 -- Serving the laboratories of a file.
-use Rattle.std.specs.Prelude.{◌⊎◌, ℕ, List, Option, Result}
+use Rattle.std.specs.Prelude.{◌⊎◌, ℕ}
 use Rattle.std.specs.Io.KnownBytes.{Keeps}
-use Rattle.lab_wire_heads.specs.declared.sending.WriteFault.{WriteFault as Untold}
-use Rattle.lab_records_kept.specs.declared.changes.Change.{Change}
-use Rattle.lab_records_kept.specs.Worlds.{World, Given}
-use Rattle.lab_desk_runs.specs.Keeping.{AreWithin, StaysOn}
+use Rattle.lab_records_kept.specs.declared.keeper.Keeper.{Ghosts}
+use Rattle.lab_desk_runs.specs.Keeping.{GivenWithin, StaysOn}
 use Rattle.lab_program_serve.specs.ServeTask.{IsServing}
+use Rattle.lab_program_outside.specs.TaskEnds.{TaskEnd}
 use Rattle.lab_program_outside.specs.declared.faults.ServerFault.TheVariants.{Read, Write, Memory}
 use Rattle.lab_program_shelves.specs.declared.faults.TaskFault.{TaskFault}
 use Rattle.lab_program_shelves.specs.declared.faults.TaskFault.TheVariants.{File, Founding, Copying, Server}
@@ -21,20 +20,18 @@ IsUnprepared (Server Read) = Unit {0}
 IsUnprepared (Server Write) = ⊥
 IsUnprepared (Server Memory) = Unit {0}
 
-module _ {S : Type 0} (world : S → World) (rests : S → S → Type 0)
-    (moves : S → S → List ℕ → List Change → Type 0) (opened : S → Type 0) (count : ℕ)
-    (before after told_before told_after : Option (List ℕ)) (status : Result ℕ Untold) where
+module _ {S : Type 0} (keeper : Ghosts S) (count : ℕ) (opened : S → Type 0) (end : TaskEnd) where
   -- over the keeper of a file that was opened so many connections were served, unless a fault came,
   -- which was told; each laboratory stays within its limits and has all that was recorded
   abbrev pub Serves : Type 0
-  Serves = (old : S) × (new : S) × opened old
-      × IsServing world rests moves old new count before after told_before told_after status
-      × (AreWithin (world old) → Given (world old) (world new) (StaysOn (world old) (world new)))
+  Serves = (old : S) × (new : S) × opened old × IsServing keeper old new count end
+      × GivenWithin (keeper.world old) (keeper.world new)
+      (StaysOn (keeper.world old) (keeper.world new))
 
   -- nothing was served, and why was told: the file wasn't opened, or no port listened at
   abbrev pub DeclinesToServe : Type 0
-  DeclinesToServe = (fault : TaskFault) × IsUnprepared fault × Keeps before after
-      × Declines fault status told_before told_after
+  DeclinesToServe = (fault : TaskFault) × IsUnprepared fault × Keeps end.before end.after
+      × Declines fault end.status end.told_before end.told_after
 
   abbrev pub ServesFile : Type 0
   ServesFile = Serves ⊎ DeclinesToServe

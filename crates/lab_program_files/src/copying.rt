@@ -1,43 +1,44 @@
 //! `labdesk copy`: the inspection copy of a laboratory of a file.
 
 ghost use Rattle.lab_program_files.specs.Copying.{CopiesBy, IsCopying};
-ghost use Rattle.lab_program_files.specs.FileWorlds.{file_rests, file_world};
+ghost use Rattle.lab_program_files.specs.FileWorlds.{file_keeper};
 ghost use Rattle.lab_program_shelves.specs.Files.{IsOurs};
 
 use crate::leaving::leave;
 use lab_forms_texts::{LabCode, Moment, Ordinal};
-use lab_program_outside::Clock;
+use lab_program_outside::{Clock, Host};
 use lab_program_shelves::{Closing, Shelf, TaskFault, Trouble, decline, open_file};
 use lab_records_walks::{Progress, copy_out};
 use lab_store::{OneVersionAtATime, Store};
 use lab_wire_heads::WriteFault;
 use sqlite::Connection;
-use std::alloc::Global;
 use std::io::Write;
 
-/// Copies the records of a laboratory of the file at the path, as of a moment of the clock.
-fn copy_file<H: Shelf, C: Clock, W: Write, P: Progress>(
-    alloc: Global,
-    shelf: &mut H,
+// Copies the records of a laboratory of the file at the path, as of a moment of the clock.
+fn copy_file<N, H: Shelf, C: Clock, X, P: Progress, W: Write>(
+    host: &mut Host<'_, N, H, C, X, P>,
     path: &str,
     lab: &LabCode,
     from: Ordinal,
     to: Ordinal,
-    clock: &mut C,
     output: &mut W,
-    progress: &mut P,
 ) -> Result<(), TaskFault>
 where
     Connection<H::Disk>: Closing,
-    ensures { CopiesBy (file_world H.Disk.Store) (file_rests H.Disk.Store)
-        (IsOurs H.Disk.Store) (C.coming clock.old) (C.coming clock.new) lab.now from to
+    ensures { CopiesBy (file_keeper H.Disk.Store) (record {
+      moments = C.coming host.old.clock;
+      later = C.coming host.new.clock;
+      code = lab.now;
+      from = from;
+      to = to;
+    }) (IsOurs H.Disk.Store)
         (W.contents output.old) (W.contents output.new) result }
 {
-    let conn = open_file(alloc, shelf, path)?;
-    let moment: Moment = clock.moment()?;
-    let mut store = Store::new(alloc, conn);
+    let conn = open_file(host.alloc, &mut host.shelf, path)?;
+    let moment: Moment = host.clock.moment()?;
+    let mut store = Store::new(host.alloc, conn);
     let copied = copy_out(
-        alloc,
+        host.alloc,
         &mut store,
         &OneVersionAtATime,
         lab,
@@ -45,7 +46,7 @@ where
         to,
         moment,
         output,
-        progress,
+        &mut host.progress,
     );
     leave(store);
     match copied {
@@ -61,30 +62,36 @@ where
 ///
 /// # Errors
 /// It stopped, and standard error failed before the whole line was told.
-pub fn copy<H: Shelf, C: Clock, W: Write, E: Write, P: Progress>(
-    alloc: Global,
-    shelf: &mut H,
+pub fn copy<N, H: Shelf, C: Clock, X, P: Progress, W: Write, E: Write>(
+    host: &mut Host<'_, N, H, C, X, P>,
     path: &str,
     lab: &LabCode,
     from: Ordinal,
     to: Ordinal,
-    clock: &mut C,
     output: &mut W,
     errors: &mut E,
-    progress: &mut P,
 ) -> Result<u8, WriteFault>
 where
     Connection<H::Disk>: Closing,
-    ensures { IsCopying (file_world H.Disk.Store) (file_rests H.Disk.Store)
-        (IsOurs H.Disk.Store) (C.coming clock.old) (C.coming clock.new) lab.now from to
-        (W.contents output.old) (W.contents output.new)
-        (E.contents errors.old) (E.contents errors.new) result }
+    ensures { IsCopying (file_keeper H.Disk.Store) (record {
+      moments = C.coming host.old.clock;
+      later = C.coming host.new.clock;
+      code = lab.now;
+      from = from;
+      to = to;
+    }) (IsOurs H.Disk.Store) (record {
+      before = W.contents output.old;
+      after = W.contents output.new;
+      told_before = E.contents errors.old;
+      told_after = E.contents errors.new;
+      status = result;
+    }) }
 {
-    match copy_file(alloc, shelf, path, lab, from, to, clock, output, progress) {
+    match copy_file(host, path, lab, from, to, output) {
         Ok(()) => Ok(0),
         Err(fault) => {
-            let status = decline(alloc, errors, fault);
-            shelf.advise(Trouble::OverFile { path, fault });
+            let status = decline(host.alloc, errors, fault);
+            host.shelf.advise(Trouble::OverFile { path, fault });
             status
         }
     }

@@ -1,6 +1,5 @@
 //! The tasks over a file of laboratories: to found one in it, to serve them, to copy the records of one. And what the tasks
-//! share: what the file's tables mean as a keeper's, and how it is closed; and, by one name, the files, clock and chance that
-//! are handed to them.
+//! share: what the file's tables mean as a keeper's, and how it is closed; and what is handed to them (`Host`).
 #![tactic(auto)]
 
 mod copying;
@@ -10,7 +9,7 @@ mod serving;
 
 pub use copying::copy;
 pub use founding::{found, found_over};
-pub use lab_program_outside::{Chance, Clock};
+pub use lab_program_outside::{Chance, Clock, Host};
 pub use lab_program_shelves::{
     Closing, HostShelf, Progress, Shelf, SystemChance, SystemClock, TaskFault, TerminalProgress,
     Trouble, Unheard,

@@ -34,7 +34,7 @@ IsReaderFault Read = Unit {0}
 IsReaderFault Write = ⊥
 IsReaderFault Memory = Unit {0}
 
--- the same fault of the one request of a rehearsal
+-- the fault of the program, by the fault of the one request of a rehearsal
 abbrev pub fault_of_connection : ConnectionFault → ServerFault
 fault_of_connection (Serving Unread) = Read
 fault_of_connection (Serving (Interim sent)) = Write

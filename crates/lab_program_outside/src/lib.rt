@@ -4,11 +4,13 @@
 #![tactic(auto)]
 
 mod faults;
+mod hosts;
 mod outside;
 mod reading;
 mod told;
 
 pub use faults::{ConnectionFault, ListenFault, RehearsalFault, ServerFault};
+pub use hosts::Host;
 pub use lab_desk_foundings::{FoundFault, ServeFault};
 pub use lab_forms_texts::{Moment, Tick};
 pub use lab_wire_heads::WriteFault;

@@ -10,7 +10,7 @@ use std::io::Write;
 /// What stands before the word.
 const BEFORE: &str = "labdesk: ";
 
-/// Writes a text after so many bytes. After a fault it tells how many went out of both.
+// Writes a text after so many bytes. After a fault it tells how many went out of both.
 fn tell_after<E: Write>(errors: &mut E, sent: usize, text: &str) -> Result<(), WriteFault>
     requires { sent + length text.now < 2 ^ 64 }
     ensures whole { OnOk result (Appends (E.contents errors.old) (E.contents errors.new) text.now) }

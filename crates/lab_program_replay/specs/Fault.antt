@@ -5,8 +5,9 @@ use Rattle.lab_desk_foundings.specs.declared.run_faults.RunFault.TheVariants.{Me
 use Rattle.lab_records_kept.specs.Faults.{storage_entry}
 use Rattle.lab_wire_heads.specs.Sending.{read_fault_word, write_fault_word}
 use Rattle.lab_forms_texts.specs.Faults.{memory_entry}
-use Rattle.lab_forms_texts.specs.declared.faults.NameFault.{NameFault}
-use Rattle.lab_forms_texts.specs.declared.faults.NameFault.TheVariants.{BadName, Memory as NoMemory}
+use Rattle.lab_forms_texts.specs.declared.faults.BadName.{BadName}
+use Rattle.lab_forms_texts.specs.declared.refusals.Fault.{Fault}
+use Rattle.lab_forms_texts.specs.declared.refusals.Fault.TheVariants.{Refused, Memory as NoMemory}
 use Rattle.lab_program_replay.specs.declared.fault.ReplayFault.{ReplayFault}
 use Rattle.lab_program_replay.specs.declared.fault.ReplayFault.TheVariants.{BadEvent, ReadFault, WriteFault, Storage, Memory}
 
@@ -23,9 +24,9 @@ abbrev pub fault_line : ReplayFault → List ℕ
 fault_line fault = codes "labdesk: " ++ fault_word fault ++ codes "\n"
 
 -- the fault of an event whose laboratory's code was refused
-abbrev pub fault_of_name : NameFault → ReplayFault
-fault_of_name BadName = BadEvent
-fault_of_name (NoMemory _) = Memory
+abbrev pub fault_of_name : Fault BadName → ReplayFault
+fault_of_name (Refused _) = BadEvent
+fault_of_name NoMemory = Memory
 
 -- the fault of a run that stopped
 abbrev pub fault_of_run : RunFault → ReplayFault

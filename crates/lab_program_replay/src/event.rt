@@ -38,7 +38,7 @@ struct Heading {
 impl Heading {
     ghost use Rattle.lab_program_replay.specs.Reading.{event_said};
 
-    /// The event, with its bytes.
+    // The event, with its bytes.
     fn event(self, bytes: Vec<u8>) -> Event
         ensures { event_said result
             ≡ record {
@@ -61,14 +61,14 @@ impl Heading {
     }
 }
 
-/// Where such a byte stands first.
+// Where such a byte stands first.
 fn place_of(text: &[u8], byte: u8) -> Option<usize>
     ensures { result ≡ position (λ b. b == byte) text.now }
 {
     text.iter().position(|b| *b == byte)
 }
 
-/// What stands before the first such byte, and what stands after it.
+// What stands before the first such byte, and what stands after it.
 fn cut(text: &[u8], byte: u8) -> Option<(&[u8], &[u8])>
     ensures { option_map (λ parts. (parts.0.now, parts.1.now)) result ≡ cut_at byte text.now }
 {
@@ -76,7 +76,7 @@ fn cut(text: &[u8], byte: u8) -> Option<(&[u8], &[u8])>
     Some((&text[..at], &text[at + 1..]))
 }
 
-/// The number that decimal digits write, if it is at most so much.
+// The number that decimal digits write, if it is at most so much.
 fn number(text: &[u8], most: u64) -> Option<u64>
     ensures value { result ≡ number_where (λ n. nat_le n most) text.now }
     ensures within { IfSome result (λ n. n ≤ most) }
@@ -94,7 +94,7 @@ fn number(text: &[u8], most: u64) -> Option<u64>
     (value <= most).then_some(value)
 }
 
-/// The moment so many seconds after 1970.
+// The moment so many seconds after 1970.
 fn moment(text: &[u8]) -> Option<Moment>
     ensures { result ≡ number_where is_moment text.now }
 {
@@ -102,7 +102,7 @@ fn moment(text: &[u8]) -> Option<Moment>
     Moment::from_seconds(seconds as i64).ok()
 }
 
-/// Eight words that follow one another.
+// Eight words that follow one another.
 fn words_from(first: u64) -> [u64; 8]
     requires { first ≤ 18446744073709551608 }
     ensures { result ≡ range_with_len first 8 }
@@ -119,7 +119,7 @@ fn words_from(first: u64) -> [u64; 8]
     ]
 }
 
-/// A laboratory's code.
+// A laboratory's code.
 fn lab(alloc: Global, text: &[u8]) -> Result<LabCode, ReplayFault>
     ensures { Gives (λ code. code) result (lab_code text.now) }
 {
@@ -129,7 +129,7 @@ fn lab(alloc: Global, text: &[u8]) -> Result<LabCode, ReplayFault>
     Ok(LabCode::parse(alloc, text)?)
 }
 
-/// The numbers at the end of a line.
+// The numbers at the end of a line.
 #[tactic(auto, unfolding(crate::specs::Event::numbered))]
 fn numbered(founded: Option<LabCode>, text: &[u8]) -> Option<Heading>
     ensures { option_map heading_said result ≡ numbered founded text.now }
@@ -147,7 +147,7 @@ fn numbered(founded: Option<LabCode>, text: &[u8]) -> Option<Heading>
     })
 }
 
-/// A founding's line, from the laboratory on.
+// A founding's line, from the laboratory on.
 #[tactic(auto, unfolding(crate::specs::Event::founding_of))]
 fn heading_of_founding(alloc: Global, text: &[u8]) -> Result<Heading, ReplayFault>
     ensures { Gives heading_said result (founding_of text.now) }
@@ -157,7 +157,7 @@ fn heading_of_founding(alloc: Global, text: &[u8]) -> Result<Heading, ReplayFaul
     numbered(Some(code), text).ok_or(ReplayFault::BadEvent)
 }
 
-/// What a line says, its line feed left off.
+// What a line says, its line feed left off.
 #[tactic(auto, unfolding(crate::specs::Event::heading_of))]
 fn heading_of_line(alloc: Global, line: &[u8]) -> Result<Heading, ReplayFault>
     ensures { Gives heading_said result (heading_of line.now) }
@@ -172,7 +172,7 @@ fn heading_of_line(alloc: Global, line: &[u8]) -> Result<Heading, ReplayFault>
     }
 }
 
-/// Reads until the buffer is full or the input ends, and gives how many bytes were read.
+// Reads until the buffer is full or the input ends, and gives how many bytes were read.
 fn fill<R: Read>(reader: &mut R, buffer: &mut [u8]) -> io::Result<usize>
     ensures within { IfOk result (λ n. n ≤ length buffer.new) }
     ensures taken { IfOk result
@@ -190,7 +190,7 @@ fn fill<R: Read>(reader: &mut R, buffer: &mut [u8]) -> io::Result<usize>
     Ok(filled)
 }
 
-/// So many bytes from the front of the input. Where there are fewer, that is no event.
+// So many bytes from the front of the input. Where there are fewer, that is no event.
 fn bytes<R: Read>(alloc: Global, reader: &mut R, count: usize) -> Result<Vec<u8>, ReplayFault>
     ensures taken { IfSome (R.remaining reader.old)
         (λ input. TakesBytes count input (R.remaining reader.new) result) }
@@ -204,7 +204,7 @@ fn bytes<R: Read>(alloc: Global, reader: &mut R, count: usize) -> Result<Vec<u8>
     Ok(bytes)
 }
 
-/// Takes the next byte from the input, and `None` at its end.
+// Takes the next byte from the input, and `None` at its end.
 fn byte<R: Read>(reader: &mut R) -> Result<Option<u8>, ReplayFault>
     ensures taken { IfSome (R.remaining reader.old)
         (λ input. TakesByte input (R.remaining reader.new) result) }
@@ -217,8 +217,8 @@ fn byte<R: Read>(reader: &mut R) -> Result<Option<u8>, ReplayFault>
     Ok(Some(byte[0]))
 }
 
-/// Takes the next line from the input, its line feed left off, and `None` at the input's end. What
-/// has no line feed within a line's length is no line, and no more of the input is taken.
+// Takes the next line from the input, its line feed left off, and `None` at the input's end. What
+// has no line feed within a line's length is no line, and no more of the input is taken.
 fn line<B: BufRead>(alloc: Global, reader: &mut B) -> Result<Option<Vec<u8>>, ReplayFault>
     ensures taken { IfSome (B.remaining reader.old)
         (λ input. TakesLine input (B.remaining reader.new) result) }
@@ -238,6 +238,9 @@ fn line<B: BufRead>(alloc: Global, reader: &mut B) -> Result<Option<Vec<u8>>, Re
 }
 
 /// Takes the next event from the input, and `None` at its end.
+///
+/// # Errors
+/// What comes next is no event, the input failed, or memory ran out.
 pub fn next_event<B: BufRead>(alloc: Global, reader: &mut B) -> Result<Option<Event>, ReplayFault>
     ensures taken { IfSome (B.remaining reader.old)
         (λ input. TakesNext (next_event input) (B.remaining reader.new) result) }

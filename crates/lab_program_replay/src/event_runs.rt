@@ -1,6 +1,5 @@
 //! The events of an input, run one after the other on a desk.
-ghost use Rattle.lab_records_kept.specs.Worlds.{Given};
-ghost use Rattle.lab_desk_runs.specs.Keeping.{AreWithin};
+ghost use Rattle.lab_desk_runs.specs.Keeping.{GivenWithin};
 ghost use Rattle.lab_program_replay.specs.Replay.{IsTold, Replays};
 
 use crate::event::next_event;
@@ -22,8 +21,7 @@ pub fn run_events<S: Keeper + Drop, B: BufRead, W: Write>(
     reader: &mut B,
     output: &mut W,
 ) -> Result<(), ReplayFault>
-    ensures replayed { AreWithin (S.world desk.old.keeper) →
-        Given (S.world desk.old.keeper) (S.world desk.new.keeper)
+    ensures replayed { GivenWithin (S.world desk.old.keeper) (S.world desk.new.keeper)
         (Replays (S.world desk.old.keeper) (S.world desk.new.keeper)
         (B.remaining reader.old) (W.contents output.old) (W.contents output.new) result) }
 {

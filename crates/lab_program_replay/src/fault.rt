@@ -72,8 +72,8 @@ impl From<NameFault> for ReplayFault {
 
     fn from(fault: NameFault) -> ReplayFault {
         match fault {
-            NameFault::BadName => ReplayFault::BadEvent,
-            NameFault::Memory(_) => ReplayFault::Memory,
+            NameFault::Refused(_) => ReplayFault::BadEvent,
+            NameFault::Memory => ReplayFault::Memory,
         }
     }
 }

@@ -17,7 +17,7 @@ use std::io::{BufReader, Read, Write};
 /// How often the input is asked for bytes before it counts as failed.
 const MOST_ASKS: u64 = 1_000_000_000_000;
 
-/// A store in memory, with no laboratory, or why there is none, as a replay tells it.
+// A store in memory, with no laboratory, or why there is none, as a replay tells it.
 fn new_store(alloc: Global) -> Result<Store<MemStore>, ReplayFault>
     ensures nobody { IfOk result (λ store. (code : List ℕ) →
         (store_world over_memory store).meaning code ≡ None) }
@@ -32,11 +32,10 @@ fn new_store(alloc: Global) -> Result<Store<MemStore>, ReplayFault>
     }
 }
 
-/// Runs the events of the input over no laboratories.
-///
-/// # Errors
-/// What comes next is no event, the input or the output failed, the store refused to be made, or
-/// memory ran out.
+// Runs the events of the input over no laboratories.
+//
+// Errors: What comes next is no event, the input or the output failed, the store refused to be made, or
+// memory ran out.
 fn run_input<R: Read + Drop, W: Write>(
     alloc: Global,
     input: R,

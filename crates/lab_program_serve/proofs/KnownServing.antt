@@ -24,9 +24,6 @@ known_printed = (
 )
 
 -- where no fault came, as many connections were served as were wanted
-pub known_counted : AreCounted {F = ServerFault} (Ok tt) 0 [] (Unit {0})
-    × (AreCounted {F = ServerFault} (Ok tt) 1 [] (Unit {0}) → ⊥)
-known_counted = (
-  (refl, tt),
-  λ counted. true≢false (ap (λ (number : ℕ). number == 0) counted.0),
-)
+pub known_counted : AreCounted {F = ServerFault} (Ok tt) 0 []
+    × (AreCounted {F = ServerFault} (Ok tt) 1 [] → ⊥)
+known_counted = (refl, λ counted. true≢false (ap (λ (number : ℕ). number == 0) counted))

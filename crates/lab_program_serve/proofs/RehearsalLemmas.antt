@@ -1,15 +1,13 @@
 -- A rehearsal: the laboratory that is founded in memory, and the one request of it.
-use Rattle.std.proofs.Common.{◌≡◌, ◌≢◌, ℕ, pos, List, [], ◌∷◌, ◌++◌, inl, inr, Option, Some, None, Result, Ok, Err, refl, sym, ap, subst, ◌∙◌, false, true}
+use Rattle.std.proofs.Common.{◌≡◌, ◌≢◌, ℕ, pos, List, [], ◌∷◌, ◌++◌, inr, Option, Some, None, Result, Ok, Err, refl, sym, ap, subst, ◌∙◌}
 use Rattle.std.specs.Prelude.{IfErr, IfSome, IsOk, IsSome, IsTrue, take}
-use Rattle.std.specs.Io.KnownBytes.{Appends, Keeps}
+use Rattle.std.specs.Io.KnownBytes.{Appends}
 use Rattle.std.proofs.KnownBytes.{Appends-nil}
 use Rattle.std.proofs.lemmas.Bool.{false≢true}
 use Rattle.lab_forms_texts.specs.declared.faults.MomentFault.{MomentFault}
 use Rattle.lab_forms_texts.specs.declared.tick.Tick.{Tick}
 use Rattle.lab_forms_texts.specs.Moment.{is_moment}
 use Rattle.lab_records_kept.specs.declared.labs.Lab.{Lab}
-use Rattle.lab_records_kept.specs.declared.changes.Change.{Change}
-use Rattle.lab_records_kept.specs.Worlds.{World}
 use Rattle.lab_records_kept.specs.declared.faults.PlacingFault.TheVariants.{LabExists, Storage, Memory}
 use Rattle.lab_records_machine.specs.Births.{newborn}
 use Rattle.lab_records_lists.specs.Lists.{lab_of, world_of}
@@ -106,7 +104,7 @@ printed_any text (Err _) before after whole = printed_all text before after whol
 
 -- one connection was served, whatever came later
 pub served_any : {F : Type 0} (tick : Tick) (ending : Result (Unit {0}) F) (visit : Visit) →
-    visit.tick ≡ tick → visit.ending ≡ Ok tt → IsServedAt tick ending (visit ∷ [])
+    visit.exchange.tick ≡ tick → visit.ending ≡ Ok tt → IsServedAt tick ending (visit ∷ [])
 served_any tick (Ok _) visit at whole = (visit, refl, at, whole)
 served_any tick (Err _) visit at whole = inr (visit, refl, at)
 

@@ -1,12 +1,11 @@
 -- One connection more: it is handled after the others.
 use Rattle.std.proofs.Common.{◌≡◌, ◌+◌, length, ℕ, List, [], ◌∷◌, ◌++◌, map, Option, Some, None, Ok, Err, refl, sym, ap, subst, ◌∙◌, append_assoc}
 use Rattle.std.proofs.lemmas.List.{length-append, map-append}
-use Rattle.lab_records_kept.specs.declared.changes.Change.{Change}
-use Rattle.lab_records_kept.specs.Worlds.{World}
+use Rattle.lab_records_kept.specs.declared.keeper.Keeper.{Ghosts}
 use Rattle.lab_desk_foundings.specs.declared.run_faults.ServeFault.TheVariants.{Read, Interim, Reply}
 use Rattle.lab_program_outside.specs.declared.faults.ConnectionFault.TheVariants.{Serving, Memory}
-use Rattle.lab_program_outside.specs.Sources.{Gives}
-use Rattle.lab_program_serve.specs.Visits.{AreGiven, AreVisits, Ending, IsVisit, OnUnserved, Visit}
+use Rattle.lab_program_outside.specs.Sources.{Gives, drawing_of}
+use Rattle.lab_program_serve.specs.Visits.{AreGiven, AreVisits, Ending, IsVisit, OnUnserved, Sources, Visit}
 
 -- ---- what sources give
 
@@ -36,8 +35,17 @@ gives_of part visits visit first next last before here =
 
 -- ---- connections
 
+abbrev pub sources_of : (coming left : Option (List (Option (List ℕ)))) →
+    (moments later : Option (List ℕ)) → (words further : Option (List (List ℕ))) → Sources
+sources_of coming left moments later words further = record {
+  coming = coming;
+  left = left;
+  drawing = drawing_of moments later words further;
+}
+
 pub given_none : (coming : Option (List (Option (List ℕ)))) (moments : Option (List ℕ))
-    (words : Option (List (List ℕ))) → AreGiven [] coming coming moments moments words words
+    (words : Option (List (List ℕ))) →
+    AreGiven [] (sources_of coming coming moments moments words words)
 given_none coming moments words = record {
   readers_are = gives_nothing coming;
   moments_are = gives_nothing moments;
@@ -47,29 +55,29 @@ given_none coming moments words = record {
 pub given_more : (visits : List Visit) (visit : Visit)
     (coming left last : Option (List (Option (List ℕ))))
     (moments later latest : Option (List ℕ)) (words further furthest : Option (List (List ℕ))) →
-    AreGiven visits coming left moments later words further →
-    Gives left last (visit.known ∷ []) → Gives later latest (visit.tick.moment ∷ []) →
-    Gives further furthest (visit.tick.words ∷ []) →
-    AreGiven (visits ++ visit ∷ []) coming last moments latest words furthest
+    AreGiven visits (sources_of coming left moments later words further) →
+    Gives left last (visit.exchange.known ∷ []) →
+    Gives later latest (visit.exchange.tick.moment ∷ []) →
+    Gives further furthest (visit.exchange.tick.words ∷ []) →
+    AreGiven (visits ++ visit ∷ []) (sources_of coming last moments latest words furthest)
 given_more visits visit coming left last moments later latest words further furthest given one two
     three = record {
-      readers_are = gives_of (λ (one : Visit). one.known) visits visit coming left last
+      readers_are = gives_of (λ (one : Visit). one.exchange.known) visits visit coming left last
           given.readers_are one;
-      moments_are = gives_of (λ (one : Visit). one.tick.moment) visits visit moments later latest
-          given.moments_are two;
-      words_are = gives_of (λ (one : Visit). one.tick.words) visits visit words further furthest
-          given.words_are three;
+      moments_are = gives_of (λ (one : Visit). one.exchange.tick.moment) visits visit moments later
+          latest given.moments_are two;
+      words_are = gives_of (λ (one : Visit). one.exchange.tick.words) visits visit words further
+          furthest given.words_are three;
     }
 
-pub visits_more : {S : Type 0} (world : S → World) (rests : S → S → Type 0)
-    (moves : S → S → List ℕ → List Change → Type 0) (old mid new : S) (visits : List Visit)
-    (visit : Visit) → AreVisits world rests moves old visits mid →
-    IsVisit world rests moves mid visit new →
-    AreVisits world rests moves old (visits ++ visit ∷ []) new
-visits_more world rests moves old mid new [] visit same one =
-    (new, subst (λ keeper. IsVisit world rests moves keeper visit new) same one, refl)
-visits_more world rests moves old mid new (first ∷ others) visit so one =
-    (so.0, so.1, visits_more world rests moves so.0 mid new others visit so.2 one)
+pub visits_more : {S : Type 0} (keeper : Ghosts S) (old mid new : S) (visits : List Visit)
+    (visit : Visit) → AreVisits keeper old visits mid →
+    IsVisit keeper mid visit new →
+    AreVisits keeper old (visits ++ visit ∷ []) new
+visits_more keeper old mid new [] visit same one =
+    (new, subst (λ kept. IsVisit keeper kept visit new) same one, refl)
+visits_more keeper old mid new (first ∷ others) visit so one =
+    (so.0, so.1, visits_more keeper so.0 mid new others visit so.2 one)
 
 -- a fact on a request that wasn't served, and what follows from it
 pub unserved : {P Q : Type 0} (ending : Ending) → (P → Q) → OnUnserved ending P →
@@ -81,40 +89,37 @@ unserved (Err (Serving (Reply sent))) follows fact = tt
 unserved (Err Memory) follows fact = follows fact
 
 -- so many connections were served so far, as the sources gave them
-pub record SoFar {S : Type 0} (world : S → World) (rests : S → S → Type 0)
-    (moves : S → S → List ℕ → List Change → Type 0) (served : ℕ) (old new : S)
-    (coming left : Option (List (Option (List ℕ)))) (moments later : Option (List ℕ))
-    (words further : Option (List (List ℕ))) : Type 0 where
+pub record SoFar {S : Type 0} (keeper : Ghosts S) (served : ℕ) (old new : S)
+    (sources : Sources) : Type 0 where
   pub visits : List Visit
-  pub are : AreVisits world rests moves old visits new
+  pub are : AreVisits keeper old visits new
   pub counted : length visits ≡ served
-  pub given : AreGiven visits coming left moments later words further
+  pub given : AreGiven visits sources
 
-pub so_far_none : {S : Type 0} (world : S → World) (rests : S → S → Type 0)
-    (moves : S → S → List ℕ → List Change → Type 0) (old : S)
+pub so_far_none : {S : Type 0} (keeper : Ghosts S) (old : S)
     (coming : Option (List (Option (List ℕ)))) (moments : Option (List ℕ))
     (words : Option (List (List ℕ))) →
-    SoFar world rests moves 0 old old coming coming moments moments words words
-so_far_none world rests moves old coming moments words = record {
+    SoFar keeper 0 old old (sources_of coming coming moments moments words words)
+so_far_none keeper old coming moments words = record {
   visits = [];
   are = refl;
   counted = refl;
   given = given_none coming moments words;
 }
 
-pub so_far_more : {S : Type 0} (world : S → World) (rests : S → S → Type 0)
-    (moves : S → S → List ℕ → List Change → Type 0) (served : ℕ) (old mid new : S)
+pub so_far_more : {S : Type 0} (keeper : Ghosts S) (served : ℕ) (old mid new : S)
     (coming left last : Option (List (Option (List ℕ))))
     (moments later latest : Option (List ℕ)) (words further furthest : Option (List (List ℕ)))
     (visit : Visit) →
-    SoFar world rests moves served old mid coming left moments later words further →
-    IsVisit world rests moves mid visit new → Gives left last (visit.known ∷ []) →
-    Gives later latest (visit.tick.moment ∷ []) → Gives further furthest (visit.tick.words ∷ []) →
-    SoFar world rests moves (served + 1) old new coming last moments latest words furthest
-so_far_more world rests moves served old mid new coming left last moments later latest words further
-    furthest visit so one first second third = record {
+    SoFar keeper served old mid (sources_of coming left moments later words further) →
+    IsVisit keeper mid visit new → Gives left last (visit.exchange.known ∷ []) →
+    Gives later latest (visit.exchange.tick.moment ∷ []) →
+    Gives further furthest (visit.exchange.tick.words ∷ []) →
+    SoFar keeper (served + 1) old new (sources_of coming last moments latest words furthest)
+so_far_more keeper served old mid new coming left last moments later latest words further furthest
+    visit so one first second third = record {
       visits = so.visits ++ visit ∷ [];
-      are = visits_more world rests moves old mid new so.visits visit so.are one;
+      are = visits_more keeper old mid new so.visits visit so.are one;
       counted = length-append so.visits (visit ∷ []) ∙ ap (λ count. count + 1) so.counted;
       given = given_more so.visits visit coming left last moments later latest words further
           furthest so.given first second third;

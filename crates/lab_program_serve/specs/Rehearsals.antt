@@ -1,12 +1,11 @@
 -- A rehearsal: a laboratory is founded in memory, at the first of all moments, and asked for its
 -- card (RFC 9112, section 2).
-use Rattle.std.specs.Prelude.{◌≡◌, ◌⊎◌, ◌++◌, ℕ, List, [], ◌∷◌, Option, Some, None, Result, Ok, Err, IfSome, codes, take}
+use Rattle.std.specs.Prelude.{◌≡◌, ◌⊎◌, ◌++◌, ℕ, List, [], ◌∷◌, Option, Result, Ok, Err, IfSome, codes, take}
 use Rattle.std.specs.Io.KnownBytes.{Appends}
 use Rattle.lab_forms_texts.specs.declared.tick.Tick.{Tick}
 use Rattle.lab_records_kept.specs.declared.labs.Lab.{Lab}
 use Rattle.lab_desk_foundings.specs.Faults.{FoundFaultFits}
 use Rattle.lab_desk_foundings.specs.Foundings.{IsNewborn, founding_in}
-use Rattle.lab_desk_foundings.specs.declared.faults.FoundFault.{FoundFault}
 use Rattle.lab_program_serve.specs.Visits.{Visit}
 use Rattle.lab_program_outside.specs.declared.faults.RehearsalFault.{RehearsalFault}
 use Rattle.lab_program_outside.specs.declared.faults.RehearsalFault.TheVariants.{Founding, Server}
@@ -48,7 +47,7 @@ Forwards known (Err _) before after =
 
 -- one connection was served, at this tick; where a fault came, one or none
 abbrev pub IsServedAt : {F : Type 0} → Tick → Result (Unit {0}) F → List Visit → Type 0
-IsServedAt tick (Ok _) visits = (visit : Visit) × (visits ≡ visit ∷ []) × (visit.tick ≡ tick)
+IsServedAt tick (Ok _) visits = (visit : Visit) × (visits ≡ visit ∷ []) × (visit.exchange.tick ≡ tick)
     × (visit.ending ≡ Ok tt)
 IsServedAt tick (Err _) visits = (visits ≡ []) ⊎ ((visit : Visit) × (visits ≡ visit ∷ [])
-    × (visit.tick ≡ tick))
+    × (visit.exchange.tick ≡ tick))

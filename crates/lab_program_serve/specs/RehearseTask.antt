@@ -1,12 +1,12 @@
 -- What the task `rehearse` comes to, by its status and what standard error was told.
 use Rattle.std.specs.Prelude.{◌≡◌, ℕ, List, [], Option, Result, Ok, Err, IfSome}
 use Rattle.std.specs.Io.KnownBytes.{Appends}
-use Rattle.lab_wire_heads.specs.declared.sending.WriteFault.{WriteFault as Untold}
 use Rattle.lab_records_kept.specs.declared.labs.Lab.{Lab}
 use Rattle.lab_desk_foundings.specs.Foundings.{IsNewborn, founding_in}
 use Rattle.lab_program_outside.specs.Faults.{Tells, rehearsal_fault_word}
 use Rattle.lab_program_outside.specs.declared.faults.RehearsalFault.{RehearsalFault}
 use Rattle.lab_program_outside.specs.declared.faults.RehearsalFault.TheVariants.{Founding, Server}
+use Rattle.lab_program_outside.specs.TaskEnds.{TaskEnd}
 use Rattle.lab_program_serve.specs.Rehearsals.{IsUnfounded, rehearsal_tick}
 
 -- the body bears a laboratory where a reply was printed, and a refusal is that of its founding
@@ -22,12 +22,11 @@ Prints (Err (Founding fault)) printed = printed ≡ []
 Prints (Err (Server fault)) printed = Unit {0}
 
 -- a laboratory was founded and asked for its card, unless a fault came, which was told
-pub record IsRehearsal (body : Option (List ℕ)) (code : List ℕ)
-    (before after told_before told_after : Option (List ℕ)) (status : Result ℕ Untold) :
-    Type 0 where
+pub record IsRehearsal (body : Option (List ℕ)) (code : List ℕ) (end : TaskEnd) : Type 0 where
   pub ending : Result (Unit {0}) RehearsalFault
   pub founded : IfSome body (λ bytes. FoundsBy code bytes ending)
   pub printed : List ℕ
   pub prints : Prints ending printed
-  pub wrote : Appends before after printed
-  pub told : Tells rehearsal_fault_word ending status told_before told_after
+  pub wrote : Appends end.before end.after printed
+  pub told : Tells rehearsal_fault_word ending end.status end.told_before
+      end.told_after

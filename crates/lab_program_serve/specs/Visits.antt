@@ -1,15 +1,13 @@
 -- What connections make of a desk: each is handled in its turn, over the keeper as the one before
 -- it left it, and nothing else is done.
-use Rattle.std.specs.Prelude.{◌≡◌, ◌++◌, ◌≤◌, ◌<◌, ℕ, List, [], ◌∷◌, Option, Some, None, Result, Ok, Err, length, map, take}
-use Rattle.std.specs.Io.KnownBytes.{Appends, Keeps}
-use Rattle.lab_forms_texts.specs.declared.tick.Tick.{Tick}
-use Rattle.lab_records_kept.specs.declared.changes.Change.{Change}
-use Rattle.lab_records_kept.specs.Worlds.{World}
-use Rattle.lab_desk_foundings.specs.declared.run_faults.ServeFault.{ServeFault}
-use Rattle.lab_desk.specs.Serving.{HandlesRequest, OnHandled, OnUnhandled, Writes}
+use Rattle.std.specs.Prelude.{◌≡◌, ◌≤◌, ℕ, List, [], ◌∷◌, Option, Result, Ok, Err, OnOk, length, map}
+use Rattle.std.specs.Io.KnownBytes.{Keeps}
+use Rattle.lab_records_kept.specs.declared.keeper.Keeper.{Ghosts}
+use Rattle.lab_desk_runs.specs.Keeping.{AreWithin}
+use Rattle.lab_desk.specs.Serving.{Exchange, HandlesRequest, OnHandled, OnUnhandled, Writes}
 use Rattle.lab_program_outside.specs.declared.faults.ConnectionFault.{ConnectionFault}
 use Rattle.lab_program_outside.specs.declared.faults.ConnectionFault.TheVariants.{Serving, Memory}
-use Rattle.lab_program_outside.specs.Sources.{Gives}
+use Rattle.lab_program_outside.specs.Sources.{Drawing, Gives}
 
 -- how serving a connection ended
 abbrev pub Ending : Type 0
@@ -35,20 +33,20 @@ Sends interim reply (Err (Serving fault)) before after =
     Writes interim reply (Err fault) before after
 Sends interim reply (Err Memory) before after = Keeps before after
 
--- a connection: what its client sends, where that is known; the tick that was drawn when it was
--- accepted; the reply; and how serving it ended
+-- a connection: what its client sends, where that is known, the tick that was drawn when it was
+-- accepted, and the reply; and how serving it ended
 pub record Visit : Type 0 where
-  pub known : Option (List ℕ)
-  pub tick : Tick
-  pub reply : List ℕ
+  pub exchange : Exchange
   pub ending : Ending
 
-module _ {S : Type 0} (world : S → World) (rests : S → S → Type 0)
-    (moves : S → S → List ℕ → List Change → Type 0) where
-  -- the request of one connection was handled, or the keeper is as it was
+module _ {S : Type 0} (keeper : Ghosts S) where
+  -- the request of one connection was handled, or the keeper is as it was; and what a call of the
+  -- desk asks was so: laboratories within their limits, an honest keeper, and well-kept tables
   pub record IsVisit (old : S) (visit : Visit) (new : S) : Type 0 where
-    pub handled : OnServed visit.ending (HandlesRequest visit.known (world old) (world new)
-        visit.tick (rests old new) (moves old new) visit.reply)
+    pub within : AreWithin (keeper.world old)
+    pub honest : (keeper.world new).is_honest
+    pub reached : (keeper.world old).is_reached
+    pub handled : OnServed visit.ending (HandlesRequest keeper old new visit.exchange)
     pub untouched : OnUnserved visit.ending (new ≡ old)
 
   -- so were those of connections, one after the other
@@ -57,23 +55,36 @@ module _ {S : Type 0} (world : S → World) (rests : S → S → Type 0)
   AreVisits old (visit ∷ visits) new =
       (next : S) × IsVisit old visit next × AreVisits next visits new
 
+-- what a listener, a clock and a source of random words give before serving and after it, where that
+-- is known: of a connection, what its client sends, where that is known
+pub record Sources : Type 0 where
+  pub coming : Option (List (Option (List ℕ)))
+  pub left : Option (List (Option (List ℕ)))
+  pub drawing : Drawing
+
 -- the visits are those of the connections, the moments and the words that the sources gave, in
 -- order
-pub record AreGiven (visits : List Visit) (coming left : Option (List (Option (List ℕ))))
-    (moments later : Option (List ℕ)) (words further : Option (List (List ℕ))) : Type 0 where
-  pub readers_are : Gives coming left (map (λ (visit : Visit). visit.known) visits)
-  pub moments_are : Gives moments later (map (λ (visit : Visit). visit.tick.moment) visits)
-  pub words_are : Gives words further (map (λ (visit : Visit). visit.tick.words) visits)
+pub record AreGiven (visits : List Visit) (sources : Sources) : Type 0 where
+  pub readers_are : Gives sources.coming sources.left (map (λ (visit : Visit). visit.exchange.known) visits)
+  pub moments_are : Gives sources.drawing.moments sources.drawing.later
+      (map (λ (visit : Visit). visit.exchange.tick.moment) visits)
+  pub words_are : Gives sources.drawing.words sources.drawing.further
+      (map (λ (visit : Visit). visit.exchange.tick.words) visits)
 
--- so many connections were wanted: where no fault came, as many were served, as the sources gave
--- them; and never more
-abbrev pub AreCounted : {F : Type 0} → Result (Unit {0}) F → ℕ → List Visit → Type 0 → Type 0
-AreCounted (Ok _) count visits given = (length visits ≡ count) × given
-AreCounted (Err _) count visits given = length visits ≤ count
+-- so many connections were wanted: where no fault came, as many were served; and never more
+abbrev pub AreCounted : {F : Type 0} → Result (Unit {0}) F → ℕ → List Visit → Type 0
+AreCounted (Ok _) count visits = length visits ≡ count
+AreCounted (Err _) count visits = length visits ≤ count
 
 -- so many connections were wanted, and this is how serving them ended
-abbrev pub ServesCount : {S F : Type 0} → (S → World) → (S → S → Type 0) →
-    (S → S → List ℕ → List Change → Type 0) → S → S → Result (Unit {0}) F → ℕ → Type 0
-ServesCount world rests moves old new ending count =
-    (visits : List Visit) × AreVisits world rests moves old visits new
-    × AreCounted ending count visits (Unit {0})
+pub record ServesCount {S F : Type 0} (keeper : Ghosts S) (old new : S)
+    (ending : Result (Unit {0}) F) (count : ℕ) : Type 0 where
+  pub visits : List Visit
+  pub are : AreVisits keeper old visits new
+  pub counted : AreCounted ending count visits
+
+-- and where no fault came, they were served as the sources gave them
+pub record ServesGiven {S F : Type 0} (keeper : Ghosts S) (old new : S)
+    (ending : Result (Unit {0}) F) (count : ℕ) (sources : Sources) : Type 0 where
+  pub serves : ServesCount keeper old new ending count
+  pub given : OnOk ending (AreGiven serves.visits sources)

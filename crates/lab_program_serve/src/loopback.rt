@@ -1,8 +1,8 @@
 //! Sockets: a listener of this machine, and what is served over it.
 
 ghost use Rattle.std.specs.Prelude.{◌≡◌, IfErr};
-ghost use Rattle.lab_records_kept.specs.Worlds.{Passes, Given};
-ghost use Rattle.lab_desk_runs.specs.Keeping.{AreWithin, StaysOn};
+ghost use Rattle.lab_records_kept.specs.Worlds.{Passes};
+ghost use Rattle.lab_desk_runs.specs.Keeping.{GivenWithin, StaysOn};
 ghost use Rattle.lab_program_serve.specs.ServeTask.{IsServing};
 ghost use Rattle.lab_program_serve.specs.Texts.{IsAnnounced};
 ghost use Rattle.lab_program_outside.specs.declared.faults.ServerFault.TheVariants.{Read as NoneListened};
@@ -11,9 +11,8 @@ ghost use Rattle.lab_program_serve.specs.Visits.{ServesCount};
 use crate::connections::{Connection, Connections};
 use crate::serving::serve_over;
 use lab_desk::{Desk, Keeper};
-use lab_program_outside::{Chance, Clock, ListenFault, ServerFault, tell};
+use lab_program_outside::{Chance, Clock, Host, ListenFault, ServerFault, tell};
 use lab_wire_heads::WriteFault;
-use std::alloc::Global;
 use std::io::{ErrorKind, Read, Write};
 use std::net::{
     Ipv4Addr, Net, OpenListener, OpenStream, SocketAddr, SocketAddrV4, TcpListener, TcpStream,
@@ -31,6 +30,9 @@ pub struct Listening<L> {
 
 impl<L: OpenListener + Drop> Listening<L> {
     /// The connections of a listener.
+    ///
+    /// # Errors
+    /// The port can't be listened at.
     pub fn new(listener: L) -> Result<Listening<L>, ListenFault> {
         match listener.local_addr() {
             Ok(address) => Ok(Listening {
@@ -41,7 +43,7 @@ impl<L: OpenListener + Drop> Listening<L> {
         }
     }
 
-    /// The next stream; none where its connection was lost.
+    // The next stream; none where its connection was lost.
     fn next_stream(&self) -> Result<Option<L::Stream>, ListenFault> {
         match self.listener.accept() {
             Ok((stream, _)) => Ok(Some(stream)),
@@ -55,8 +57,8 @@ impl<L: OpenListener + Drop> Listening<L>
 where
     L::Stream: Read + Write + OpenStream,
 {
-    /// Both ends of the next stream; none where its connection was lost, or where the system has no second handle of it,
-    /// with which that connection ends.
+    // Both ends of the next stream; none where its connection was lost, or where the system has no second handle of it,
+    // with which that connection ends.
     fn next_ends(&self) -> Result<Option<Connection<L::Stream, L::Stream>>, ListenFault> {
         match self.next_stream()? {
             Some(stream) => Ok(ends_of(stream).ok()),
@@ -96,7 +98,7 @@ where
     }
 }
 
-/// Both ends of a stream.
+// Both ends of a stream.
 fn ends_of<T: Read + Write + OpenStream + Drop>(
     reader: T,
 ) -> Result<Connection<T, T>, ListenFault> {
@@ -106,7 +108,7 @@ fn ends_of<T: Read + Write + OpenStream + Drop>(
     }
 }
 
-/// The address of a port of this machine.
+// The address of a port of this machine.
 fn loopback(port: u16) -> SocketAddr {
     SocketAddr::V4(SocketAddrV4::new(Ipv4Addr::LOCALHOST, port))
 }
@@ -138,29 +140,25 @@ pub fn connect<N: Net>(
     }
 }
 
-/// Serves so many connections of a listener.
-fn serve_listener<S: Keeper + Drop, L: OpenListener + Drop, C: Clock, X: Chance, W: Write>(
-    alloc: Global,
+// Serves so many connections of a listener.
+fn serve_listener<N, H, C: Clock, X: Chance, P, S: Keeper + Drop, L: OpenListener + Drop, W: Write>(
+    host: &mut Host<'_, N, H, C, X, P>,
     desk: &mut Desk<S>,
     listener: L,
-    clock: &mut C,
-    chance: &mut X,
     count: u32,
     output: &mut W,
 ) -> Result<(), ServerFault>
 where
     L::Stream: Read + Write + OpenStream,
     ensures printed { IsAnnounced result (W.contents output.old) (W.contents output.new) }
-    ensures served { AreWithin (S.world desk.old.keeper) →
-        Given (S.world desk.old.keeper) (S.world desk.new.keeper)
-        (ServesCount S.world S.rests S.moves desk.old.keeper desk.new.keeper result count) }
-    ensures stays { AreWithin (S.world desk.old.keeper) →
-        Given (S.world desk.old.keeper) (S.world desk.new.keeper)
+    ensures served { GivenWithin (S.world desk.old.keeper) (S.world desk.new.keeper)
+        (ServesCount S.Keeper desk.old.keeper desk.new.keeper result count) }
+    ensures stays { GivenWithin (S.world desk.old.keeper) (S.world desk.new.keeper)
         (StaysOn (S.world desk.old.keeper) (S.world desk.new.keeper)) }
     ensures passes { Passes (S.world desk.old.keeper) (S.world desk.new.keeper) }
 {
     let mut listening = Listening::new(listener)?;
-    serve_over(alloc, desk, &mut listening, clock, chance, count, output)
+    serve_over(host, desk, &mut listening, count, output)
 }
 
 /// `labdesk serve`: serves so many connections of a listener, as [`serve_over`] does, and tells on
@@ -169,27 +167,38 @@ where
 ///
 /// # Errors
 /// It stopped, and standard error failed before the whole line was told.
-pub fn serve<S: Keeper + Drop, L: OpenListener + Drop, C: Clock, X: Chance, W: Write, E: Write>(
-    alloc: Global,
+pub fn serve<
+    N,
+    H,
+    C: Clock,
+    X: Chance,
+    P,
+    S: Keeper + Drop,
+    L: OpenListener + Drop,
+    W: Write,
+    E: Write,
+>(
+    host: &mut Host<'_, N, H, C, X, P>,
     desk: &mut Desk<S>,
     listener: L,
-    clock: &mut C,
-    chance: &mut X,
     count: u32,
     output: &mut W,
     errors: &mut E,
 ) -> Result<u8, WriteFault>
 where
     L::Stream: Read + Write + OpenStream,
-    ensures serves { IsServing S.world S.rests S.moves desk.old.keeper desk.new.keeper count
-        (W.contents output.old) (W.contents output.new)
-        (E.contents errors.old) (E.contents errors.new) result }
-    ensures stays { AreWithin (S.world desk.old.keeper) →
-        Given (S.world desk.old.keeper) (S.world desk.new.keeper)
+    ensures serves { IsServing S.Keeper desk.old.keeper desk.new.keeper count (record {
+      before = W.contents output.old;
+      after = W.contents output.new;
+      told_before = E.contents errors.old;
+      told_after = E.contents errors.new;
+      status = result;
+    }) }
+    ensures stays { GivenWithin (S.world desk.old.keeper) (S.world desk.new.keeper)
         (StaysOn (S.world desk.old.keeper) (S.world desk.new.keeper)) }
     ensures passes { Passes (S.world desk.old.keeper) (S.world desk.new.keeper) }
 {
-    match serve_listener(alloc, desk, listener, clock, chance, count, output) {
+    match serve_listener(host, desk, listener, count, output) {
         Ok(()) => Ok(0),
         Err(fault) => {
             tell(errors, fault.word())?;

@@ -7,13 +7,13 @@ ghost use Rattle.lab_program_serve.specs.RehearseTask.{FoundsBy, IsRehearsal, Pr
 use crate::rehearsals::{found_in_memory, rehearse_over};
 use crate::{Connections, Desk, Keeper, Listening, connect, listen};
 use lab_forms_texts::{LabCode, Moment};
-use lab_program_outside::{RehearsalFault, ServerFault, tell};
+use lab_program_outside::{Host, RehearsalFault, ServerFault, tell};
 use lab_wire_heads::WriteFault;
 use std::alloc::Global;
 use std::io::{Read, Write};
 use std::net::Net;
 
-/// Asks a desk for the card of a laboratory over a socket of this machine, and prints what it gets.
+// Asks a desk for the card of a laboratory over a socket of this machine, and prints what it gets.
 fn rehearse_on<N: Net, S: Keeper + Drop, W: Write>(
     net: &N,
     alloc: Global,
@@ -39,7 +39,7 @@ fn rehearse_on<N: Net, S: Keeper + Drop, W: Write>(
     )
 }
 
-/// Founds a laboratory in memory, and asks for its card.
+// Founds a laboratory in memory, and asks for its card.
 fn found_and_ask<N: Net, B: Read, W: Write>(
     net: &N,
     alloc: Global,
@@ -63,20 +63,23 @@ fn found_and_ask<N: Net, B: Read, W: Write>(
 ///
 /// # Errors
 /// It failed, and standard error failed before the whole line was told.
-pub fn rehearse<N: Net, B: Read, W: Write, E: Write>(
-    net: &N,
-    alloc: Global,
+pub fn rehearse<N: Net, H, C, X, P, B: Read, W: Write, E: Write>(
+    host: &mut Host<'_, N, H, C, X, P>,
     lab: &LabCode,
     moment: Moment,
     body: &mut B,
     output: &mut W,
     errors: &mut E,
 ) -> Result<u8, WriteFault>
-    ensures { IsRehearsal (B.remaining body.old) lab.now
-        (W.contents output.old) (W.contents output.new)
-        (E.contents errors.old) (E.contents errors.new) result }
+    ensures { IsRehearsal (B.remaining body.old) lab.now (record {
+      before = W.contents output.old;
+      after = W.contents output.new;
+      told_before = E.contents errors.old;
+      told_after = E.contents errors.new;
+      status = result;
+    }) }
 {
-    match found_and_ask(net, alloc, lab, moment, body, output) {
+    match found_and_ask(host.net, host.alloc, lab, moment, body, output) {
         Ok(()) => Ok(0),
         Err(fault) => {
             tell(errors, fault.word())?;

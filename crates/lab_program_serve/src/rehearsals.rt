@@ -1,8 +1,8 @@
 //! A rehearsal: a laboratory is founded in memory, and asked for its card over a connection.
 
 ghost use Rattle.std.specs.Prelude.{◌≡◌, List, [], IfOk, IfErr, IfSome};
-ghost use Rattle.lab_records_kept.specs.Worlds.{Passes, Given};
-ghost use Rattle.lab_desk_runs.specs.Keeping.{AreWithin, StaysOn};
+ghost use Rattle.lab_records_kept.specs.Worlds.{Passes};
+ghost use Rattle.lab_desk_runs.specs.Keeping.{GivenWithin};
 ghost use Rattle.lab_program_serve.specs.Rehearsals.{Forwards, IsFounded, IsServedAt, IsUnfounded, card_request, rehearsal_tick};
 ghost use Rattle.lab_program_serve.specs.Texts.{IsPrinted};
 ghost use Rattle.lab_program_serve.specs.Visits.{AreVisits, Visit};
@@ -15,7 +15,7 @@ use lab_wire_heads::write_reply;
 use std::alloc::Global;
 use std::io::{Read, Write};
 
-/// The tick of a rehearsal at a moment.
+// The tick of a rehearsal at a moment.
 fn tick_at(moment: Moment) -> Tick
     ensures { result ≡ rehearsal_tick moment }
 {
@@ -26,6 +26,9 @@ fn tick_at(moment: Moment) -> Tick
 }
 
 /// The request of a rehearsal: it asks for the card of the laboratory of this code.
+///
+/// # Errors
+/// Memory ran out.
 pub fn request_bytes(alloc: Global, lab: &LabCode) -> Result<Vec<u8>, OutOfMemory>
     ensures { IfOk result (λ request. request.items ≡ card_request lab.now) }
 {
@@ -34,7 +37,7 @@ pub fn request_bytes(alloc: Global, lab: &LabCode) -> Result<Vec<u8>, OutOfMemor
     Ok(text.into_bytes())
 }
 
-/// The tick at which a rehearsal founds its laboratory: that of the first of all moments.
+// The tick at which a rehearsal founds its laboratory: that of the first of all moments.
 fn founding_tick() -> Tick
     ensures { result ≡ rehearsal_tick 0 }
 {
@@ -61,14 +64,14 @@ pub(crate) fn found_in_memory<B: Read>(
     Ok(desk)
 }
 
-/// A desk over memory alone, with no laboratory.
+// A desk over memory alone, with no laboratory.
 fn desk_in_memory(alloc: Global) -> Result<Desk<Lists>, ServerFault>
     ensures { IfOk result (λ desk. desk.keeper ≡ []) }
 {
     Ok(Desk::new(alloc, Lists::new(alloc))?)
 }
 
-/// Writes all that a reader gives.
+// Writes all that a reader gives.
 fn forward<R: Read, W: Write>(
     alloc: Global,
     reader: &mut R,
@@ -100,10 +103,9 @@ pub fn rehearse_over<S: Keeper + Drop, A: Read, B: Write, L: Connections, W: Wri
         (B.contents client.old.writer) (B.contents client.new.writer) }
     ensures printed { Forwards (A.remaining client.old.reader) result
         (W.contents output.old) (W.contents output.new) }
-    ensures served { AreWithin (S.world desk.old.keeper) →
-        Given (S.world desk.old.keeper) (S.world desk.new.keeper)
+    ensures served { GivenWithin (S.world desk.old.keeper) (S.world desk.new.keeper)
         ((visits : List Visit)
-        × AreVisits S.world S.rests S.moves desk.old.keeper visits desk.new.keeper
+        × AreVisits S.Keeper desk.old.keeper visits desk.new.keeper
         × IsServedAt (rehearsal_tick moment) result visits) }
     ensures passes { Passes (S.world desk.old.keeper) (S.world desk.new.keeper) }
 {

@@ -1,22 +1,23 @@
 //! Serving connections, one after the other, whatever they come from.
 
-ghost use Rattle.std.specs.Prelude.{◌≡◌, List, OnOk, IfSome};
+ghost use Rattle.std.specs.Prelude.{◌≡◌, OnOk, IfSome};
 ghost use Rattle.lab_wire_heads.specs.Interims.{interim_text};
-ghost use Rattle.lab_records_kept.specs.Worlds.{Passes, Given};
-ghost use Rattle.lab_desk_runs.specs.Keeping.{AreWithin, Stays, StaysOn};
+ghost use Rattle.lab_records_kept.specs.Worlds.{Passes};
+ghost use Rattle.lab_desk_runs.specs.Keeping.{GivenWithin, Stays, StaysOn};
 ghost use Rattle.lab_desk.specs.Serving.{HandlesRequest};
 ghost use Rattle.lab_program_serve.specs.Texts.{IsPrinted, listening_line};
-ghost use Rattle.lab_program_serve.specs.Visits.{AreCounted, AreGiven, AreVisits, OnServed, OnUnserved, Sends, Visit};
+ghost use Rattle.lab_program_outside.specs.Sources.{drawing_of};
+ghost use Rattle.lab_program_serve.specs.Visits.{OnServed, OnUnserved, Sends, ServesGiven};
 
 use crate::connections::{Connection, Connections};
 use lab_desk::{Desk, Keeper};
 use lab_forms_texts::Tick;
-use lab_program_outside::{Chance, Clock, ConnectionFault, ServerFault, draw};
+use lab_program_outside::{Chance, Clock, ConnectionFault, Host, ServerFault, draw};
 use lab_wire_heads::write_reply;
 use std::alloc::Global;
 use std::io::{BufReader, Read, Write};
 
-/// Tells that clients can connect, and to which port.
+// Tells that clients can connect, and to which port.
 fn announce<W: Write>(alloc: Global, output: &mut W, port: u16) -> Result<(), ServerFault>
     ensures { IsPrinted (listening_line port) result
         (W.contents output.old) (W.contents output.new) }
@@ -40,18 +41,13 @@ pub fn serve_connection<S: Keeper + Drop, R: Read + Drop, W: Write>(
     writer: &mut W,
     tick: &Tick,
 ) -> Result<(), ConnectionFault>
-    ensures handled { AreWithin (S.world desk.old.keeper) →
-        Given (S.world desk.old.keeper) (S.world desk.new.keeper)
-        (OnServed result (HandlesRequest (R.remaining reader)
-        (S.world desk.old.keeper) (S.world desk.new.keeper) tick.now
-        (S.rests desk.old.keeper desk.new.keeper) (S.moves desk.old.keeper desk.new.keeper)
-        desk.new.reply)) }
+    ensures handled { OnServed result (HandlesRequest S.Keeper desk.old.keeper desk.new.keeper
+        (record { known = R.remaining reader; tick = tick.now; reply = desk.new.reply })) }
     ensures written { IfSome (R.remaining reader) (λ bytes.
         Sends (interim_text bytes) desk.new.reply result
         (W.contents writer.old) (W.contents writer.new)) }
     ensures untouched { OnUnserved result (desk.new ≡ desk.old) }
-    ensures stays { AreWithin (S.world desk.old.keeper) →
-        Given (S.world desk.old.keeper) (S.world desk.new.keeper)
+    ensures stays { GivenWithin (S.world desk.old.keeper) (S.world desk.new.keeper)
         (Stays (S.world desk.old.keeper) (S.world desk.new.keeper)) }
     ensures passes { Passes (S.world desk.old.keeper) (S.world desk.new.keeper) }
 {
@@ -69,35 +65,32 @@ pub fn serve_connection<S: Keeper + Drop, R: Read + Drop, W: Write>(
 /// # Errors
 /// The line couldn't be printed, or there was no memory for it; or the listener, the clock or the
 /// source of random words failed: what was served before stands.
-pub fn serve_over<S: Keeper + Drop, L: Connections, C: Clock, X: Chance, W: Write>(
-    alloc: Global,
+pub fn serve_over<N, H, C: Clock, X: Chance, P, S: Keeper + Drop, L: Connections, W: Write>(
+    host: &mut Host<'_, N, H, C, X, P>,
     desk: &mut Desk<S>,
     connections: &mut L,
-    clock: &mut C,
-    chance: &mut X,
     count: u32,
     output: &mut W,
 ) -> Result<(), ServerFault>
     ensures printed { IsPrinted (listening_line (L.listens_at connections.old)) result
         (W.contents output.old) (W.contents output.new) }
-    ensures served { AreWithin (S.world desk.old.keeper) →
-        Given (S.world desk.old.keeper) (S.world desk.new.keeper)
-        ((visits : List Visit)
-        × AreVisits S.world S.rests S.moves desk.old.keeper visits desk.new.keeper
-        × AreCounted result count visits (AreGiven visits
-        (L.coming connections.old) (L.coming connections.new)
-        (C.coming clock.old) (C.coming clock.new) (X.coming chance.old) (X.coming chance.new))) }
-    ensures stays { AreWithin (S.world desk.old.keeper) →
-        Given (S.world desk.old.keeper) (S.world desk.new.keeper)
+    ensures served { GivenWithin (S.world desk.old.keeper) (S.world desk.new.keeper)
+        (ServesGiven S.Keeper desk.old.keeper desk.new.keeper result count (record {
+          coming = L.coming connections.old;
+          left = L.coming connections.new;
+          drawing = drawing_of (C.coming host.old.clock) (C.coming host.new.clock)
+              (X.coming host.old.chance) (X.coming host.new.chance);
+        })) }
+    ensures stays { GivenWithin (S.world desk.old.keeper) (S.world desk.new.keeper)
         (StaysOn (S.world desk.old.keeper) (S.world desk.new.keeper)) }
     ensures passes { Passes (S.world desk.old.keeper) (S.world desk.new.keeper) }
 {
-    announce(alloc, output, connections.port())?;
+    announce(host.alloc, output, connections.port())?;
     for _ in 0..count {
         let connection = connections.accept()?;
-        let tick = draw(clock, chance)?;
+        let tick = draw(&mut host.clock, &mut host.chance)?;
         let Connection { reader, mut writer } = connection;
-        let _ = serve_connection(alloc, desk, reader, &mut writer, &tick);
+        let _ = serve_connection(host.alloc, desk, reader, &mut writer, &tick);
     }
     Ok(())
 }

@@ -1,27 +1,29 @@
 //! A file of laboratories, opened, or made where there is none.
 
-ghost use Rattle.std.specs.Prelude.{IfOk, IfErr};
+ghost use Rattle.std.specs.Prelude.{◌≡◌, IfOk, IfErr};
 ghost use Rattle.sqlite.specs.Held.{state};
 ghost use Rattle.lab_store_tables.specs.Ready.{IsAtRest};
 ghost use Rattle.lab_program_shelves.specs.Faults.{IsUnopened};
 ghost use Rattle.lab_program_shelves.specs.Files.{IsNew, IsOpened, IsOurs};
 
 use crate::faults::TaskFault;
-use crate::shelves::Shelf;
+use crate::shelves::{Closing, Shelf};
 use lab_store_files::{FileFault, create, open};
-use sqlite::Connection;
+use sqlite::{Alter, Connection};
 use std::alloc::Global;
 
 /// A connection to a file of laboratories that is there.
 ///
 /// # Errors
 /// There is none, or none of this schema, the source of random words failed, the store refused, or
-/// memory ran out.
+/// memory ran out. The file is as it was, and nothing is left beside it.
 pub fn open_file<H: Shelf>(
     alloc: Global,
     shelf: &mut H,
     path: &str,
 ) -> Result<Connection<H::Disk>, TaskFault>
+where
+    Connection<H::Disk>: Closing,
     ensures at_rest { IfOk result (λ conn. IsAtRest (state H.Disk.Store conn)) }
     ensures ours { IfOk result (IsOurs H.Disk.Store) }
     ensures fault { IfErr result IsUnopened }
@@ -29,31 +31,63 @@ pub fn open_file<H: Shelf>(
     if !shelf.has(path) {
         return Err(TaskFault::File(FileFault::NotADeskFile));
     }
-    let mut conn = shelf.connect(alloc, path)?;
-    open(&mut conn)?;
-    Ok(conn)
+    let conn = shelf.connect(alloc, path)?;
+    kept_tidy(alloc, shelf, path, opened(conn))
 }
 
-/// A connection to a new file of laboratories, which has none.
-///
-/// # Errors
-/// There are tables already, the source of random words failed, the store refused, or memory ran
-/// out. The file then stays, without them.
-fn new_file<H: Shelf>(
+// Answers what was answered. Where the file was refused, nothing is left beside it.
+fn kept_tidy<H: Shelf, T>(
     alloc: Global,
     shelf: &mut H,
     path: &str,
-) -> Result<Connection<H::Disk>, TaskFault>
-    ensures at_rest { IfOk result (λ conn. IsAtRest (state H.Disk.Store conn)) }
-    ensures made { IfOk result (IsNew H.Disk.Store) }
-    ensures fault { IfErr result IsUnopened }
+    answer: Result<T, TaskFault>,
+) -> Result<T, TaskFault>
+    ensures { result ≡ answer }
 {
-    let mut conn = shelf.connect(alloc, path)?;
-    create(&mut conn)?;
-    Ok(conn)
+    if answer.is_err() {
+        shelf.tidy(alloc, path);
+    }
+    answer
 }
 
-/// A connection to a file of laboratories, which is made where there is none.
+// A connection over which a file of laboratories was opened.
+fn opened<S: Alter>(mut conn: Connection<S>) -> Result<Connection<S>, TaskFault>
+where
+    Connection<S>: Closing,
+    requires { IsAtRest (state S.Store conn) }
+    ensures at_rest { IfOk result (λ conn. IsAtRest (state S.Store conn)) }
+    ensures ours { IfOk result (IsOurs S.Store) }
+    ensures fault { IfErr result IsUnopened }
+{
+    match open(&mut conn) {
+        Ok(()) => Ok(conn),
+        Err(fault) => {
+            let _ = conn.close_whole();
+            Err(TaskFault::File(fault))
+        }
+    }
+}
+
+// A connection over which the tables of laboratories were made.
+fn made<S: Alter>(mut conn: Connection<S>) -> Result<Connection<S>, TaskFault>
+where
+    Connection<S>: Closing,
+    requires { IsAtRest (state S.Store conn) }
+    ensures at_rest { IfOk result (λ conn. IsAtRest (state S.Store conn)) }
+    ensures made { IfOk result (IsNew S.Store) }
+    ensures fault { IfErr result IsUnopened }
+{
+    match create(&mut conn) {
+        Ok(()) => Ok(conn),
+        Err(fault) => {
+            let _ = conn.close_whole();
+            Err(TaskFault::File(fault))
+        }
+    }
+}
+
+/// A connection to a file of laboratories. The tables are made where there is no file, or one without any
+/// table, such as a making that was stopped leaves.
 ///
 /// # Errors
 /// The file is none of this schema, the source of random words failed, the store refused, or memory
@@ -63,13 +97,16 @@ pub fn make_file<H: Shelf>(
     shelf: &mut H,
     path: &str,
 ) -> Result<Connection<H::Disk>, TaskFault>
+where
+    Connection<H::Disk>: Closing,
     ensures at_rest { IfOk result (λ conn. IsAtRest (state H.Disk.Store conn)) }
     ensures opened { IfOk result (IsOpened H.Disk.Store) }
     ensures fault { IfErr result IsUnopened }
 {
-    if shelf.has(path) {
-        open_file(alloc, shelf, path)
+    let conn = shelf.connect(alloc, path)?;
+    if conn.schema().tables.is_empty() {
+        made(conn)
     } else {
-        new_file(alloc, shelf, path)
+        kept_tidy(alloc, shelf, path, opened(conn))
     }
 }

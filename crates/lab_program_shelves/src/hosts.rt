@@ -12,11 +12,18 @@ use lab_records_walks::Progress;
 use lab_store_files::FileFault;
 use rand::TryRng;
 use rand::rngs::SysRng;
-use sqlite::{Connection, Error, ErrorCode, FileFrom, FileStore, Wary};
-use std::alloc::Global;
-use std::fs;
-use std::io::{IsTerminal, Write};
+use sqlite::{Connection, FileFrom, FileStore, Wary};
+use std::alloc::{AllocError, Global};
+use std::fs::{self, File, OpenOptions};
+use std::io::{ErrorKind, IsTerminal, Read, Write};
+use std::os::unix::fs::OpenOptionsExt;
 use std::time::{SystemTime, UNIX_EPOCH};
+
+/// The first bytes of a SQLite database (SQLite, 'Database File Format', 1.3.1, 'Magic Header String').
+const HEADER: &[u8; 16] = b"SQLite format 3\0";
+
+/// The bytes that a log has at least which holds a commit: its header and that of one frame (SQLite, 'Database File Format', 4.1).
+const SHORTEST_LOG: u64 = 56;
 
 /// The files of this machine. Of a torn write any bytes may be left, so each commit is synchronized
 /// twice.
@@ -24,22 +31,80 @@ use std::time::{SystemTime, UNIX_EPOCH};
 pub struct HostShelf<'a> {
     rt: &'a HostRuntime,
     spot: Option<Spot>,
+    had_log: bool,
 }
 
 impl<'a> HostShelf<'a> {
     /// The files of the machine of this runtime.
     pub fn new(rt: &'a HostRuntime) -> HostShelf<'a> {
-        HostShelf { rt, spot: None }
+        HostShelf {
+            rt,
+            spot: None,
+            had_log: true,
+        }
     }
 
-    // Looks before a file is opened: a path that is no regular file could be waited at for ever,
-    // and the log of a file wants random words.
-    fn look(&self, path: &str) -> Result<(), TaskFault>
+    // Looks at a path before a file is opened there, so that what is refused stays as it is. What is
+    // no regular file could be waited at for ever; what is no SQLite database would be written over;
+    // and a log without its file holds what was committed last, which a new file would cut off.
+    fn look(&self, path: &str, log: &str) -> Result<(), TaskFault>
         ensures { IfErr result IsUnopened }
     {
-        if fs::metadata(self.rt, path).is_ok_and(|found| !found.is_file()) {
-            return Err(TaskFault::File(FileFault::NotADeskFile));
+        let length = match fs::metadata(self.rt, path) {
+            Ok(found) if !found.is_file() => {
+                return Err(TaskFault::File(FileFault::NotADeskFile));
+            }
+            Ok(found) => found.len(),
+            Err(_) => 0,
+        };
+        if length > 0 {
+            self.look_inside(path)
+        } else {
+            self.prepare(path, log)
         }
+    }
+
+    // Looks at the first bytes of a file.
+    fn look_inside(&self, path: &str) -> Result<(), TaskFault>
+        ensures { IfErr result IsUnopened }
+    {
+        let mut first = [0u8; 16];
+        let Ok(mut file) = File::open(self.rt, path) else {
+            return Err(TaskFault::File(FileFault::Storage));
+        };
+        match file.read_exact(&mut first) {
+            Ok(()) if first == *HEADER => Ok(()),
+            Ok(()) => Err(TaskFault::File(FileFault::NotADeskFile)),
+            Err(error) if error.kind() == ErrorKind::UnexpectedEof => {
+                Err(TaskFault::File(FileFault::NotADeskFile))
+            }
+            Err(_) => Err(TaskFault::File(FileFault::Storage)),
+        }
+    }
+
+    // Prepares a path for a new file. The file and its log are made where they aren't there, and may be
+    // read by their owner alone. What the system refuses here it refuses again where the file is opened.
+    fn prepare(&self, path: &str, log: &str) -> Result<(), TaskFault>
+        ensures { IfErr result IsUnopened }
+    {
+        if fs::metadata(self.rt, log).is_ok_and(|found| found.len() >= SHORTEST_LOG) {
+            return Err(TaskFault::File(FileFault::Storage));
+        }
+        self.make(path);
+        self.make(log);
+        Ok(())
+    }
+
+    fn make(&self, path: &str) {
+        let mut options = OpenOptions::new();
+        options.write(true).create_new(true).mode(0o600);
+        let _ = options.open(self.rt, path);
+    }
+
+    // The log of a file wants random words.
+    fn draw(&self) -> Result<(), TaskFault>
+        ensures { IfErr result IsUnopened }
+    {
         match SysRng::new(self.rt).try_next_u64() {
             Ok(_) => Ok(()),
             Err(_) => Err(TaskFault::Server(ServerFault::Read)),
@@ -47,22 +112,43 @@ impl<'a> HostShelf<'a> {
     }
 }
 
+// The path of a file's log.
+fn log_path(alloc: Global, path: &str) -> Result<String, AllocError> {
+    let mut log = String::from_str(alloc, path)?;
+    log.push_str("-wal")?;
+    Ok(log)
+}
+
 impl<'a> Shelf for HostShelf<'a> {
     type Disk = FileStore<FileFrom<Wary>>;
 
     fn has(&self, path: &str) -> bool {
-        fs::metadata(self.rt, path).is_ok()
+        fs::metadata(self.rt, path).is_ok_and(|found| !found.is_file() || found.len() > 0)
     }
 
     fn connect(
         &mut self,
-        _alloc: Global,
+        alloc: Global,
         path: &str,
     ) -> Result<Connection<FileStore<FileFrom<Wary>>>, TaskFault> {
-        self.look(path)?;
+        self.draw()?;
+        let Ok(log) = log_path(alloc, path) else {
+            return Err(TaskFault::File(FileFault::Memory));
+        };
+        self.had_log = fs::metadata(self.rt, log.as_str()).is_ok();
+        self.look(path, log.as_str())?;
         match Connection::open_from(self.rt, path, false, Wary) {
             Ok(conn) => Ok(conn),
-            Err((error, _)) => Err(TaskFault::File(opening_fault(error))),
+            Err((error, _)) => Err(TaskFault::File(FileFault::from(error))),
+        }
+    }
+
+    fn tidy(&mut self, alloc: Global, path: &str) {
+        if self.had_log {
+            return;
+        }
+        if let Ok(log) = log_path(alloc, path) {
+            let _ = fs::remove_file(self.rt, log.as_str());
         }
     }
 
@@ -78,14 +164,6 @@ impl<'a> Shelf for HostShelf<'a> {
     }
 }
 
-// Why a database was not opened.
-fn opening_fault(error: Error) -> FileFault {
-    match error {
-        Error::SqliteFailure(ErrorCode::NotADatabase) => FileFault::NotADeskFile,
-        error => FileFault::from(error),
-    }
-}
-
 /// The clock of this machine.
 #[derive(Drop)]
 pub struct SystemClock<'a> {
@@ -98,7 +176,7 @@ impl<'a> SystemClock<'a> {
         SystemClock { rt }
     }
 
-    /// The whole seconds since 1970, leap seconds left out (POSIX.1, 'seconds since the epoch').
+    // The whole seconds since 1970, leap seconds left out (POSIX.1, 'seconds since the epoch').
     fn seconds(&self) -> Option<i64> {
         let now = SystemTime::now(self.rt).ok()?;
         let since = now.duration_since(UNIX_EPOCH).ok()?;
@@ -137,7 +215,7 @@ impl<'a> Chance for SystemChance<'a> {
     }
 }
 
-/// How many records are copied between two words of how far a copy is.
+/// After how many records the progress of a copy is printed again.
 const RECORDS_BETWEEN: u32 = 100;
 
 /// Tells on standard error how far a copy is, where that is a terminal.

@@ -15,17 +15,22 @@ pub trait Shelf {
     /// What keeps a file.
     type Disk: Alter + Drop;
 
-    /// Whether there is a file at the path.
+    /// Whether there is a file at the path, and not an empty one.
     fn has(&self, path: &str) -> bool;
 
-    /// A connection to the file at the path, which is made, without a table, where there is none.
+    /// A connection to the file at the path, which is made, without a table, where there is none or an
+    /// empty one. What is refused stays as it is.
     ///
     /// # Errors
-    /// The file is no database, the source of random words failed, the store refused, or memory ran
-    /// out.
+    /// The file is no database, the source of random words failed, the store refused, a log is there
+    /// without its file, or memory ran out.
     fn connect(&mut self, alloc: Global, path: &str) -> Result<Connection<Self::Disk>, TaskFault>
         ensures at_rest { IfOk result (λ conn. IsAtRest (state Self.Disk.Store conn)) }
         ensures fault { IfErr result IsUnopened };
+
+    /// Removes the log that a connection to a file left beside it, where there was none before. The
+    /// connection is closed, and the file was refused.
+    fn tidy(&mut self, alloc: Global, path: &str);
 
     /// Notes bytes that are no founding, for the advice.
     fn note(&mut self, alloc: Global, body: &[u8]);

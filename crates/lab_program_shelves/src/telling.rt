@@ -12,7 +12,7 @@ use lab_wire_heads::WriteFault;
 use std::alloc::Global;
 use std::io::Write;
 
-/// Tells a word and a value, or, where there is no memory for the line, that it ran out.
+// Tells a word and a value, or, where there is no memory for the line, that it ran out.
 fn tell_valued<E: Write>(
     alloc: Global,
     errors: &mut E,
@@ -30,7 +30,7 @@ fn tell_valued<E: Write>(
     }
 }
 
-/// Tells a fault, or, where there is no memory to put a value into its line, that memory ran out.
+// Tells a fault, or, where there is no memory to put a value into its line, that memory ran out.
 fn tell_fault<E: Write>(alloc: Global, errors: &mut E, fault: TaskFault) -> Result<(), WriteFault>
     ensures { IsToldOf fault result (E.contents errors.old) (E.contents errors.new) }
 {

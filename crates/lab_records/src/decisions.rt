@@ -2,14 +2,16 @@
 ghost use Rattle.std.specs.Prelude.{◌≡◌, [], None, IfOk, IsTrue, OnErr};
 ghost use Rattle.lab_records_laws.specs.Asking.{IsCommandFormed};
 ghost use Rattle.lab_records_machine.specs.Done.{done_of};
-ghost use Rattle.lab_records_outcomes.specs.Deciding.{outcome, ended_done, touching, decided_without, decided_by, decided};
-ghost use Rattle.lab_records.specs.Makings.{is_made_without, is_made_by, is_made};
+ghost use Rattle.lab_records_machine.specs.Machine.{passage};
+ghost use Rattle.lab_records_machine.specs.Policy.{rule_of};
+ghost use Rattle.lab_records_outcomes.specs.Deciding.{outcome, ended_done, touching, decided_in, decided_by, decided};
+ghost use Rattle.lab_records.specs.Makings.{is_made_in, is_made_by, is_made};
 
 use crate::{done_of, opening_done};
 use lab_forms_texts::{Moment, OutOfMemory, PersonCode, Series, Tick};
 use lab_people_access::{PeopleRefusal, Person, Session};
 use lab_records_kept::{Change, Slice};
-use lab_records_machine::{Command, Done, Passage, Reply, pass};
+use lab_records_machine::{Command, Done, Passage, RecordCommand, Reply, SessionCommand, pass};
 use lab_records_outcomes::{Outcome, end, opening_failed, opening_made, refused, touching};
 use lab_records_rules::{Refusal, Typed};
 use std::alloc::Global;
@@ -17,7 +19,9 @@ use std::alloc::Global;
 /// What is decided of a command at a tick, on the part of a laboratory that it needs: the reply, and the changes, in order.
 /// The only error is out of memory, and only where something is made: a refusal that notes nothing is told as it is. If the
 /// command makes a form, it is one, as `what_is_decided` wants it.
-#[tactic(auto, using(crate::proofs::Taken::same_decided, crate::proofs::Taken::same_made))]
+///
+/// # Errors
+/// Memory ran out.
 pub fn decide(
     alloc: Global,
     slice: Slice,
@@ -29,10 +33,13 @@ pub fn decide(
     ensures formed { IsCommandFormed command }
 {
     formed(&command);
+    if tick.moment < slice.last {
+        drop(slice);
+        drop(command);
+        return Ok(refused(Series::new(alloc), Refusal::ClockBehind));
+    }
     let mut slice = slice;
-    let comer = take_comer(&mut slice);
-    let reached = pass(slice.last, comer.session, comer.caller, tick, &command);
-    let outcome = decide_by(alloc, &mut slice, tick, command, reached);
+    let outcome = decide_by(alloc, &mut slice, tick, command);
     drop(slice);
     outcome
 }
@@ -41,8 +48,29 @@ pub fn decide(
 pub fn formed(command: &Command)
     ensures { IsCommandFormed command.now }
 {
-    if let Command::MakeForm { form, .. } = command {
+    if let Command::In(SessionCommand::OnRecord(RecordCommand::MakeForm { form, .. })) = command {
         let _fields = form.fields();
+    }
+}
+
+// What is decided of a command, where the clock isn't behind. What is left of the part isn't said.
+fn decide_by(
+    alloc: Global,
+    slice: &mut Slice,
+    tick: &Tick,
+    command: Command,
+) -> Result<Outcome, OutOfMemory>
+    ensures decided { IfOk result (λ outcome. outcome ≡ decided_by slice.old tick.now command) }
+    ensures memory { OnErr result (IsTrue (is_made_by slice.old tick.now command)) }
+{
+    match command {
+        Command::Card => show_card(alloc, slice),
+        Command::Open { code, password } => {
+            let outcome = decide_opening(alloc, slice, tick, code, &password);
+            drop(password);
+            outcome
+        }
+        Command::In(command) => decide_in(alloc, slice, tick, command),
     }
 }
 
@@ -64,28 +92,37 @@ fn take_comer(slice: &mut Slice) -> Comer
     }
 }
 
-// What is decided by how far the command gets. What is left of the part isn't said.
-fn decide_by(
+// A command in a session.
+#[tactic(auto, using(crate::proofs::Taken::same_decided))]
+fn decide_in(
     alloc: Global,
     slice: &mut Slice,
     tick: &Tick,
-    command: Command,
+    command: SessionCommand,
+) -> Result<Outcome, OutOfMemory>
+    ensures decided { IfOk result (λ outcome. outcome ≡ decided_in slice.old tick.now command
+        (passage slice.old.session slice.old.caller tick.now.moment (rule_of command))) }
+    ensures memory { OnErr result (IsTrue (is_made_in
+        (passage slice.old.session slice.old.caller tick.now.moment (rule_of command)))) }
+{
+    let comer = take_comer(slice);
+    let reached = pass(comer.session, comer.caller, tick, command.rule());
+    decide_passed(alloc, slice, tick, command, reached)
+}
+
+// The same by how far the command gets.
+fn decide_passed(
+    alloc: Global,
+    slice: &mut Slice,
+    tick: &Tick,
+    command: SessionCommand,
     reached: Passage,
 ) -> Result<Outcome, OutOfMemory>
     ensures decided { IfOk result
-        (λ outcome. outcome ≡ decided_by slice.old tick.now command reached) }
-    ensures memory { OnErr result (IsTrue (is_made_by slice.old tick.now command reached)) }
+        (λ outcome. outcome ≡ decided_in slice.old tick.now command reached) }
+    ensures memory { OnErr result (IsTrue (is_made_in reached)) }
 {
     match reached {
-        Passage::Early => {
-            drop(command);
-            Ok(refused(Series::new(alloc), Refusal::ClockBehind))
-        }
-        Passage::NeedsNone(repeated) => {
-            let outcome = decide_without(alloc, slice, tick, &repeated, command);
-            drop(repeated);
-            outcome
-        }
         Passage::Stranger => {
             drop(command);
             let refusal = Refusal::People(PeopleRefusal::NoSession);
@@ -96,7 +133,7 @@ fn decide_by(
             barred(alloc, tick.moment, session, refusal)
         }
         Passage::Passes(session, caller) => {
-            let outcome = decide_in(alloc, slice, tick, session, &caller, command);
+            let outcome = decide_allowed(alloc, slice, tick, session, &caller, command);
             drop(caller);
             outcome
         }
@@ -124,32 +161,6 @@ fn barred(
     }
 }
 
-// A command that asks for no session.
-fn decide_without(
-    alloc: Global,
-    slice: &mut Slice,
-    tick: &Tick,
-    repeated: &Option<Session>,
-    command: Command,
-) -> Result<Outcome, OutOfMemory>
-    ensures decided { IfOk result (λ outcome. outcome
-        ≡ decided_without slice.old tick.now repeated.now command) }
-    ensures memory { OnErr result
-        (IsTrue (is_made_without slice.old tick.now repeated.now command)) }
-{
-    match command {
-        Command::Open { code, password } => {
-            let outcome = decide_opening(alloc, slice, tick, repeated, code, &password);
-            drop(password);
-            outcome
-        }
-        command => {
-            drop(command);
-            show_card(alloc, slice)
-        }
-    }
-}
-
 // The card, of which code and name are copied in any case. The only error is out of memory.
 fn show_card(alloc: Global, slice: &Slice) -> Result<Outcome, OutOfMemory>
     ensures { IfOk result
@@ -170,20 +181,20 @@ fn decide_opening(
     alloc: Global,
     slice: &mut Slice,
     tick: &Tick,
-    repeated: &Option<Session>,
     code: PersonCode,
     password: &Typed,
 ) -> Result<Outcome, OutOfMemory>
-    ensures decided { IfOk result (λ outcome. outcome
-        ≡ decided_without slice.old tick.now repeated.now (Command.Open code password.now)) }
-    ensures memory { OnErr result (IsTrue
-        (is_made_without slice.old tick.now repeated.now (Command.Open code password.now))) }
+    ensures decided { IfOk result
+        (λ outcome. outcome ≡ decided_by slice.old tick.now (Command.Open code password.now)) }
+    ensures memory { OnErr result
+        (IsTrue (is_made_by slice.old tick.now (Command.Open code password.now))) }
 {
     let moment = tick.moment;
     let rows = slice.counts.trail;
     let sessions = slice.counts.sessions;
     let told = code.copy();
     let person = slice.person.take();
+    let repeated = &slice.session;
     match opening_done(alloc, code, person, password, tick, sessions, repeated)? {
         Done::Refused(refusal) => Ok(refused(Series::new(alloc), refusal)),
         Done::Failed(occasion, failure) => {
@@ -199,17 +210,17 @@ fn decide_opening(
     }
 }
 
-// A command in a session: its request is taken note of before all, in any case. The only error is out of memory.
-fn decide_in(
+// A command that its session may give: its request is taken note of before all, in any case. The only error is out of memory.
+fn decide_allowed(
     alloc: Global,
     slice: &mut Slice,
     tick: &Tick,
     session: Session,
     caller: &Person,
-    command: Command,
+    command: SessionCommand,
 ) -> Result<Outcome, OutOfMemory>
     ensures { IfOk result (λ outcome. outcome
-        ≡ decided_by slice.old tick.now command (Passage.Passes session caller.now)) }
+        ≡ decided_in slice.old tick.now command (Passage.Passes session caller.now)) }
 {
     let mut session = session;
     match touching(alloc, tick.moment, &session) {
@@ -232,7 +243,7 @@ fn decide_noted(
     tick: &Tick,
     session: Session,
     caller: &Person,
-    command: Command,
+    command: SessionCommand,
     before: Series<Change>,
 ) -> Result<Outcome, OutOfMemory>
     ensures { IfOk result (λ outcome. outcome

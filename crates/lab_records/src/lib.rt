@@ -9,5 +9,5 @@ pub use commands::done_of;
 pub use decisions::{decide, formed};
 pub use lab_records_commands::opening_done;
 pub use lab_records_kept::{Change, EntryRow, Lab, Need, Record, Signature, Slice, Version};
-pub use lab_records_machine::{Command, Instruction, Reply, needs};
+pub use lab_records_machine::{Command, Instruction, Reply, SessionCommand, needs};
 pub use lab_records_outcomes::Outcome;

@@ -19,6 +19,9 @@ use std::mem;
 
 /// Makes the change of the laboratory, by copies of what it brings. The only error is out of memory, where something is made; the
 /// laboratory is then as before.
+///
+/// # Errors
+/// Memory ran out.
 pub fn change(alloc: Global, lab: &mut Lab, one: &Change) -> Result<(), OutOfMemory>
     ensures ok { OnOk result (lab.new ≡ change lab.old one.now) }
     ensures err { OnErr result (lab.new ≡ lab.old) }
@@ -68,6 +71,9 @@ fn add_person(
 }
 
 /// Adds the person, in the order of codes. The only error is out of memory; the persons are then as before.
+///
+/// # Errors
+/// Memory ran out.
 pub fn insert_person(
     alloc: Global,
     persons: &mut Series<Person>,
@@ -224,7 +230,7 @@ fn add_signature(
     Ok(())
 }
 
-/// A copy of the person takes the place of the one of the same code.
+// A copy of the person takes the place of the one of the same code.
 fn set_person_in(persons: &mut [Person], person: &Person) -> Result<(), OutOfMemory>
     ensures ok { OnOk result (persons.new ≡ with_person person.now persons.old) }
     ensures err { OnErr result (persons.new ≡ persons.old) }
@@ -238,7 +244,7 @@ fn set_person_in(persons: &mut [Person], person: &Person) -> Result<(), OutOfMem
     Ok(())
 }
 
-/// A copy of the session takes the place of the one of the same token.
+// A copy of the session takes the place of the one of the same token.
 fn set_session_in(sessions: &mut [Session], session: &Session) -> Result<(), OutOfMemory>
     ensures ok { OnOk result (sessions.new ≡ with_session session.now sessions.old) }
     ensures err { OnErr result (sessions.new ≡ sessions.old) }
@@ -252,7 +258,7 @@ fn set_session_in(sessions: &mut [Session], session: &Session) -> Result<(), Out
     Ok(())
 }
 
-/// The sessions after some of the person's are closed.
+// The sessions after some of the person's are closed.
 fn sessions_after(
     sessions: Series<Session>,
     person: &PersonCode,
@@ -281,7 +287,7 @@ fn close_one(session: &mut Session, person: &PersonCode, closing: &Closing)
     }
 }
 
-/// A copy of the row is added to the last version of the record of the number.
+// A copy of the row is added to the last version of the record of the number.
 fn enter_in(
     records: &mut [Record],
     alloc: Global,
@@ -299,7 +305,7 @@ fn enter_in(
     enter(&mut records[place], alloc, row)
 }
 
-/// A copy of the version is added to the record of the number.
+// A copy of the version is added to the record of the number.
 fn open_in(records: &mut [Record], number: Ordinal, version: &Version) -> Result<(), OutOfMemory>
     ensures ok { OnOk result (records.new ≡ in_record number (opened_in version.now) records.old) }
     ensures err { OnErr result (records.new ≡ records.old) }
@@ -311,7 +317,7 @@ fn open_in(records: &mut [Record], number: Ordinal, version: &Version) -> Result
     open(&mut records[place], version)
 }
 
-/// A copy of the signature is added to the version of a number of the record of the number.
+// A copy of the signature is added to the version of a number of the record of the number.
 fn sign_in(
     records: &mut [Record],
     alloc: Global,

@@ -31,7 +31,7 @@ fn first_of_code(persons: &[Person], code: &PersonCode) -> Option<usize>
         .position(|one| one.code.as_str() == code.as_str())
 }
 
-/// Whether a text comes before another in the order of their bytes.
+// Whether a text comes before another in the order of their bytes.
 fn comes_before<R: Rule>(one: &Text<R>, other: &Text<R>) -> bool
     ensures { result ≡ comes_before one.now other.now }
 {
@@ -109,6 +109,9 @@ pub fn place_of_record(records: &[Record], number: Ordinal) -> Option<usize>
 
 /// A copy of the row more in the last version. The only error is out of memory, where there is a version; the record is then as
 /// before.
+///
+/// # Errors
+/// Memory ran out.
 pub fn enter(kept: &mut Record, alloc: Global, row: &EntryRow) -> Result<(), OutOfMemory>
     ensures ok { OnOk result (kept.new ≡ entered_in row.now kept.old) }
     ensures err { OnErr result (kept.new ≡ kept.old) }
@@ -122,6 +125,9 @@ pub fn enter(kept: &mut Record, alloc: Global, row: &EntryRow) -> Result<(), Out
 }
 
 /// A copy of the version more. The only error is out of memory, in any case; the record is then as before.
+///
+/// # Errors
+/// Memory ran out.
 pub fn open(kept: &mut Record, version: &Version) -> Result<(), OutOfMemory>
     ensures ok { OnOk result (kept.new ≡ opened_in version.now kept.old) }
     ensures err { OnErr result (kept.new ≡ kept.old) }
@@ -133,6 +139,9 @@ pub fn open(kept: &mut Record, version: &Version) -> Result<(), OutOfMemory>
 
 /// A copy of the signature more in the version of the number. The only error is out of memory, where there is that version; the
 /// record is then as before.
+///
+/// # Errors
+/// Memory ran out.
 pub fn sign(
     kept: &mut Record,
     alloc: Global,
@@ -150,7 +159,7 @@ pub fn sign(
     Ok(())
 }
 
-/// A row more in the last of the versions.
+// A row more in the last of the versions.
 fn enter_last(versions: &mut [Version], alloc: Global, row: &EntryRow) -> Result<(), OutOfMemory>
     ensures ok { OnOk result (versions.new ≡ in_last (with_row row.now) versions.old) }
     ensures err { OnErr result (versions.new ≡ versions.old) }
@@ -163,7 +172,7 @@ fn enter_last(versions: &mut [Version], alloc: Global, row: &EntryRow) -> Result
     enter_version(&mut versions[count - 1], alloc, row)
 }
 
-/// A row more.
+// A row more.
 fn enter_version(version: &mut Version, alloc: Global, row: &EntryRow) -> Result<(), OutOfMemory>
     ensures ok { OnOk result (version.new ≡ with_row row.now version.old) }
     ensures err { OnErr result (version.new ≡ version.old) }
@@ -176,7 +185,7 @@ fn enter_version(version: &mut Version, alloc: Global, row: &EntryRow) -> Result
     Ok(())
 }
 
-/// A signature more in the version of the number.
+// A signature more in the version of the number.
 fn sign_in(
     versions: &mut [Version],
     number: Ordinal,
@@ -193,7 +202,7 @@ fn sign_in(
     sign_version(&mut versions[place], signature)
 }
 
-/// A signature more.
+// A signature more.
 fn sign_version(version: &mut Version, signature: &Signature) -> Result<(), OutOfMemory>
     ensures ok { OnOk result (version.new ≡ with_signature signature.now version.old) }
     ensures err { OnErr result (version.new ≡ version.old) }

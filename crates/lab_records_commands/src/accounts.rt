@@ -1,8 +1,9 @@
 //! What commands on accounts come to.
-ghost use Rattle.std.specs.Prelude.{◌≡◌, [], ◌∷◌, Ok, is_ok, IfOk, IsTrue, OnErr};
+ghost use Rattle.std.specs.Prelude.{◌≡◌, [], ◌∷◌, Ok, IfOk, IsTrue, OnErr};
 ghost use Rattle.lab_people.specs.Accounts.{changing, enrolling, setting_roles, retiring, unlocking};
 ghost use Rattle.lab_people.specs.Issues.{asking, confirming};
 ghost use Rattle.lab_records_machine.specs.Done.{then_person_done, changed_done, enrolled_done, person_changes, asked_done, confirmed_done, roles_done, retired_done, unlocked_done};
+ghost use Rattle.lab_records_machine.specs.Makings.{is_made_of};
 
 use crate::counts::enrol_counted;
 use lab_forms_texts::{Moment, Name, OutOfMemory, PersonCode, Series, Tick};
@@ -17,6 +18,9 @@ use lab_records_rules::{Refusal, Typed};
 use std::alloc::Global;
 
 /// What a change of the own password comes to. The only error is out of memory, where it is changed.
+///
+/// # Errors
+/// Memory ran out.
 pub fn changing_done(
     alloc: Global,
     caller: Person,
@@ -27,8 +31,8 @@ pub fn changing_done(
 ) -> Result<Done, OutOfMemory>
     ensures done { IfOk result (λ done. done ≡ changed_done tick.now.moment
         (changing caller session old.now new.now tick.now)) }
-    ensures memory { OnErr result
-        (IsTrue (is_ok (changing caller session old.now new.now tick.now))) }
+    ensures memory { OnErr result (IsTrue (is_made_of (changed_done tick.now.moment
+        (changing caller session old.now new.now tick.now)))) }
 {
     match change_password(caller, session, old.as_str(), new.as_str(), tick) {
         Ok(changed) => changed_done(alloc, tick.moment, changed),
@@ -68,6 +72,9 @@ fn changed_done(
 
 /// What an enrolment comes to, where the laboratory has so many persons. The only error is out of memory, where the person is
 /// enrolled.
+///
+/// # Errors
+/// Memory ran out.
 pub fn enrolling_done(
     alloc: Global,
     code: PersonCode,
@@ -78,8 +85,8 @@ pub fn enrolling_done(
 ) -> Result<Done, OutOfMemory>
     ensures done { IfOk result (λ done. done
         ≡ then_person_done (enrolling code name roles holder.now persons) enrolled_done) }
-    ensures memory { OnErr result
-        (IsTrue (is_ok (enrolling code name roles holder.now persons))) }
+    ensures memory { OnErr result (IsTrue (is_made_of (then_person_done
+        (enrolling code name roles holder.now persons) enrolled_done))) }
 {
     match enrol_counted(code, name, roles, holder.as_ref(), persons) {
         Ok(person) => enrolled_done(alloc, person),
@@ -138,6 +145,9 @@ fn closing_changes(
 }
 
 /// What it comes to that a one-time word is asked for. The only error is out of memory, where it is given.
+///
+/// # Errors
+/// Memory ran out.
 pub fn asking_done(
     alloc: Global,
     caller: PersonCode,
@@ -146,7 +156,8 @@ pub fn asking_done(
 ) -> Result<Done, OutOfMemory>
     ensures done { IfOk result (λ done. done
         ≡ then_person_done (asking caller person tick.now) asked_done) }
-    ensures memory { OnErr result (IsTrue (is_ok (asking caller person tick.now))) }
+    ensures memory { OnErr result
+        (IsTrue (is_made_of (then_person_done (asking caller person tick.now) asked_done))) }
 {
     match ask_issue(caller, person, tick) {
         Ok(issued) => asked_done(alloc, issued),
@@ -164,6 +175,9 @@ fn asked_done(alloc: Global, issued: Issued) -> Result<Done, OutOfMemory>
 }
 
 /// What it comes to that a one-time word is confirmed. The only error is out of memory, where it is.
+///
+/// # Errors
+/// Memory ran out.
 pub fn confirming_done(
     alloc: Global,
     caller: &PersonCode,
@@ -172,7 +186,8 @@ pub fn confirming_done(
 ) -> Result<Done, OutOfMemory>
     ensures done { IfOk result (λ done. done
         ≡ then_person_done (confirming caller.now person tick.now) confirmed_done) }
-    ensures memory { OnErr result (IsTrue (is_ok (confirming caller.now person tick.now))) }
+    ensures memory { OnErr result
+        (IsTrue (is_made_of (then_person_done (confirming caller.now person tick.now) confirmed_done))) }
 {
     match confirm_issue(caller, person, tick) {
         Ok(issued) => confirmed_done(alloc, issued),
@@ -190,6 +205,9 @@ fn confirmed_done(alloc: Global, issued: Issued) -> Result<Done, OutOfMemory>
 }
 
 /// What it comes to that a person is given roles. The only error is out of memory, where they are given.
+///
+/// # Errors
+/// Memory ran out.
 pub fn setting_roles_done(
     alloc: Global,
     caller: &PersonCode,
@@ -198,7 +216,8 @@ pub fn setting_roles_done(
 ) -> Result<Done, OutOfMemory>
     ensures done { IfOk result (λ done. done
         ≡ then_person_done (setting_roles caller.now person roles) roles_done) }
-    ensures memory { OnErr result (IsTrue (is_ok (setting_roles caller.now person roles))) }
+    ensures memory { OnErr result
+        (IsTrue (is_made_of (then_person_done (setting_roles caller.now person roles) roles_done))) }
 {
     match set_roles(caller, person, roles) {
         Ok(effect) => roles_done(alloc, effect),
@@ -221,6 +240,9 @@ fn roles_done(alloc: Global, effect: Effect) -> Result<Done, OutOfMemory>
 }
 
 /// What a retirement comes to. The only error is out of memory, where the person retires.
+///
+/// # Errors
+/// Memory ran out.
 pub fn retiring_done(
     alloc: Global,
     caller: &PersonCode,
@@ -228,7 +250,8 @@ pub fn retiring_done(
 ) -> Result<Done, OutOfMemory>
     ensures done { IfOk result (λ done. done
         ≡ then_person_done (retiring caller.now person) retired_done) }
-    ensures memory { OnErr result (IsTrue (is_ok (retiring caller.now person))) }
+    ensures memory { OnErr result
+        (IsTrue (is_made_of (then_person_done (retiring caller.now person) retired_done))) }
 {
     match retire(caller, person) {
         Ok(effect) => retired_done(alloc, effect),
@@ -246,6 +269,9 @@ fn retired_done(alloc: Global, effect: Effect) -> Result<Done, OutOfMemory>
 }
 
 /// What it comes to that a lock is taken away. The only error is out of memory, where it is.
+///
+/// # Errors
+/// Memory ran out.
 pub fn unlocking_done(
     alloc: Global,
     caller: &PersonCode,
@@ -253,7 +279,8 @@ pub fn unlocking_done(
 ) -> Result<Done, OutOfMemory>
     ensures done { IfOk result (λ done. done
         ≡ then_person_done (unlocking caller.now person) unlocked_done) }
-    ensures memory { OnErr result (IsTrue (is_ok (unlocking caller.now person))) }
+    ensures memory { OnErr result
+        (IsTrue (is_made_of (then_person_done (unlocking caller.now person) unlocked_done))) }
 {
     match unlock(caller, person) {
         Ok(effect) => unlocked_done(alloc, effect),

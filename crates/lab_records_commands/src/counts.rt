@@ -17,7 +17,7 @@ fn cut(count: u64) -> u32
     count.min(MOST) as u32
 }
 
-/// A session that is opened, where the laboratory gave so many numbers of sessions before.
+/// Opens a session. The laboratory has had so many sessions before.
 ///
 /// # Errors
 /// Those of `open_session`.

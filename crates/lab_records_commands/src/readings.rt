@@ -28,6 +28,9 @@ pub fn form_read_done(form: Option<FormVersion>) -> Done
 }
 
 /// What the reading of a record comes to. The only error is out of memory, where it is read.
+///
+/// # Errors
+/// Memory ran out.
 pub fn record_read_done(
     alloc: Global,
     lab: &LabCode,
@@ -47,6 +50,9 @@ pub fn record_read_done(
 }
 
 /// What the reading of a version of a record comes to. The only error is out of memory, where it is read.
+///
+/// # Errors
+/// Memory ran out.
 pub fn version_read_done(
     alloc: Global,
     lab: &LabCode,
@@ -67,6 +73,9 @@ pub fn version_read_done(
 }
 
 /// Persons in a line each, at the moment. The only error is out of memory, where there is one.
+///
+/// # Errors
+/// Memory ran out.
 pub fn person_lines(
     alloc: Global,
     persons: &[Person],
@@ -83,6 +92,9 @@ pub fn person_lines(
 }
 
 /// Records in a line each. The only error is out of memory, where there is one.
+///
+/// # Errors
+/// Memory ran out.
 pub fn record_lines(alloc: Global, records: &[Record]) -> Result<Series<RecordState>, OutOfMemory>
     ensures lines { IfOk result (λ lines. lines ≡ map record_line records.now) }
     ensures memory { OnErr result (IsTrue (has_lines records.now)) }
@@ -96,6 +108,9 @@ pub fn record_lines(alloc: Global, records: &[Record]) -> Result<Series<RecordSt
 
 /// The rows of a copy of the part's records, which are those from a number to a number, made for a person at a moment. The only
 /// error is out of memory: the row at its head is made in any case.
+///
+/// # Errors
+/// Memory ran out.
 pub fn copied_rows(
     alloc: Global,
     slice: &Slice,

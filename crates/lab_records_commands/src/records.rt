@@ -1,12 +1,12 @@
 //! What commands come to that make something of forms and records.
-ghost use Rattle.std.specs.Prelude.{◌≡◌, ◌∷◌, [], Ok, false, is_ok, IfOk, IsTrue, OnErr, if◌then◌else◌};
+ghost use Rattle.std.specs.Prelude.{◌≡◌, ◌∷◌, [], Ok, false, IfOk, IsTrue, OnErr, if◌then◌else◌};
 ghost use Rattle.lab_people_access.specs.Attempts.{signing_attempt};
 ghost use Rattle.lab_people_access.specs.Sessions.{signed_session};
 ghost use Rattle.lab_records_rules.specs.Making.{making, opening_record};
 ghost use Rattle.lab_records_versions.specs.Entering.{entering, is_table_made, amending};
 ghost use Rattle.lab_records_versions.specs.Signing.{is_code_wanted, is_digest_made_at};
 ghost use Rattle.lab_records_machine.specs.Done.{then_done, form_done, record_done, entry_done, amendment_done, signature_done, signing_done};
-ghost use Rattle.lab_records_machine.specs.Makings.{is_digest_made_by};
+ghost use Rattle.lab_records_machine.specs.Makings.{is_digest_made_by, is_made_of};
 
 use lab_forms::Form;
 use lab_forms_texts::{Key, Moment, Name, Note, Ordinal, OutOfMemory, PersonCode};
@@ -22,6 +22,9 @@ use lab_seal_versions::Digest;
 use std::alloc::Global;
 
 /// What it comes to that a form is made. The only error is out of memory, where it is.
+///
+/// # Errors
+/// Memory ran out.
 pub fn making_done(
     alloc: Global,
     code: Key,
@@ -29,7 +32,8 @@ pub fn making_done(
     last: Option<FormVersion>,
 ) -> Result<Done, OutOfMemory>
     ensures done { IfOk result (λ done. done ≡ then_done (making code form last) form_done) }
-    ensures memory { OnErr result (IsTrue (is_ok (making code form last))) }
+    ensures memory { OnErr result
+        (IsTrue (is_made_of (then_done (making code form last) form_done))) }
 {
     match make_form(code, form, last) {
         Ok(form) => form_done(alloc, form),
@@ -59,6 +63,9 @@ fn form_done(alloc: Global, form: FormVersion) -> Result<Done, OutOfMemory>
 }
 
 /// What it comes to that a record is opened. The only error is out of memory, where it is.
+///
+/// # Errors
+/// Memory ran out.
 pub fn opening_record_done(
     alloc: Global,
     slice: &mut Slice,
@@ -68,8 +75,8 @@ pub fn opening_record_done(
 ) -> Result<Done, OutOfMemory>
     ensures done { IfOk result (λ done. done ≡ then_done (opening_record slice.old.form
         slice.old.filed sample caller moment slice.old.counts.records) record_done) }
-    ensures memory { OnErr result (IsTrue (is_ok (opening_record slice.old.form slice.old.filed
-        sample caller moment slice.old.counts.records))) }
+    ensures memory { OnErr result (IsTrue (is_made_of (then_done (opening_record slice.old.form
+        slice.old.filed sample caller moment slice.old.counts.records) record_done))) }
 {
     let form = slice.form.take();
     let filed = slice.filed.take();
@@ -100,6 +107,9 @@ fn record_done(alloc: Global, kept: Record) -> Result<Done, OutOfMemory>
 }
 
 /// What it comes to that a value is entered. The only error is out of memory, where it is.
+///
+/// # Errors
+/// Memory ran out.
 pub fn entering_done(
     alloc: Global,
     slice: &Slice,
@@ -111,8 +121,8 @@ pub fn entering_done(
     ensures done { IfOk result (λ done. done
         ≡ then_done (entering slice.now.code slice.now.filed item reason caller moment)
         entry_done) }
-    ensures memory { OnErr result (IsTrue
-        (is_ok (entering slice.now.code slice.now.filed item reason caller moment))) }
+    ensures memory { OnErr result (IsTrue (is_made_of (then_done
+        (entering slice.now.code slice.now.filed item reason caller moment) entry_done))) }
 {
     match enter(
         alloc,
@@ -164,6 +174,9 @@ fn entry_done(alloc: Global, made: EntryMade) -> Result<Done, OutOfMemory>
 }
 
 /// What it comes to that a record is amended. The only error is out of memory, once the values are held against a table.
+///
+/// # Errors
+/// Memory ran out.
 #[tactic(auto, using(crate::proofs::MadeBefore::table_was_made))]
 pub fn amending_done(
     alloc: Global,
@@ -236,6 +249,9 @@ pub struct Asked {
 
 /// What it comes to that a version is signed: the first signing of a session wants the code, then the password is looked at.
 /// The only error is out of memory, once the version's digest is made.
+///
+/// # Errors
+/// Memory ran out.
 pub fn asked_signing_done(
     alloc: Global,
     slice: &Slice,

@@ -13,6 +13,9 @@ use std::alloc::Global;
 
 /// What the opening of a session comes to, by a code, whose person was looked up, and a password. The only error is out of
 /// memory, where it is opened.
+///
+/// # Errors
+/// Memory ran out.
 pub fn opening_done(
     alloc: Global,
     code: PersonCode,
@@ -72,6 +75,9 @@ fn opened_done(alloc: Global, opened: Opened) -> Result<Done, OutOfMemory>
 
 /// What the closing of the session by its person comes to. The only error is out of memory: the closed session is a change in any
 /// case.
+///
+/// # Errors
+/// Memory ran out.
 pub fn closed_done(alloc: Global, session: Session) -> Result<Done, OutOfMemory>
     ensures { IfOk result (λ done. done ≡ closed_done session) }
 {

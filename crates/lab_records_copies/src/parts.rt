@@ -13,6 +13,9 @@ use lab_records_kept::{Record, Signature, Version};
 use std::alloc::Global;
 
 /// The row with which a record begins. The only error of these calls is out of memory.
+///
+/// # Errors
+/// Memory ran out.
 pub fn record_row(alloc: Global, lab: &LabCode, kept: &Record) -> Result<CopyRow, OutOfMemory>
     ensures { IfOk result (λ row. row ≡ fields_in (row_of_record (record_line lab.now kept.now))) }
 {
@@ -32,6 +35,9 @@ pub fn record_row(alloc: Global, lab: &LabCode, kept: &Record) -> Result<CopyRow
 }
 
 /// The rows of a version: its own, those of its entries, and those of its signatures.
+///
+/// # Errors
+/// Memory ran out.
 pub fn version_rows(
     alloc: Global,
     lab: &LabCode,

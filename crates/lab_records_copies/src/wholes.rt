@@ -10,6 +10,9 @@ use lab_records_kept::Record;
 use std::alloc::Global;
 
 /// The rows of records, one after the other: each with its versions, their entries and their signatures.
+///
+/// # Errors
+/// Memory ran out.
 pub fn body_rows(
     alloc: Global,
     lab: &LabCode,
@@ -43,6 +46,9 @@ fn push_record(
 
 /// The rows of a copy of records: the header, what the copy is of, the records, and how many rows of each kind these came to. The
 /// records are those that the order asks for.
+///
+/// # Errors
+/// Memory ran out.
 pub fn copy_rows(
     alloc: Global,
     lab: &LabCode,
@@ -86,7 +92,7 @@ fn order_row(
     )
 }
 
-/// The row that ends a copy whose records have these rows.
+// The row that ends a copy whose records have these rows.
 fn end_row(alloc: Global, lab: &LabCode, body: &[CopyRow]) -> Result<CopyRow, OutOfMemory>
     ensures { IfOk result (λ row.
         row ≡ fields_in (end_row (end_line lab.now (counts_in body.now)))) }
@@ -101,7 +107,7 @@ fn end_row(alloc: Global, lab: &LabCode, body: &[CopyRow]) -> Result<CopyRow, Ou
     )
 }
 
-/// How many rows of each kind there are.
+// How many rows of each kind there are.
 fn counts_in(rows: &[CopyRow]) -> Counts
     ensures { result ≡ counts_in rows.now }
 {

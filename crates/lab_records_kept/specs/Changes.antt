@@ -111,7 +111,7 @@ abbrev pub changed : Lab → List Change → Lab
 changed lab [] = lab
 changed lab (one ∷ others) = changed (change lab one) others
 
--- the same where there may be no laboratory
+-- a laboratory after the changes, where there is one
 abbrev pub changed_in : Option Lab → List Change → Option Lab
 changed_in None changes = None
 changed_in (Some lab) changes = Some (changed lab changes)

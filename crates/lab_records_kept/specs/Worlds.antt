@@ -107,7 +107,8 @@ abbrev pub KeeperFaultFits : Type 0 → KeeperFault → Type 0
 KeeperFaultFits may_refuse Storage = may_refuse
 KeeperFaultFits may_refuse Memory = Unit {0}
 
--- so it does at a founding; and that there is a laboratory is told only where there is one
+-- at a founding too a keeper blames its store only where it may refuse; that the laboratory
+-- exists is an answer only where it does
 abbrev pub PlacingFaultFits : Type 0 → Type 0 → PlacingFault → Type 0
 PlacingFaultFits may_refuse exists LabExists = exists
 PlacingFaultFits may_refuse exists NotStored = may_refuse

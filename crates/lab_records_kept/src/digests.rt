@@ -10,6 +10,9 @@ use std::alloc::Global;
 impl Record {
     /// The digest of a version of the record, in the laboratory of the code: of its text as it is now. The only error is out
     /// of memory.
+    ///
+    /// # Errors
+    /// Memory ran out.
     pub fn digest_of(
         &self,
         alloc: Global,

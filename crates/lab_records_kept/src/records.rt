@@ -112,6 +112,9 @@ impl Drop for Record {
 
 impl FormVersion {
     /// A copy. The only error is out of memory.
+    ///
+    /// # Errors
+    /// Memory ran out.
     pub fn copy(&self) -> Result<FormVersion, OutOfMemory>
         ensures { IfOk result (λ copy. copy ≡ self.now) }
     {
@@ -137,6 +140,9 @@ impl Clone for FormVersion {
 
 impl Signature {
     /// A copy. The only error is out of memory.
+    ///
+    /// # Errors
+    /// Memory ran out.
     pub fn copy(&self) -> Result<Signature, OutOfMemory>
         ensures { IfOk result (λ copy. copy ≡ self.now) }
     {
@@ -176,6 +182,9 @@ impl Version {
     }
 
     /// A copy. The only error is out of memory.
+    ///
+    /// # Errors
+    /// Memory ran out.
     pub fn copy(&self) -> Result<Version, OutOfMemory>
         ensures { IfOk result (λ copy. copy ≡ self.now) }
     {
@@ -244,6 +253,9 @@ impl Record {
     }
 
     /// A copy. The only error is out of memory.
+    ///
+    /// # Errors
+    /// Memory ran out.
     pub fn copy(&self) -> Result<Record, OutOfMemory>
         ensures { IfOk result (λ copy. copy ≡ self.now) }
     {
@@ -269,7 +281,7 @@ impl Clone for Record {
     }
 }
 
-/// The state that signatures make, in order; none where no version has such.
+// The state that signatures make, in order; none where no version has such.
 fn state_by(signatures: &[Signature], approval: bool) -> Option<State>
     ensures { result ≡ state_by (map meaning_of signatures.now) approval }
 {

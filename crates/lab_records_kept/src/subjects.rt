@@ -24,6 +24,9 @@ impl Occasion {
 
 impl Deed {
     /// Its subject, as the trail writes it. The only error is out of memory.
+    ///
+    /// # Errors
+    /// Memory ran out.
     pub fn subject(&self, alloc: Global) -> Result<Subject, OutOfMemory>
         ensures { IfOk result (λ subject. subject ≡ subject_text self.now) }
     {

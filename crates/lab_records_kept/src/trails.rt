@@ -223,6 +223,9 @@ impl Drop for TrailRow {
 
 impl TrailRow {
     /// A copy. The only error is out of memory.
+    ///
+    /// # Errors
+    /// Memory ran out.
     pub fn copy(&self) -> Result<TrailRow, OutOfMemory>
         ensures { IfOk result (λ copy. copy ≡ self.now) }
     {

@@ -21,7 +21,7 @@ use Rattle.lab_records_laws.proofs.FitPersons.{touched_fits}
 use Rattle.lab_records_machine.specs.declared.done.Done.{Done}
 use Rattle.lab_records_machine.specs.declared.done.Done.TheVariants.{Refused, Failed, Read, Made}
 use Rattle.lab_records_outcomes.specs.declared.outcome.Outcome.{Outcome}
-use Rattle.lab_records_outcomes.specs.Deciding.{told_row, failing, outcome, ended_made, ended_done, opening_ended, touching}
+use Rattle.lab_records_outcomes.specs.Deciding.{trail_row, failing, outcome, ended_made, ended_done, opening_ended, touching}
 use Rattle.lab_records_laws.proofs.Joining.{changed_on, all_fit_on, changes_know}
 use Rattle.lab_records_laws.proofs.OwnCases.{case_of, slice_for}
 use Rattle.lab_records_laws.proofs.CaseFits.{Adds, FitsDone}
@@ -41,11 +41,11 @@ pub record Matches (Premise : Type 0) (lab : Lab) (stepped : Stepped) (decided :
 told_last : (Premise : Type 0) (lab : Lab) (moment : ℕ) (person : List ℕ) (deed : Deed)
     (own : List Change)
     → Adds Premise lab person own
-    → BecomesWhere Premise lab (own ++ told_row (length lab.trail) moment person deed ∷ [])
+    → BecomesWhere Premise lab (own ++ trail_row (length lab.trail) moment person deed ∷ [])
     (told moment (Some person) deed (changed lab own))
 told_last Premise lab moment person deed own adds =
     let after = changed lab own in
-    let row = told_row (length lab.trail) moment person deed in
+    let row = trail_row (length lab.trail) moment person deed in
     let number : length lab.trail + 1 ≡ length after.trail + 1 =
     ap (λ (rows : List TrailRow). length rows + 1) (sym adds.trail) in
     let same : change after row ≡ told moment (Some person) deed after =
@@ -87,13 +87,13 @@ made_case : (full : Bool) (Premise : Type 0) (lab : Lab) (before : List Change) 
     (stays (told moment (Some person) deed (changed (changed lab before) own)) reply))
     (cond full (outcome refused before)
     (outcome reply
-    (before ++ own ++ told_row (length (changed lab before).trail) moment person deed ∷ [])))
+    (before ++ own ++ trail_row (length (changed lab before).trail) moment person deed ∷ [])))
 made_case true Premise lab before moment person reply refused deed own fits adds =
     record { reply = refl; fits = λ given. fits; after = refl }
 made_case false Premise lab before moment person reply refused deed own fits adds =
     let now = changed lab before in
     let after = told moment (Some person) deed (changed now own) in
-    let row = told_row (length now.trail) moment person deed in
+    let row = trail_row (length now.trail) moment person deed in
     let becomes : BecomesWhere Premise lab (before ++ own ++ row ∷ []) after =
     subst (λ changes. BecomesWhere Premise lab changes after) (grouped before own (row ∷ []))
     (after_some Premise lab before (own ++ row ∷ []) after fits

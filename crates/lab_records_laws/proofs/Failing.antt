@@ -14,10 +14,10 @@ use Rattle.lab_records_kept.specs.declared.trails.Occasion.{Occasion}
 use Rattle.lab_records_kept.specs.Limits.{count_limit, stray_limit}
 use Rattle.lab_records_kept.specs.Trails.{row_of}
 use Rattle.lab_records_kept.specs.Changes.{IsKnown, Fits, AllFit, change, changed}
-use Rattle.lab_records_machine.specs.Cases.{told, noted, failed}
+use Rattle.lab_records_machine.specs.Cases.{told, told_if_room, failed}
 use Rattle.lab_records_laws.proofs.FitAttempts.{FitsAttempt}
 use Rattle.lab_records_laws.proofs.LimitLists.{longer}
-use Rattle.lab_records_outcomes.specs.Deciding.{told_row, noted_rows, two_rows, failing}
+use Rattle.lab_records_outcomes.specs.Deciding.{trail_row, trail_row_if_room, trail_rows_if_room, failing}
 use Rattle.lab_records_laws.proofs.Joining.{set_known, change_knows}
 
 -- changes make another laboratory of one, and fit on a premise
@@ -35,39 +35,39 @@ record Becomes (lab : Lab) (changes : List Change) (after : Lab) : Type 0 where
 
 noted_case : (full : Bool) (lab : Lab) (moment : ℕ) (person : List ℕ) (deed : Deed)
     → IsKnown lab person
-    → Becomes lab (cond full [] (told_row (length lab.trail) moment person deed ∷ []))
+    → Becomes lab (cond full [] (trail_row (length lab.trail) moment person deed ∷ []))
     (cond full lab (told moment (Some person) deed lab))
 noted_case true lab moment person deed known = record { fits = tt; comes = refl }
 noted_case false lab moment person deed known =
     record { fits = ((refl, known), tt); comes = refl }
 
 noted_is : (lab : Lab) (moment : ℕ) (person : List ℕ) (deed : Deed) → IsKnown lab person
-    → Becomes lab (noted_rows (length lab.trail) moment person deed)
-    (noted moment person deed lab)
+    → Becomes lab (trail_row_if_room (length lab.trail) moment person deed)
+    (told_if_room moment person deed lab)
 noted_is lab moment person deed known =
     noted_case (nat_le count_limit (length lab.trail)) lab moment person deed known
 
 two_case : (full : Bool) (lab : Lab) (moment : ℕ) (person : List ℕ) (first second : Deed)
     → nat_le count_limit (length lab.trail) ≡ full → IsKnown lab person
-    → Becomes lab (cond full [] (told_row (length lab.trail) moment person first
-    ∷ noted_rows (length lab.trail + 1) moment person second))
-    (noted moment person second (cond full lab (told moment (Some person) first lab)))
+    → Becomes lab (cond full [] (trail_row (length lab.trail) moment person first
+    ∷ trail_row_if_room (length lab.trail + 1) moment person second))
+    (told_if_room moment person second (cond full lab (told moment (Some person) first lab)))
 two_case true lab moment person first second is known = record {
   fits = tt;
   comes = sym (ap (λ full. cond full lab (told moment (Some person) second lab)) is);
 }
 two_case false lab moment person first second is known =
     let next = told moment (Some person) first lab in
-    let after = noted moment person second next in
+    let after = told_if_room moment person second next in
     let row = row_of (length lab.trail + 1) moment (Some person) first in
-    let rest : Becomes next (noted_rows (length lab.trail + 1) moment person second) after =
-    subst (λ rows. Becomes next (noted_rows rows moment person second) after)
+    let rest : Becomes next (trail_row_if_room (length lab.trail + 1) moment person second) after =
+    subst (λ rows. Becomes next (trail_row_if_room rows moment person second) after)
     (longer lab.trail row) (noted_is next moment person second known) in
     record { fits = ((refl, known), rest.fits); comes = rest.comes }
 
 two_are : (lab : Lab) (moment : ℕ) (person : List ℕ) (first second : Deed) → IsKnown lab person
-    → Becomes lab (two_rows (length lab.trail) moment person first second)
-    (noted moment person second (noted moment person first lab))
+    → Becomes lab (trail_rows_if_room (length lab.trail) moment person first second)
+    (told_if_room moment person second (told_if_room moment person first lab))
 two_are lab moment person first second known =
     two_case (nat_le count_limit (length lab.trail)) lab moment person first second refl known
 
@@ -96,7 +96,7 @@ counted_is lab moment occasion person fits =
     let known : IsKnown (change lab (PersonSet person)) person.code =
     change_knows lab (PersonSet person) person.code fits (set_known lab person fits) in
     after_one lab (PersonSet person)
-    (noted_rows (length lab.trail) moment person.code (Refuse occasion))
+    (trail_row_if_room (length lab.trail) moment person.code (Refuse occasion))
     (failed lab moment occasion (Counted person)) fits
     (noted_is (change lab (PersonSet person)) moment person.code (Refuse occasion) known)
 
@@ -109,7 +109,7 @@ locking_is lab moment occasion person fits =
     change_knows lab (PersonSet person) person.code fits (set_known lab person fits) in
     let next = change lab (PersonSet person) in
     let last = change next (SessionsClosed person.code All) in
-    let rows = two_rows (length lab.trail) moment person.code (Refuse occasion)
+    let rows = trail_rows_if_room (length lab.trail) moment person.code (Refuse occasion)
     (Lock person.code) in
     let after = failed lab moment occasion (Locking person) in
     after_one lab (PersonSet person) (SessionsClosed person.code All ∷ rows) after fits

@@ -7,7 +7,9 @@ use Rattle.lab_forms.specs.declared.forms.Field.{Field}
 use Rattle.lab_forms.specs.Words.{has_text_twice}
 use Rattle.lab_forms.specs.Forms.{field_limit, is_form, is_field, key_of}
 use Rattle.lab_records_machine.specs.declared.commands.Command.{Command}
-use Rattle.lab_records_machine.specs.declared.commands.Command.TheVariants.{Card, Open, Close, ChangePassword, Enrol, ReadPersons, AskIssue, ConfirmIssue, SetRoles, Retire, Unlock, MakeForm, ReadForm, OpenRecord, Enter, Amend, Sign, ReadRecord, ReadVersion, ReadRecords, ReadTrail, TakeCopy}
+use Rattle.lab_records_machine.specs.declared.commands.Command.TheVariants.{Card, Open, In}
+use Rattle.lab_records_machine.specs.declared.commands.SessionCommand.TheVariants.{OnAccount, OnRecord, Reading}
+use Rattle.lab_records_machine.specs.declared.commands.RecordCommand.TheVariants.{MakeForm, OpenRecord, Enter, Amend, Sign}
 use Rattle.lab_records_laws.specs.Asking.{IsCommandRight, IsCommandFormed}
 
 third_test : (a b c d : Bool) → (a && b && c && d) ≡ true → c ≡ true
@@ -21,25 +23,12 @@ few_fields fields formed =
     (nat_le (length fields) 60) (list_all is_field fields) formed)
 
 pub formed_is_right : (command : Command) → IsCommandFormed command → IsCommandRight command
-formed_is_right (MakeForm code form) formed = few_fields form.fields formed
+formed_is_right (In (OnRecord (MakeForm code form))) formed = few_fields form.fields formed
 formed_is_right Card formed = formed
 formed_is_right (Open code password) formed = formed
-formed_is_right Close formed = formed
-formed_is_right (ChangePassword old new) formed = formed
-formed_is_right (Enrol code name roles) formed = formed
-formed_is_right ReadPersons formed = formed
-formed_is_right (AskIssue code) formed = formed
-formed_is_right (ConfirmIssue code) formed = formed
-formed_is_right (SetRoles code roles) formed = formed
-formed_is_right (Retire code) formed = formed
-formed_is_right (Unlock code) formed = formed
-formed_is_right (ReadForm code version) formed = formed
-formed_is_right (OpenRecord form sample) formed = formed
-formed_is_right (Enter number item reason) formed = formed
-formed_is_right (Amend number reason altered) formed = formed
-formed_is_right (Sign number version text signing password code) formed = formed
-formed_is_right (ReadRecord number) formed = formed
-formed_is_right (ReadVersion number version) formed = formed
-formed_is_right (ReadRecords from to) formed = formed
-formed_is_right (ReadTrail from to) formed = formed
-formed_is_right (TakeCopy from to) formed = formed
+formed_is_right (In (OnAccount command)) formed = formed
+formed_is_right (In (OnRecord (OpenRecord form sample))) formed = formed
+formed_is_right (In (OnRecord (Enter number item reason))) formed = formed
+formed_is_right (In (OnRecord (Amend number reason altered))) formed = formed
+formed_is_right (In (OnRecord (Sign number version text signing password code))) formed = formed
+formed_is_right (In (Reading command)) formed = formed

@@ -29,18 +29,22 @@ use Rattle.lab_records_kept.specs.Keeping.{Extends, IsPrefix, KeepsPersons, Keep
 use Rattle.lab_records_rules.specs.Making.{making, opening_record}
 use Rattle.lab_records_versions.specs.Entering.{entering, amending}
 use Rattle.lab_records_rules.specs.Reading.{reading_form, reading_record, reading_version}
-use Rattle.lab_records_rules.specs.declared.refusals.Refusal.TheVariants.{People}
+use Rattle.lab_records_rules.specs.declared.refusals.Refusal.TheVariants.{ClockBehind, People}
 use Rattle.lab_records_machine.specs.declared.commands.Command.{Command}
-use Rattle.lab_records_machine.specs.declared.commands.Command.TheVariants.{Card, Open, Close, ChangePassword, Enrol, ReadPersons, AskIssue, ConfirmIssue, SetRoles, Retire, Unlock, MakeForm, ReadForm, OpenRecord, Enter, Amend, Sign, ReadRecord, ReadVersion, ReadRecords, ReadTrail, TakeCopy}
+use Rattle.lab_records_machine.specs.declared.commands.Command.TheVariants.{Card, Open, In}
+use Rattle.lab_records_machine.specs.declared.commands.SessionCommand.{SessionCommand}
+use Rattle.lab_records_machine.specs.declared.commands.SessionCommand.TheVariants.{OnAccount, OnRecord, Reading}
+use Rattle.lab_records_machine.specs.declared.commands.AccountCommand.TheVariants.{Close, ChangePassword, Enrol, AskIssue, ConfirmIssue, SetRoles, Retire, Unlock}
+use Rattle.lab_records_machine.specs.declared.commands.RecordCommand.TheVariants.{MakeForm, OpenRecord, Enter, Amend, Sign}
+use Rattle.lab_records_machine.specs.declared.commands.ReadingCommand.TheVariants.{ReadPersons, ReadForm, ReadRecord, ReadVersion, ReadRecords, ReadTrail, TakeCopy}
 use Rattle.lab_records_machine.specs.declared.commands.Instruction.{Instruction}
-use Rattle.lab_records_machine.specs.declared.passages.Passage.{Passage}
-use Rattle.lab_records_machine.specs.declared.passages.Passage.TheVariants.{Early, Stranger}
+use Rattle.lab_records_machine.specs.declared.passages.Passage.TheVariants.{Stranger}
 use Rattle.lab_records_machine.specs.declared.replies.Reply.{Reply}
 use Rattle.lab_records_machine.specs.declared.replies.Reply.TheVariants.{Refused, FormRead, RecordRead, VersionRead}
 use Rattle.lab_records_machine.specs.Policy.{rule_of}
-use Rattle.lab_records_machine.specs.Cases.{Case, Refuses, Fails, Reads, Makes, told, noted, failed, more_strays}
-use Rattle.lab_records_machine.specs.Own.{own, opening_case, enrolled_case, asked_case, confirmed_case, roles_case, retired_case, unlocked_case, form_case, record_case, entry_case, amendment_case}
-use Rattle.lab_records_machine.specs.Machine.{stays, made, ended, touched, at_moment, opened, without_session, answered, allowed_passage, session_passage, rule_passage, named_session, step}
+use Rattle.lab_records_machine.specs.Cases.{Case, Refuses, Fails, Reads, Makes, told, told_if_room, failed, more_strays}
+use Rattle.lab_records_machine.specs.Own.{own_on_account, own_on_record, own_reading, own, opening_case, enrolled_case, asked_case, confirmed_case, roles_case, retired_case, unlocked_case, form_case, record_case, entry_case, amendment_case}
+use Rattle.lab_records_machine.specs.Machine.{Stepped, stays, made, ended, touched, at_moment, opened, answered_in, answered, allowed_passage, passage, named_session, step}
 use Rattle.lab_records_laws.specs.Stepping.{WhereThere}
 use Rattle.lab_records_laws.proofs.KeepLists.{prefix_itself, prefix_more, prefix_on}
 use Rattle.lab_records_laws.proofs.KeepPersons.{set_keeps, persons_itself, found_code, sessions_itself, sessions_on, with_session_keeps, with_session_found, closed_keep, found_token}
@@ -55,84 +59,82 @@ is_known : (lab : Lab) (caller : Person) → person_of lab.persons caller.code �
     → IsKnown lab caller.code
 is_known lab caller known = subst IsSome (sym known) refl
 
-own_keeps : (lab : Lab) (tick : Tick) (session : Session) (caller : Person) (command : Command)
+own_keeps : (lab : Lab) (tick : Tick) (session : Session) (caller : Person) (command : SessionCommand)
     → session_of lab.sessions session.token ≡ Some session
     → person_of lab.persons caller.code ≡ Some caller → AreFormsNumbered [] lab.forms
     → CaseKeeps lab tick.moment caller.code (own lab tick session caller command)
-unfolding own
-own_keeps lab tick session caller Card there known numbered = tt
-own_keeps lab tick session caller (Open code password) there known numbered = tt
-own_keeps lab tick session caller Close there known numbered =
+unfolding own_on_account own_on_record own_reading
+own_keeps lab tick session caller (OnAccount Close) there known numbered =
     closing_keeps lab session tick.moment caller.code there
-own_keeps lab tick session caller (ChangePassword old new) there known numbered =
+own_keeps lab tick session caller (OnAccount (ChangePassword old new)) there known numbered =
     changing_keeps lab caller.code caller session old new tick known there
-own_keeps lab tick session caller (Enrol code name roles) there known numbered =
+own_keeps lab tick session caller (OnAccount (Enrol code name roles)) there known numbered =
     after_person lab tick.moment caller.code
     (enrolling code name roles (person_at lab code) (length lab.persons)) (enrolled_case lab)
     (enrolled_keeps lab code name roles (length lab.persons) tick.moment caller.code)
-own_keeps lab tick session caller ReadPersons there known numbered = tt
-own_keeps lab tick session caller (AskIssue code) there known numbered =
+own_keeps lab tick session caller (Reading ReadPersons) there known numbered = tt
+own_keeps lab tick session caller (OnAccount (AskIssue code)) there known numbered =
     after_person lab tick.moment caller.code (asking caller.code (person_at lab code) tick)
     (asked_case lab) (λ issued h.
     with_closed_keeps lab code issued.person issued.closing _ tick.moment caller.code
     (asked_about caller.code (person_at lab code) tick issued h))
-own_keeps lab tick session caller (ConfirmIssue code) there known numbered =
+own_keeps lab tick session caller (OnAccount (ConfirmIssue code)) there known numbered =
     after_person lab tick.moment caller.code (confirming caller.code (person_at lab code) tick)
     (confirmed_case lab) (λ issued h.
     with_closed_keeps lab code issued.person issued.closing _ tick.moment caller.code
     (confirmed_about caller.code (person_at lab code) tick issued h))
-own_keeps lab tick session caller (SetRoles code roles) there known numbered =
+own_keeps lab tick session caller (OnAccount (SetRoles code roles)) there known numbered =
     after_person lab tick.moment caller.code (setting_roles caller.code (person_at lab code) roles)
     (roles_case lab) (λ effect h.
     with_closed_keeps lab code effect.person effect.closing _ tick.moment caller.code
     (roles_about caller.code (person_at lab code) roles effect h))
-own_keeps lab tick session caller (Retire code) there known numbered =
+own_keeps lab tick session caller (OnAccount (Retire code)) there known numbered =
     after_person lab tick.moment caller.code (retiring caller.code (person_at lab code))
     (retired_case lab) (λ effect h.
     with_closed_keeps lab code effect.person effect.closing _ tick.moment caller.code
     (retired_about caller.code (person_at lab code) effect h))
-own_keeps lab tick session caller (Unlock code) there known numbered =
+own_keeps lab tick session caller (OnAccount (Unlock code)) there known numbered =
     after_person lab tick.moment caller.code (unlocking caller.code (person_at lab code))
     (unlocked_case lab) (λ effect h.
     with_closed_keeps lab code effect.person effect.closing _ tick.moment caller.code
     (unlocked_about caller.code (person_at lab code) effect h))
-own_keeps lab tick session caller (MakeForm code form) there known numbered =
+own_keeps lab tick session caller (OnRecord (MakeForm code form)) there known numbered =
     after_case lab tick.moment caller.code (making code form (last_form lab.forms code))
     (form_case lab) (λ made h. form_keeps lab code form made tick.moment caller.code numbered h)
-own_keeps lab tick session caller (ReadForm code version) there known numbered =
+own_keeps lab tick session caller (Reading (ReadForm code version)) there known numbered =
     after_read lab tick.moment caller.code (reading_form (exact_form lab.forms code version))
     FormRead
-own_keeps lab tick session caller (OpenRecord form sample) there known numbered =
+own_keeps lab tick session caller (OnRecord (OpenRecord form sample)) there known numbered =
     after_case lab tick.moment caller.code
     (opening_record (last_form lab.forms form) (record_about lab.records form sample) sample
     caller.code tick.moment (length lab.records)) (record_case lab) (λ kept h.
     record_keeps lab (last_form lab.forms form) (record_about lab.records form sample) sample
     caller.code tick.moment (length lab.records) kept (is_known lab caller known) h)
-own_keeps lab tick session caller (Enter number item reason) there known numbered =
+own_keeps lab tick session caller (OnRecord (Enter number item reason)) there known numbered =
     after_case lab tick.moment caller.code
     (entering lab.code (record_of lab.records number) item reason caller.code tick.moment)
     (entry_case lab)
     (λ made h. entry_keeps lab number item reason caller.code tick.moment made
     (is_known lab caller known) h)
-own_keeps lab tick session caller (Amend number reason altered) there known numbered =
+own_keeps lab tick session caller (OnRecord (Amend number reason altered)) there known numbered =
     after_case lab tick.moment caller.code
     (amending lab.code (record_of lab.records number) reason altered caller.code tick.moment)
     (amendment_case lab)
     (λ made h. amendment_keeps lab number reason altered caller.code tick.moment made
     (is_known lab caller known) h)
-own_keeps lab tick session caller (Sign number version digest signing password code) there known
+own_keeps lab tick session caller (OnRecord (Sign number version digest signing password code)) there known
     numbered =
     signing_keeps lab tick.moment session caller number version digest signing password code known
     there
-own_keeps lab tick session caller (ReadRecord number) there known numbered =
+own_keeps lab tick session caller (Reading (ReadRecord number)) there known numbered =
     after_read lab tick.moment caller.code
     (reading_record lab.code (record_of lab.records number)) RecordRead
-own_keeps lab tick session caller (ReadVersion number version) there known numbered =
+own_keeps lab tick session caller (Reading (ReadVersion number version)) there known numbered =
     after_read lab tick.moment caller.code
     (reading_version lab.code (record_of lab.records number) version) VersionRead
-own_keeps lab tick session caller (ReadRecords from to) there known numbered = tt
-own_keeps lab tick session caller (ReadTrail from to) there known numbered = tt
-own_keeps lab tick session caller (TakeCopy from to) there known numbered = tt
+own_keeps lab tick session caller (Reading (ReadRecords from to)) there known numbered = tt
+own_keeps lab tick session caller (Reading (ReadTrail from to)) there known numbered = tt
+own_keeps lab tick session caller (Reading (TakeCopy from to)) there known numbered = tt
 
 -- ---- laboratories whose records are as they were
 
@@ -204,7 +206,7 @@ noted_by true old new moment person deed frame = frame
 noted_by false old new moment person deed frame = told_frame old new moment person deed frame
 
 noted_frame : (old new : Lab) (moment : ℕ) (person : List ℕ) (deed : Deed) → IsFrame old new
-    → IsFrame old (noted moment person deed new)
+    → IsFrame old (told_if_room moment person deed new)
 noted_frame old new moment person deed frame =
     noted_by (nat_le count_limit (length new.trail)) old new moment (Some person) deed frame
 
@@ -220,7 +222,7 @@ failed_frame lab moment occasion (Counted person) set =
 failed_frame lab moment occasion (Locking person) set =
     let sessions = sessions_after All person.code lab.sessions in
     let after = record lab { persons = with_person person lab.persons; sessions = sessions } in
-    noted_frame lab (noted moment person.code (Refuse occasion) after) moment person.code
+    noted_frame lab (told_if_room moment person.code (Refuse occasion) after) moment person.code
     (Lock person.code)
     (noted_frame lab after moment person.code (Refuse occasion)
     (frame_of lab lab.last lab.strays (with_person person lab.persons) sessions
@@ -361,13 +363,6 @@ opened_keeps lab moment code (Makes reply deed after) keeps =
     made_keeps lab (at_moment moment after) moment code reply deed
     (moment_made lab after deed moment code keeps)
 
-without_keeps : (lab : Lab) (tick : Tick) (command : Command)
-    → WhereThere (Keeps lab) (without_session lab tick command).after
-without_keeps lab tick (Open code password) =
-    opened_keeps lab tick.moment code (opening_case lab tick code password)
-    (opening_keeps lab tick code password)
-without_keeps lab tick command = keeps_itself lab
-
 -- ---- sessions that were found
 
 own_token : (sessions : List Session) (token : List ℕ) (session : Session)
@@ -394,12 +389,13 @@ touching lab moment session there =
     with_session_keeps lab.sessions (touched_session moment session) session there
     (record { number = refl; person = refl; token = refl; opened = refl })
 
-allowed_keeps : (lab : Lab) (tick : Tick) (command : Command) (session : Session) (caller : Person)
+allowed_keeps : (lab : Lab) (tick : Tick) (command : SessionCommand) (session : Session)
+    (caller : Person)
     (denied : Option PeopleRefusal) → AreFormsNumbered [] lab.forms
     → session_of lab.sessions session.token ≡ Some session
     → person_of lab.persons caller.code ≡ Some caller
     → WhereThere (Keeps lab)
-    (answered lab tick command (allowed_passage session caller denied)).after
+    (answered_in lab tick command (allowed_passage session caller denied)).after
 allowed_keeps lab tick command session caller (Some refusal) numbered there known =
     kept_before lab tick.moment (with_session (touched_session tick.moment session) lab.sessions)
     (touched lab tick.moment session) (touching lab tick.moment session there)
@@ -414,58 +410,56 @@ allowed_keeps lab tick command session caller None numbered there known =
     (own_keeps after tick now caller command (with_session_found lab.sessions now session there)
     known numbered))
 
-live_keeps : (live : Bool) (lab : Lab) (tick : Tick) (command : Command) (session : Session)
+live_keeps : (live : Bool) (lab : Lab) (tick : Tick) (command : SessionCommand) (session : Session)
     (caller : Person) (denied : Option PeopleRefusal) → AreFormsNumbered [] lab.forms
     → session_of lab.sessions session.token ≡ Some session
     → person_of lab.persons caller.code ≡ Some caller
-    → WhereThere (Keeps lab) (answered lab tick command
+    → WhereThere (Keeps lab) (answered_in lab tick command
     (cond live (allowed_passage session caller denied) Stranger)).after
 live_keeps true lab tick command session caller denied numbered there known =
     allowed_keeps lab tick command session caller denied numbered there known
 live_keeps false lab tick command session caller denied numbered there known = keeps_itself lab
 
-session_keeps : (lab : Lab) (tick : Tick) (command : Command) (session : Option Session)
+session_keeps : (lab : Lab) (tick : Tick) (command : SessionCommand) (session : Option Session)
     (caller : Option Person) (rule : Rule) → AreFormsNumbered [] lab.forms
     → ((one : Session) → session ≡ Some one → session_of lab.sessions one.token ≡ Some one)
     → ((one : Person) → caller ≡ Some one → person_of lab.persons one.code ≡ Some one)
     → WhereThere (Keeps lab)
-    (answered lab tick command (session_passage session caller tick.moment rule)).after
+    (answered_in lab tick command (passage session caller tick.moment rule)).after
 session_keeps lab tick command None caller rule numbered there known = keeps_itself lab
 session_keeps lab tick command (Some session) None rule numbered there known = keeps_itself lab
 session_keeps lab tick command (Some session) (Some caller) rule numbered there known =
     live_keeps (is_live session tick.moment) lab tick command session caller
     (denial caller rule tick.moment) numbered (there session refl) (known caller refl)
 
-rule_keeps : (lab : Lab) (tick : Tick) (command : Command) (session : Option Session)
-    (caller : Option Person) (rule : Option Rule) → AreFormsNumbered [] lab.forms
-    → ((one : Session) → session ≡ Some one → session_of lab.sessions one.token ≡ Some one)
-    → ((one : Person) → caller ≡ Some one → person_of lab.persons one.code ≡ Some one)
-    → WhereThere (Keeps lab)
-    (answered lab tick command (rule_passage session caller tick.moment rule)).after
-rule_keeps lab tick command session caller None numbered there known =
-    without_keeps lab tick command
-rule_keeps lab tick command session caller (Some rule) numbered there known =
-    session_keeps lab tick command session caller rule numbered there known
-
-early_keeps : (early : Bool) (lab : Lab) (tick : Tick) (command : Command) (passes : Passage)
-    → WhereThere (Keeps lab) (answered lab tick command passes).after
-    → WhereThere (Keeps lab) (answered lab tick command (cond early Early passes)).after
-early_keeps true lab tick command passes keeps = keeps_itself lab
-early_keeps false lab tick command passes keeps = keeps
-
 caller_known : (lab : Lab) (session : Option Session) (caller : Person)
     → caller_of lab session ≡ Some caller → person_of lab.persons caller.code ≡ Some caller
 caller_known lab None caller h = absurd (cc)
 caller_known lab (Some session) caller h = own_code lab.persons session.person caller h
+
+answer_keeps : (lab : Lab) (tick : Tick) (token : Option (List ℕ)) (command : Command)
+    → AreFormsNumbered [] lab.forms
+    → WhereThere (Keeps lab) (answered lab tick (named_session lab token) command).after
+answer_keeps lab tick token Card numbered = keeps_itself lab
+answer_keeps lab tick token (Open code password) numbered =
+    opened_keeps lab tick.moment code (opening_case lab tick code password)
+    (opening_keeps lab tick code password)
+answer_keeps lab tick token (In command) numbered =
+    let session = named_session lab token in
+    session_keeps lab tick command session (caller_of lab session) (rule_of command) numbered
+    (named_there lab token) (caller_known lab session)
+
+timely_keeps : (early : Bool) (lab : Lab) (reply : Reply) (other : Stepped)
+    → WhereThere (Keeps lab) other.after
+    → WhereThere (Keeps lab) (cond early (stays lab reply) other).after
+timely_keeps true lab reply other keeps = keeps_itself lab
+timely_keeps false lab reply other keeps = keeps
 
 -- a step keeps what was
 pub step_keeps : (lab : Lab) (tick : Tick) (instruction : Instruction)
     → AreFormsNumbered [] lab.forms
     → WhereThere (Keeps lab) (step (Some lab) tick instruction).after
 step_keeps lab tick instruction numbered =
-    let session = named_session lab instruction.token in
-    early_keeps (nat_lt tick.moment lab.last) lab tick instruction.command
-    (rule_passage session (caller_of lab session) tick.moment (rule_of instruction.command))
-    (rule_keeps lab tick instruction.command session (caller_of lab session)
-    (rule_of instruction.command) numbered (named_there lab instruction.token)
-    (caller_known lab session))
+    timely_keeps (nat_lt tick.moment lab.last) lab (Refused ClockBehind)
+    (answered lab tick (named_session lab instruction.token) instruction.command)
+    (answer_keeps lab tick instruction.token instruction.command numbered)

@@ -36,7 +36,11 @@ use Rattle.lab_records_machine.specs.declared.births.Founder.{Founder}
 use Rattle.lab_records_machine.specs.declared.births.Founding.{Founding}
 use Rattle.lab_records_machine.specs.declared.births.BirthRefusal.TheVariants.{CodeTaken, BadPassword, LabExists}
 use Rattle.lab_records_machine.specs.declared.commands.Command.{Command}
-use Rattle.lab_records_machine.specs.declared.commands.Command.TheVariants.{Card, Open, Close, MakeForm, ReadPersons}
+use Rattle.lab_records_machine.specs.declared.commands.Command.TheVariants.{Card, Open, In}
+use Rattle.lab_records_machine.specs.declared.commands.SessionCommand.TheVariants.{OnAccount, OnRecord, Reading}
+use Rattle.lab_records_machine.specs.declared.commands.AccountCommand.TheVariants.{Close}
+use Rattle.lab_records_machine.specs.declared.commands.RecordCommand.TheVariants.{MakeForm}
+use Rattle.lab_records_machine.specs.declared.commands.ReadingCommand.TheVariants.{ReadPersons}
 use Rattle.lab_records_machine.specs.Births.{newborn, born}
 use Rattle.lab_records_laws.specs.Asking.{IsAskedRightly, IsCommandFormed}
 use Rattle.lab_records_laws.specs.Births.{IsAdministrator, IsFounded}
@@ -186,7 +190,7 @@ clear = record {
 
 -- whoever makes a form of these fields
 abbrev making : List Field → Command
-making fields = MakeForm (codes "water") (record { fields = fields; approval = false })
+making fields = In (OnRecord (MakeForm (codes "water") (record { fields = fields; approval = false })))
 
 -- without a token, at a moment
 abbrev at : Tick → ℕ → Command → Asked
@@ -201,7 +205,7 @@ too_many few = le→leb 61 60 few
 -- 60 fields are asked rightly, and 61 are not; what is no form is always
 pub known_asking : IsAskedRightly (record { token = None; command = making (replicate 60 clear) })
     × (IsAskedRightly (record { token = None; command = making (replicate 61 clear) }) → ⊥)
-    × IsAskedRightly (record { token = None; command = Close })
+    × IsAskedRightly (record { token = None; command = In (OnAccount Close) })
 known_asking = (lit≤ tt, too_many, tt)
 
 -- a form has one field or more, no two of one key, each such as a form may have: a text has room for a byte
@@ -225,12 +229,12 @@ known_asked tick = (
 
 -- nothing comes of nothing, and where nothing is asked the laboratory is as it was
 pub known_nothing : (tick : Tick)
-    → (after_all None (at tick 100 Card ∷ at tick 200 Close ∷ []) ≡ None) × (after_all (Some aqua) [] ≡ Some aqua)
+    → (after_all None (at tick 100 Card ∷ at tick 200 (In (OnAccount Close)) ∷ []) ≡ None) × (after_all (Some aqua) [] ≡ Some aqua)
 known_nothing tick = (refl, refl)
 
 -- the card changes nothing, nor does a command without a session
 pub known_unchanged : (tick : Tick)
-    → after_all (Some aqua) (at tick 100 Card ∷ at tick 200 ReadPersons ∷ at tick 300 Close ∷ []) ≡ Some aqua
+    → after_all (Some aqua) (at tick 100 Card ∷ at tick 200 (In (Reading ReadPersons)) ∷ at tick 300 (In (OnAccount Close)) ∷ []) ≡ Some aqua
 known_unchanged tick = refl
 
 -- a password for nobody's code is counted once each, and its moment is the last

@@ -19,7 +19,7 @@ use Rattle.lab_records_kept.specs.Lookups.{record_of}
 use Rattle.lab_people_access.specs.Persons.{person_limit}
 use Rattle.lab_records_kept.specs.Limits.{IsWithin, IsOrderly, IsByForm, AreInOrder, AreNumbered, count_limit, record_limit, stray_limit}
 use Rattle.lab_records_kept.specs.Trails.{row_of}
-use Rattle.lab_records_machine.specs.Cases.{told, noted, failed, more_strays}
+use Rattle.lab_records_machine.specs.Cases.{told, told_if_room, failed, more_strays}
 use Rattle.lab_records_laws.proofs.LimitLists.{numbered_same, numbered_more, same_length, longer}
 use Rattle.lab_records_laws.proofs.LimitParts.{session_number, session_numbers, closed_numbers, person_code, person_codes, order_same}
 use Rattle.lab_records_laws.proofs.LimitRecords.{record_number, record_numbers, all_in_record}
@@ -217,7 +217,7 @@ noted_case false lab moment person deed is within =
     told_within lab moment (Some person) deed (leb-false count_limit (length lab.trail) is) within
 
 pub noted_within : (lab : Lab) (moment : ℕ) (person : List ℕ) (deed : Deed) → IsWithin lab
-    → IsWithin (noted moment person deed lab)
+    → IsWithin (told_if_room moment person deed lab)
 noted_within lab moment person deed within =
     noted_case (nat_le count_limit (length lab.trail)) lab moment person deed refl within
 
@@ -239,7 +239,7 @@ failed_within lab moment occasion (Locking person) within =
       persons = with_person person lab.persons;
       sessions = sessions_after Everything person.code lab.sessions;
     } in
-    noted_within (noted moment person.code (Refuse occasion) after) moment person.code
+    noted_within (told_if_room moment person.code (Refuse occasion) after) moment person.code
     (Lock person.code) (noted_within after moment person.code (Refuse occasion)
     (closed_within (record lab { persons = with_person person lab.persons }) Everything person.code
     (person_within lab person within)))

@@ -24,8 +24,12 @@ use Rattle.lab_records_rules.specs.Making.{making, opening_record}
 use Rattle.lab_records_versions.specs.Entering.{entering, amending}
 use Rattle.lab_records_rules.specs.Reading.{reading_form, reading_record, reading_version}
 use Rattle.lab_records_versions.specs.Signing.{is_code_wanted, signing_record}
-use Rattle.lab_records_machine.specs.declared.commands.Command.{Command}
-use Rattle.lab_records_machine.specs.declared.commands.Command.TheVariants.{Card, Open, Close, ChangePassword, Enrol, ReadPersons, AskIssue, ConfirmIssue, SetRoles, Retire, Unlock, MakeForm, ReadForm, OpenRecord, Enter, Amend, Sign, ReadRecord, ReadVersion, ReadRecords, ReadTrail, TakeCopy}
+use Rattle.lab_records_machine.specs.declared.commands.Command.TheVariants.{In}
+use Rattle.lab_records_machine.specs.declared.commands.SessionCommand.{SessionCommand}
+use Rattle.lab_records_machine.specs.declared.commands.SessionCommand.TheVariants.{OnAccount, OnRecord, Reading}
+use Rattle.lab_records_machine.specs.declared.commands.AccountCommand.TheVariants.{Close, ChangePassword, Enrol, AskIssue, ConfirmIssue, SetRoles, Retire, Unlock}
+use Rattle.lab_records_machine.specs.declared.commands.RecordCommand.TheVariants.{MakeForm, OpenRecord, Enter, Amend, Sign}
+use Rattle.lab_records_machine.specs.declared.commands.ReadingCommand.TheVariants.{ReadPersons, ReadForm, ReadRecord, ReadVersion, ReadRecords, ReadTrail, TakeCopy}
 use Rattle.lab_records_machine.specs.declared.replies.Reply.TheVariants.{FormRead, RecordRead, VersionRead}
 use Rattle.lab_records_machine.specs.Machine.{touched}
 use Rattle.lab_records_laws.specs.Asking.{IsCommandFormed}
@@ -34,7 +38,7 @@ use Rattle.lab_records_laws.proofs.FitSignatures.{signature_fits}
 use Rattle.lab_records_laws.proofs.FitPersons.{enrolled_fits, session_fits, closed_fits, signed_fits}
 use Rattle.lab_records_laws.proofs.FitAccounts.{roles_fit, retired_fits, unlocked_fits, asked_fits, confirmed_fits}
 use Rattle.lab_records_laws.proofs.FitAttempts.{FitsAttempt, attempt_fits}
-use Rattle.lab_records_machine.specs.Done.{done_of, changed_done, enrolled_done, asked_done, confirmed_done, roles_done, retired_done, unlocked_done, form_done, record_done, entry_done, amendment_done, signature_done, signing_done}
+use Rattle.lab_records_machine.specs.Done.{done_on_account, done_on_record, done_reading, done_of, changed_done, enrolled_done, asked_done, confirmed_done, roles_done, retired_done, unlocked_done, form_done, record_done, entry_done, amendment_done, signature_done, signing_done}
 use Rattle.lab_records_laws.proofs.Joining.{set_known, change_knows}
 use Rattle.lab_records_laws.proofs.OwnCases.{slice_for}
 use Rattle.lab_records_laws.proofs.CaseFits.{FitsDone, then_done_fits, then_person_fits, then_read_fits, wanted_fits, person_adds, renewed_fits}
@@ -89,7 +93,7 @@ signing_fits : (Premise : Type 0) (lab : Lab) (digest : Option (List ℕ)) (old 
     → session_of (touched lab moment old).sessions session.token ≡ Some session
     → IsKnown lab caller
     → FitsDone Premise (touched lab moment old) caller
-    (signing_done (slice_for lab digest (Sign number version text signing password code)) moment
+    (signing_done (slice_for lab digest (In (OnRecord (Sign number version text signing password code)))) moment
     session version text signing result)
 signing_fits Premise lab digest old moment session caller number version text signing password code
     (Err failure) fits found known =
@@ -119,25 +123,23 @@ signing_fits Premise lab digest old moment session caller number version text si
 
 pub own_fits : (Premise : Type 0) (lab : Lab) (digest : Option (List ℕ)) (old : Session)
     (tick : Tick)
-    (session : Session) (caller : Person) (command : Command)
-    → (Premise → IsCommandFormed command)
+    (session : Session) (caller : Person) (command : SessionCommand)
+    → (Premise → IsCommandFormed (In command))
     → session_of (touched lab tick.moment old).sessions session.token ≡ Some session
     → person_of lab.persons caller.code ≡ Some caller
     → FitsDone Premise (touched lab tick.moment old) caller.code
-    (done_of (slice_for lab digest command) tick session caller command)
-unfolding done_of
-own_fits Premise lab digest old tick session caller Card formed found there = tt
-own_fits Premise lab digest old tick session caller (Open code password) formed found there = tt
-own_fits Premise lab digest old tick session caller Close formed found there =
+    (done_of (slice_for lab digest (In command)) tick session caller command)
+unfolding done_on_account done_on_record done_reading
+own_fits Premise lab digest old tick session caller (OnAccount Close) formed found there =
     record {
       fits = λ given. (closed_fits (touched lab tick.moment old) session found, tt);
       trail = refl;
       known = ap is_some there;
     }
-own_fits Premise lab digest old tick session caller (ChangePassword before after) formed found
+own_fits Premise lab digest old tick session caller (OnAccount (ChangePassword before after)) formed found
     there =
     changing_fits Premise (touched lab tick.moment old) caller session before after tick found there
-own_fits Premise lab digest old tick session caller (Enrol code name roles) formed found there =
+own_fits Premise lab digest old tick session caller (OnAccount (Enrol code name roles)) formed found there =
     let now = touched lab tick.moment old in
     then_person_fits Premise now caller.code
     (enrolling code name roles (person_at lab code) (length lab.persons)) enrolled_done
@@ -146,39 +148,39 @@ own_fits Premise lab digest old tick session caller (Enrol code name roles) form
       trail = refl;
       known = ap is_some there;
     })
-own_fits Premise lab digest old tick session caller ReadPersons formed found there = tt
-own_fits Premise lab digest old tick session caller (AskIssue code) formed found there =
+own_fits Premise lab digest old tick session caller (Reading ReadPersons) formed found there = tt
+own_fits Premise lab digest old tick session caller (OnAccount (AskIssue code)) formed found there =
     let now = touched lab tick.moment old in
     let known : IsKnown now caller.code = ap is_some there in
     then_person_fits Premise now caller.code (asking caller.code (person_at lab code) tick)
     asked_done
     (λ issued is. person_adds Premise now caller.code issued.person issued.closing
     (asked_fits now caller.code code tick issued is known) known)
-own_fits Premise lab digest old tick session caller (ConfirmIssue code) formed found there =
+own_fits Premise lab digest old tick session caller (OnAccount (ConfirmIssue code)) formed found there =
     let now = touched lab tick.moment old in
     then_person_fits Premise now caller.code (confirming caller.code (person_at lab code) tick)
     confirmed_done
     (λ issued is. person_adds Premise now caller.code issued.person issued.closing
     (confirmed_fits now caller.code code tick issued is) (ap is_some there))
-own_fits Premise lab digest old tick session caller (SetRoles code roles) formed found there =
+own_fits Premise lab digest old tick session caller (OnAccount (SetRoles code roles)) formed found there =
     let now = touched lab tick.moment old in
     then_person_fits Premise now caller.code (setting_roles caller.code (person_at lab code) roles)
     roles_done
     (λ effect is. person_adds Premise now caller.code effect.person effect.closing
     (roles_fit now caller.code code roles effect is) (ap is_some there))
-own_fits Premise lab digest old tick session caller (Retire code) formed found there =
+own_fits Premise lab digest old tick session caller (OnAccount (Retire code)) formed found there =
     let now = touched lab tick.moment old in
     then_person_fits Premise now caller.code (retiring caller.code (person_at lab code))
     retired_done
     (λ effect is. person_adds Premise now caller.code effect.person effect.closing
     (retired_fits now caller.code code effect is) (ap is_some there))
-own_fits Premise lab digest old tick session caller (Unlock code) formed found there =
+own_fits Premise lab digest old tick session caller (OnAccount (Unlock code)) formed found there =
     let now = touched lab tick.moment old in
     then_person_fits Premise now caller.code (unlocking caller.code (person_at lab code))
     unlocked_done
     (λ effect is. person_adds Premise now caller.code effect.person effect.closing
     (unlocked_fits now caller.code code effect is) (ap is_some there))
-own_fits Premise lab digest old tick session caller (MakeForm code form) formed found there =
+own_fits Premise lab digest old tick session caller (OnRecord (MakeForm code form)) formed found there =
     let now = touched lab tick.moment old in
     then_done_fits Premise now caller.code (making code form (last_form lab.forms code)) form_done
     (λ made is. record {
@@ -186,11 +188,11 @@ own_fits Premise lab digest old tick session caller (MakeForm code form) formed 
       trail = refl;
       known = ap is_some there;
     })
-own_fits Premise lab digest old tick session caller (ReadForm code version) formed found there =
+own_fits Premise lab digest old tick session caller (Reading (ReadForm code version)) formed found there =
     let now = touched lab tick.moment old in
     then_read_fits Premise now caller.code (reading_form (exact_form lab.forms code version))
     FormRead
-own_fits Premise lab digest old tick session caller (OpenRecord form sample) formed found there =
+own_fits Premise lab digest old tick session caller (OnRecord (OpenRecord form sample)) formed found there =
     let now = touched lab tick.moment old in
     let known : IsKnown now caller.code = ap is_some there in
     then_done_fits Premise now caller.code (opening_record (last_form lab.forms form)
@@ -200,7 +202,7 @@ own_fits Premise lab digest old tick session caller (OpenRecord form sample) for
       trail = refl;
       known = known;
     })
-own_fits Premise lab digest old tick session caller (Enter number item reason) formed found there =
+own_fits Premise lab digest old tick session caller (OnRecord (Enter number item reason)) formed found there =
     let now = touched lab tick.moment old in
     let known : IsKnown now caller.code = ap is_some there in
     then_done_fits Premise now caller.code
@@ -210,7 +212,7 @@ own_fits Premise lab digest old tick session caller (Enter number item reason) f
       trail = refl;
       known = known;
     })
-own_fits Premise lab digest old tick session caller (Amend number reason altered) formed found
+own_fits Premise lab digest old tick session caller (OnRecord (Amend number reason altered)) formed found
     there =
     let now = touched lab tick.moment old in
     let known : IsKnown now caller.code = ap is_some there in
@@ -225,25 +227,25 @@ own_fits Premise lab digest old tick session caller (Amend number reason altered
       known = known;
     })
 own_fits Premise lab digest old tick session caller
-    (Sign number version text signing password code) formed found there =
+    (OnRecord (Sign number version text signing password code)) formed found there =
     let now = touched lab tick.moment old in
     let result = signing_attempt caller code password tick.moment in
     wanted_fits (is_code_wanted session code) Premise now caller.code CodeWanted
-    (signing_done (slice_for lab digest (Sign number version text signing password code))
+    (signing_done (slice_for lab digest (In (OnRecord (Sign number version text signing password code))))
     tick.moment session version text signing result)
     (signing_fits Premise lab digest old tick.moment session caller.code number version text signing
     password code result
     (attempt_fits now caller.code caller (is_own_code code caller) password tick.moment there)
     found (ap is_some there))
-own_fits Premise lab digest old tick session caller (ReadRecord number) formed found there =
+own_fits Premise lab digest old tick session caller (Reading (ReadRecord number)) formed found there =
     let now = touched lab tick.moment old in
     then_read_fits Premise now caller.code (reading_record lab.code (record_of lab.records number))
     RecordRead
-own_fits Premise lab digest old tick session caller (ReadVersion number version) formed found
+own_fits Premise lab digest old tick session caller (Reading (ReadVersion number version)) formed found
     there =
     let now = touched lab tick.moment old in
     then_read_fits Premise now caller.code
     (reading_version lab.code (record_of lab.records number) version) VersionRead
-own_fits Premise lab digest old tick session caller (ReadRecords from to) formed found there = tt
-own_fits Premise lab digest old tick session caller (ReadTrail from to) formed found there = tt
-own_fits Premise lab digest old tick session caller (TakeCopy from to) formed found there = tt
+own_fits Premise lab digest old tick session caller (Reading (ReadRecords from to)) formed found there = tt
+own_fits Premise lab digest old tick session caller (Reading (ReadTrail from to)) formed found there = tt
+own_fits Premise lab digest old tick session caller (Reading (TakeCopy from to)) formed found there = tt

@@ -1,6 +1,6 @@
 -- Through a step: what holds of each record stays, where the rules leave it so.
 use Rattle.std.proofs.Common.{◌≡◌, ℕ, Bool, true, false, cond, List, [], ◌∷◌, ◌++◌, length, Option, Some, refl}
-use Rattle.std.specs.Prelude.{All, Result, Ok, Err, nat_le}
+use Rattle.std.specs.Prelude.{All, Result, Ok, Err, nat_le, nat_lt}
 use Rattle.std.proofs.lemmas.List.Elements.{All-push}
 use Rattle.lab_forms_texts.specs.declared.tick.Tick.{Tick}
 use Rattle.lab_people_access.specs.declared.persons.Person.{Person}
@@ -26,7 +26,7 @@ use Rattle.lab_records_kept.specs.declared.trails.Deed.TheVariants.{Refuse, Lock
 use Rattle.lab_records_kept.specs.declared.trails.Occasion.{Occasion}
 use Rattle.lab_records_kept.specs.Limits.{count_limit}
 use Rattle.lab_records_kept.specs.Lookups.{record_of, record_about, last_form, exact_form}
-use Rattle.lab_records_kept.specs.Lookups.{caller_of, person_at, session_at}
+use Rattle.lab_records_kept.specs.Lookups.{person_at, session_at}
 use Rattle.lab_records_kept.specs.Changes.{with_person, in_record, entered_in, opened_in, signed_in}
 use Rattle.lab_records_rules.specs.declared.items.Item.{Item}
 use Rattle.lab_records_rules.specs.declared.outcomes.EntryMade.{EntryMade}
@@ -34,20 +34,26 @@ use Rattle.lab_records_rules.specs.declared.outcomes.AmendmentMade.{AmendmentMad
 use Rattle.lab_records_rules.specs.declared.outcomes.SignatureMade.{SignatureMade}
 use Rattle.lab_records_rules.specs.declared.outcomes.Signing.{Signing}
 use Rattle.lab_records_rules.specs.declared.refusals.Refusal.{Refusal}
+use Rattle.lab_records_rules.specs.declared.refusals.Refusal.TheVariants.{ClockBehind}
 use Rattle.lab_records_rules.specs.Making.{making, opening_record}
 use Rattle.lab_records_versions.specs.Entering.{entering, amending, next_version}
 use Rattle.lab_records_versions.specs.Signing.{is_code_wanted, new_signature, signing_record}
 use Rattle.lab_records_rules.specs.Reading.{reading_form, reading_record, reading_version}
 use Rattle.lab_records_machine.specs.declared.commands.Command.{Command}
-use Rattle.lab_records_machine.specs.declared.commands.Command.TheVariants.{Card, Open, Close, ChangePassword, Enrol, ReadPersons, AskIssue, ConfirmIssue, SetRoles, Retire, Unlock, MakeForm, ReadForm, OpenRecord, Enter, Amend, Sign, ReadRecord, ReadVersion, ReadRecords, ReadTrail, TakeCopy}
+use Rattle.lab_records_machine.specs.declared.commands.Command.TheVariants.{Card, Open, In}
+use Rattle.lab_records_machine.specs.declared.commands.SessionCommand.{SessionCommand}
+use Rattle.lab_records_machine.specs.declared.commands.SessionCommand.TheVariants.{OnAccount, OnRecord, Reading}
+use Rattle.lab_records_machine.specs.declared.commands.AccountCommand.TheVariants.{Close, ChangePassword, Enrol, AskIssue, ConfirmIssue, SetRoles, Retire, Unlock}
+use Rattle.lab_records_machine.specs.declared.commands.RecordCommand.TheVariants.{MakeForm, OpenRecord, Enter, Amend, Sign}
+use Rattle.lab_records_machine.specs.declared.commands.ReadingCommand.TheVariants.{ReadPersons, ReadForm, ReadRecord, ReadVersion, ReadRecords, ReadTrail, TakeCopy}
 use Rattle.lab_records_machine.specs.declared.commands.Instruction.{Instruction}
 use Rattle.lab_records_machine.specs.declared.passages.Passage.{Passage}
-use Rattle.lab_records_machine.specs.declared.passages.Passage.TheVariants.{Early, NeedsNone, Stranger, Barred, Passes}
+use Rattle.lab_records_machine.specs.declared.passages.Passage.TheVariants.{Stranger, Barred, Passes}
 use Rattle.lab_records_machine.specs.declared.replies.Reply.{Reply}
-use Rattle.lab_records_machine.specs.declared.replies.Reply.TheVariants.{FormRead, RecordRead, VersionRead}
-use Rattle.lab_records_machine.specs.Cases.{Case, Refuses, Fails, Reads, Makes, noted, told, failed}
-use Rattle.lab_records_machine.specs.Machine.{stays, made, ended, touched, at_moment, opened, without_session, answered, named_session, passage, step}
-use Rattle.lab_records_machine.specs.Own.{own, then_case, then_person, then_read, opened_case, opening_case, changed_case, enrolled_case, asked_case, confirmed_case, roles_case, retired_case, unlocked_case, form_case, record_case, entry_case, amendment_case, signature_case, signing_by}
+use Rattle.lab_records_machine.specs.declared.replies.Reply.TheVariants.{Refused, FormRead, RecordRead, VersionRead}
+use Rattle.lab_records_machine.specs.Cases.{Case, Refuses, Fails, Reads, Makes, told_if_room, told, failed}
+use Rattle.lab_records_machine.specs.Machine.{Stepped, stays, made, ended, touched, at_moment, opened, answered_in, answered, named_session, step}
+use Rattle.lab_records_machine.specs.Own.{own_on_account, own_on_record, own_reading, own, then_case, then_person, then_read, opened_case, opening_case, changed_case, enrolled_case, asked_case, confirmed_case, roles_case, retired_case, unlocked_case, form_case, record_case, entry_case, amendment_case, signature_case, signing_by}
 use Rattle.lab_records_laws.specs.Stepping.{WhereThere}
 use Rattle.lab_records_laws.proofs.SigningFrame.{OfEach, StaysTrue, each_in_record, number_found, version_found, entry_said, amendment_said, signature_said, opening_said}
 
@@ -64,7 +70,7 @@ noted_if Holds lab other true holds others = holds
 noted_if Holds lab other false holds others = others
 
 noted_keeps : (Holds : List ℕ → Record → Type 0) (moment : ℕ) (person : List ℕ) (deed : Deed)
-    (lab : Lab) → OfEach Holds lab → OfEach Holds (noted moment person deed lab)
+    (lab : Lab) → OfEach Holds lab → OfEach Holds (told_if_room moment person deed lab)
 noted_keeps Holds moment person deed lab holds =
     noted_if Holds lab (told moment (Some person) deed lab)
     (nat_le count_limit (length lab.trail)) holds holds
@@ -83,7 +89,7 @@ failed_keeps Holds lab moment occasion (Counted person) holds =
     (record lab { persons = with_person person lab.persons }) holds
 failed_keeps Holds lab moment occasion (Locking person) holds =
     noted_keeps Holds moment person.code (Lock person.code)
-    (noted moment person.code (Refuse occasion) (locked lab person))
+    (told_if_room moment person.code (Refuse occasion) (locked lab person))
     (noted_keeps Holds moment person.code (Refuse occasion) (locked lab person) holds)
 failed_keeps Holds lab moment occasion (AlreadyLocked person) holds =
     noted_keeps Holds moment person.code (Refuse occasion) lab holds
@@ -235,94 +241,80 @@ wanted_if Holds refusal case false makes = makes
 -- ---- each command
 
 own_keeps : (Holds : List ℕ → Record → Type 0) → StaysTrue Holds → (lab : Lab) (tick : Tick)
-    (session : Session) (caller : Person) (command : Command) → OfEach Holds lab
+    (session : Session) (caller : Person) (command : SessionCommand) → OfEach Holds lab
     → WhereMade Holds (own lab tick session caller command)
-unfolding own
-own_keeps Holds true_still lab tick session caller Card holds = tt
-own_keeps Holds true_still lab tick session caller (Open code password) holds = tt
-own_keeps Holds true_still lab tick session caller Close holds = holds
-own_keeps Holds true_still lab tick session caller (ChangePassword old new) holds =
+unfolding own_on_account own_on_record own_reading
+own_keeps Holds true_still lab tick session caller (OnAccount Close) holds = holds
+own_keeps Holds true_still lab tick session caller (OnAccount (ChangePassword old new)) holds =
     changed_case_keeps Holds lab tick.moment (changing caller session old new tick) holds
-own_keeps Holds true_still lab tick session caller (Enrol code name roles) holds =
+own_keeps Holds true_still lab tick session caller (OnAccount (Enrol code name roles)) holds =
     then_person_keeps Holds
     (enrolling code name roles (person_at lab code) (length lab.persons)) (enrolled_case lab)
     (λ value. holds)
-own_keeps Holds true_still lab tick session caller ReadPersons holds = tt
-own_keeps Holds true_still lab tick session caller (AskIssue code) holds =
+own_keeps Holds true_still lab tick session caller (Reading ReadPersons) holds = tt
+own_keeps Holds true_still lab tick session caller (OnAccount (AskIssue code)) holds =
     then_person_keeps Holds (asking caller.code (person_at lab code) tick) (asked_case lab)
     (λ value. holds)
-own_keeps Holds true_still lab tick session caller (ConfirmIssue code) holds =
+own_keeps Holds true_still lab tick session caller (OnAccount (ConfirmIssue code)) holds =
     then_person_keeps Holds (confirming caller.code (person_at lab code) tick) (confirmed_case lab)
     (λ value. holds)
-own_keeps Holds true_still lab tick session caller (SetRoles code roles) holds =
+own_keeps Holds true_still lab tick session caller (OnAccount (SetRoles code roles)) holds =
     then_person_keeps Holds (setting_roles caller.code (person_at lab code) roles) (roles_case lab)
     (λ value. holds)
-own_keeps Holds true_still lab tick session caller (Retire code) holds =
+own_keeps Holds true_still lab tick session caller (OnAccount (Retire code)) holds =
     then_person_keeps Holds (retiring caller.code (person_at lab code)) (retired_case lab)
     (λ value. holds)
-own_keeps Holds true_still lab tick session caller (Unlock code) holds =
+own_keeps Holds true_still lab tick session caller (OnAccount (Unlock code)) holds =
     then_person_keeps Holds (unlocking caller.code (person_at lab code)) (unlocked_case lab)
     (λ value. holds)
-own_keeps Holds true_still lab tick session caller (MakeForm code form) holds =
+own_keeps Holds true_still lab tick session caller (OnRecord (MakeForm code form)) holds =
     then_case_keeps Holds (making code form (last_form lab.forms code)) (form_case lab)
     (λ value is. holds)
-own_keeps Holds true_still lab tick session caller (ReadForm code version) holds =
+own_keeps Holds true_still lab tick session caller (Reading (ReadForm code version)) holds =
     then_read_keeps Holds (reading_form (exact_form lab.forms code version)) FormRead
-own_keeps Holds true_still lab tick session caller (OpenRecord form sample) holds =
+own_keeps Holds true_still lab tick session caller (OnRecord (OpenRecord form sample)) holds =
     then_case_keeps Holds
     (opening_record (last_form lab.forms form) (record_about lab.records form sample) sample
     caller.code tick.moment (length lab.records)) (record_case lab)
     (λ kept is. record_keeps Holds true_still lab (last_form lab.forms form)
     (record_about lab.records form sample) sample caller.code tick.moment (length lab.records) kept
     holds is)
-own_keeps Holds true_still lab tick session caller (Enter number item reason) holds =
+own_keeps Holds true_still lab tick session caller (OnRecord (Enter number item reason)) holds =
     then_case_keeps Holds
     (entering lab.code (record_of lab.records number) item reason caller.code tick.moment)
     (entry_case lab)
     (λ answer is. entry_keeps Holds true_still lab number item reason caller.code tick.moment answer
     holds is)
-own_keeps Holds true_still lab tick session caller (Amend number reason altered) holds =
+own_keeps Holds true_still lab tick session caller (OnRecord (Amend number reason altered)) holds =
     then_case_keeps Holds
     (amending lab.code (record_of lab.records number) reason altered caller.code tick.moment)
     (amendment_case lab)
     (λ answer is. amendment_keeps Holds true_still lab number reason altered caller.code tick.moment
     answer holds is)
 own_keeps Holds true_still lab tick session caller
-    (Sign number version digest signing password code)
+    (OnRecord (Sign number version digest signing password code))
     holds =
     wanted_if Holds _ (signing_by lab tick.moment session number version digest signing
     (signing_attempt caller code password tick.moment)) (is_code_wanted session code)
     (signing_keeps Holds true_still lab tick.moment session number version digest signing
     (signing_attempt caller code password tick.moment) holds)
-own_keeps Holds true_still lab tick session caller (ReadRecord number) holds =
+own_keeps Holds true_still lab tick session caller (Reading (ReadRecord number)) holds =
     then_read_keeps Holds (reading_record lab.code (record_of lab.records number)) RecordRead
-own_keeps Holds true_still lab tick session caller (ReadVersion number version) holds =
+own_keeps Holds true_still lab tick session caller (Reading (ReadVersion number version)) holds =
     then_read_keeps Holds (reading_version lab.code (record_of lab.records number) version)
     VersionRead
-own_keeps Holds true_still lab tick session caller (ReadRecords from to) holds = tt
-own_keeps Holds true_still lab tick session caller (ReadTrail from to) holds = tt
-own_keeps Holds true_still lab tick session caller (TakeCopy from to) holds = tt
+own_keeps Holds true_still lab tick session caller (Reading (ReadRecords from to)) holds = tt
+own_keeps Holds true_still lab tick session caller (Reading (ReadTrail from to)) holds = tt
+own_keeps Holds true_still lab tick session caller (Reading (TakeCopy from to)) holds = tt
 
 -- ---- a step
 
-without_session_keeps : (Holds : List ℕ → Record → Type 0) (lab : Lab) (tick : Tick)
-    (command : Command) → OfEach Holds lab
-    → WhereThere (OfEach Holds) (without_session lab tick command).after
-without_session_keeps Holds lab tick (Open code password) holds =
-    opened_keeps Holds lab tick.moment code (opening_case lab tick code password) holds
-    (opened_case_keeps Holds lab (opening code (person_at lab code) password tick
-    (length lab.sessions) (session_at lab (token_digest tick))) holds)
-without_session_keeps Holds lab tick _ holds = holds
-
-answered_keeps : (Holds : List ℕ → Record → Type 0) → StaysTrue Holds → (lab : Lab) (tick : Tick)
-    (command : Command) (way : Passage) → OfEach Holds lab
-    → WhereThere (OfEach Holds) (answered lab tick command way).after
-answered_keeps Holds true_still lab tick command Early holds = holds
-answered_keeps Holds true_still lab tick command (NeedsNone session) holds =
-    without_session_keeps Holds lab tick command holds
-answered_keeps Holds true_still lab tick command Stranger holds = holds
-answered_keeps Holds true_still lab tick command (Barred session refusal) holds = holds
-answered_keeps Holds true_still lab tick command (Passes session caller) holds =
+in_keeps : (Holds : List ℕ → Record → Type 0) → StaysTrue Holds → (lab : Lab) (tick : Tick)
+    (command : SessionCommand) (reached : Passage) → OfEach Holds lab
+    → WhereThere (OfEach Holds) (answered_in lab tick command reached).after
+in_keeps Holds true_still lab tick command Stranger holds = holds
+in_keeps Holds true_still lab tick command (Barred session refusal) holds = holds
+in_keeps Holds true_still lab tick command (Passes session caller) holds =
     ended_keeps Holds (touched lab tick.moment session) tick.moment caller.code
     (own (touched lab tick.moment session) tick (touched_session tick.moment session) caller
     command)
@@ -330,11 +322,29 @@ answered_keeps Holds true_still lab tick command (Passes session caller) holds =
     (own_keeps Holds true_still (touched lab tick.moment session) tick
     (touched_session tick.moment session) caller command holds)
 
+answered_keeps : (Holds : List ℕ → Record → Type 0) → StaysTrue Holds → (lab : Lab) (tick : Tick)
+    (session : Option Session) (command : Command) → OfEach Holds lab
+    → WhereThere (OfEach Holds) (answered lab tick session command).after
+answered_keeps Holds true_still lab tick session Card holds = holds
+answered_keeps Holds true_still lab tick session (Open code password) holds =
+    opened_keeps Holds lab tick.moment code (opening_case lab tick code password) holds
+    (opened_case_keeps Holds lab (opening code (person_at lab code) password tick
+    (length lab.sessions) (session_at lab (token_digest tick))) holds)
+answered_keeps Holds true_still lab tick session (In command) holds =
+    in_keeps Holds true_still lab tick command _ holds
+
+timely_keeps : (Holds : List ℕ → Record → Type 0) (early : Bool) (lab : Lab) (reply : Reply)
+    (other : Stepped) → OfEach Holds lab → WhereThere (OfEach Holds) other.after
+    → WhereThere (OfEach Holds) (cond early (stays lab reply) other).after
+timely_keeps Holds true lab reply other holds others = holds
+timely_keeps Holds false lab reply other holds others = others
+
 -- each record of a laboratory keeps what the rules keep, whatever the instruction
 pub step_keeps : (Holds : List ℕ → Record → Type 0) → StaysTrue Holds → (lab : Lab) (tick : Tick)
     (instruction : Instruction) → OfEach Holds lab
     → WhereThere (OfEach Holds) (step (Some lab) tick instruction).after
 step_keeps Holds true_still lab tick instruction holds =
-    answered_keeps Holds true_still lab tick instruction.command
-    (passage lab.last (named_session lab instruction.token)
-    (caller_of lab (named_session lab instruction.token)) tick.moment instruction.command) holds
+    timely_keeps Holds (nat_lt tick.moment lab.last) lab (Refused ClockBehind)
+    (answered lab tick (named_session lab instruction.token) instruction.command) holds
+    (answered_keeps Holds true_still lab tick (named_session lab instruction.token)
+    instruction.command holds)

@@ -3,12 +3,14 @@
 use Rattle.std.specs.Prelude.{◌≤◌, length, IsTrue}
 use Rattle.lab_forms.specs.Forms.{field_limit, is_form}
 use Rattle.lab_records_machine.specs.declared.commands.Command.{Command}
-use Rattle.lab_records_machine.specs.declared.commands.Command.TheVariants.{MakeForm}
+use Rattle.lab_records_machine.specs.declared.commands.Command.TheVariants.{In}
+use Rattle.lab_records_machine.specs.declared.commands.SessionCommand.TheVariants.{OnRecord}
+use Rattle.lab_records_machine.specs.declared.commands.RecordCommand.TheVariants.{MakeForm}
 use Rattle.lab_records_machine.specs.declared.commands.Instruction.{Instruction}
 
 -- the form of a command that makes one has no more fields than it may
 abbrev pub IsCommandRight : Command → Type 0
-IsCommandRight (MakeForm code form) = length form.fields ≤ field_limit
+IsCommandRight (In (OnRecord (MakeForm code form))) = length form.fields ≤ field_limit
 IsCommandRight _ = Unit {0}
 
 abbrev pub IsAskedRightly : Instruction → Type 0
@@ -17,5 +19,5 @@ IsAskedRightly instruction = IsCommandRight instruction.command
 -- the fields of such a form are those of a form: one or more that a form may have, within the
 -- limit, no two with one key
 abbrev pub IsCommandFormed : Command → Type 0
-IsCommandFormed (MakeForm code form) = IsTrue (is_form form.fields)
+IsCommandFormed (In (OnRecord (MakeForm code form))) = IsTrue (is_form form.fields)
 IsCommandFormed _ = Unit {0}

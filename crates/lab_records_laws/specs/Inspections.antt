@@ -12,7 +12,9 @@ use Rattle.lab_copy_rows.specs.Copies.{counts_of, IsSoundCopy}
 use Rattle.lab_copy_rows.specs.declared.lines.Counts.{Counts}
 use Rattle.lab_records_copies.specs.CopyLines.{body_lines}
 use Rattle.lab_records_copies.specs.Soundness.{AreLines}
-use Rattle.lab_records_machine.specs.declared.commands.Command.TheVariants.{TakeCopy}
+use Rattle.lab_records_machine.specs.declared.commands.Command.TheVariants.{In}
+use Rattle.lab_records_machine.specs.declared.commands.SessionCommand.TheVariants.{Reading}
+use Rattle.lab_records_machine.specs.declared.commands.ReadingCommand.TheVariants.{TakeCopy}
 use Rattle.lab_records_machine.specs.declared.replies.Reply.{Reply}
 use Rattle.lab_records_machine.specs.declared.replies.Reply.TheVariants.{Copied}
 use Rattle.lab_records_machine.specs.Own.{copy_order}
@@ -40,4 +42,5 @@ HandsOutSoundCopies =
     (lab : Lab) (tick : Tick) (token : Option (List ℕ)) (from to : ℕ) → from ≤ to → IsBound lab
     → IsDual lab → IsWithin lab → AreCopiable lab tick.moment token from to
     → IfCopied (λ rows. IsSoundCopy rows (counts_within lab from to))
-    (step (Some lab) tick (record { token = token; command = TakeCopy from to })).reply
+    (step (Some lab) tick
+    (record { token = token; command = In (Reading (TakeCopy from to)) })).reply

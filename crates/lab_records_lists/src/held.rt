@@ -18,7 +18,7 @@ pub struct Held {
     left: Vec<Change>,
 }
 
-// It is written out, so that a caller doesn't prove again how each part is dropped.
+// `drop` is written out, so that a caller doesn't prove again how each part is dropped.
 impl Drop for Held {
     fn drop(self) {
         let Held { lab: _, left: _ } = self;
@@ -54,6 +54,9 @@ impl Held {
     }
 
     /// The part of it that is needed. The only error is out of memory.
+    ///
+    /// # Errors
+    /// Memory ran out.
     pub fn part(&mut self, alloc: Global, need: &Need) -> Result<Slice, OutOfMemory>
         ensures part { IfOk result (λ slice. slice ≡ part need.now self.old) }
         ensures same { self.new ≡ self.old }
@@ -63,6 +66,9 @@ impl Held {
     }
 
     /// Takes the changes, all or none. The only error is out of memory, for changes that were left; the laboratory is then as before.
+    ///
+    /// # Errors
+    /// Memory ran out.
     pub fn apply(&mut self, alloc: Global, changes: Series<Change>) -> Result<(), OutOfMemory>
         ensures ok { OnOk result (self.new ≡ changed self.old changes) }
         ensures err { OnErr result (self.new ≡ self.old) }
@@ -75,7 +81,7 @@ impl Held {
     }
 }
 
-/// Makes the changes that are left, as far as there is memory for them. The only error is out of memory, where some are left.
+// Makes the changes that are left, as far as there is memory for them. Out of memory is an error only where some are left.
 fn settle(alloc: Global, lab: &mut Lab, left: &mut Vec<Change>) -> Result<(), OutOfMemory>
     ensures same { changed lab.new left.new.items ≡ changed lab.old left.old.items }
     ensures ok { OnOk result (left.new.items ≡ []) }
@@ -87,7 +93,7 @@ fn settle(alloc: Global, lab: &mut Lab, left: &mut Vec<Change>) -> Result<(), Ou
     Ok(())
 }
 
-/// Makes the first of the changes that are left.
+// Makes the first of the changes that are left.
 fn make_first(alloc: Global, lab: &mut Lab, left: &mut Vec<Change>) -> Result<(), OutOfMemory>
     ensures same { changed lab.new left.new.items ≡ changed lab.old left.old.items }
     ensures ok { OnOk result (length left.new.items ≡ length left.old.items - 1) }

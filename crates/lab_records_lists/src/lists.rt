@@ -22,7 +22,7 @@ pub struct Lists {
     labs: Vec<Held>,
 }
 
-// It is written out, so that a caller doesn't prove again how each part is dropped.
+// `drop` is written out, so that a caller doesn't prove again how each part is dropped.
 impl Drop for Lists {
     fn drop(self) {
         let Lists { labs: _ } = self;
@@ -97,21 +97,21 @@ impl Keeper for Lists {
     ghost moves_on = { changed_after_rest };
 }
 
-/// The laboratory of the code, if there is one.
+// The laboratory of the code, if there is one.
 fn held_of<'a>(labs: &'a [Held], code: &LabCode) -> Option<&'a Held>
     ensures { option_copied result ≡ lab_of labs.now code.now }
 {
     labs.iter().find(|held| held.has_code(code))
 }
 
-/// Where the laboratory of the code stands, if there is one.
+// Where the laboratory of the code stands, if there is one.
 fn place_of(labs: &[Held], code: &LabCode) -> Option<usize>
     ensures { result ≡ position (has_code code.now) labs.now }
 {
     labs.iter().position(|held| held.has_code(code))
 }
 
-/// The part of the laboratory of the code that is needed, where there is one. The only error is out of memory, where there is.
+// The part of the laboratory of the code that is needed, where there is one. The only error is out of memory, where there is.
 fn part_in(
     labs: &mut Vec<Held>,
     alloc: Global,
@@ -131,7 +131,7 @@ fn part_in(
     Ok(Some(slice))
 }
 
-/// Makes the changes of the laboratory of the code, where there is one. The only error is out of memory, where there is.
+// Makes the changes of the laboratory of the code, where there is one. The only error is out of memory, where there is.
 fn apply_in(
     labs: &mut Vec<Held>,
     alloc: Global,
@@ -152,7 +152,7 @@ fn apply_in(
     Ok(())
 }
 
-/// The laboratory that is founded, where there is none of its code. The only error is out of memory, where there is none.
+// The laboratory that is founded, where there is none of its code. The only error is out of memory, where there is none.
 fn founded_beside(
     labs: &[Held],
     alloc: Global,
@@ -173,7 +173,7 @@ fn founded_beside(
     }
 }
 
-/// The laboratory that is founded.
+// The laboratory that is founded.
 fn founded(alloc: Global, newborn: Newborn) -> Result<Lab, OutOfMemory>
     ensures { IfOk result (λ lab. lab ≡ newborn_lab newborn) }
 {
@@ -200,7 +200,7 @@ fn founded(alloc: Global, newborn: Newborn) -> Result<Lab, OutOfMemory>
     })
 }
 
-/// The founders, in the order of their codes.
+// The founders, in the order of their codes.
 fn founders(
     alloc: Global,
     first: Person,
@@ -217,7 +217,7 @@ fn founders(
     Ok(persons)
 }
 
-/// The first row of the trail: that the laboratory was founded.
+// The first row of the trail: that the laboratory was founded.
 fn first_trail(alloc: Global, newborn: &Newborn) -> Result<Series<TrailRow>, OutOfMemory>
     ensures { IfOk result (λ trail.
         trail ≡ row_of 1 newborn.now.moment None (Found newborn.now.code) ∷ []) }

@@ -35,6 +35,9 @@ struct Listed {
 
 /// The part of the laboratory that is needed, as copies. The only error is out of memory; its code and its name are copied in any
 /// case, and all else only where it is found.
+///
+/// # Errors
+/// Memory ran out.
 pub fn part(alloc: Global, lab: &Lab, need: &Need) -> Result<Slice, OutOfMemory>
     ensures { IfOk result (λ slice. slice ≡ part need.now lab.now) }
 {
@@ -60,7 +63,7 @@ pub fn part(alloc: Global, lab: &Lab, need: &Need) -> Result<Slice, OutOfMemory>
     })
 }
 
-/// Two values, where both are made. Memory ran out only where it did for one of them.
+// Two values, where both are made. Memory ran out only where it did for one of them.
 fn both<A: Drop, B: Drop>(
     one: Result<A, OutOfMemory>,
     other: Result<B, OutOfMemory>,
@@ -74,7 +77,7 @@ fn both<A: Drop, B: Drop>(
     Ok((one, other))
 }
 
-/// How many persons, sessions, records and rows of the trail it has.
+// How many persons, sessions, records and rows of the trail it has.
 fn counts(lab: &Lab) -> Counts
     ensures { result ≡ counts_of lab.now }
 {
@@ -309,7 +312,7 @@ fn rows_listed(
     }
 }
 
-/// The records whose numbers lie in the range.
+// The records whose numbers lie in the range.
 fn records_within(
     alloc: Global,
     records: &[Record],
@@ -329,7 +332,7 @@ fn records_within(
     }
 }
 
-/// The records whose numbers lie in the range, behind others.
+// The records whose numbers lie in the range, behind others.
 fn add_records_within(
     list: &mut Series<Record>,
     records: &[Record],
@@ -355,7 +358,7 @@ fn add_record(list: &mut Series<Record>, kept: &Record) -> Result<(), OutOfMemor
     Ok(())
 }
 
-/// The rows of a trail whose numbers lie in the range.
+// The rows of a trail whose numbers lie in the range.
 fn rows_within(
     alloc: Global,
     trail: &[TrailRow],
@@ -375,7 +378,7 @@ fn rows_within(
     }
 }
 
-/// The rows of a trail whose numbers lie in the range, behind others.
+// The rows of a trail whose numbers lie in the range, behind others.
 fn add_rows_within(
     list: &mut Series<TrailRow>,
     trail: &[TrailRow],

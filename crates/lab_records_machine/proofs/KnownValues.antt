@@ -7,7 +7,7 @@ use Rattle.sha2.specs.Sha256.{sha256}
 use Rattle.lab_forms_texts.specs.declared.tick.Tick.{Tick}
 use Rattle.lab_forms.specs.Forms.{FormSheet}
 use Rattle.lab_people_access.specs.declared.persons.Person.{Person}
-use Rattle.lab_people_access.specs.declared.policy.Rule.TheVariants.{CloseSession}
+use Rattle.lab_people_access.specs.declared.policy.Rule.TheVariants.{CloseSession, MakeForm as ByMakeForm, ReadTrail as ByReadTrail}
 use Rattle.lab_people_access.specs.declared.refusals.Failure.TheVariants.{Locking}
 use Rattle.lab_people_access.specs.declared.refusals.PeopleRefusal.TheVariants.{LabFull}
 use Rattle.lab_people_access.specs.declared.sessions.Closing.TheVariants.{All}
@@ -30,17 +30,24 @@ use Rattle.lab_records_kept.specs.Trails.{row_of}
 use Rattle.lab_records_rules.specs.declared.items.Item.{Item}
 use Rattle.lab_records_rules.specs.declared.refusals.Refusal.TheVariants.{People}
 use Rattle.lab_records_machine.specs.declared.commands.Command.{Command}
-use Rattle.lab_records_machine.specs.declared.commands.Command.TheVariants.{Card, Open, Close, Retire, MakeForm, ReadForm, OpenRecord, Enter, ReadVersion, ReadPersons, ReadRecords, ReadTrail, TakeCopy}
+use Rattle.lab_records_machine.specs.declared.commands.Command.TheVariants.{Card, Open, In}
+use Rattle.lab_records_machine.specs.declared.commands.SessionCommand.{SessionCommand}
+use Rattle.lab_records_machine.specs.declared.commands.SessionCommand.TheVariants.{OnAccount, OnRecord, Reading}
+use Rattle.lab_records_machine.specs.declared.commands.AccountCommand.TheVariants.{Close, Retire}
+use Rattle.lab_records_machine.specs.declared.commands.RecordCommand.TheVariants.{MakeForm, OpenRecord, Enter}
+use Rattle.lab_records_machine.specs.declared.commands.ReadingCommand.TheVariants.{ReadForm, ReadVersion, ReadPersons, ReadRecords, ReadTrail, TakeCopy}
 use Rattle.lab_records_machine.specs.declared.replies.Reply.{Reply}
 use Rattle.lab_records_machine.specs.declared.replies.Reply.TheVariants.{Refused}
 use Rattle.lab_records_machine.specs.Policy.{rule_of}
-use Rattle.lab_records_machine.specs.Cases.{more_strays, told, noted, failed}
+use Rattle.lab_records_machine.specs.Cases.{more_strays, told, told_if_room, failed}
 use Rattle.lab_records_machine.specs.Machine.{stays, made}
 use Rattle.lab_records_machine.specs.Needs.{need_of}
 
--- the card asks for no rule, and closing for its own
-pub known_rules : (rule_of Card ≡ None) × (rule_of Close ≡ Some CloseSession)
-known_rules = (refl, refl)
+-- closing, making a form and reading the trail have each its own rule
+pub known_rules : (rule_of (OnAccount Close) ≡ CloseSession)
+    × ((form : FormSheet) → rule_of (OnRecord (MakeForm (codes "water") form)) ≡ ByMakeForm)
+    × (rule_of (Reading (ReadTrail 1 9)) ≡ ByReadTrail)
+known_rules = (refl, λ form. refl, refl)
 
 -- what an instruction needs: the session, a person, a form, a record and a list
 abbrev wants : Option (List ℕ) → Option (List ℕ) → Option FormWanted → Option RecordWanted → Option ListWanted → Need
@@ -56,32 +63,36 @@ wants session person form filed list = record {
 abbrev needs_at : Tick → List ℕ → Command → Need
 needs_at tick token command = need_of tick (record { token = Some token; command = command })
 
+-- one that is given in the session of the token
+abbrev needs_in : Tick → List ℕ → SessionCommand → Need
+needs_in tick token command = needs_at tick token (In command)
+
 -- the card asks for no session, and an opening for the one that its new token would open; a person is named by the code
 pub known_needs_of_accounts : (tick : Tick) (token password : List ℕ)
     → (needs_at tick token Card ≡ wants None None None None None)
     × (needs_at tick token (Open (codes "dan") password) ≡ wants (Some (token_digest tick)) (Some (codes "dan")) None None None)
-    × (needs_at tick token Close ≡ wants (Some (sha256 token)) None None None None)
-    × (needs_at tick token (Retire (codes "dan")) ≡ wants (Some (sha256 token)) (Some (codes "dan")) None None None)
+    × (needs_in tick token (OnAccount Close) ≡ wants (Some (sha256 token)) None None None None)
+    × (needs_in tick token (OnAccount (Retire (codes "dan"))) ≡ wants (Some (sha256 token)) (Some (codes "dan")) None None None)
 known_needs_of_accounts tick token password = (refl, refl, refl, refl)
 
 -- an entry needs one record, and no list of anything
 pub known_needs_of_records : (tick : Tick) (token : List ℕ) (form : FormSheet) (item : Item)
-    → (needs_at tick token (MakeForm (codes "water") form)
+    → (needs_in tick token (OnRecord (MakeForm (codes "water") form))
     ≡ wants (Some (sha256 token)) None (Some (Last (codes "water"))) None None)
-    × (needs_at tick token (ReadForm (codes "water") 2)
+    × (needs_in tick token (Reading (ReadForm (codes "water") 2))
     ≡ wants (Some (sha256 token)) None (Some (Exact (codes "water") 2)) None None)
-    × (needs_at tick token (OpenRecord (codes "water") (codes "S1"))
+    × (needs_in tick token (OnRecord (OpenRecord (codes "water") (codes "S1")))
     ≡ wants (Some (sha256 token)) None (Some (Last (codes "water"))) (Some (About (codes "water") (codes "S1"))) None)
-    × (needs_at tick token (Enter 3 item None) ≡ wants (Some (sha256 token)) None None (Some (Numbered 3)) None)
-    × (needs_at tick token (ReadVersion 3 2) ≡ wants (Some (sha256 token)) None None (Some (Numbered 3)) None)
+    × (needs_in tick token (OnRecord (Enter 3 item None)) ≡ wants (Some (sha256 token)) None None (Some (Numbered 3)) None)
+    × (needs_in tick token (Reading (ReadVersion 3 2)) ≡ wants (Some (sha256 token)) None None (Some (Numbered 3)) None)
 known_needs_of_records tick token form item = (refl, refl, refl, refl, refl)
 
 -- a list is needed where one is asked for, from a number to a number
 pub known_needs_of_lists : (tick : Tick) (token : List ℕ)
-    → (needs_at tick token ReadPersons ≡ wants (Some (sha256 token)) None None None (Some Persons))
-    × (needs_at tick token (ReadRecords 4 9) ≡ wants (Some (sha256 token)) None None None (Some (Records 4 9)))
-    × (needs_at tick token (ReadTrail 5 8) ≡ wants (Some (sha256 token)) None None None (Some (Trail 5 8)))
-    × (needs_at tick token (TakeCopy 3 5) ≡ wants (Some (sha256 token)) None None None (Some (Records 3 5)))
+    → (needs_in tick token (Reading ReadPersons) ≡ wants (Some (sha256 token)) None None None (Some Persons))
+    × (needs_in tick token (Reading (ReadRecords 4 9)) ≡ wants (Some (sha256 token)) None None None (Some (Records 4 9)))
+    × (needs_in tick token (Reading (ReadTrail 5 8)) ≡ wants (Some (sha256 token)) None None None (Some (Trail 5 8)))
+    × (needs_in tick token (Reading (TakeCopy 3 5)) ≡ wants (Some (sha256 token)) None None None (Some (Records 3 5)))
 known_needs_of_lists tick token = (refl, refl, refl, refl)
 
 -- stray passwords are counted to 9223372036854775807
@@ -116,13 +127,13 @@ locked lab person = record lab {
 
 -- a row that finds no room is left out, and one that finds it is told
 unnoted : (lab : Lab) (moment : ℕ) (person : List ℕ) (deed : Deed)
-    → length lab.trail ≡ 1000000000 → noted moment person deed lab ≡ lab
+    → length lab.trail ≡ 1000000000 → told_if_room moment person deed lab ≡ lab
 unnoted lab moment person deed full =
     ap (λ rows. cond (nat_le count_limit rows) lab (told moment (Some person) deed lab)) full
 
 noted_at : (rows : ℕ) (lab : Lab) (moment : ℕ) (person : List ℕ) (deed : Deed)
     → nat_le count_limit rows ≡ false → length lab.trail ≡ rows
-    → noted moment person deed lab ≡ told moment (Some person) deed lab
+    → told_if_room moment person deed lab ≡ told moment (Some person) deed lab
 noted_at rows lab moment person deed room is =
     ap (λ n. cond (nat_le count_limit n) lab (told moment (Some person) deed lab)) is
     ∙ ap (λ full. cond full lab (told moment (Some person) deed lab)) room
@@ -139,7 +150,7 @@ pub known_lock_both : (lab : Lab) (moment : ℕ) (person : Person) → length la
     (told moment (Some person.code) (Refuse Opening) (locked lab person))
 known_lock_both lab moment person room =
     let after = told moment (Some person.code) (Refuse Opening) (locked lab person) in
-    ap (noted moment person.code (Lock person.code))
+    ap (told_if_room moment person.code (Lock person.code))
     (noted_at 999999998 (locked lab person) moment person.code (Refuse Opening) refl room)
     ∙ noted_at 999999999 after moment person.code (Lock person.code) refl
     (one_more (locked lab person) moment person.code (Refuse Opening)
@@ -150,7 +161,7 @@ pub known_lock_first : (lab : Lab) (moment : ℕ) (person : Person) → length l
     ≡ told moment (Some person.code) (Refuse Opening) (locked lab person)
 known_lock_first lab moment person room =
     let after = told moment (Some person.code) (Refuse Opening) (locked lab person) in
-    ap (noted moment person.code (Lock person.code))
+    ap (told_if_room moment person.code (Lock person.code))
     (noted_at 999999999 (locked lab person) moment person.code (Refuse Opening) refl room)
     ∙ unnoted after moment person.code (Lock person.code)
     (one_more (locked lab person) moment person.code (Refuse Opening)
@@ -159,6 +170,6 @@ known_lock_first lab moment person room =
 pub known_lock_none : (lab : Lab) (moment : ℕ) (person : Person) → length lab.trail ≡ 1000000000
     → failed lab moment Opening (Locking person) ≡ locked lab person
 known_lock_none lab moment person full =
-    ap (noted moment person.code (Lock person.code))
+    ap (told_if_room moment person.code (Lock person.code))
     (unnoted (locked lab person) moment person.code (Refuse Opening) full)
     ∙ unnoted (locked lab person) moment person.code (Lock person.code) full

@@ -28,9 +28,9 @@ told moment person deed lab = record lab {
   trail = lab.trail ++ row_of (length lab.trail + 1) moment person deed ∷ [];
 }
 
--- the same where the trail has room for it; else the row is left out
-abbrev pub noted : ℕ → List ℕ → Deed → Lab → Lab
-noted moment person deed lab =
+-- a laboratory with one more row in its trail, where the trail has room; otherwise as it was
+abbrev pub told_if_room : ℕ → List ℕ → Deed → Lab → Lab
+told_if_room moment person deed lab =
     if nat_le count_limit (length lab.trail) then lab else told moment (Some person) deed lab
 
 -- one password more that was nobody's
@@ -42,15 +42,15 @@ more_strays strays = if nat_le stray_limit strays then strays else strays + 1
 -- A locked person stays as they are.
 abbrev pub failed : Lab → ℕ → Occasion → Failure → Lab
 failed lab moment occasion (Counted person) =
-    noted moment person.code (Refuse occasion)
+    told_if_room moment person.code (Refuse occasion)
     (record lab { persons = with_person person lab.persons })
 failed lab moment occasion (Locking person) =
-    noted moment person.code (Lock person.code)
-    (noted moment person.code (Refuse occasion)
+    told_if_room moment person.code (Lock person.code)
+    (told_if_room moment person.code (Refuse occasion)
     (record lab {
       persons = with_person person lab.persons;
       sessions = sessions_after All person.code lab.sessions;
     }))
 failed lab moment occasion (AlreadyLocked person) =
-    noted moment person.code (Refuse occasion) lab
+    told_if_room moment person.code (Refuse occasion) lab
 failed lab moment occasion Stray = record lab { strays = more_strays lab.strays }

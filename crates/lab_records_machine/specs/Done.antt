@@ -12,7 +12,6 @@ use Rattle.lab_people_access.specs.declared.refusals.Failure.{Failure}
 use Rattle.lab_people_access.specs.declared.refusals.PeopleFault.{PeopleFault}
 use Rattle.lab_people_access.specs.declared.refusals.PeopleFault.TheVariants.{Failed as HasFailed, Refused as IsRefused}
 use Rattle.lab_people_access.specs.declared.refusals.PeopleRefusal.{PeopleRefusal}
-use Rattle.lab_people_access.specs.declared.refusals.PeopleRefusal.TheVariants.{NoSession}
 use Rattle.lab_people_access.specs.Attempts.{signing_attempt}
 use Rattle.lab_people_access.specs.Sessions.{closed_session, signed_session}
 use Rattle.lab_people.specs.declared.accounts.PasswordChanged.{PasswordChanged}
@@ -38,8 +37,14 @@ use Rattle.lab_records_rules.specs.Making.{making, opening_record}
 use Rattle.lab_records_versions.specs.Entering.{entering, amending}
 use Rattle.lab_records_versions.specs.Signing.{is_code_wanted, signing_record}
 use Rattle.lab_records_rules.specs.Reading.{reading_form, reading_record, reading_version, record_line, person_line}
-use Rattle.lab_records_machine.specs.declared.commands.Command.{Command}
-use Rattle.lab_records_machine.specs.declared.commands.Command.TheVariants.{Card, Open, Close, ChangePassword, Enrol, ReadPersons, AskIssue, ConfirmIssue, SetRoles, Retire, Unlock, MakeForm, ReadForm, OpenRecord, Enter, Amend, Sign, ReadRecord, ReadVersion, ReadRecords, ReadTrail, TakeCopy}
+use Rattle.lab_records_machine.specs.declared.commands.SessionCommand.{SessionCommand}
+use Rattle.lab_records_machine.specs.declared.commands.SessionCommand.TheVariants.{OnAccount, OnRecord, Reading}
+use Rattle.lab_records_machine.specs.declared.commands.AccountCommand.{AccountCommand}
+use Rattle.lab_records_machine.specs.declared.commands.AccountCommand.TheVariants.{Close, ChangePassword, Enrol, AskIssue, ConfirmIssue, SetRoles, Retire, Unlock}
+use Rattle.lab_records_machine.specs.declared.commands.RecordCommand.{RecordCommand}
+use Rattle.lab_records_machine.specs.declared.commands.RecordCommand.TheVariants.{MakeForm, OpenRecord, Enter, Amend, Sign}
+use Rattle.lab_records_machine.specs.declared.commands.ReadingCommand.{ReadingCommand}
+use Rattle.lab_records_machine.specs.declared.commands.ReadingCommand.TheVariants.{ReadPersons, ReadForm, ReadRecord, ReadVersion, ReadRecords, ReadTrail, TakeCopy}
 use Rattle.lab_records_machine.specs.declared.replies.Reply.{Reply}
 use Rattle.lab_records_machine.specs.declared.replies.Reply.TheVariants.{Opened as TellsOpened, Closed, PasswordChanged as TellsChanged, PersonDone, HalfTold, RolesSet, Persons, FormMade, FormRead, RecordOpened, Entered, Amended, Signed as TellsSigned, RecordRead, VersionRead, Records, Trail, Copied}
 use Rattle.lab_records_machine.specs.Own.{copy_order}
@@ -53,7 +58,7 @@ abbrev pub then_done : {A : Type 0} → Result A Refusal → (A → Done) → Do
 then_done (Err refusal) next = Refused refusal
 then_done (Ok value) next = next value
 
--- the same for the rules of persons
+-- what follows a rule on persons: its refusal, or what it gives
 abbrev pub then_person_done : {A : Type 0} → Result A PeopleRefusal → (A → Done) → Done
 then_person_done (Err refusal) next = Refused (People refusal)
 then_person_done (Ok value) next = next value
@@ -159,51 +164,64 @@ signing_done slice moment session version digest signing (Ok person) =
     then_done (signing_record slice.code slice.filed version digest signing person moment)
     (signature_done session person)
 
--- Each command, in a session. The card and an opening come without one, and are no command of a
--- session.
-unfoldable pub done_of : Slice → Tick → Session → Person → Command → Done
-done_of slice tick session caller Card = Refused (People NoSession)
-done_of slice tick session caller (Open code password) = Refused (People NoSession)
-done_of slice tick session caller Close = closed_done session
-done_of slice tick session caller (ChangePassword old new) =
+-- Each command.
+
+-- on a session or an account
+unfoldable pub done_on_account : Slice → Tick → Session → Person → AccountCommand → Done
+done_on_account slice tick session caller Close = closed_done session
+done_on_account slice tick session caller (ChangePassword old new) =
     changed_done tick.moment (changing caller session old new tick)
-done_of slice tick session caller (Enrol code name roles) =
+done_on_account slice tick session caller (Enrol code name roles) =
     then_person_done (enrolling code name roles slice.person slice.counts.persons) enrolled_done
-done_of slice tick session caller ReadPersons =
-    Read (Persons (map (person_line tick.moment) slice.persons))
-done_of slice tick session caller (AskIssue code) =
+done_on_account slice tick session caller (AskIssue code) =
     then_person_done (asking caller.code slice.person tick) asked_done
-done_of slice tick session caller (ConfirmIssue code) =
+done_on_account slice tick session caller (ConfirmIssue code) =
     then_person_done (confirming caller.code slice.person tick) confirmed_done
-done_of slice tick session caller (SetRoles code roles) =
+done_on_account slice tick session caller (SetRoles code roles) =
     then_person_done (setting_roles caller.code slice.person roles) roles_done
-done_of slice tick session caller (Retire code) =
+done_on_account slice tick session caller (Retire code) =
     then_person_done (retiring caller.code slice.person) retired_done
-done_of slice tick session caller (Unlock code) =
+done_on_account slice tick session caller (Unlock code) =
     then_person_done (unlocking caller.code slice.person) unlocked_done
-done_of slice tick session caller (MakeForm code form) =
+
+-- on forms and records
+unfoldable pub done_on_record : Slice → Tick → Session → Person → RecordCommand → Done
+done_on_record slice tick session caller (MakeForm code form) =
     then_done (making code form slice.form) form_done
-done_of slice tick session caller (ReadForm code version) =
-    then_read_done (reading_form slice.form) FormRead
-done_of slice tick session caller (OpenRecord form sample) =
+done_on_record slice tick session caller (OpenRecord form sample) =
     then_done (opening_record slice.form slice.filed sample caller.code tick.moment
     slice.counts.records) record_done
-done_of slice tick session caller (Enter number item reason) =
+done_on_record slice tick session caller (Enter number item reason) =
     then_done (entering slice.code slice.filed item reason caller.code tick.moment) entry_done
-done_of slice tick session caller (Amend number reason altered) =
+done_on_record slice tick session caller (Amend number reason altered) =
     then_done (amending slice.code slice.filed reason altered caller.code tick.moment)
     amendment_done
-done_of slice tick session caller (Sign number version digest signing password code) =
+done_on_record slice tick session caller (Sign number version digest signing password code) =
     if is_code_wanted session code then Refused CodeWanted
     else signing_done slice tick.moment session version digest signing
     (signing_attempt caller code password tick.moment)
-done_of slice tick session caller (ReadRecord number) =
+
+-- where it only reads
+unfoldable pub done_reading : Slice → Tick → Person → ReadingCommand → Done
+done_reading slice tick caller ReadPersons =
+    Read (Persons (map (person_line tick.moment) slice.persons))
+done_reading slice tick caller (ReadForm code version) =
+    then_read_done (reading_form slice.form) FormRead
+done_reading slice tick caller (ReadRecord number) =
     then_read_done (reading_record slice.code slice.filed) RecordRead
-done_of slice tick session caller (ReadVersion number version) =
+done_reading slice tick caller (ReadVersion number version) =
     then_read_done (reading_version slice.code slice.filed version) VersionRead
-done_of slice tick session caller (ReadRecords from to) =
+done_reading slice tick caller (ReadRecords from to) =
     Read (Records (map record_line slice.records))
-done_of slice tick session caller (ReadTrail from to) = Read (Trail slice.trail)
-done_of slice tick session caller (TakeCopy from to) =
+done_reading slice tick caller (ReadTrail from to) = Read (Trail slice.trail)
+done_reading slice tick caller (TakeCopy from to) =
     Read (Copied (copy_rows slice.code slice.name (copy_order from to caller.code tick.moment)
     slice.records))
+
+-- in a session
+abbrev pub done_of : Slice → Tick → Session → Person → SessionCommand → Done
+done_of slice tick session caller (OnAccount command) =
+    done_on_account slice tick session caller command
+done_of slice tick session caller (OnRecord command) =
+    done_on_record slice tick session caller command
+done_of slice tick session caller (Reading command) = done_reading slice tick caller command

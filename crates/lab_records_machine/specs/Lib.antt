@@ -5,5 +5,4 @@ pub mod Machine
 pub mod Births
 pub mod Needs
 pub mod Done
-pub mod Groups
 pub mod Makings

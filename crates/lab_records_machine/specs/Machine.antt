@@ -16,10 +16,11 @@ use Rattle.lab_records_kept.specs.Limits.{count_limit}
 use Rattle.lab_records_kept.specs.Lookups.{session_at, caller_of}
 use Rattle.lab_records_kept.specs.Changes.{with_session}
 use Rattle.lab_records_machine.specs.declared.commands.Command.{Command}
-use Rattle.lab_records_machine.specs.declared.commands.Command.TheVariants.{Open}
+use Rattle.lab_records_machine.specs.declared.commands.Command.TheVariants.{Card, Open, In}
+use Rattle.lab_records_machine.specs.declared.commands.SessionCommand.{SessionCommand}
 use Rattle.lab_records_machine.specs.declared.commands.Instruction.{Instruction}
 use Rattle.lab_records_machine.specs.declared.passages.Passage.{Passage}
-use Rattle.lab_records_machine.specs.declared.passages.Passage.TheVariants.{Early, NeedsNone, Stranger, Barred, Passes}
+use Rattle.lab_records_machine.specs.declared.passages.Passage.TheVariants.{Stranger, Barred, Passes}
 use Rattle.lab_records_rules.specs.declared.refusals.Refusal.TheVariants.{NoSuchLab, ClockBehind, People}
 use Rattle.lab_records_machine.specs.declared.replies.Reply.{Reply}
 use Rattle.lab_records_machine.specs.declared.replies.Reply.TheVariants.{Refused, Card as ShowsCard}
@@ -27,7 +28,7 @@ use Rattle.lab_records_machine.specs.Policy.{rule_of}
 use Rattle.lab_records_machine.specs.Cases.{Case, Refuses, Fails, Reads, Makes, told, failed}
 use Rattle.lab_records_machine.specs.Own.{own, opening_case}
 
--- ---- how far an instruction gets
+-- ---- how far a command in a session gets
 
 -- the person of a live session, by the policy
 abbrev pub allowed_passage : Session → Person → Option PeopleRefusal → Passage
@@ -35,22 +36,11 @@ allowed_passage session caller None = Passes session caller
 allowed_passage session caller (Some refusal) = Barred session (People refusal)
 
 -- with a session that was found, and its person
-abbrev pub session_passage : Option Session → Option Person → ℕ → Rule → Passage
-session_passage (Some session) (Some caller) moment rule =
+abbrev pub passage : Option Session → Option Person → ℕ → Rule → Passage
+passage (Some session) (Some caller) moment rule =
     if is_live session moment then allowed_passage session caller (denial caller rule moment)
     else Stranger
-session_passage _ _ moment rule = Stranger
-
--- by the rule of the command, which the card and an opening have none of
-abbrev pub rule_passage : Option Session → Option Person → ℕ → Option Rule → Passage
-rule_passage session caller moment None = NeedsNone session
-rule_passage session caller moment (Some rule) = session_passage session caller moment rule
-
--- the clock first
-abbrev pub passage : ℕ → Option Session → Option Person → ℕ → Command → Passage
-passage last session caller moment command =
-    if nat_lt moment last then Early
-    else rule_passage session caller moment (rule_of command)
+passage _ _ moment rule = Stranger
 
 -- the session that an instruction names
 abbrev pub named_session : Lab → Option (List ℕ) → Option Session
@@ -102,28 +92,28 @@ opened lab moment code (Reads reply) = stays lab reply
 opened lab moment code (Makes reply deed after) =
     made lab (at_moment moment after) moment code reply deed
 
--- a command that asks for no session
-abbrev pub without_session : Lab → Tick → Command → Stepped
-without_session lab tick (Open code password) =
-    opened lab tick.moment code (opening_case lab tick code password)
-without_session lab tick command = stays lab (ShowsCard lab.code lab.name)
-
--- the laboratory's answer, by how far the instruction gets
-abbrev pub answered : Lab → Tick → Command → Passage → Stepped
-answered lab tick command Early = stays lab (Refused ClockBehind)
-answered lab tick command (NeedsNone session) = without_session lab tick command
-answered lab tick command Stranger = stays lab (Refused (People NoSession))
-answered lab tick command (Barred session refusal) =
+-- a command in a session, by how far it gets
+abbrev pub answered_in : Lab → Tick → SessionCommand → Passage → Stepped
+answered_in lab tick command Stranger = stays lab (Refused (People NoSession))
+answered_in lab tick command (Barred session refusal) =
     stays (touched lab tick.moment session) (Refused refusal)
-answered lab tick command (Passes session caller) =
+answered_in lab tick command (Passes session caller) =
     ended (touched lab tick.moment session) tick.moment caller.code
     (own (touched lab tick.moment session) tick (touched_session tick.moment session) caller
     command)
 
--- one step
+-- the laboratory's answer, by the session that the instruction names
+abbrev pub answered : Lab → Tick → Option Session → Command → Stepped
+answered lab tick session Card = stays lab (ShowsCard lab.code lab.name)
+answered lab tick session (Open code password) =
+    opened lab tick.moment code (opening_case lab tick code password)
+answered lab tick session (In command) =
+    answered_in lab tick command
+    (passage session (caller_of lab session) tick.moment (rule_of command))
+
+-- one step: the clock first
 abbrev pub step : Option Lab → Tick → Instruction → Stepped
 step None tick instruction = record { reply = Refused NoSuchLab; after = None }
 step (Some lab) tick instruction =
-    answered lab tick instruction.command
-    (passage lab.last (named_session lab instruction.token)
-    (caller_of lab (named_session lab instruction.token)) tick.moment instruction.command)
+    if nat_lt tick.moment lab.last then stays lab (Refused ClockBehind)
+    else answered lab tick (named_session lab instruction.token) instruction.command

@@ -8,17 +8,21 @@ use Rattle.lab_people_access.specs.declared.persons.Person.{Person}
 use Rattle.lab_people_access.specs.declared.sessions.Session.{Session}
 use Rattle.lab_people_access.specs.declared.refusals.Failure.{Failure}
 use Rattle.lab_people_access.specs.Attempts.{signing_attempt}
-use Rattle.lab_people.specs.Accounts.{changing, enrolling, setting_roles, retiring, unlocking}
-use Rattle.lab_people.specs.Issues.{asking, confirming}
 use Rattle.lab_records_kept.specs.declared.needs.Slice.{Slice}
 use Rattle.lab_records_kept.specs.declared.records.Record.{Record}
 use Rattle.lab_records_rules.specs.declared.outcomes.Signing.{Signing}
-use Rattle.lab_records_rules.specs.Making.{making, opening_record}
-use Rattle.lab_records_versions.specs.Entering.{entering, is_table_made}
+use Rattle.lab_records_versions.specs.Entering.{is_table_made}
 use Rattle.lab_records_versions.specs.Signing.{is_code_wanted, is_digest_made_at}
 use Rattle.lab_records_rules.specs.Reading.{reading_record, reading_version}
-use Rattle.lab_records_machine.specs.declared.commands.Command.{Command}
-use Rattle.lab_records_machine.specs.declared.commands.Command.TheVariants.{Card, Open, Close, ChangePassword, Enrol, ReadPersons, AskIssue, ConfirmIssue, SetRoles, Retire, Unlock, MakeForm, ReadForm, OpenRecord, Enter, Amend, Sign, ReadRecord, ReadVersion, ReadRecords, ReadTrail, TakeCopy}
+use Rattle.lab_records_machine.specs.declared.commands.SessionCommand.{SessionCommand}
+use Rattle.lab_records_machine.specs.declared.commands.SessionCommand.TheVariants.{OnAccount, OnRecord, Reading}
+use Rattle.lab_records_machine.specs.declared.commands.RecordCommand.{RecordCommand}
+use Rattle.lab_records_machine.specs.declared.commands.RecordCommand.TheVariants.{Amend, Sign}
+use Rattle.lab_records_machine.specs.declared.commands.ReadingCommand.{ReadingCommand}
+use Rattle.lab_records_machine.specs.declared.commands.ReadingCommand.TheVariants.{ReadPersons, ReadForm, ReadRecord, ReadVersion, ReadRecords, ReadTrail, TakeCopy}
+use Rattle.lab_records_machine.specs.declared.done.Done.{Done}
+use Rattle.lab_records_machine.specs.declared.done.Done.TheVariants.{Made}
+use Rattle.lab_records_machine.specs.Done.{done_on_account, done_on_record}
 
 -- the digest of the version that is signed, once the password was accepted
 abbrev pub is_digest_made_by : Option Record → ℕ → Signing → Result Person Failure → Bool
@@ -29,41 +33,38 @@ is_digest_made_by filed version signing (Ok person) = is_digest_made_at filed ve
 abbrev pub has_lines : {A : Type 0} → List A → Bool
 has_lines listed = not (length listed == 0)
 
--- in a session; a form and the trail are read as they stand in the part. A closing makes its change
--- in any case, and a copy the row at its head.
-unfoldable pub makes : Slice → Tick → Session → Person → Command → Bool
-makes slice tick session caller Card = false
-makes slice tick session caller (Open code password) = false
-makes slice tick session caller Close = true
-makes slice tick session caller (ChangePassword old new) =
-    is_ok (changing caller session old new tick)
-makes slice tick session caller (Enrol code name roles) =
-    is_ok (enrolling code name roles slice.person slice.counts.persons)
-makes slice tick session caller ReadPersons = has_lines slice.persons
-makes slice tick session caller (AskIssue code) = is_ok (asking caller.code slice.person tick)
-makes slice tick session caller (ConfirmIssue code) =
-    is_ok (confirming caller.code slice.person tick)
-makes slice tick session caller (SetRoles code roles) =
-    is_ok (setting_roles caller.code slice.person roles)
-makes slice tick session caller (Retire code) = is_ok (retiring caller.code slice.person)
-makes slice tick session caller (Unlock code) = is_ok (unlocking caller.code slice.person)
-makes slice tick session caller (MakeForm code form) = is_ok (making code form slice.form)
-makes slice tick session caller (ReadForm code version) = false
-makes slice tick session caller (OpenRecord form sample) =
-    is_ok (opening_record slice.form slice.filed sample caller.code tick.moment
-    slice.counts.records)
-makes slice tick session caller (Enter number item reason) =
-    is_ok (entering slice.code slice.filed item reason caller.code tick.moment)
-makes slice tick session caller (Amend number reason altered) =
+-- what a command comes to is made
+abbrev pub is_made_of : Done → Bool
+is_made_of (Made reply deed changes) = true
+is_made_of _ = false
+
+-- on forms and records: an amendment and a signature make something before they are refused last
+unfoldable pub makes_on_record : Slice → Tick → Session → Person → RecordCommand → Bool
+makes_on_record slice tick session caller (Amend number reason altered) =
     is_table_made slice.filed reason altered
-makes slice tick session caller (Sign number version digest signing password code) =
+makes_on_record slice tick session caller (Sign number version digest signing password code) =
     if is_code_wanted session code then false
     else is_digest_made_by slice.filed version signing
     (signing_attempt caller code password tick.moment)
-makes slice tick session caller (ReadRecord number) =
-    is_ok (reading_record slice.code slice.filed)
-makes slice tick session caller (ReadVersion number version) =
+makes_on_record slice tick session caller command =
+    is_made_of (done_on_record slice tick session caller command)
+
+-- where it only reads: a form and the trail are read as they stand in the part, and a copy has the
+-- row at its head in any case
+unfoldable pub makes_reading : Slice → ReadingCommand → Bool
+makes_reading slice ReadPersons = has_lines slice.persons
+makes_reading slice (ReadForm code version) = false
+makes_reading slice (ReadRecord number) = is_ok (reading_record slice.code slice.filed)
+makes_reading slice (ReadVersion number version) =
     is_ok (reading_version slice.code slice.filed version)
-makes slice tick session caller (ReadRecords from to) = has_lines slice.records
-makes slice tick session caller (ReadTrail from to) = false
-makes slice tick session caller (TakeCopy from to) = true
+makes_reading slice (ReadRecords from to) = has_lines slice.records
+makes_reading slice (ReadTrail from to) = false
+makes_reading slice (TakeCopy from to) = true
+
+-- in a session
+abbrev pub makes : Slice → Tick → Session → Person → SessionCommand → Bool
+makes slice tick session caller (OnAccount command) =
+    is_made_of (done_on_account slice tick session caller command)
+makes slice tick session caller (OnRecord command) =
+    makes_on_record slice tick session caller command
+makes slice tick session caller (Reading command) = makes_reading slice command

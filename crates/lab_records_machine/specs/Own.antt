@@ -11,7 +11,6 @@ use Rattle.lab_people_access.specs.declared.refusals.Failure.{Failure}
 use Rattle.lab_people_access.specs.declared.refusals.PeopleFault.{PeopleFault}
 use Rattle.lab_people_access.specs.declared.refusals.PeopleFault.TheVariants.{Failed, Refused as IsRefused}
 use Rattle.lab_people_access.specs.declared.refusals.PeopleRefusal.{PeopleRefusal}
-use Rattle.lab_people_access.specs.declared.refusals.PeopleRefusal.TheVariants.{NoSession}
 use Rattle.lab_people_access.specs.Attempts.{signing_attempt}
 use Rattle.lab_people_access.specs.Openings.{opening, token_digest}
 use Rattle.lab_people_access.specs.Sessions.{closed_session, signed_session, sessions_after}
@@ -31,8 +30,14 @@ use Rattle.lab_records_copies.specs.declared.orders.CopyOrder.{CopyOrder}
 use Rattle.lab_records_copies.specs.CopyLines.{copy_of}
 use Rattle.lab_records_kept.specs.Changes.{with_person, with_session, added_person, added_form, in_record, entered_in, opened_in, signed_in}
 use Rattle.lab_records_rules.specs.declared.outcomes.Signing.{Signing}
-use Rattle.lab_records_machine.specs.declared.commands.Command.{Command}
-use Rattle.lab_records_machine.specs.declared.commands.Command.TheVariants.{Card, Open, Close, ChangePassword, Enrol, ReadPersons, AskIssue, ConfirmIssue, SetRoles, Retire, Unlock, MakeForm, ReadForm, OpenRecord, Enter, Amend, Sign, ReadRecord, ReadVersion, ReadRecords, ReadTrail, TakeCopy}
+use Rattle.lab_records_machine.specs.declared.commands.SessionCommand.{SessionCommand}
+use Rattle.lab_records_machine.specs.declared.commands.SessionCommand.TheVariants.{OnAccount, OnRecord, Reading}
+use Rattle.lab_records_machine.specs.declared.commands.AccountCommand.{AccountCommand}
+use Rattle.lab_records_machine.specs.declared.commands.AccountCommand.TheVariants.{Close, ChangePassword, Enrol, AskIssue, ConfirmIssue, SetRoles, Retire, Unlock}
+use Rattle.lab_records_machine.specs.declared.commands.RecordCommand.{RecordCommand}
+use Rattle.lab_records_machine.specs.declared.commands.RecordCommand.TheVariants.{MakeForm, OpenRecord, Enter, Amend, Sign}
+use Rattle.lab_records_machine.specs.declared.commands.ReadingCommand.{ReadingCommand}
+use Rattle.lab_records_machine.specs.declared.commands.ReadingCommand.TheVariants.{ReadPersons, ReadForm, ReadRecord, ReadVersion, ReadRecords, ReadTrail, TakeCopy}
 use Rattle.lab_records_rules.specs.declared.refusals.Refusal.{Refusal}
 use Rattle.lab_records_rules.specs.declared.refusals.Refusal.TheVariants.{People, CodeWanted}
 use Rattle.lab_records_machine.specs.declared.replies.Reply.{Reply}
@@ -51,7 +56,7 @@ abbrev pub then_case : {A : Type 0} → Result A Refusal → (A → Case) → Ca
 then_case (Err refusal) next = Refuses refusal
 then_case (Ok value) next = next value
 
--- the same for the rules of persons
+-- what follows a rule on persons: its refusal, or what it gives
 abbrev pub then_person : {A : Type 0} → Result A PeopleRefusal → (A → Case) → Case
 then_person (Err refusal) next = Refuses (People refusal)
 then_person (Ok value) next = next value
@@ -200,51 +205,61 @@ copy_order from to person moment =
 
 -- ---- each command
 
--- The card and an opening come without a session, and are no command of one.
-unfoldable pub own : Lab → Tick → Session → Person → Command → Case
-own lab tick session caller Card = Refuses (People NoSession)
-own lab tick session caller (Open code password) = Refuses (People NoSession)
-own lab tick session caller Close = closing_case lab session
-own lab tick session caller (ChangePassword old new) =
+-- on a session or an account
+unfoldable pub own_on_account : Lab → Tick → Session → Person → AccountCommand → Case
+own_on_account lab tick session caller Close = closing_case lab session
+own_on_account lab tick session caller (ChangePassword old new) =
     changed_case lab tick.moment (changing caller session old new tick)
-own lab tick session caller (Enrol code name roles) =
+own_on_account lab tick session caller (Enrol code name roles) =
     then_person (enrolling code name roles (person_at lab code) (length lab.persons))
     (enrolled_case lab)
-own lab tick session caller ReadPersons =
-    Reads (Persons (map (person_line tick.moment) lab.persons))
-own lab tick session caller (AskIssue code) =
+own_on_account lab tick session caller (AskIssue code) =
     then_person (asking caller.code (person_at lab code) tick) (asked_case lab)
-own lab tick session caller (ConfirmIssue code) =
+own_on_account lab tick session caller (ConfirmIssue code) =
     then_person (confirming caller.code (person_at lab code) tick) (confirmed_case lab)
-own lab tick session caller (SetRoles code roles) =
+own_on_account lab tick session caller (SetRoles code roles) =
     then_person (setting_roles caller.code (person_at lab code) roles) (roles_case lab)
-own lab tick session caller (Retire code) =
+own_on_account lab tick session caller (Retire code) =
     then_person (retiring caller.code (person_at lab code)) (retired_case lab)
-own lab tick session caller (Unlock code) =
+own_on_account lab tick session caller (Unlock code) =
     then_person (unlocking caller.code (person_at lab code)) (unlocked_case lab)
-own lab tick session caller (MakeForm code form) =
+
+-- on forms and records
+unfoldable pub own_on_record : Lab → Tick → Session → Person → RecordCommand → Case
+own_on_record lab tick session caller (MakeForm code form) =
     then_case (making code form (last_form lab.forms code)) (form_case lab)
-own lab tick session caller (ReadForm code version) =
-    then_read (reading_form (exact_form lab.forms code version)) FormRead
-own lab tick session caller (OpenRecord form sample) =
+own_on_record lab tick session caller (OpenRecord form sample) =
     then_case (opening_record (last_form lab.forms form) (record_about lab.records form sample)
     sample caller.code tick.moment (length lab.records)) (record_case lab)
-own lab tick session caller (Enter number item reason) =
+own_on_record lab tick session caller (Enter number item reason) =
     then_case (entering lab.code (record_of lab.records number) item reason caller.code tick.moment)
     (entry_case lab)
-own lab tick session caller (Amend number reason altered) =
+own_on_record lab tick session caller (Amend number reason altered) =
     then_case (amending lab.code (record_of lab.records number) reason altered caller.code
     tick.moment) (amendment_case lab)
-own lab tick session caller (Sign number version digest signing password code) =
+own_on_record lab tick session caller (Sign number version digest signing password code) =
     if is_code_wanted session code then Refuses CodeWanted
     else signing_by lab tick.moment session number version digest signing
     (signing_attempt caller code password tick.moment)
-own lab tick session caller (ReadRecord number) =
+
+-- where it only reads
+unfoldable pub own_reading : Lab → Tick → Person → ReadingCommand → Case
+own_reading lab tick caller ReadPersons =
+    Reads (Persons (map (person_line tick.moment) lab.persons))
+own_reading lab tick caller (ReadForm code version) =
+    then_read (reading_form (exact_form lab.forms code version)) FormRead
+own_reading lab tick caller (ReadRecord number) =
     then_read (reading_record lab.code (record_of lab.records number)) RecordRead
-own lab tick session caller (ReadVersion number version) =
+own_reading lab tick caller (ReadVersion number version) =
     then_read (reading_version lab.code (record_of lab.records number) version) VersionRead
-own lab tick session caller (ReadRecords from to) =
+own_reading lab tick caller (ReadRecords from to) =
     Reads (Records (map record_line (records_within from to lab.records)))
-own lab tick session caller (ReadTrail from to) = Reads (Trail (rows_within from to lab.trail))
-own lab tick session caller (TakeCopy from to) =
+own_reading lab tick caller (ReadTrail from to) = Reads (Trail (rows_within from to lab.trail))
+own_reading lab tick caller (TakeCopy from to) =
     Reads (Copied (copy_of lab (copy_order from to caller.code tick.moment)))
+
+-- in a session
+abbrev pub own : Lab → Tick → Session → Person → SessionCommand → Case
+own lab tick session caller (OnAccount command) = own_on_account lab tick session caller command
+own lab tick session caller (OnRecord command) = own_on_record lab tick session caller command
+own lab tick session caller (Reading command) = own_reading lab tick caller command

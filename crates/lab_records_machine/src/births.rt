@@ -3,7 +3,7 @@ ghost use Rattle.std.specs.Prelude.{◌≡◌, Some, None, Ok, Err, bytes_eq, If
 ghost use Rattle.lab_records_kept.specs.Births.{newborn_lab};
 ghost use Rattle.lab_records_machine.specs.Births.{birth_entry, is_code_shared, are_passwords, founder_person, newborn, born};
 
-use lab_forms_texts::{LabCode, Moment, Name, PersonCode, Tick};
+use lab_forms_texts::{LabCode, Moment, Name, PersonCode, RefusalKind, Tick};
 use lab_people_access::{Password, Person, Role, Roles};
 use lab_records_kept::Newborn;
 use lab_records_rules::Typed;
@@ -44,35 +44,20 @@ pub enum BirthRefusal {
     LabExists,
 }
 
-impl BirthRefusal {
-    fn entry(&self) -> (u32, &'static str)
-        ensures number { result.0 ≡ (birth_entry self.now).number }
-        ensures word { result.1.now ≡ (birth_entry self.now).word }
-    {
+impl RefusalKind for BirthRefusal {
+    ghost listed = { birth_entry };
+
+    fn entry(&self) -> (u32, &'static str) {
         match self {
             BirthRefusal::CodeTaken => (27, "code_taken"),
             BirthRefusal::BadPassword => (25, "bad_password"),
             BirthRefusal::LabExists => (64, "lab_exists"),
         }
     }
-
-    /// The number by which the refusal is known.
-    pub fn number(&self) -> Option<u32>
-        ensures { result ≡ Some (birth_entry self.now).number }
-    {
-        Some(self.entry().0)
-    }
-
-    /// The word by which the refusal is known.
-    pub fn word(&self) -> &'static str
-        ensures { result.now ≡ (birth_entry self.now).word }
-    {
-        self.entry().1
-    }
 }
 
 impl Founding {
-    /// Whether two of the founders have one code.
+    // Whether two of the founders have one code.
     fn is_code_shared(&self) -> bool
         ensures { result ≡ is_code_shared self.now }
     {
@@ -81,7 +66,7 @@ impl Founding {
             || is_same(&self.second.code, &self.third.code)
     }
 
-    /// Whether every founder's password may be chosen.
+    // Whether every founder's password may be chosen.
     fn are_passwords(&self) -> bool
         ensures { result ≡ are_passwords self.now }
     {
@@ -92,7 +77,7 @@ impl Founding {
 }
 
 impl Founder {
-    /// The founder as an administrator, whose password was chosen at the moment and is kept with the salt.
+    // The founder as an administrator, whose password was chosen at the moment and is kept with the salt.
     fn into_person(self, salt: [u8; 16], moment: Moment) -> Person
         ensures { result ≡ founder_person self salt moment }
     {
@@ -117,6 +102,9 @@ fn is_same(one: &PersonCode, other: &PersonCode) -> bool
 
 /// What a keeper founds the laboratory of the code from, where there is none of the code; or why it isn't founded. That there is
 /// one already comes last, and is the keeper's refusal.
+///
+/// # Errors
+/// Why no laboratory is born.
 pub fn bear(code: LabCode, founding: Founding, tick: &Tick) -> Result<Newborn, BirthRefusal>
     ensures ok { IfOk result (λ newborn.
         born None code tick.now founding ≡ Ok (newborn_lab newborn)) }
@@ -131,7 +119,7 @@ pub fn bear(code: LabCode, founding: Founding, tick: &Tick) -> Result<Newborn, B
     Ok(newborn(code, founding, tick))
 }
 
-/// The laboratory with its three administrators, each with a salt of their own.
+// The laboratory with its three administrators, each with a salt of their own.
 fn newborn(code: LabCode, founding: Founding, tick: &Tick) -> Newborn
     ensures { newborn_lab result ≡ newborn code tick.now founding }
 {

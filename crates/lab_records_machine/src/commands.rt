@@ -1,6 +1,6 @@
 //! What a laboratory can be asked.
 ghost use Rattle.std.specs.Prelude.{◌≡◌};
-ghost use Rattle.lab_records_machine.specs.Policy.{rule_of};
+ghost use Rattle.lab_records_machine.specs.Policy.{rule_on_account, rule_on_record, rule_of_reading, rule_of};
 
 use lab_forms::Form;
 use lab_forms_texts::{Key, Name, Note, Ordinal, PersonCode};
@@ -14,10 +14,25 @@ pub enum Command {
     /// The laboratory's card: its code and its name.
     Card,
     /// A session for a person, by code and password.
-    Open {
-        code: PersonCode,
-        password: Typed,
-    },
+    Open { code: PersonCode, password: Typed },
+    /// What is asked in a session.
+    In(SessionCommand),
+}
+
+/// What is asked in a session.
+#[derive(Drop)]
+pub enum SessionCommand {
+    /// Something is done to the session, or to an account.
+    OnAccount(AccountCommand),
+    /// Something is made of forms and records.
+    OnRecord(RecordCommand),
+    /// Something is read.
+    Reading(ReadingCommand),
+}
+
+/// A command on a session or an account.
+#[derive(Drop)]
+pub enum AccountCommand {
     /// The end of the session.
     Close,
     /// Another password, by the old one.
@@ -31,8 +46,6 @@ pub enum Command {
         name: Name,
         roles: Roles,
     },
-    /// The persons.
-    ReadPersons,
     /// A one-time word for a person.
     AskIssue {
         code: PersonCode,
@@ -54,15 +67,15 @@ pub enum Command {
     Unlock {
         code: PersonCode,
     },
+}
+
+/// A command that makes something of forms and records.
+#[derive(Drop)]
+pub enum RecordCommand {
     /// A form, or its next version.
     MakeForm {
         code: Key,
         form: Form,
-    },
-    /// A version of a form.
-    ReadForm {
-        code: Key,
-        version: Ordinal,
     },
     /// A new record.
     OpenRecord {
@@ -90,30 +103,25 @@ pub enum Command {
         password: Typed,
         code: Option<PersonCode>,
     },
+}
+
+/// A command that only reads.
+#[derive(Drop)]
+pub enum ReadingCommand {
+    /// The persons.
+    ReadPersons,
+    /// A version of a form.
+    ReadForm { code: Key, version: Ordinal },
     /// A record, by its versions' states.
-    ReadRecord {
-        number: Ordinal,
-    },
+    ReadRecord { number: Ordinal },
     /// A version of a record.
-    ReadVersion {
-        number: Ordinal,
-        version: Ordinal,
-    },
+    ReadVersion { number: Ordinal, version: Ordinal },
     /// The records from a number to a number.
-    ReadRecords {
-        from: Ordinal,
-        to: Ordinal,
-    },
+    ReadRecords { from: Ordinal, to: Ordinal },
     /// The rows of the trail from a number to a number.
-    ReadTrail {
-        from: Ordinal,
-        to: Ordinal,
-    },
+    ReadTrail { from: Ordinal, to: Ordinal },
     /// A copy, for inspection, of the records from a number to a number (21 CFR 11.10(b)).
-    TakeCopy {
-        from: Ordinal,
-        to: Ordinal,
-    },
+    TakeCopy { from: Ordinal, to: Ordinal },
 }
 
 /// A command, and the token of the session in which it is given, if one is named.
@@ -125,33 +133,62 @@ pub struct Instruction {
     pub command: Command,
 }
 
-impl Command {
-    /// The rule by which the policy lets a person in a session give the command; none where no session is asked for.
-    pub fn rule(&self) -> Option<Rule>
+impl SessionCommand {
+    /// The rule by which the policy lets a person give the command.
+    pub fn rule(&self) -> Rule
         ensures { result ≡ rule_of self.now }
     {
         match self {
-            Command::Card | Command::Open { .. } => None,
-            Command::Close => Some(Rule::CloseSession),
-            Command::ChangePassword { .. } => Some(Rule::ChangePassword),
-            Command::Enrol { .. } => Some(Rule::Enrol),
-            Command::ReadPersons => Some(Rule::ReadPersons),
-            Command::AskIssue { .. } => Some(Rule::AskIssue),
-            Command::ConfirmIssue { .. } => Some(Rule::ConfirmIssue),
-            Command::SetRoles { .. } => Some(Rule::SetRoles),
-            Command::Retire { .. } => Some(Rule::Retire),
-            Command::Unlock { .. } => Some(Rule::Unlock),
-            Command::MakeForm { .. } => Some(Rule::MakeForm),
-            Command::ReadForm { .. } => Some(Rule::ReadForm),
-            Command::OpenRecord { .. } => Some(Rule::OpenRecord),
-            Command::Enter { .. } => Some(Rule::Enter),
-            Command::Amend { .. } => Some(Rule::Amend),
-            Command::Sign { signing, .. } => Some(signing.rule()),
-            Command::ReadRecord { .. } => Some(Rule::ReadRecord),
-            Command::ReadVersion { .. } => Some(Rule::ReadVersion),
-            Command::ReadRecords { .. } => Some(Rule::ReadRecords),
-            Command::ReadTrail { .. } => Some(Rule::ReadTrail),
-            Command::TakeCopy { .. } => Some(Rule::TakeCopy),
+            SessionCommand::OnAccount(command) => command.rule(),
+            SessionCommand::OnRecord(command) => command.rule(),
+            SessionCommand::Reading(command) => command.rule(),
+        }
+    }
+}
+
+impl AccountCommand {
+    fn rule(&self) -> Rule
+        ensures { result ≡ rule_on_account self.now }
+    {
+        match self {
+            AccountCommand::Close => Rule::CloseSession,
+            AccountCommand::ChangePassword { .. } => Rule::ChangePassword,
+            AccountCommand::Enrol { .. } => Rule::Enrol,
+            AccountCommand::AskIssue { .. } => Rule::AskIssue,
+            AccountCommand::ConfirmIssue { .. } => Rule::ConfirmIssue,
+            AccountCommand::SetRoles { .. } => Rule::SetRoles,
+            AccountCommand::Retire { .. } => Rule::Retire,
+            AccountCommand::Unlock { .. } => Rule::Unlock,
+        }
+    }
+}
+
+impl RecordCommand {
+    fn rule(&self) -> Rule
+        ensures { result ≡ rule_on_record self.now }
+    {
+        match self {
+            RecordCommand::MakeForm { .. } => Rule::MakeForm,
+            RecordCommand::OpenRecord { .. } => Rule::OpenRecord,
+            RecordCommand::Enter { .. } => Rule::Enter,
+            RecordCommand::Amend { .. } => Rule::Amend,
+            RecordCommand::Sign { signing, .. } => signing.rule(),
+        }
+    }
+}
+
+impl ReadingCommand {
+    fn rule(&self) -> Rule
+        ensures { result ≡ rule_of_reading self.now }
+    {
+        match self {
+            ReadingCommand::ReadPersons => Rule::ReadPersons,
+            ReadingCommand::ReadForm { .. } => Rule::ReadForm,
+            ReadingCommand::ReadRecord { .. } => Rule::ReadRecord,
+            ReadingCommand::ReadVersion { .. } => Rule::ReadVersion,
+            ReadingCommand::ReadRecords { .. } => Rule::ReadRecords,
+            ReadingCommand::ReadTrail { .. } => Rule::ReadTrail,
+            ReadingCommand::TakeCopy { .. } => Rule::TakeCopy,
         }
     }
 }

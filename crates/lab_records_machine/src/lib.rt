@@ -11,7 +11,9 @@ mod replies;
 mod wanted;
 
 pub use births::{BirthRefusal, Founder, Founding, bear};
-pub use commands::{Command, Instruction};
+pub use commands::{
+    AccountCommand, Command, Instruction, ReadingCommand, RecordCommand, SessionCommand,
+};
 pub use done::Done;
 pub use lists::{joined, pair, single, triple};
 pub use passages::{Passage, pass};

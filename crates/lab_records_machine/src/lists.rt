@@ -5,6 +5,9 @@ use lab_forms_texts::{OutOfMemory, Series};
 use std::alloc::Global;
 
 /// A list of one value. The only error is out of memory.
+///
+/// # Errors
+/// Memory ran out.
 pub fn single<T: Drop>(alloc: Global, first: T) -> Result<Series<T>, OutOfMemory>
     ensures { IfOk result (λ list. list ≡ first ∷ []) }
 {
@@ -14,6 +17,9 @@ pub fn single<T: Drop>(alloc: Global, first: T) -> Result<Series<T>, OutOfMemory
 }
 
 /// A list of two values. The only error is out of memory.
+///
+/// # Errors
+/// Memory ran out.
 pub fn pair<T: Drop>(alloc: Global, first: T, second: T) -> Result<Series<T>, OutOfMemory>
     ensures { IfOk result (λ list. list ≡ first ∷ second ∷ []) }
 {
@@ -23,6 +29,9 @@ pub fn pair<T: Drop>(alloc: Global, first: T, second: T) -> Result<Series<T>, Ou
 }
 
 /// A list of three values. The only error is out of memory.
+///
+/// # Errors
+/// Memory ran out.
 pub fn triple<T: Drop>(
     alloc: Global,
     first: T,
@@ -37,6 +46,9 @@ pub fn triple<T: Drop>(
 }
 
 /// A list behind another. The only error is out of memory.
+///
+/// # Errors
+/// Memory ran out.
 pub fn joined<T: Drop>(first: Series<T>, second: Series<T>) -> Result<Series<T>, OutOfMemory>
     ensures { IfOk result (λ list. list ≡ first ++ second) }
 {

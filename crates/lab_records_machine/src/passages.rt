@@ -1,20 +1,15 @@
-//! How far an instruction gets before its command's own case.
+//! How far a command in a session gets before its own case.
 ghost use Rattle.std.specs.Prelude.{◌≡◌};
 ghost use Rattle.lab_people_access.specs.Policy.{denial};
-ghost use Rattle.lab_records_machine.specs.Machine.{passage, session_passage, allowed_passage};
+ghost use Rattle.lab_records_machine.specs.Machine.{passage, allowed_passage};
 
-use crate::commands::Command;
-use lab_forms_texts::{Moment, Tick};
+use lab_forms_texts::Tick;
 use lab_people_access::{Person, Rule, Session, allowed, live};
 use lab_records_rules::Refusal;
 
-/// How far an instruction gets.
+/// How far a command in a session gets.
 #[derive(Drop)]
 pub enum Passage {
-    /// It comes before the laboratory's last moment.
-    Early,
-    /// No session is asked for; the one of the token, where there is one.
-    NeedsNone(Option<Session>),
     /// There is no live session of its token.
     Stranger,
     /// The session lives; its person may not give the command.
@@ -23,33 +18,9 @@ pub enum Passage {
     Passes(Session, Person),
 }
 
-/// How far a command gets at a tick, by the laboratory's last moment, and by the session of the token and its person, where
-/// they are there.
-pub fn pass(
-    last: Moment,
-    session: Option<Session>,
-    caller: Option<Person>,
-    tick: &Tick,
-    command: &Command,
-) -> Passage
-    ensures { result ≡ passage last session caller tick.now.moment command.now }
-{
-    if tick.moment < last {
-        return Passage::Early;
-    }
-    match command.rule() {
-        Some(rule) => pass_session(session, caller, tick, rule),
-        None => Passage::NeedsNone(session),
-    }
-}
-
-fn pass_session(
-    session: Option<Session>,
-    caller: Option<Person>,
-    tick: &Tick,
-    rule: Rule,
-) -> Passage
-    ensures { result ≡ session_passage session caller tick.now.moment rule }
+/// How far a command of a rule gets at a tick, by the session of the token and its person, where they are there.
+pub fn pass(session: Option<Session>, caller: Option<Person>, tick: &Tick, rule: Rule) -> Passage
+    ensures { result ≡ passage session caller tick.now.moment rule }
 {
     match (session, caller) {
         (Some(session), Some(caller)) => {

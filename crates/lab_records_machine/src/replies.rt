@@ -87,7 +87,7 @@ pub enum Reply {
     Copied(Series<CopyRow>),
 }
 
-// It is written out, so that a caller doesn't prove again how each part is dropped.
+// `drop` is written out, so that a caller doesn't prove again how each part is dropped.
 impl Drop for Reply {
     fn drop(self) {
         match self {

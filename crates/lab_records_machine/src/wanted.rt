@@ -1,14 +1,21 @@
 //! Which part of a laboratory an instruction needs.
 ghost use Rattle.std.specs.Prelude.{◌≡◌, IfOk, IsTrue, OnErr};
-ghost use Rattle.lab_records_machine.specs.Needs.{token_in, person_in, form_in, record_in, list_in, need_of, names_text};
+ghost use Rattle.lab_records_machine.specs.declared.commands.Command.TheVariants.{In};
+ghost use Rattle.lab_records_machine.specs.declared.commands.SessionCommand.TheVariants.{OnAccount, OnRecord};
+ghost use Rattle.lab_records_machine.specs.Needs.{token_in, person_on_account, person_in, form_in, record_on_record, record_read, record_in, list_read, list_in, need_of, names_text};
 
-use crate::commands::{Command, Instruction};
+use crate::commands::{
+    AccountCommand, Command, Instruction, ReadingCommand, RecordCommand, SessionCommand,
+};
 use lab_forms_texts::{OutOfMemory, PersonCode, Tick};
 use lab_records_kept::{FormWanted, ListWanted, Need, RecordWanted};
 use lab_seal_hashes::{Digest, Token};
 
 /// Which part of a laboratory is needed to decide an instruction. The only error is out of memory, where the command names a
 /// code, a key or a name, which is copied.
+///
+/// # Errors
+/// Memory ran out.
 pub fn needs(tick: &Tick, instruction: &Instruction) -> Result<Need, OutOfMemory>
     ensures need { IfOk result (λ need. need ≡ need_of tick.now instruction.now) }
     ensures memory { OnErr result (IsTrue (names_text instruction.now.command)) }
@@ -35,8 +42,8 @@ fn token_in(tick: &Tick, token: &Option<Token>, command: &Command) -> Option<Dig
     match (command, token) {
         (Command::Card, _) => None,
         (Command::Open { .. }, _) => Some(Token::from_words(&tick.words).digest()),
-        (_, Some(token)) => Some(token.digest()),
-        (_, None) => None,
+        (Command::In(_), Some(token)) => Some(token.digest()),
+        (Command::In(_), None) => None,
     }
 }
 
@@ -46,14 +53,25 @@ fn person_in(command: &Command) -> Result<Option<PersonCode>, OutOfMemory>
     ensures memory { OnErr result (IsTrue (names_text command.now)) }
 {
     match command {
-        Command::Open { code, .. }
-        | Command::Enrol { code, .. }
-        | Command::AskIssue { code }
-        | Command::ConfirmIssue { code }
-        | Command::SetRoles { code, .. }
-        | Command::Retire { code }
-        | Command::Unlock { code } => Ok(Some(code.copy()?)),
+        Command::Open { code, .. } => Ok(Some(code.copy()?)),
+        Command::In(SessionCommand::OnAccount(command)) => person_on_account(command),
         _ => Ok(None),
+    }
+}
+
+// The person whom a command on accounts is about.
+fn person_on_account(command: &AccountCommand) -> Result<Option<PersonCode>, OutOfMemory>
+    ensures person { IfOk result (λ person. person ≡ person_on_account command.now) }
+    ensures memory { OnErr result (IsTrue (names_text (In (OnAccount command.now)))) }
+{
+    match command {
+        AccountCommand::Close | AccountCommand::ChangePassword { .. } => Ok(None),
+        AccountCommand::Enrol { code, .. }
+        | AccountCommand::AskIssue { code }
+        | AccountCommand::ConfirmIssue { code }
+        | AccountCommand::SetRoles { code, .. }
+        | AccountCommand::Retire { code }
+        | AccountCommand::Unlock { code } => Ok(Some(code.copy()?)),
     }
 }
 
@@ -63,12 +81,18 @@ fn form_in(command: &Command) -> Result<Option<FormWanted>, OutOfMemory>
     ensures memory { OnErr result (IsTrue (names_text command.now)) }
 {
     match command {
-        Command::MakeForm { code, .. } => Ok(Some(FormWanted::Last { code: code.copy()? })),
-        Command::ReadForm { code, version } => Ok(Some(FormWanted::Exact {
-            code: code.copy()?,
-            version: *version,
-        })),
-        Command::OpenRecord { form, .. } => Ok(Some(FormWanted::Last { code: form.copy()? })),
+        Command::In(SessionCommand::OnRecord(RecordCommand::MakeForm { code, .. })) => {
+            Ok(Some(FormWanted::Last { code: code.copy()? }))
+        }
+        Command::In(SessionCommand::OnRecord(RecordCommand::OpenRecord { form, .. })) => {
+            Ok(Some(FormWanted::Last { code: form.copy()? }))
+        }
+        Command::In(SessionCommand::Reading(ReadingCommand::ReadForm { code, version })) => {
+            Ok(Some(FormWanted::Exact {
+                code: code.copy()?,
+                version: *version,
+            }))
+        }
         _ => Ok(None),
     }
 }
@@ -79,18 +103,44 @@ fn record_in(command: &Command) -> Result<Option<RecordWanted>, OutOfMemory>
     ensures memory { OnErr result (IsTrue (names_text command.now)) }
 {
     match command {
-        Command::OpenRecord { form, sample } => Ok(Some(RecordWanted::About {
+        Command::In(SessionCommand::OnRecord(command)) => record_on_record(command),
+        Command::In(SessionCommand::Reading(command)) => Ok(record_read(command)),
+        _ => Ok(None),
+    }
+}
+
+// The record of a command that makes something of forms and records.
+fn record_on_record(command: &RecordCommand) -> Result<Option<RecordWanted>, OutOfMemory>
+    ensures wanted { IfOk result (λ wanted. wanted ≡ record_on_record command.now) }
+    ensures memory { OnErr result (IsTrue (names_text (In (OnRecord command.now)))) }
+{
+    match command {
+        RecordCommand::MakeForm { .. } => Ok(None),
+        RecordCommand::OpenRecord { form, sample } => Ok(Some(RecordWanted::About {
             form: form.copy()?,
             sample: sample.copy()?,
         })),
-        Command::Enter { number, .. }
-        | Command::Amend { number, .. }
-        | Command::Sign { number, .. }
-        | Command::ReadRecord { number }
-        | Command::ReadVersion { number, .. } => {
+        RecordCommand::Enter { number, .. }
+        | RecordCommand::Amend { number, .. }
+        | RecordCommand::Sign { number, .. } => {
             Ok(Some(RecordWanted::Numbered { number: *number }))
         }
-        _ => Ok(None),
+    }
+}
+
+// The record that is read.
+fn record_read(command: &ReadingCommand) -> Option<RecordWanted>
+    ensures { result ≡ record_read command.now }
+{
+    match command {
+        ReadingCommand::ReadRecord { number } | ReadingCommand::ReadVersion { number, .. } => {
+            Some(RecordWanted::Numbered { number: *number })
+        }
+        ReadingCommand::ReadPersons
+        | ReadingCommand::ReadForm { .. }
+        | ReadingCommand::ReadRecords { .. }
+        | ReadingCommand::ReadTrail { .. }
+        | ReadingCommand::TakeCopy { .. } => None,
     }
 }
 
@@ -99,17 +149,29 @@ fn list_in(command: &Command) -> Option<ListWanted>
     ensures { result ≡ list_in command.now }
 {
     match command {
-        Command::ReadPersons => Some(ListWanted::Persons),
-        Command::ReadRecords { from, to } | Command::TakeCopy { from, to } => {
+        Command::In(SessionCommand::Reading(command)) => list_read(command),
+        _ => None,
+    }
+}
+
+// The list that is read.
+fn list_read(command: &ReadingCommand) -> Option<ListWanted>
+    ensures { result ≡ list_read command.now }
+{
+    match command {
+        ReadingCommand::ReadPersons => Some(ListWanted::Persons),
+        ReadingCommand::ReadRecords { from, to } | ReadingCommand::TakeCopy { from, to } => {
             Some(ListWanted::Records {
                 from: *from,
                 to: *to,
             })
         }
-        Command::ReadTrail { from, to } => Some(ListWanted::Trail {
+        ReadingCommand::ReadTrail { from, to } => Some(ListWanted::Trail {
             from: *from,
             to: *to,
         }),
-        _ => None,
+        ReadingCommand::ReadForm { .. }
+        | ReadingCommand::ReadRecord { .. }
+        | ReadingCommand::ReadVersion { .. } => None,
     }
 }

@@ -1,6 +1,6 @@
 -- What is decided on a part of a laboratory: the reply, and the changes that are to be made, in
 -- order. That this is the step of the whole laboratory is a law (`what_is_decided`), not said here.
-use Rattle.std.specs.Prelude.{◌≡◌, ℕ, ◌+◌, false, nat_le, List, [], ◌∷◌, ◌++◌, Option, Some, if◌then◌else◌, ⊤}
+use Rattle.std.specs.Prelude.{◌≡◌, ℕ, ◌+◌, false, nat_le, nat_lt, List, [], ◌∷◌, ◌++◌, Some, if◌then◌else◌, ⊤}
 use Rattle.lab_forms_texts.specs.declared.tick.Tick.{Tick}
 use Rattle.lab_people_access.specs.declared.sessions.Session.{Session}
 use Rattle.lab_people_access.specs.declared.sessions.Closing.TheVariants.{All}
@@ -19,11 +19,13 @@ use Rattle.lab_records_kept.specs.Limits.{count_limit}
 use Rattle.lab_records_kept.specs.Trails.{row_of}
 use Rattle.lab_records_rules.specs.declared.refusals.Refusal.TheVariants.{ClockBehind, People}
 use Rattle.lab_records_machine.specs.declared.commands.Command.{Command}
-use Rattle.lab_records_machine.specs.declared.commands.Command.TheVariants.{Open}
+use Rattle.lab_records_machine.specs.declared.commands.Command.TheVariants.{Card, Open, In}
+use Rattle.lab_records_machine.specs.declared.commands.SessionCommand.{SessionCommand}
 use Rattle.lab_records_machine.specs.declared.passages.Passage.{Passage}
-use Rattle.lab_records_machine.specs.declared.passages.Passage.TheVariants.{Early, NeedsNone, Stranger, Barred, Passes}
+use Rattle.lab_records_machine.specs.declared.passages.Passage.TheVariants.{Stranger, Barred, Passes}
 use Rattle.lab_records_machine.specs.declared.replies.Reply.{Reply}
 use Rattle.lab_records_machine.specs.declared.replies.Reply.TheVariants.{Refused as ToldRefused, Card as ShowsCard}
+use Rattle.lab_records_machine.specs.Policy.{rule_of}
 use Rattle.lab_records_machine.specs.Cases.{more_strays}
 use Rattle.lab_records_machine.specs.Machine.{passage}
 use Rattle.lab_records_machine.specs.declared.done.Done.{Done}
@@ -34,29 +36,29 @@ use Rattle.lab_records_machine.specs.Done.{opened_done, done_of}
 -- ---- the rows that the trail is given, where it has so many
 
 -- the row of a deed, in a trail of `rows` rows
-abbrev pub told_row : ℕ → ℕ → List ℕ → Deed → Change
-told_row rows moment person deed = TrailAdded (row_of (rows + 1) moment (Some person) deed)
+abbrev pub trail_row : ℕ → ℕ → List ℕ → Deed → Change
+trail_row rows moment person deed = TrailAdded (row_of (rows + 1) moment (Some person) deed)
 
 -- one row, where there is room for it
-abbrev pub noted_rows : ℕ → ℕ → List ℕ → Deed → List Change
-noted_rows rows moment person deed =
-    if nat_le count_limit rows then [] else told_row rows moment person deed ∷ []
+abbrev pub trail_row_if_room : ℕ → ℕ → List ℕ → Deed → List Change
+trail_row_if_room rows moment person deed =
+    if nat_le count_limit rows then [] else trail_row rows moment person deed ∷ []
 
 -- two rows, as far as there is room
-abbrev pub two_rows : ℕ → ℕ → List ℕ → Deed → Deed → List Change
-two_rows rows moment person first second =
+abbrev pub trail_rows_if_room : ℕ → ℕ → List ℕ → Deed → Deed → List Change
+trail_rows_if_room rows moment person first second =
     if nat_le count_limit rows then []
-    else told_row rows moment person first ∷ noted_rows (rows + 1) moment person second
+    else trail_row rows moment person first ∷ trail_row_if_room (rows + 1) moment person second
 
 -- what a failed password changes, where the trail has so many rows and so many strays were counted
 abbrev pub failing : ℕ → ℕ → ℕ → Occasion → Failure → List Change
 failing rows strays moment occasion (Counted person) =
-    PersonSet person ∷ noted_rows rows moment person.code (Refuse occasion)
+    PersonSet person ∷ trail_row_if_room rows moment person.code (Refuse occasion)
 failing rows strays moment occasion (Locking person) =
     PersonSet person ∷ SessionsClosed person.code All
-    ∷ two_rows rows moment person.code (Refuse occasion) (Lock person.code)
+    ∷ trail_rows_if_room rows moment person.code (Refuse occasion) (Lock person.code)
 failing rows strays moment occasion (AlreadyLocked person) =
-    noted_rows rows moment person.code (Refuse occasion)
+    trail_row_if_room rows moment person.code (Refuse occasion)
 failing rows strays moment occasion Stray = Strays (more_strays strays) ∷ []
 
 -- ---- the end of a command
@@ -68,7 +70,7 @@ outcome reply changes = record { reply = reply; changes = changes }
 abbrev pub ended_made : List Change → ℕ → ℕ → List ℕ → Reply → Deed → List Change → Outcome
 ended_made before rows moment person reply deed own =
     if nat_le count_limit rows then outcome (ToldRefused (People LabFull)) before
-    else outcome reply (before ++ own ++ told_row rows moment person deed ∷ [])
+    else outcome reply (before ++ own ++ trail_row rows moment person deed ∷ [])
 
 -- in a session, where the trail has so many rows and so many strays were counted; `before` notes
 -- that the request came
@@ -115,26 +117,28 @@ opening_ended slice moment code (Read reply) = outcome reply []
 opening_ended slice moment code (Made reply deed own) =
     ended_made [] slice.counts.trail moment code reply deed (Last moment ∷ own)
 
--- a command that asks for no session; the part brings the session that has an opening's token
-abbrev pub decided_without : Slice → Tick → Option Session → Command → Outcome
-decided_without slice tick repeated (Open code password) =
-    opening_ended slice tick.moment code
-    (opened_done (opening code slice.person password tick slice.counts.sessions repeated))
-decided_without slice tick repeated command = outcome (ShowsCard slice.code slice.name) []
-
--- by how far the instruction gets
-abbrev pub decided_by : Slice → Tick → Command → Passage → Outcome
-decided_by slice tick command Early = outcome (ToldRefused ClockBehind) []
-decided_by slice tick command (NeedsNone repeated) = decided_without slice tick repeated command
-decided_by slice tick command Stranger = outcome (ToldRefused (People NoSession)) []
-decided_by slice tick command (Barred session refusal) =
+-- a command in a session, by how far it gets
+abbrev pub decided_in : Slice → Tick → SessionCommand → Passage → Outcome
+decided_in slice tick command Stranger = outcome (ToldRefused (People NoSession)) []
+decided_in slice tick command (Barred session refusal) =
     outcome (ToldRefused refusal) (touching tick.moment session)
-decided_by slice tick command (Passes session caller) =
+decided_in slice tick command (Passes session caller) =
     ended_done slice tick.moment caller.code (touching tick.moment session)
     (done_of slice tick (touched_session tick.moment session) caller command)
 
--- what is decided on a part
+-- by the command; for an opening, the part brings the session that has its token
+abbrev pub decided_by : Slice → Tick → Command → Outcome
+decided_by slice tick Card = outcome (ShowsCard slice.code slice.name) []
+decided_by slice tick (Open code password) =
+    opening_ended slice tick.moment code
+    (opened_done
+    (opening code slice.person password tick slice.counts.sessions slice.session))
+decided_by slice tick (In command) =
+    decided_in slice tick command
+    (passage slice.session slice.caller tick.moment (rule_of command))
+
+-- what is decided on a part: the clock first
 abbrev pub decided : Slice → Tick → Command → Outcome
 decided slice tick command =
-    decided_by slice tick command
-    (passage slice.last slice.session slice.caller tick.moment command)
+    if nat_lt tick.moment slice.last then outcome (ToldRefused ClockBehind) []
+    else decided_by slice tick command

@@ -5,9 +5,9 @@ ghost use Rattle.lab_records_kept.specs.Limits.{count_limit};
 ghost use Rattle.lab_records_kept.specs.Trails.{row_of};
 ghost use Rattle.lab_records_outcomes.specs.Deciding.{IsWritten, failing, outcome, ended_made, ended_by, touching};
 
-use crate::drafts::next_number;
 use crate::outcome::Outcome;
 use crate::telling::{failed, refused, told};
+use crate::trail_rows::next_number;
 use lab_forms_texts::{Moment, Ordinal, OutOfMemory, PersonCode, Series};
 use lab_people_access::{Failure, PeopleRefusal, Session};
 use lab_records_kept::{Change, Deed, Occasion};
@@ -16,6 +16,9 @@ use lab_records_rules::Refusal;
 use std::alloc::Global;
 
 /// That a request came by the session at the moment. The only error is out of memory: two changes are made in any case.
+///
+/// # Errors
+/// Memory ran out.
 pub fn touching(
     alloc: Global,
     moment: Moment,
@@ -30,6 +33,9 @@ pub fn touching(
 
 /// The end of an opening whose password failed: its moment is noted. The only error is out of memory: the moment is a change in any
 /// case.
+///
+/// # Errors
+/// Memory ran out.
 pub fn opening_failed(
     alloc: Global,
     rows: u64,
@@ -53,6 +59,9 @@ pub fn opening_failed(
 
 /// The end of an opening that is accepted: a full trail refuses it; else its moment is noted, and the deed is told. The only error
 /// is out of memory, where the trail has room.
+///
+/// # Errors
+/// Memory ran out.
 pub fn opening_made(
     alloc: Global,
     rows: u64,
@@ -104,6 +113,9 @@ fn with_moment(
 }
 
 /// The end of a command in a session. The only error is out of memory, where something is written of it.
+///
+/// # Errors
+/// Memory ran out.
 pub fn end(
     alloc: Global,
     before: Series<Change>,

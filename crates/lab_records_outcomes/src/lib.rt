@@ -2,12 +2,12 @@
 //! rows that the trail is given, what a failed password changes, and what is told (21 CFR 11.10(e) and 11.300(d)).
 #![tactic(auto)]
 
-mod drafts;
 mod endings;
 mod outcome;
 mod telling;
+mod trail_rows;
 
-pub use drafts::next_number;
 pub use endings::{end, opening_failed, opening_made, touching};
 pub use outcome::Outcome;
 pub use telling::{failed, refused, told};
+pub use trail_rows::next_number;

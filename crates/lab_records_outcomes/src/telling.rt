@@ -3,8 +3,8 @@ ghost use Rattle.std.specs.Prelude.{◌≡◌, ◌++◌, ◌∷◌, [], Some, If
 ghost use Rattle.lab_records_kept.specs.Trails.{row_of};
 ghost use Rattle.lab_records_outcomes.specs.Deciding.{IsFailureWritten, failing, outcome};
 
-use crate::drafts::{fail, row_of};
 use crate::outcome::Outcome;
+use crate::trail_rows::{fail, row_of};
 use lab_forms_texts::{Moment, Ordinal, OutOfMemory, PersonCode, Series};
 use lab_people_access::{Failure, PeopleRefusal};
 use lab_records_kept::{Change, Deed, Occasion};
@@ -23,6 +23,9 @@ pub fn refused(changes: Series<Change>, refusal: Refusal) -> Outcome
 }
 
 /// A password that was given for a command failed. The only error is out of memory, where that changes something.
+///
+/// # Errors
+/// Memory ran out.
 pub fn failed(
     alloc: Global,
     before: Series<Change>,
@@ -43,6 +46,9 @@ pub fn failed(
 }
 
 /// Changes, and behind them the row that tells of the deed. The only error is out of memory: the row is made in any case.
+///
+/// # Errors
+/// Memory ran out.
 pub fn told(
     alloc: Global,
     before: Series<Change>,

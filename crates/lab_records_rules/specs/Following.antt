@@ -4,22 +4,22 @@
 use Rattle.std.specs.Prelude.{◌≡◌, Bool, IsTrue, Option, Some, None, Result, Ok, Err}
 use Rattle.std.specs.Result.{is_ok}
 use Rattle.lab_records_rules.specs.declared.refusals.Refusal.{Refusal}
-use Rattle.lab_records_rules.specs.declared.faults.CommandFault.{CommandFault}
-use Rattle.lab_records_rules.specs.declared.faults.CommandFault.TheVariants.{Refused, Memory}
+use Rattle.lab_forms_texts.specs.declared.refusals.Fault.{Fault}
+use Rattle.lab_forms_texts.specs.declared.refusals.Fault.TheVariants.{Refused, Memory}
 
 -- memory may run out only where something is made
-abbrev pub FollowsWhere : {A : Type 0} → Bool → Result A Refusal → Result A CommandFault → Type 0
+abbrev pub FollowsWhere : {A : Type 0} → Bool → Result A Refusal → Result A (Fault Refusal) → Type 0
 FollowsWhere made rule (Ok value) = rule ≡ Ok value
 FollowsWhere made rule (Err (Refused refusal)) = rule ≡ Err refusal
 FollowsWhere made rule (Err Memory) = IsTrue made
 
 -- memory may run out only where the rule gives a value: each of its refusals is told as it is
-abbrev pub Follows : {A : Type 0} → Result A Refusal → Result A CommandFault → Type 0
+abbrev pub Follows : {A : Type 0} → Result A Refusal → Result A (Fault Refusal) → Type 0
 Follows rule result = FollowsWhere (is_ok rule) rule result
 
 -- something is read as the value itself where nothing is wrong with it, and is refused otherwise;
 -- memory may run out only where something is made
-abbrev pub IsReadWhere : {A : Type 0} → Bool → Option Refusal → A → Result A CommandFault → Type 0
+abbrev pub IsReadWhere : {A : Type 0} → Bool → Option Refusal → A → Result A (Fault Refusal) → Type 0
 IsReadWhere made wrong value (Ok read) = (wrong ≡ None) × (read ≡ value)
 IsReadWhere made wrong value (Err (Refused refusal)) = wrong ≡ Some refusal
 IsReadWhere made wrong value (Err Memory) = IsTrue made

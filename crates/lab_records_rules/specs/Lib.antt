@@ -1,6 +1,6 @@
 pub mod Refusals
 pub mod Following
-pub mod SigningRules
+pub mod SigningPolicy
 pub mod Making
 pub mod Reading
 pub mod Latest

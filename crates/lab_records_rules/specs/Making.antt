@@ -43,7 +43,7 @@ new_record form sample caller moment records = record {
   versions = first_version form.form.approval caller moment ∷ [];
 }
 
--- it is opened by the last version of its form, once for a form and a sample
+-- a record is opened by the last version of its form, once for a form and a sample
 abbrev pub opening_new : FormVersion → Option Record → List ℕ → List ℕ → ℕ → ℕ
     → Result Record Refusal
 opening_new form (Some kept) sample caller moment records = Err (RecordExists kept.number)

@@ -13,6 +13,9 @@ use lab_seal_versions::{EntryRows, Format, Origin};
 use std::alloc::Global;
 
 /// The first version of a form, or its next one, which differs from the present one.
+///
+/// # Errors
+/// Why the command is refused.
 pub fn make_form(code: Key, form: Form, last: Option<FormVersion>) -> Result<FormVersion, Refusal>
     ensures { result ≡ making code form last }
 {
@@ -45,6 +48,9 @@ pub fn make_form(code: Key, form: Form, last: Option<FormVersion>) -> Result<For
 
 /// A record as it is opened by the last version of its form, once for a form and a sample; `records` is how many the
 /// laboratory has. Memory may run out only for a record that is opened.
+///
+/// # Errors
+/// The command's refusal, or memory ran out.
 pub fn open_record(
     alloc: Global,
     form: Option<FormVersion>,
@@ -118,7 +124,7 @@ fn one_version(alloc: Global, first: Version) -> Result<Series<Version>, OutOfMe
     Ok(versions)
 }
 
-/// The first version of a record, as it is opened. It takes no memory.
+// The first version of a record, as it is opened. It takes no memory.
 fn first_version(alloc: Global, approval: bool, caller: PersonCode, moment: Moment) -> Version
     ensures { result ≡ first_version approval caller moment }
 {

@@ -1,6 +1,6 @@
 //! What a signature is asked for, and what commands on records make.
 ghost use Rattle.std.specs.Prelude.{◌≡◌};
-ghost use Rattle.lab_records_rules.specs.SigningRules.{signing_rule};
+ghost use Rattle.lab_records_rules.specs.SigningPolicy.{signing_rule};
 
 use lab_forms_texts::{Note, Ordinal};
 use lab_people_access::Rule;

@@ -17,6 +17,9 @@ use lab_seal_versions::{Digest, EntryRow, State};
 use std::alloc::Global;
 
 /// The version of a form that was looked up.
+///
+/// # Errors
+/// Why the command is refused.
 pub fn read_form(form: Option<FormVersion>) -> Result<FormVersion, Refusal>
     ensures { result ≡ reading_form form }
 {
@@ -27,6 +30,9 @@ pub fn read_form(form: Option<FormVersion>) -> Result<FormVersion, Refusal>
 }
 
 /// The record that was looked up, with its versions' states and digests. Memory may run out only for what is read.
+///
+/// # Errors
+/// The command's refusal, or memory ran out.
 pub fn read_record(
     alloc: Global,
     lab: &LabCode,
@@ -80,6 +86,9 @@ fn version_line(
 }
 
 /// The version of the number of the record, with the record's values at it. Memory may run out only for what is read.
+///
+/// # Errors
+/// The command's refusal, or memory ran out.
 pub fn read_version(
     alloc: Global,
     lab: &LabCode,
@@ -179,6 +188,9 @@ fn version_read(kept: Record, parts: VersionReadParts) -> VersionRead
 }
 
 /// A record in a line, by its last version. The only error is out of memory.
+///
+/// # Errors
+/// Memory ran out.
 pub fn record_line(kept: &Record) -> Result<RecordState, OutOfMemory>
     ensures { IfOk result (λ line. line ≡ record_line kept.now) }
 {
@@ -198,6 +210,9 @@ pub fn record_line(kept: &Record) -> Result<RecordState, OutOfMemory>
 }
 
 /// A person in a line, at the moment. The only error is out of memory.
+///
+/// # Errors
+/// Memory ran out.
 pub fn person_line(person: &Person, moment: Moment) -> Result<PersonLine, OutOfMemory>
     ensures { IfOk result (λ line. line ≡ person_line moment person.now) }
 {

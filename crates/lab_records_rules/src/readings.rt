@@ -27,7 +27,7 @@ pub struct RecordRead {
     pub versions: Series<VersionState>,
 }
 
-// It is written out, so that a caller doesn't prove again how each part is dropped.
+// `drop` is written out, so that a caller doesn't prove again how each part is dropped.
 impl Drop for RecordRead {
     fn drop(self) {
         let RecordRead {
@@ -59,7 +59,7 @@ pub struct VersionRead {
     pub values: Series<EntryRow>,
 }
 
-// It is written out, so that a caller doesn't prove again how each part is dropped.
+// `drop` is written out, so that a caller doesn't prove again how each part is dropped.
 impl Drop for VersionRead {
     fn drop(self) {
         let VersionRead {
@@ -89,7 +89,7 @@ pub struct RecordState {
     pub state: Option<State>,
 }
 
-// It is written out, so that a caller doesn't prove again how each part is dropped.
+// `drop` is written out, so that a caller doesn't prove again how each part is dropped.
 impl Drop for RecordState {
     fn drop(self) {
         let RecordState {
@@ -116,7 +116,7 @@ pub struct PersonLine {
     pub locked: bool,
 }
 
-// It is written out, so that a caller doesn't prove again how each part is dropped.
+// `drop` is written out, so that a caller doesn't prove again how each part is dropped.
 impl Drop for PersonLine {
     fn drop(self) {
         let PersonLine {

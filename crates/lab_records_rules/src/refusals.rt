@@ -1,9 +1,8 @@
 //! What a laboratory's machine refuses.
-ghost use Rattle.std.specs.Prelude.{◌≡◌, Some};
 ghost use Rattle.lab_records_rules.specs.Refusals.{refusal_entry};
 
 use lab_forms::FormRefusal;
-use lab_forms_texts::{Key, Ordinal};
+use lab_forms_texts::{Key, Ordinal, RefusalKind};
 use lab_people_access::PeopleRefusal;
 use lab_seal_hashes::Digest;
 
@@ -54,7 +53,7 @@ pub enum Refusal {
     ApprovalNotWanted,
 }
 
-// It is written out, so that a caller doesn't prove again how each part is dropped.
+// `drop` is written out, so that a caller doesn't prove again how each part is dropped.
 impl Drop for Refusal {
     fn drop(self) {
         match self {
@@ -83,47 +82,32 @@ impl Drop for Refusal {
     }
 }
 
-impl Refusal {
-    fn entry(&self) -> (Option<u32>, &'static str)
-        ensures number { result.0 ≡ Some (refusal_entry self.now).number }
-        ensures word { result.1.now ≡ (refusal_entry self.now).word }
-    {
+impl RefusalKind for Refusal {
+    ghost listed = { refusal_entry };
+
+    fn entry(&self) -> (u32, &'static str) {
         match self {
-            Refusal::NoSuchLab => (Some(40), "no_such_lab"),
-            Refusal::ClockBehind => (Some(41), "clock_behind"),
-            Refusal::People(refusal) => (refusal.number(), refusal.word()),
-            Refusal::Form(refusal) => (refusal.number(), refusal.word()),
-            Refusal::NoSuchForm => (Some(42), "no_such_form"),
-            Refusal::RecordExists(_) => (Some(43), "record_exists"),
-            Refusal::NoSuchRecord => (Some(44), "no_such_record"),
-            Refusal::NoSuchVersion => (Some(45), "no_such_version"),
-            Refusal::NotOpen => (Some(46), "not_open"),
-            Refusal::ReasonWanted => (Some(47), "reason_wanted"),
-            Refusal::NothingAltered => (Some(48), "nothing_altered"),
-            Refusal::NotAltered(_) => (Some(49), "not_altered"),
-            Refusal::AmendmentOpen => (Some(50), "amendment_open"),
-            Refusal::EntriesMissing => (Some(51), "entries_missing"),
-            Refusal::StaleDigest(_) => (Some(52), "stale_digest"),
-            Refusal::AlreadySigned => (Some(53), "already_signed"),
-            Refusal::OwnWork => (Some(54), "own_work"),
-            Refusal::NotAuthor => (Some(55), "not_author"),
-            Refusal::NotSigned => (Some(56), "not_signed"),
-            Refusal::CodeWanted => (Some(57), "code_wanted"),
-            Refusal::ApprovalNotWanted => (Some(58), "approval_not_wanted"),
+            Refusal::NoSuchLab => (40, "no_such_lab"),
+            Refusal::ClockBehind => (41, "clock_behind"),
+            Refusal::People(refusal) => refusal.entry(),
+            Refusal::Form(refusal) => refusal.entry(),
+            Refusal::NoSuchForm => (42, "no_such_form"),
+            Refusal::RecordExists(_) => (43, "record_exists"),
+            Refusal::NoSuchRecord => (44, "no_such_record"),
+            Refusal::NoSuchVersion => (45, "no_such_version"),
+            Refusal::NotOpen => (46, "not_open"),
+            Refusal::ReasonWanted => (47, "reason_wanted"),
+            Refusal::NothingAltered => (48, "nothing_altered"),
+            Refusal::NotAltered(_) => (49, "not_altered"),
+            Refusal::AmendmentOpen => (50, "amendment_open"),
+            Refusal::EntriesMissing => (51, "entries_missing"),
+            Refusal::StaleDigest(_) => (52, "stale_digest"),
+            Refusal::AlreadySigned => (53, "already_signed"),
+            Refusal::OwnWork => (54, "own_work"),
+            Refusal::NotAuthor => (55, "not_author"),
+            Refusal::NotSigned => (56, "not_signed"),
+            Refusal::CodeWanted => (57, "code_wanted"),
+            Refusal::ApprovalNotWanted => (58, "approval_not_wanted"),
         }
-    }
-
-    /// The number by which the refusal is known.
-    pub fn number(&self) -> Option<u32>
-        ensures { result ≡ Some (refusal_entry self.now).number }
-    {
-        self.entry().0
-    }
-
-    /// The word by which the refusal is known.
-    pub fn word(&self) -> &'static str
-        ensures { result.now ≡ (refusal_entry self.now).word }
-    {
-        self.entry().1
     }
 }

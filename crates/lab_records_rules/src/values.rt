@@ -23,6 +23,9 @@ pub struct ValuesTold {
 
 /// The keys that the version of the number altered, and the values of the record at it: of each field that has one, the last
 /// row of all versions up to that one. Both are in the order of the form. The only error is out of memory.
+///
+/// # Errors
+/// Memory ran out.
 pub fn values_told(alloc: Global, kept: &Record, number: Ordinal) -> Result<ValuesTold, OutOfMemory>
     ensures altered { IfOk result (λ told. told.altered ≡ altered_at kept.now number) }
     ensures values { IfOk result (λ told. told.values ≡ values_at kept.now number) }
@@ -39,6 +42,9 @@ pub fn values_told(alloc: Global, kept: &Record, number: Ordinal) -> Result<Valu
 
 /// The keys that the version of the number altered, in the order of the form: those whose value differs from the one before
 /// it. The only error is out of memory.
+///
+/// # Errors
+/// Memory ran out.
 pub fn altered_at(alloc: Global, kept: &Record, number: Ordinal) -> Result<Series<Key>, OutOfMemory>
     ensures { IfOk result (λ keys. keys ≡ altered_at kept.now number) }
 {
@@ -61,6 +67,9 @@ pub fn first_versions(versions: &[Version], count: usize) -> &[Version]
 }
 
 /// The last row of each key in the versions, by one walk over their rows. The only error is out of memory.
+///
+/// # Errors
+/// Memory ran out.
 pub fn latest<'a>(
     alloc: Global,
     versions: &'a [Version],
@@ -75,7 +84,7 @@ pub fn latest<'a>(
     Ok(table)
 }
 
-/// Notes the rows, each in place of an earlier one of its key.
+// Notes the rows, each in place of an earlier one of its key.
 fn note_each<'a>(
     table: &mut BTreeMap<&'a str, &'a EntryRow>,
     rows: &'a [EntryRow],
@@ -107,7 +116,7 @@ pub fn noted<'a>(table: &BTreeMap<&'a str, &'a EntryRow>, key: &Key) -> Option<&
     table.get(key.as_str()).copied()
 }
 
-/// The rows that are noted under the fields' keys, in the order of the fields.
+// The rows that are noted under the fields' keys, in the order of the fields.
 fn values_by<'a>(
     alloc: Global,
     fields: &[Field],
@@ -125,7 +134,7 @@ fn values_by<'a>(
     Ok(rows)
 }
 
-/// The fields' keys under which the second table has another value than the first, or one where that has none.
+// The fields' keys under which the second table has another value than the first, or one where that has none.
 fn altered_by<'a>(
     alloc: Global,
     fields: &[Field],

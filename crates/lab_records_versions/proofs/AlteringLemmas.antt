@@ -9,8 +9,8 @@ use Rattle.std.proofs.lemmas.List.{take_more, take-append-drop}
 use Rattle.lab_records_kept.specs.declared.records.Record.{Record}
 use Rattle.lab_records_rules.specs.declared.items.Item.{Item}
 use Rattle.lab_records_rules.specs.declared.refusals.Refusal.{Refusal}
-use Rattle.lab_records_rules.specs.declared.faults.CommandFault.{CommandFault}
-use Rattle.lab_records_rules.specs.declared.faults.CommandFault.TheVariants.{Refused, Memory}
+use Rattle.lab_forms_texts.specs.declared.refusals.Fault.{Fault}
+use Rattle.lab_forms_texts.specs.declared.refusals.Fault.TheVariants.{Refused, Memory}
 use Rattle.lab_records_rules.specs.Following.{IsReadWhere}
 use Rattle.lab_records_versions.specs.Entering.{altered_refusal, first_altered_refusal, amending_by, amendment_made, next_version}
 
@@ -70,7 +70,7 @@ read_more kept items i item made read within here nothing (is, same) =
     refusal_of_more kept items i item within here nothing ∙ is
 
 -- what an item is refused for, or that memory ran out, is told of them all
-pub fault_at : (kept : Record) (items : List Item) (i : ℕ) (item : Item) (made : Bool) (rows : List EntryRow) (fault : CommandFault)
+pub fault_at : (kept : Record) (items : List Item) (i : ℕ) (item : Item) (made : Bool) (rows : List EntryRow) (fault : Fault Refusal)
     → i < length items → item ≡ get_or items i item → first_altered_refusal kept (take i items) ≡ None
     → IsReadWhere {A = List ℕ} made (altered_refusal kept item) item.value (Err fault)
     → IsReadWhere true (first_altered_refusal kept items) rows (Err fault)

@@ -17,6 +17,9 @@ use std::collections::BTreeMap;
 
 /// The next version of the record that was looked up, once its last one is released or rejected: with a reason, and with
 /// values that differ from those that stand. Memory may run out once these are held against a table of the rows.
+///
+/// # Errors
+/// The command's refusal, or memory ran out.
 pub fn amend(
     alloc: Global,
     lab: &LabCode,

@@ -18,6 +18,9 @@ use std::alloc::Global;
 
 /// A value as it is entered into the last version of the record that was looked up, while that is open; a key that has a
 /// value wants a reason. Memory may run out only for what is entered.
+///
+/// # Errors
+/// The command's refusal, or memory ran out.
 pub fn enter(
     alloc: Global,
     lab: &LabCode,
@@ -109,6 +112,9 @@ fn is_open(state: Option<State>) -> bool
 }
 
 /// The value of an item, as the form of the record reads it. Memory may run out only for a value that the form takes.
+///
+/// # Errors
+/// The command's refusal, or memory ran out.
 #[tactic(auto, using(crate::proofs::ValueLemmas::no_refusal))]
 pub(crate) fn read_item(alloc: Global, kept: &Record, item: &Item) -> Result<Note, CommandFault>
     ensures { IsReadWhere (is_none (item_refusal kept.now item.now))
@@ -121,7 +127,7 @@ pub(crate) fn read_item(alloc: Global, kept: &Record, item: &Item) -> Result<Not
     {
         Ok(value) => Ok(value.into_note()),
         Err(FormFault::Refused(refusal)) => Err(CommandFault::Refused(Refusal::Form(refusal))),
-        Err(FormFault::Memory(_)) => Err(CommandFault::Memory),
+        Err(FormFault::Memory) => Err(CommandFault::Memory),
     }
 }
 

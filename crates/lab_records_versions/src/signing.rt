@@ -23,6 +23,9 @@ use std::collections::BTreeMap;
 
 /// The signature of a person whose password was accepted, under the version of the number of the record that was looked up;
 /// `digest` is the one that the person saw. Memory may run out once the version's own is made, to compare them.
+///
+/// # Errors
+/// The command's refusal, or memory ran out.
 pub fn sign(
     alloc: Global,
     lab: &LabCode,
@@ -59,6 +62,9 @@ pub fn sign(
 }
 
 /// The first refusal of a signature of a version. The only error is out of memory, once the version's digest is made.
+///
+/// # Errors
+/// Memory ran out.
 pub fn version_refusal(
     alloc: Global,
     lab: &LabCode,
@@ -92,6 +98,9 @@ pub fn version_refusal(
 }
 
 /// The refusal of an authorship of a version that lacks what its form requires, or alters nothing; it alone wants memory.
+///
+/// # Errors
+/// Memory ran out.
 pub fn content_refusal(
     alloc: Global,
     signing: &Signing,

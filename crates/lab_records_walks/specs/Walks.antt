@@ -72,6 +72,14 @@ last_walked to kept = min to kept
 abbrev pub numbers_between : ℕ → ℕ → ℕ
 numbers_between from last = last + 1 - from
 
+-- the records from a number to a last one
+abbrev pub walked_to : Option Lab → ℕ → ℕ → List Record
+walked_to lab from last = walked lab from (numbers_between from last)
+
+-- the rows of these records are fewer than a number of 64 bits can count
+abbrev pub AreCountable : List ℕ → List Record → Type 0
+AreCountable code records = length (body_lines code records) < 2 ^ 64
+
 -- the numbers of rows after more rows
 abbrev pub counted_all : Counts → List (List (List ℕ)) → Counts
 counted_all counts [] = counts
@@ -83,9 +91,9 @@ counted_all counts (row ∷ rows) = counted_all (counted counts row) rows
 -- number of 64 bits can count
 pub record IsWalkable (lab : Lab) : Type 0 where
   pub numbered : AreNumbered (λ kept. kept.number) lab.records
-  pub few : length (body_lines lab.code lab.records) < 2 ^ 64
+  pub few : AreCountable lab.code lab.records
 
--- so it is of the laboratory of a code, where there is one and the keeper is there to tell
+-- the laboratory of a code can be walked, where there is one and the keeper is live
 abbrev pub CanWalk : World → List ℕ → Type 0
 CanWalk world code = world.is_live → IfSome (world.meaning code) IsWalkable
 

@@ -15,6 +15,9 @@ use lab_records_kept::{
 };
 
 /// How a laboratory is headed: the part of it of which nothing more is needed.
+///
+/// # Errors
+/// The store refused, or memory ran out.
 pub(crate) fn head_of<S: Keeper>(
     keeper: &mut S,
     lab: &LabCode,
@@ -39,6 +42,9 @@ pub(crate) fn head_of<S: Keeper>(
 }
 
 /// The record of a number, where there is a laboratory that has one.
+///
+/// # Errors
+/// The store refused, or memory ran out.
 pub(crate) fn read_record<S: Keeper>(
     keeper: &mut S,
     lab: &LabCode,

@@ -10,6 +10,9 @@ use std::alloc::Global;
 use std::io::Write;
 
 /// Writes rows behind those that went out.
+///
+/// # Errors
+/// The row is none that a copy can have, or memory ran out.
 pub fn give_rows<W: Write>(
     alloc: Global,
     out: &mut CopyOut,

@@ -1,14 +1,13 @@
 //! The walk over a laboratory's records: the rows of each go out, one record after the other.
 
-ghost use Rattle.std.specs.Prelude.{◌≡◌, ◌<◌, ◌≤◌, ◌^◌, None, Err, IsSome, IfErr, OnOk, length};
-ghost use Rattle.lab_records_copies.specs.CopyLines.{body_lines};
+ghost use Rattle.std.specs.Prelude.{◌≡◌, ◌≤◌, None, Err, IsSome, IfErr, OnOk};
 ghost use Rattle.lab_copy_rows.specs.Outs.{Sends};
 ghost use Rattle.lab_records_kept.specs.Worlds.{Given, Lives};
 ghost use Rattle.lab_forms_texts.specs.Ordinals.{last_ordinal};
 ghost use Rattle.lab_copy_rows.specs.Csv.{csv_text};
 ghost use Rattle.lab_records_walks.specs.Faults.{CopyFaultFits, OnTold};
 ghost use Rattle.lab_records_walks.specs.Resting.{IsRead};
-ghost use Rattle.lab_records_walks.specs.Walks.{CanWalk, copy_text, counted_all, desk_order, numbers_between, record_rows, text_under, walked};
+ghost use Rattle.lab_records_walks.specs.Walks.{AreCountable, CanWalk, copy_text, counted_all, desk_order, record_rows, text_under, walked_to};
 
 use crate::CopyOutFault;
 use crate::givers::RecordGiver;
@@ -81,12 +80,11 @@ fn copy_under<S: Keeper, G: RecordGiver<S>, W: Write, P: Progress>(
 ) -> Result<(), CopyOutFault>
     requires { last ≤ last_ordinal }
     ensures text { (S.world keeper.old).is_live →
-        length (body_lines line.lab (walked ((S.world keeper.old).meaning line.lab) line.from
-        (numbers_between line.from last))) < 2 ^ 64 →
+        AreCountable line.lab
+        (walked_to ((S.world keeper.old).meaning line.lab) line.from last) →
         Given (S.world keeper.old) (S.world keeper.new)
         (Sends (W.contents writer.old) (W.contents writer.new) (text_under line
-        (walked ((S.world keeper.old).meaning line.lab) line.from
-        (numbers_between line.from last))) result) }
+        (walked_to ((S.world keeper.old).meaning line.lab) line.from last)) result) }
     ensures fault { IfErr result
         (CopyFaultFits ⊥ (S.world keeper.old).may_refuse (Unit {0})) }
     ensures lives { (S.world keeper.old).is_live →
@@ -118,13 +116,12 @@ fn walk<S: Keeper, G: RecordGiver<S>, W: Write, P: Progress>(
     ensures text { (S.world keeper.old).is_live →
         Given (S.world keeper.old) (S.world keeper.new)
         (Sends (W.contents writer.old) (W.contents writer.new) (csv_text (record_rows lab.now
-        (walked ((S.world keeper.old).meaning lab.now) from (numbers_between from last)))) result) }
+        (walked_to ((S.world keeper.old).meaning lab.now) from last))) result) }
     ensures counts { (S.world keeper.old).is_live →
         Given (S.world keeper.old) (S.world keeper.new)
         (OnOk result (out.new ≡ record out.old {
           counts = counted_all out.old.counts
-              (record_rows lab.now (walked ((S.world keeper.old).meaning lab.now) from
-              (numbers_between from last)));
+              (record_rows lab.now (walked_to ((S.world keeper.old).meaning lab.now) from last));
         })) }
     ensures fault { IfErr result
         (CopyFaultFits ⊥ (S.world keeper.old).may_refuse (Unit {0})) }

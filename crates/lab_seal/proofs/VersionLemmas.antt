@@ -13,8 +13,9 @@ use Rattle.lab_seal_versions.specs.Versions.{item, format_word, approval_text, r
 use Rattle.lab_seal.specs.Reading.{first_as, ◌>>=◌}
 use Rattle.lab_seal.specs.Parts.{first_heading, first_format, first_subject, first_no_amendment, first_amendment, first_origin, first_opening, first_front, first_row, first_rows, HeadingValue, SubjectValue, OpeningValue, FrontValue, version_of, AreAllRows}
 use Rattle.lab_seal.specs.Faults.{TextFaultFits}
-use Rattle.lab_seal.specs.declared.faults.TextFault.{TextFault}
-use Rattle.lab_seal.specs.declared.faults.TextFault.TheVariants.{BadText, Memory}
+use Rattle.lab_seal.specs.declared.faults.BadText.{BadText}
+use Rattle.lab_forms_texts.specs.declared.refusals.Fault.{Fault}
+use Rattle.lab_forms_texts.specs.declared.refusals.Fault.TheVariants.{Refused, Memory}
 use Rattle.lab_seal_versions.specs.declared.origins.Amendment.{Amendment}
 use Rattle.lab_seal_versions.specs.declared.rows.EntryRow.{EntryRow}
 use Rattle.lab_seal_versions.specs.declared.versions.Format.{Format}
@@ -524,11 +525,11 @@ rows_before (Some found) rest e =
     (found.0, ap (λ l. Some (found.0, l)) (some_same found.1 rest e))
 
 -- what is said of the rows behind a front is said of the bytes
-pub rows_fault : (bytes : List ℕ) (front : FrontValue) (more : List ℕ) (fault : TextFault)
+pub rows_fault : (bytes : List ℕ) (front : FrontValue) (more : List ℕ) (fault : Fault BadText)
     → first_front bytes ≡ Some (front, more)
     → TextFaultFits (AreAllRows front.opening.2 more → ⊥) (AreAllRows front.opening.2 more) fault
     → TextFaultFits (IsNoVersion bytes) (IsSomeVersion bytes) fault
-rows_fault bytes front more BadText e none = λ parts is at. none (ends bytes front more e parts is at)
-rows_fault bytes front more (Memory fault) e all =
+rows_fault bytes front more (Refused _) e none = λ parts is at. none (ends bytes front more e parts is at)
+rows_fault bytes front more Memory e all =
     let found = rows_before (first_rows front.opening.2 more) [] all in
     some_version (read_whole bytes front more found.0 e found.1)

@@ -6,7 +6,8 @@ use Rattle.lab_seal_versions.specs.declared.rows.EntryRow.{EntryRow}
 use Rattle.lab_seal.specs.Parts.{first_rows, AreAllRows}
 use Rattle.lab_seal.proofs.RowLemmas.{behind_rows, IsRowsSoFar}
 use Rattle.lab_seal.specs.Faults.{TextFaultFits}
-use Rattle.lab_seal.specs.declared.faults.TextFault.{TextFault}
+use Rattle.lab_seal.specs.declared.faults.BadText.{BadText}
+use Rattle.lab_forms_texts.specs.declared.refusals.Fault.{Fault}
 
 behind_end : (rows : List EntryRow) (o : Option (List EntryRow × List ℕ))
     → option_map (λ found. found.1) (option_map (behind_rows rows) o) ≡ option_map (λ found. found.1) o
@@ -14,7 +15,7 @@ behind_end rows None = refl
 behind_end rows (Some more) = refl
 
 -- what is said of the rows that are left is said of all
-pub left_fault : (count : ℕ) (text : List ℕ) (left : ℕ) (rows : List EntryRow) (rest : List ℕ) (fault : TextFault)
+pub left_fault : (count : ℕ) (text : List ℕ) (left : ℕ) (rows : List EntryRow) (rest : List ℕ) (fault : Fault BadText)
     → IsRowsSoFar count text left rows rest → TextFaultFits (AreAllRows left rest → ⊥) (AreAllRows left rest) fault
     → TextFaultFits (AreAllRows count text → ⊥) (AreAllRows count text) fault
 left_fault count text left rows rest fault so_far fits =

@@ -13,20 +13,25 @@ use lab_seal_hashes::Digest;
 use std::alloc::Global;
 
 /// A copy of a text that the rule admits.
+///
+/// # Errors
+/// Memory ran out.
 pub fn own<R: Rule>(alloc: Global, text: &str) -> Result<Text<R>, OutOfMemory>
     requires { IsTrue (R.admits text.now) }
     ensures { IfOk result (λ copy. copy ≡ text.now) }
 {
     match Text::parse(alloc, text) {
         Ok(copy) => Ok(copy),
-        Err(NameFault::Memory(fault)) => Err(fault),
-        Err(NameFault::BadName) => unreachable!(),
+        Err(NameFault::Memory) => Err(OutOfMemory),
+        Err(NameFault::Refused(_)) => unreachable!(),
     }
 }
 
-// The number of which these are the decimal digits, without leading zeros. Most items are shorter than
-// a hundred bytes, and one or two digits are read by themselves.
-fn value_of(digits: &[u8]) -> Option<usize>
+/// The number of which these are the decimal digits, without leading zeros. `None` where they are none of a
+/// number of 64 bits.
+//
+// Most items are shorter than a hundred bytes, and one or two digits are read by themselves.
+pub fn value_of(digits: &[u8]) -> Option<usize>
     ensures { result ≡ number_of digits.now }
 {
     match digits {

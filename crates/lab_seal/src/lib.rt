@@ -7,7 +7,7 @@ pub mod fields;
 pub mod parts;
 mod reading;
 
-pub use faults::TextFault;
+pub use faults::{BadText, TextFault};
 pub use lab_seal_hashes::{
     Digest, Half, Token, Verifier, VerifierParts, digest, founder_salts, hmac, pbkdf2, salt,
 };

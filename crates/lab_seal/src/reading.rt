@@ -10,7 +10,7 @@ ghost use Rattle.lab_seal_versions.specs.Versions.{version_text, IsRow, IsOrigin
 ghost use Rattle.lab_seal.specs.Parts.{first_rows, amends_of, front_of, row_of, version_of, AreAllRows};
 
 use crate::parts::{Front, Reason, Row, after_rows, first_front, first_row};
-use crate::{TextFault, fields};
+use crate::{BadText, TextFault, fields};
 use lab_forms_texts::{Key, LabCode, Moment, Name, Ordinal, OutOfMemory, PersonCode};
 use lab_seal_hashes::Digest;
 use lab_seal_versions::{Amendment, EntryRow, EntryRows, Origin, OriginParts, VersionParts};
@@ -21,11 +21,14 @@ const SHORTEST_ROW: usize = 43;
 
 /// Reads the text of a version. `BadText` where the bytes are not the whole text of a version; memory runs out only where
 /// they are.
+///
+/// # Errors
+/// The bytes are the text of no version, or memory ran out.
 pub fn read_version(alloc: Global, bytes: &[u8]) -> Result<VersionParts, TextFault>
     ensures read { IfOk result (λ parts. IsVersion parts × (version_text parts ≡ bytes.now)) }
     ensures fault { IfErr result (TextFaultFits (IsNoVersion bytes.now) (IsSomeVersion bytes.now)) }
 {
-    let (front, rest) = first_front(bytes).ok_or(TextFault::BadText)?;
+    let (front, rest) = first_front(bytes).ok_or(TextFault::Refused(BadText))?;
     let rows = all_rows(alloc, front.opening.rows, rest)?;
     Ok(owned(alloc, &front, rows)?)
 }
@@ -35,8 +38,8 @@ fn fault_of_memory(left: usize, text: &[u8]) -> TextFault
     ensures { TextFaultFits (AreAllRows left text.now → ⊥) (AreAllRows left text.now) result }
 {
     match after_rows(left, text) {
-        Some([]) => TextFault::Memory(OutOfMemory),
-        _ => TextFault::BadText,
+        Some([]) => TextFault::Memory,
+        _ => TextFault::Refused(BadText),
     }
 }
 
@@ -53,7 +56,7 @@ fn all_rows(alloc: Global, count: usize, text: &[u8]) -> Result<EntryRows, TextF
     let mut rest = text;
     for at in 0..count {
         let Some((row, after)) = first_row(rest) else {
-            return Err(TextFault::BadText);
+            return Err(TextFault::Refused(BadText));
         };
         if let Err(_) = push_row(alloc, &mut rows, &row) {
             return Err(fault_of_memory(count - at, rest));
@@ -61,7 +64,7 @@ fn all_rows(alloc: Global, count: usize, text: &[u8]) -> Result<EntryRows, TextF
         rest = after;
     }
     if !rest.is_empty() {
-        return Err(TextFault::BadText);
+        return Err(TextFault::Refused(BadText));
     }
     Ok(EntryRows::new(rows))
 }

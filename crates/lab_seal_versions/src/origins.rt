@@ -16,7 +16,7 @@ pub struct Amendment {
     pub reason: Note,
 }
 
-// It is written out, so that a caller doesn't prove again how each part is dropped.
+// `drop` is written out, so that a caller doesn't prove again how each part is dropped.
 impl Drop for Amendment {
     fn drop(self) {
         let Amendment {
@@ -28,6 +28,9 @@ impl Drop for Amendment {
 
 impl Amendment {
     /// A copy.
+    ///
+    /// # Errors
+    /// Memory ran out.
     pub fn copy(&self) -> Result<Amendment, OutOfMemory>
         ensures { IfOk result (λ copy. copy ≡ self.now) }
     {
@@ -58,7 +61,7 @@ pub struct OriginParts {
     pub amendment: Option<Amendment>,
 }
 
-// It is written out, so that a caller doesn't prove again how each part is dropped.
+// `drop` is written out, so that a caller doesn't prove again how each part is dropped.
 impl Drop for OriginParts {
     fn drop(self) {
         let OriginParts {
@@ -90,7 +93,7 @@ pub struct Origin {
     parts: OriginParts,
 }
 
-// It is written out, so that a caller doesn't prove again how each part is dropped.
+// `drop` is written out, so that a caller doesn't prove again how each part is dropped.
 impl Drop for Origin {
     fn drop(self) {
         let Origin { parts: _ } = self;
@@ -160,6 +163,9 @@ impl Origin {
     }
 
     /// A copy.
+    ///
+    /// # Errors
+    /// Memory ran out.
     pub fn copy(&self) -> Result<Origin, OutOfMemory>
         ensures { IfOk result (λ copy. copy ≡ self.now) }
     {

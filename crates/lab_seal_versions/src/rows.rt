@@ -22,7 +22,7 @@ pub struct EntryRow {
     pub reason: Option<Note>,
 }
 
-// It is written out, so that a caller doesn't prove again how each part is dropped.
+// `drop` is written out, so that a caller doesn't prove again how each part is dropped.
 impl Drop for EntryRow {
     fn drop(self) {
         let EntryRow {
@@ -38,6 +38,9 @@ impl Drop for EntryRow {
 
 impl EntryRow {
     /// A copy.
+    ///
+    /// # Errors
+    /// Memory ran out.
     pub fn copy(&self) -> Result<EntryRow, OutOfMemory>
         ensures { IfOk result (λ copy. copy ≡ self.now) }
     {
@@ -75,7 +78,7 @@ pub struct EntryRows {
     rows: Vec<EntryRow>,
 }
 
-// It is written out, so that a caller doesn't prove again how each part is dropped.
+// `drop` is written out, so that a caller doesn't prove again how each part is dropped.
 impl Drop for EntryRows {
     fn drop(self) {
         let EntryRows { rows: _ } = self;
@@ -107,6 +110,9 @@ impl EntryRows {
     }
 
     /// Adds a row at the end.
+    ///
+    /// # Errors
+    /// Memory ran out.
     pub fn push(&mut self, row: EntryRow) -> Result<(), OutOfMemory>
         ensures added { OnOk result (self.new ≡ self.old ++ row ∷ []) }
         ensures same { OnErr result (self.new ≡ self.old) }
@@ -123,6 +129,9 @@ impl EntryRows {
     }
 
     /// A copy.
+    ///
+    /// # Errors
+    /// Memory ran out.
     pub fn copy(&self) -> Result<EntryRows, OutOfMemory>
         ensures { IfOk result (λ copy. copy ≡ self.now) }
     {

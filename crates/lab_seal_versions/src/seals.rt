@@ -99,6 +99,9 @@ impl Meaning {
     }
 
     /// A copy.
+    ///
+    /// # Errors
+    /// Memory ran out.
     pub fn copy(&self) -> Result<Meaning, OutOfMemory>
         ensures { IfOk result (λ copy. copy ≡ self.now) }
     {
@@ -140,6 +143,9 @@ pub struct SealParts {
 
 impl SealParts {
     /// A copy.
+    ///
+    /// # Errors
+    /// Memory ran out.
     pub fn copy(&self) -> Result<SealParts, OutOfMemory>
         ensures { IfOk result (λ copy. copy ≡ self.now) }
     {

@@ -42,7 +42,7 @@ pub struct VersionParts {
     pub rows: EntryRows,
 }
 
-// It is written out, so that a caller doesn't prove again how each part is dropped.
+// `drop` is written out, so that a caller doesn't prove again how each part is dropped.
 impl Drop for VersionParts {
     fn drop(self) {
         let VersionParts {
@@ -62,6 +62,9 @@ impl Drop for VersionParts {
 
 impl VersionParts {
     /// A copy.
+    ///
+    /// # Errors
+    /// Memory ran out.
     pub fn copy(&self) -> Result<VersionParts, OutOfMemory>
         ensures { IfOk result (λ copy. copy ≡ self.now) }
     {
@@ -98,6 +101,9 @@ impl VersionParts {
 }
 
 /// The text of a version, which `read_version` reads back.
+///
+/// # Errors
+/// Memory ran out.
 #[tactic(auto, unfolding(crate::specs::Versions::version_text))]
 pub fn write_version(alloc: Global, parts: &VersionParts) -> Result<Vec<u8>, OutOfMemory>
     ensures text { IfOk result (λ text. text.items ≡ version_text parts.now) }

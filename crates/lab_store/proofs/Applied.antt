@@ -40,8 +40,8 @@ changes_law code changes t fit u rising well made = rows_changed code changes t 
 
 pub founding_law : (newborn : Newborn) (t u : Tables) → AreRising t → IsWellKept t → IsPlacedBy newborn t u → Places (newborn_lab newborn) (meaning t) (meaning u) × IsWellKept u
 founding_law newborn t u rising well it =
-    let placed = founded_is_placed t u newborn rising well.rows it.rules.ids it.rules.keys it.rules.arrows it.first it.second it.third it.placed in
-    (placed.0, record { desk = subst (λ rows. IsTrue (is_desk rows)) (sym (desk_stays_at_placing t u (newborn_lab newborn) it.placed)) well.desk; rows = placed.1 })
+    let placed = founded_is_placed t u newborn rising well.rows it.placed in
+    (placed.0, record { desk = subst (λ rows. IsTrue (is_desk rows)) (sym (desk_stays_at_placing t u (newborn_lab newborn) it.placed.placed)) well.desk; rows = placed.1 })
 
 -- how the call ended, said of the keeper and of the changes that it was given
 pub ends_given : {S A E : Type 0} (g : Ghosts S) (code : List ℕ) (list changes : List Change) (inside self : Held S) (new : State) (r : Result A E) → list ≡ changes → inside ≡ self

@@ -1,24 +1,14 @@
 -- Calls before and after the transaction: a look-up that passes by, and what is said of the whole.
-use Rattle.std.proofs.Common.{◌≡◌, ◌⊎◌, inl, inr, ℕ, false, List, [], ◌∷◌, map, filter, find, slice_get, is_some, Option, Some, None, Ok, Err, Result, OnOk, OnErr, IfErr, IsTrue, refl, sym, ap, subst, ◌∙◌}
-use Rattle.std.specs.Prelude.{Vec}
-use Rattle.std.specs.declared.alloc.Global.{Global}
+use Rattle.std.proofs.Common.{◌≡◌, inl, inr, ℕ, false, List, [], ◌∷◌, map, filter, find, slice_get, is_some, Option, Some, None, Ok, Err, Result, OnOk, OnErr, IsTrue, refl, sym, ap, subst, ◌∙◌}
 use Rattle.sqlite_keyed.proofs.ListLemmas.{slice_get-filter}
-use Rattle.sqlite_value.specs.Order.{Row}
-use Rattle.sqlite.specs.declared.error.Error.{Error}
 use Rattle.sqlite.specs.Effect.{Database}
-use Rattle.sqlite.specs.State.{State, HasCleanDisk, IsUnchanged, KeepsCommit, FailsToQuery, IsTooLate}
+use Rattle.sqlite.specs.State.{State, HasCleanDisk, IsUnchanged, KeepsCommit}
 use Rattle.lab_store_tables.specs.Rows.{LabRow, Tables, tables_in}
 use Rattle.lab_store_tables.specs.Held.{IsTyped}
 use Rattle.lab_store_tables.specs.Meaning.{has_code}
 use Rattle.lab_store_tables.specs.Ready.{IsReady, PassesBy, IsMadeBy, tables_of}
 use Rattle.lab_store_read_records.specs.Shown.{lab_shown, labs_shown}
 use Rattle.lab_store.specs.Commits.{Ends}
-
--- a query outside a transaction is never too late
-pub err_fails : (sql : List ℕ) (params : Row) (old new : State) (r : Result (Vec Row Global) Error) → IfErr r (FailsToQuery sql params old new)
-    → IfErr r (λ e. FailsToQuery sql params old new e ⊎ IsTooLate sql params old new e)
-err_fails sql params old new (Ok rows) h = tt
-err_fails sql params old new (Err e) h = inl h
 
 -- a laboratory is there where a row is shown
 pub shown_some : (t : Tables) (code : List ℕ) → is_some (slice_get (labs_shown t code) 0) ≡ is_some (find (has_code code) t.labs)

@@ -74,4 +74,4 @@ is_placed newborn old new absent unasked it =
       records = refl;
       trail = it.trail;
     } in
-    record { first = first; second = second; third = third; placed = placed; rising = it.rising; rules = it.rules }
+    record { placed = record { first = first; second = second; third = third; placed = placed; rules = it.rules }; rising = it.rising }

@@ -1,18 +1,22 @@
--- What a founding makes of the tables: the laboratory is placed, and nothing was asked for its
--- founders.
-use Rattle.std.specs.Prelude.{◌≡◌, None}
+-- What a founding leaves: the newborn laboratory is placed, or its code was taken.
+use Rattle.std.specs.Prelude.{ℕ, List, IsSome, IsTrue}
+use Rattle.sqlite.specs.State.{State, HasCleanDisk}
 use Rattle.lab_records_kept.specs.declared.births.Newborn.{Newborn}
-use Rattle.lab_records_kept.specs.Births.{newborn_lab}
 use Rattle.lab_store_tables.specs.Rows.{Tables}
 use Rattle.lab_store_tables.specs.Held.{AreRising}
-use Rattle.lab_store_tables.specs.Placing.{PlacesLab}
-use Rattle.lab_store_laws.specs.ByRules.{IsByRules}
+use Rattle.lab_store_tables.specs.Meaning.{meaning}
+use Rattle.lab_store_tables.specs.Ready.{LeavesNoMore, tables_of}
+use Rattle.lab_store_laws.specs.Founding.{PlacesNewborn}
 
--- the newborn laboratory is placed; nothing was asked for any of its founders
+-- the newborn laboratory is placed, and ids rise
 pub record IsPlacedBy (newborn : Newborn) (old new : Tables) : Type 0 where
-  pub first : newborn.first.ask ≡ None
-  pub second : newborn.second.ask ≡ None
-  pub third : newborn.third.ask ≡ None
-  pub placed : PlacesLab (newborn_lab newborn) old new
+  pub placed : PlacesNewborn newborn old new
   pub rising : AreRising new
-  pub rules : IsByRules new
+
+-- a laboratory of the code is there, on a connection that was open and is; a crash leaves no more
+-- than it could leave before
+pub record IsTaken (code : List ℕ) (old new : State) : Type 0 where
+  pub quiet : LeavesNoMore old new
+  pub there : HasCleanDisk new → IsSome (meaning (tables_of old) code)
+  pub was_open : HasCleanDisk new → IsTrue old.is_open
+  pub is_open : HasCleanDisk new → IsTrue new.is_open

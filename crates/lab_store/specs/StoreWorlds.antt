@@ -30,7 +30,7 @@ world_of s = record {
   is_safe = IsSafe s;
 }
 
--- the same of a store over a connection, and that its rows are as they were
+-- the world of a store over a connection, and the relation that leaves its rows as they were
 module _ {S : Type 0} (g : Ghosts S) where
   abbrev pub store_world : Held S → World
   store_world held = world_of (state g held)

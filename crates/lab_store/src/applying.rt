@@ -7,7 +7,7 @@ ghost use Rattle.sqlite.specs.State.{HasCleanDisk, KeepsCommit, Survives};
 ghost use Rattle.lab_store_tables.specs.Changes.{InTurn};
 ghost use Rattle.lab_store_tables.specs.Ready.{IsAtRest, IsReady, LeavesNoMore};
 ghost use Rattle.lab_store_laws.specs.Steps.{StepsBy, AreMadeIfAny};
-ghost use Rattle.lab_store_write.specs.Calls.{IsInside, Steps};
+ghost use Rattle.lab_store_write.specs.Calls.{Steps};
 ghost use Rattle.lab_store.specs.Commits.{Ends};
 
 use crate::inside::Inside;
@@ -21,13 +21,13 @@ use lab_store_write_changes::all_inside;
 use sqlite::{Alter, Connection, Error, Transaction};
 use std::alloc::Global;
 
-/// Makes the changes, one after the other, inside the transaction.
+// Makes the changes, one after the other, inside the transaction.
 fn make_inside<S: Alter>(
     tx: &mut Transaction<'_, S>,
     lab: RowId,
     changes: &[Change],
 ) -> Result<(), Error>
-    requires inside { IsInside (state S.Store tx.old.conn.now) }
+    requires inside { IsTrue (state S.Store tx.old.conn.now).in_transaction }
     ensures same_reference { tx.new.conn.ghost_name ≡ tx.old.conn.ghost_name }
     ensures inside { HasCleanDisk (state S.Store tx.new.conn.now) →
         OnOk result (IsTrue (state S.Store tx.new.conn.now).in_transaction) }
@@ -47,7 +47,7 @@ fn make_inside<S: Alter>(
     made
 }
 
-/// Makes the changes of the laboratory whose row has the id, in one transaction.
+// Makes the changes of the laboratory whose row has the id, in one transaction.
 fn commit_all<S: Alter>(
     conn: &mut Connection<S>,
     lab: RowId,
@@ -65,7 +65,8 @@ fn commit_all<S: Alter>(
 
 /// Makes the changes of the laboratory of the code by one commit, all of them or none; by none where there is no change.
 ///
-/// Errors: no laboratory of the code, or none of what a change names; a refusal of the store; or out of memory. The rows are
+/// # Errors
+/// No laboratory of the code, or none of what a change names; a refusal of the store; or out of memory. The rows are
 /// then as before.
 pub fn apply<S: Alter>(
     alloc: Global,

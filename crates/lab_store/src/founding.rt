@@ -1,13 +1,12 @@
 //! A laboratory that is founded, placed by one commit.
 
-ghost use Rattle.std.specs.Prelude.{◌≡◌, Err, IsSome, IsTrue};
+ghost use Rattle.std.specs.Prelude.{◌≡◌, Err, IsTrue};
 ghost use Rattle.sqlite.specs.Held.{state};
 ghost use Rattle.sqlite.specs.State.{HasCleanDisk};
 ghost use Rattle.lab_records_kept.specs.declared.faults.PlacingFault.TheVariants.{LabExists};
-ghost use Rattle.lab_store_tables.specs.Meaning.{meaning};
-ghost use Rattle.lab_store_tables.specs.Ready.{IsAtRest, IsReady, LeavesNoMore, tables_of};
+ghost use Rattle.lab_store_tables.specs.Ready.{IsAtRest, IsReady};
 ghost use Rattle.lab_store.specs.Commits.{Ends};
-ghost use Rattle.lab_store.specs.Founding.{IsPlacedBy};
+ghost use Rattle.lab_store.specs.Founding.{IsPlacedBy, IsTaken};
 
 use crate::places::{is_there, place};
 use crate::tables::Tables;
@@ -19,7 +18,8 @@ use std::alloc::Global;
 /// Places the newborn laboratory by one commit: its row, its founders in the order of their codes, and the first row of its
 /// trail; all of them, or none.
 ///
-/// Errors: a laboratory of the code is there; a refusal of the store, also of two founders of one code; or out of memory. The
+/// # Errors
+/// A laboratory of the code is there; a refusal of the store, also of two founders of one code; or out of memory. The
 /// rows are then as before. A founder for whom a one-time word was asked is refused too: nobody can have asked before the
 /// founding, so this never comes.
 pub fn found<S: Alter>(
@@ -37,12 +37,7 @@ pub fn found<S: Alter>(
     ensures ends { IsReady (state S.Store tables.old.conn) → Ends (IsPlacedBy newborn) result
         (state S.Store tables.old.conn) (state S.Store tables.new.conn) }
     ensures exists { result ≡ Err LabExists → IsReady (state S.Store tables.old.conn) →
-        HasCleanDisk (state S.Store tables.new.conn) →
-        IsSome (meaning (tables_of (state S.Store tables.old.conn)) newborn.code)
-        × IsTrue (state S.Store tables.old.conn).is_open
-        × IsTrue (state S.Store tables.new.conn).is_open }
-    ensures quiet { result ≡ Err LabExists → IsReady (state S.Store tables.old.conn) →
-        LeavesNoMore (state S.Store tables.old.conn) (state S.Store tables.new.conn) }
+        IsTaken newborn.code (state S.Store tables.old.conn) (state S.Store tables.new.conn) }
 {
     if is_there(tables, &newborn.code)? {
         return Err(PlacingFault::LabExists);

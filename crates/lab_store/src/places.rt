@@ -1,25 +1,25 @@
 //! Whether a laboratory of a code is there, and the placing of one by a commit.
 
-ghost use Rattle.std.specs.Prelude.{◌≡◌, ◌≢◌, IfOk, IfErr, OnOk, find, is_some, slice_get};
+ghost use Rattle.std.specs.Prelude.{◌≡◌, ◌≢◌, IfOk, IfErr, IsTrue, OnOk, find, is_some, slice_get};
 ghost use Rattle.sqlite.specs.Held.{state};
-ghost use Rattle.sqlite.specs.State.{HasCleanDisk, IsUnchanged, KeepsCommit, Survives};
+ghost use Rattle.sqlite.specs.State.{HasCleanDisk, KeepsCommit, Survives};
 ghost use Rattle.lab_records_kept.specs.declared.faults.PlacingFault.TheVariants.{LabExists};
 ghost use Rattle.lab_store_tables.specs.Meaning.{has_code};
-ghost use Rattle.lab_store_tables.specs.Ready.{IsAtRest, IsReady, PassesBy, tables_of};
-ghost use Rattle.lab_store_read_records.specs.Shown.{labs_shown};
-ghost use Rattle.lab_store_write.specs.Calls.{IsInside, Makes};
+ghost use Rattle.lab_store_tables.specs.Ready.{IsAtRest};
+ghost use Rattle.lab_store_columns.specs.Reads.{Reads};
+ghost use Rattle.lab_store_write.specs.Calls.{Steps};
 ghost use Rattle.lab_store.specs.Commits.{Ends};
 ghost use Rattle.lab_store_write_changes.specs.NewbornRows.{AddsRows};
 
 use crate::inside::Inside;
 use lab_forms_texts::LabCode;
 use lab_records_kept::{Lab, PlacingFault};
-use lab_store_columns::asking::rows_by_text;
 use lab_store_columns::{ReadFault, Readable};
+use lab_store_read_records::lab_rows;
 use lab_store_write_changes::add_rows;
 use sqlite::{Alter, Connection, Error, Row, Transaction};
 
-/// What an error of the store is told as.
+// What an error of the store is told as.
 fn placing_fault(error: Error) -> PlacingFault
     ensures { result ≢ LabExists }
 {
@@ -29,25 +29,7 @@ fn placing_fault(error: Error) -> PlacingFault
     }
 }
 
-/// The row of the laboratory with the code.
-fn lab_rows<D: Readable>(conn: &mut D, code: &str) -> Result<Vec<Row>, Error>
-    ensures passes { PassesBy (D.state conn.old) (D.state conn.new) }
-    ensures kept { HasCleanDisk (D.state conn.new) →
-        KeepsCommit (D.state conn.old) (D.state conn.new) }
-    ensures same { HasCleanDisk (D.state conn.new) →
-        OnOk result (IsUnchanged (D.state conn.old) (D.state conn.new)) }
-    ensures rows { IsReady (D.state conn.old) → HasCleanDisk (D.state conn.new) →
-        IfOk result
-        (λ rows. rows.items ≡ labs_shown (tables_of (D.state conn.old)) code.now) }
-{
-    rows_by_text(
-        conn,
-        "SELECT id, code, name, last, stray, records, sessions, trail FROM labs WHERE code = ?1",
-        code,
-    )
-}
-
-/// Whether there is a row.
+// Whether there is a row.
 fn has_row(rows: &[Row]) -> bool
     ensures { result ≡ is_some (slice_get rows.now 0) }
 {
@@ -56,14 +38,10 @@ fn has_row(rows: &[Row]) -> bool
 
 /// Whether a laboratory of the code is there.
 pub(crate) fn is_there<D: Readable>(conn: &mut D, code: &LabCode) -> Result<bool, PlacingFault>
-    ensures passes { PassesBy (D.state conn.old) (D.state conn.new) }
+    ensures reads { Reads (λ t there. there ≡ is_some (find (has_code code.now) t.labs))
+        (D.state conn.old) (D.state conn.new) result }
     ensures kept { HasCleanDisk (D.state conn.new) →
         KeepsCommit (D.state conn.old) (D.state conn.new) }
-    ensures same { HasCleanDisk (D.state conn.new) →
-        OnOk result (IsUnchanged (D.state conn.old) (D.state conn.new)) }
-    ensures found { IsReady (D.state conn.old) → HasCleanDisk (D.state conn.new) →
-        IfOk result
-        (λ there. there ≡ is_some (find (has_code code.now) (tables_of (D.state conn.old)).labs)) }
     ensures fault { IfErr result (λ fault. fault ≢ LabExists) }
 {
     match lab_rows(conn, code.as_str()) {
@@ -72,12 +50,13 @@ pub(crate) fn is_there<D: Readable>(conn: &mut D, code: &LabCode) -> Result<bool
     }
 }
 
-/// Adds the rows of the laboratory inside the transaction.
+// Adds the rows of the laboratory inside the transaction.
 fn add_inside<S: Alter>(tx: &mut Transaction<'_, S>, lab: &Lab) -> Result<(), Error>
-    requires inside { IsInside (state S.Store tx.old.conn.now) }
+    requires inside { IsTrue (state S.Store tx.old.conn.now).in_transaction }
     ensures same_reference { tx.new.conn.ghost_name ≡ tx.old.conn.ghost_name }
-    ensures made { Makes result (AddsRows lab.now)
-        (state S.Store tx.old.conn.now) (state S.Store tx.new.conn.now) }
+    ensures made { HasCleanDisk (state S.Store tx.new.conn.now) →
+        IfOk result (λ _. Steps (AddsRows lab.now)
+        (state S.Store tx.old.conn.now) (state S.Store tx.new.conn.now)) }
     ensures kept { HasCleanDisk (state S.Store tx.new.conn.now) → KeepsCommit
         (state S.Store tx.old.conn.now) (state S.Store tx.new.conn.now) }
     ensures survives { Survives
@@ -89,7 +68,7 @@ fn add_inside<S: Alter>(tx: &mut Transaction<'_, S>, lab: &Lab) -> Result<(), Er
     made
 }
 
-/// Adds the rows of the laboratory in one transaction.
+// Adds the rows of the laboratory in one transaction.
 fn commit_rows<S: Alter>(conn: &mut Connection<S>, lab: &Lab) -> Result<(), Error>
     requires at_rest { IsAtRest (state S.Store conn.old) }
     ensures ends { Ends (AddsRows lab.now) result

@@ -29,7 +29,7 @@ pub struct Store<S: Alter> {
     alloc: Global,
 }
 
-// It is written out, so that a caller doesn't prove again how each part is dropped.
+// `drop` is written out, so that a caller doesn't prove again how each part is dropped.
 impl<S: Alter + Drop> Drop for Store<S> {
     fn drop(self) {
         let Store {

@@ -1,5 +1,7 @@
 pub mod KnownValues
 pub mod Queries
+pub mod Readers
+pub mod Loops
 pub mod Texts
 pub mod Lists
 pub mod Sorted

@@ -19,7 +19,7 @@ use Rattle.sqlite.specs.declared.error.Error.{Error}
 use Rattle.sqlite.specs.Clock as clock
 use Rattle.sqlite.specs.Listing.{understood, if_select, is_select, listing_schema, reads_listing}
 use Rattle.sqlite.specs.State.{State, HasCleanDisk, IsUnchanged, IsRolledBack, IsNotRun, Shown, ShowsRows, FailsToQuery, FailsToShow, Survives, CommitsShowing}
-use Rattle.lab_store_tables.specs.Ready.{IsAtRest, IsReady, IsKept, PassesBy}
+use Rattle.lab_store_tables.specs.Ready.{IsAtRest, IsKept, PassesBy}
 
 -- ---- the text is a query without RETURNING, under any schema
 
@@ -78,7 +78,7 @@ understood_bare sql read s c h = go (reads_listing s sql) h
 
 -- ---- what it leaves
 
-shown_open : (sql : List ℕ) (params : Row) (old new : State) (rows : List Row) → Shown sql params old new rows → IsTrue old.is_open
+pub shown_open : (sql : List ℕ) (params : Row) (old new : State) (rows : List Row) → Shown sql params old new rows → IsTrue old.is_open
 unfolding Shown
 shown_open sql params old new rows h = go h.0.returning h.2
   where
@@ -126,7 +126,8 @@ module _ (sql : List ℕ) (read : IsRead (first sql)) (params : Row) (old new : 
   same (Ok rows) h = shown_unchanged sql read params old new rows.items h
   same (Err e) h = tt
 
-  ends : (r : Result (Vec Row Global) Error) → IfOk r (λ rows. Shown sql params old new rows.items) → IfErr r (FailsToQuery sql params old new) → IsUnchanged old new ⊎ IsRolledBack old new
+  pub ends : (r : Result (Vec Row Global) Error) → IfOk r (λ rows. Shown sql params old new rows.items) → IfErr r (FailsToQuery sql params old new)
+      → IsUnchanged old new ⊎ IsRolledBack old new
   ends (Ok rows) ok err = inl (shown_unchanged sql read params old new rows.items ok)
   ends (Err e) ok err = fails_kept sql params old new e err
 
@@ -150,22 +151,6 @@ module _ (sql : List ℕ) (read : IsRead (first sql)) (params : Row) (old new : 
       rests : IsAtRest old → IsAtRest new
       rests rest = record { alone = alone rest.alone; settled = λ clean opened. kept_settled old new before rest clean opened (ended clean) }
 
-  -- where the file is ours, the rows are those that are known
-  pub exactly : (r : Result (Vec Row Global) Error) (answer : List Row) → ((rows : List Row) → IsKept old.now → Shown sql params old new rows → rows ≡ answer)
-      → IsReady old → HasCleanDisk new → IfOk r (λ rows. Shown sql params old new rows.items) → IfOk r (λ rows. rows.items ≡ answer)
-  exactly (Ok rows) answer exact ready clean h = exact rows.items (ready.kept (before clean) (shown_open sql params old new rows.items h)) h
-  exactly (Err e) answer exact ready clean h = tt
-
 pub if_then : {A E : Type 0} {P Q : A → Type 0} (r : Result A E) → ((a : A) → P a → Q a) → IfOk r P → IfOk r Q
 if_then (Ok a) f h = f a h
 if_then (Err e) f h = tt
-
--- one call and then another
-pub passes_then : (a b c : State) → PassesBy a b → PassesBy b c → (HasCleanDisk b → IsUnchanged a b) → PassesBy a c
-passes_then a b c p q same = record {
-  at_rest = λ rest. q.at_rest (p.at_rest rest);
-  clean = λ clean. p.clean (q.clean clean);
-  live = λ clean opened. p.live (q.clean clean) (q.live clean opened);
-  ready = λ ready. q.ready (p.ready ready);
-  crash = λ ready clean opened trees left. let mid = q.clean clean in p.crash ready mid opened trees (q.crash (p.ready ready) clean (same mid).0.is_open trees left);
-}

@@ -1,7 +1,8 @@
 -- What an error of the store, and a text that is none, are told as.
 use Rattle.std.specs.Prelude.{Bool, true, false, if◌then◌else◌}
-use Rattle.lab_forms_texts.specs.declared.faults.NameFault.{NameFault}
-use Rattle.lab_forms_texts.specs.declared.faults.NameFault.TheVariants as name
+use Rattle.lab_forms_texts.specs.declared.faults.BadName.{BadName}
+use Rattle.lab_forms_texts.specs.declared.refusals.Fault.{Fault}
+use Rattle.lab_forms_texts.specs.declared.refusals.Fault.TheVariants as name
 use Rattle.lab_records_kept.specs.declared.faults.KeeperFault.{KeeperFault}
 use Rattle.lab_records_kept.specs.declared.faults.KeeperFault.TheVariants as kept
 use Rattle.sqlite.specs.declared.error.Error.{Error}
@@ -20,9 +21,9 @@ is_out_of_memory _ = false
 abbrev pub store_fault : Error → ReadFault
 store_fault error = if is_out_of_memory error then Memory else Storage
 
-abbrev pub name_fault : NameFault → ReadFault
-name_fault name.BadName = Storage
-name_fault (name.Memory error) = Memory
+abbrev pub name_fault : Fault BadName → ReadFault
+name_fault (name.Refused _) = Storage
+name_fault name.Memory = Memory
 
 abbrev pub kept_fault : ReadFault → KeeperFault
 kept_fault Storage = kept.Storage

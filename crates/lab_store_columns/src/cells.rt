@@ -13,6 +13,9 @@ use sqlite::types::ValueRef;
 use std::alloc::Global;
 
 /// An id.
+///
+/// # Errors
+/// The store refused, a row is none that this program writes, or memory ran out.
 pub fn id_of(row: &Row, at: usize) -> Result<i64, ReadFault>
     ensures { IfOk result (λ id. id ≡ id_in (column row.now at)) }
 {
@@ -20,6 +23,9 @@ pub fn id_of(row: &Row, at: usize) -> Result<i64, ReadFault>
 }
 
 /// An id, or none.
+///
+/// # Errors
+/// The store refused, a row is none that this program writes, or memory ran out.
 pub fn id_if(row: &Row, at: usize) -> Result<Option<i64>, ReadFault>
     ensures { IfOk result (λ id. id ≡ optional_in id_in (column row.now at)) }
 {
@@ -31,6 +37,9 @@ pub fn id_if(row: &Row, at: usize) -> Result<Option<i64>, ReadFault>
 }
 
 /// A number of at most 32 bits.
+///
+/// # Errors
+/// The store refused, a row is none that this program writes, or memory ran out.
 pub fn small_of(row: &Row, at: usize) -> Result<u32, ReadFault>
     ensures { IfOk result (λ count. count ≡ number_in (column row.now at)) }
 {
@@ -38,6 +47,9 @@ pub fn small_of(row: &Row, at: usize) -> Result<u32, ReadFault>
 }
 
 /// A number by which something is counted.
+///
+/// # Errors
+/// The store refused, a row is none that this program writes, or memory ran out.
 pub fn ordinal_of(row: &Row, at: usize) -> Result<Ordinal, ReadFault>
     ensures { IfOk result (λ number. number ≡ number_in (column row.now at)) }
 {
@@ -48,6 +60,9 @@ pub fn ordinal_of(row: &Row, at: usize) -> Result<Ordinal, ReadFault>
 }
 
 /// A moment.
+///
+/// # Errors
+/// The store refused, a row is none that this program writes, or memory ran out.
 pub fn moment_of(row: &Row, at: usize) -> Result<Moment, ReadFault>
     ensures { IfOk result (λ moment. moment ≡ number_in (column row.now at)) }
 {
@@ -57,7 +72,7 @@ pub fn moment_of(row: &Row, at: usize) -> Result<Moment, ReadFault>
     }
 }
 
-/// The bytes of a text, which may be another one.
+// The bytes of a text, which may be another one.
 fn parsed<R: Rule>(alloc: Global, text: &[u8]) -> Result<Text<R>, ReadFault>
     ensures { IfOk result (λ read. read ≡ text.now) }
 {
@@ -68,6 +83,9 @@ fn parsed<R: Rule>(alloc: Global, text: &[u8]) -> Result<Text<R>, ReadFault>
 }
 
 /// A text that its rule admits.
+///
+/// # Errors
+/// The store refused, a row is none that this program writes, or memory ran out.
 pub fn text_of<R: Rule>(alloc: Global, row: &Row, at: usize) -> Result<Text<R>, ReadFault>
     ensures { IfOk result (λ text. text ≡ bytes (column row.now at)) }
 {
@@ -80,6 +98,9 @@ pub fn text_of<R: Rule>(alloc: Global, row: &Row, at: usize) -> Result<Text<R>, 
 }
 
 /// Yes or no.
+///
+/// # Errors
+/// The store refused, a row is none that this program writes, or memory ran out.
 pub fn flag_of(row: &Row, at: usize) -> Result<bool, ReadFault>
     ensures { IfOk result (λ flag. flag ≡ flag_in (column row.now at)) }
 {
@@ -87,6 +108,9 @@ pub fn flag_of(row: &Row, at: usize) -> Result<bool, ReadFault>
 }
 
 /// A number of at most 32 bits, or none.
+///
+/// # Errors
+/// The store refused, a row is none that this program writes, or memory ran out.
 pub fn small_if(row: &Row, at: usize) -> Result<Option<u32>, ReadFault>
     ensures { IfOk result (λ count. count ≡ optional_in number_in (column row.now at)) }
 {
@@ -98,6 +122,9 @@ pub fn small_if(row: &Row, at: usize) -> Result<Option<u32>, ReadFault>
 }
 
 /// A text that its rule admits, or none.
+///
+/// # Errors
+/// The store refused, a row is none that this program writes, or memory ran out.
 pub fn text_if<R: Rule>(alloc: Global, row: &Row, at: usize) -> Result<Option<Text<R>>, ReadFault>
     ensures { IfOk result (λ text. text ≡ optional_in bytes (column row.now at)) }
 {
@@ -109,6 +136,9 @@ pub fn text_if<R: Rule>(alloc: Global, row: &Row, at: usize) -> Result<Option<Te
 }
 
 /// A digest of 32 bytes.
+///
+/// # Errors
+/// The store refused, a row is none that this program writes, or memory ran out.
 pub fn digest_of(row: &Row, at: usize) -> Result<Digest, ReadFault>
     ensures { IfOk result (λ digest. digest ≡ bytes (column row.now at)) }
 {

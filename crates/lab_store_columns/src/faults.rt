@@ -45,8 +45,8 @@ impl From<NameFault> for ReadFault {
 
     fn from(error: NameFault) -> ReadFault {
         match error {
-            NameFault::BadName => ReadFault::Storage,
-            NameFault::Memory(_) => ReadFault::Memory,
+            NameFault::Refused(_) => ReadFault::Storage,
+            NameFault::Memory => ReadFault::Memory,
         }
     }
 }

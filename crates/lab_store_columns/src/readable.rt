@@ -1,8 +1,8 @@
 //! What rows are read from: the tables of a file.
 
-ghost use Rattle.std.specs.Prelude.{◌≡◌, IfOk, IfErr, false};
-ghost use Rattle.sqlite.specs.State.{State, HasCleanDisk, Survives, Shown, CommitsShowing, FailsToQuery};
+ghost use Rattle.sqlite.specs.State.{State};
 ghost use Rattle.sqlite.specs.Values.{bound};
+ghost use Rattle.lab_store_columns.specs.Reads.{Asks};
 
 use sqlite::types::ValueRef;
 use sqlite::{Error, Row};
@@ -20,12 +20,5 @@ pub trait Readable {
     /// # Errors
     /// The statement is refused, the disk fails, or memory runs out.
     fn query_all(&mut self, sql: &str, params: &[ValueRef<'_>]) -> Result<Vec<Row>, Error>
-        ensures ok { HasCleanDisk (state self.new) → IfOk result (λ rows.
-            Shown sql.now (bound params.now) (state self.old) (state self.new) rows.items) }
-        ensures err { HasCleanDisk (state self.new) → IfErr result
-            (FailsToQuery sql.now (bound params.now) (state self.old) (state self.new)) }
-        ensures mode { (state self.old).in_transaction ≡ false
-            → (state self.new).in_transaction ≡ false }
-        ensures survives { Survives (state self.old) (state self.new)
-            (CommitsShowing sql.now (bound params.now) (state self.old)) };
+        ensures { Asks sql.now (bound params.now) (state self.old) (state self.new) result };
 }

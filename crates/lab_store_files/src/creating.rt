@@ -17,7 +17,7 @@ use crate::tables::LabTable;
 use crate::texts;
 use sqlite::{Alter, Connection, Error, Transaction};
 
-/// Runs a statement that has no parameters.
+// Runs a statement that has no parameters.
 fn run<S: Alter>(tx: &mut Transaction<'_, S>, text: &str) -> Result<usize, Error>
     requires mode { HasCleanDisk (state S.Store tx.old.conn.now) →
         IsTrue (state S.Store tx.old.conn.now).in_transaction }
@@ -34,7 +34,7 @@ fn run<S: Alter>(tx: &mut Transaction<'_, S>, text: &str) -> Result<usize, Error
     tx.execute(text, &[])
 }
 
-/// Makes one table behind those that stand before it.
+// Makes one table behind those that stand before it.
 fn make_table<S: Alter>(tx: &mut Transaction<'_, S>, one: LabTable) -> Result<usize, Error>
     requires mode { HasCleanDisk (state S.Store tx.old.conn.now) →
         IsTrue (state S.Store tx.old.conn.now).in_transaction }
@@ -52,7 +52,7 @@ fn make_table<S: Alter>(tx: &mut Transaction<'_, S>, one: LabTable) -> Result<us
     run(tx, one.text())
 }
 
-/// Makes the tables, one after the other.
+// Makes the tables, one after the other.
 fn make_tables<S: Alter>(tx: &mut Transaction<'_, S>) -> Result<(), Error>
     requires mode { HasCleanDisk (state S.Store tx.old.conn.now) →
         IsTrue (state S.Store tx.old.conn.now).in_transaction }
@@ -73,7 +73,7 @@ fn make_tables<S: Alter>(tx: &mut Transaction<'_, S>) -> Result<(), Error>
     Ok(())
 }
 
-/// Makes the index behind the tables.
+// Makes the index behind the tables.
 fn make_index<S: Alter>(tx: &mut Transaction<'_, S>) -> Result<usize, Error>
     requires mode { HasCleanDisk (state S.Store tx.old.conn.now) →
         IsTrue (state S.Store tx.old.conn.now).in_transaction }
@@ -91,7 +91,7 @@ fn make_index<S: Alter>(tx: &mut Transaction<'_, S>) -> Result<usize, Error>
     run(tx, texts::SESSIONS_OF_PERSON)
 }
 
-/// Adds the row that names the schema.
+// Adds the row that names the schema.
 fn name_schema<S: Alter>(tx: &mut Transaction<'_, S>) -> Result<usize, Error>
     requires mode { HasCleanDisk (state S.Store tx.old.conn.now) →
         IsTrue (state S.Store tx.old.conn.now).in_transaction }
@@ -109,7 +109,7 @@ fn name_schema<S: Alter>(tx: &mut Transaction<'_, S>) -> Result<usize, Error>
     run(tx, texts::SCHEMA_ROW)
 }
 
-/// Makes all that a new file has. The row that names the schema comes last: a file without it is unfinished.
+// Makes all that a new file has. The row that names the schema comes last: a file without it is unfinished.
 fn make_all<S: Alter>(tx: &mut Transaction<'_, S>) -> Result<(), Error>
     requires mode { HasCleanDisk (state S.Store tx.old.conn.now) →
         IsTrue (state S.Store tx.old.conn.now).in_transaction }
@@ -130,7 +130,7 @@ fn make_all<S: Alter>(tx: &mut Transaction<'_, S>) -> Result<(), Error>
     Ok(())
 }
 
-/// Makes the file in one transaction.
+// Makes the file in one transaction.
 fn make_file<S: Alter>(conn: &mut Connection<S>) -> Result<(), Error>
     requires at_rest { IsAtRest (state S.Store conn.old) }
     ensures made { HasCleanDisk (state S.Store conn.new) → IsBlank (state S.Store conn.old).now →
@@ -149,7 +149,8 @@ fn make_file<S: Alter>(conn: &mut Connection<S>) -> Result<(), Error>
 /// Makes the tables of a new file and the row that names their schema, by one commit. Tables of other names stay as
 /// they are.
 ///
-/// Errors: a table of such a name is there, a refusal of the store, or out of memory. The rows are then as before.
+/// # Errors
+/// A table of such a name is there, a refusal of the store, or out of memory. The rows are then as before.
 pub fn create<S: Alter>(conn: &mut Connection<S>) -> Result<(), FileFault>
     requires at_rest { IsAtRest (state S.Store conn.old) }
     // In an empty file:

@@ -18,7 +18,7 @@ use sqlite_schema::schema::Schema;
 /// The number of the schema that the tables of this crate make.
 const SCHEMA: i64 = 3;
 
-/// The whole number that a row shows first.
+// The whole number that a row shows first.
 fn integer_in(row: &Row) -> Option<i64>
     ensures { result ≡ integer_in (column row.now 0) }
 {
@@ -29,7 +29,7 @@ fn integer_in(row: &Row) -> Option<i64>
     }
 }
 
-/// The number that the rows show, where one row alone shows one.
+// The number that the rows show, where one row alone shows one.
 fn shown_number(rows: &[Row]) -> Option<i64>
     ensures { result ≡ number_shown rows.now }
 {
@@ -54,7 +54,7 @@ fn check_number(number: i64) -> Result<(), FileFault>
     Ok(())
 }
 
-/// What the file is, by its schema and by what the question for the number shows.
+// What the file is, by its schema and by what the question for the number shows.
 fn verdict(schema: &Schema, rows: &[Row]) -> Result<(), FileFault>
     ensures { result ≡ file_verdict schema.now rows.now }
 {
@@ -69,7 +69,7 @@ fn verdict(schema: &Schema, rows: &[Row]) -> Result<(), FileFault>
     }
 }
 
-/// The rows that the question for the number shows.
+// The rows that the question for the number shows.
 fn number_rows<S: Alter>(conn: &mut Connection<S>) -> Result<Vec<Row>, Error>
     ensures shown { HasCleanDisk (state S.Store conn.new) →
         IfOk result (λ rows. Shown number_query []
@@ -87,7 +87,8 @@ fn number_rows<S: Alter>(conn: &mut Connection<S>) -> Result<Vec<Row>, Error>
 /// Opens a file in which laboratories are kept: its schema is the one of this crate, by the one row of the table `desk`,
 /// and each table and column is there. Nothing is written. What the rows say isn't looked at.
 ///
-/// Errors: none of these files, an older or a newer schema with its number, a refusal of the store, or out of memory.
+/// # Errors
+/// None of these files, an older or a newer schema with its number, a refusal of the store, or out of memory.
 pub fn open<S: Alter>(conn: &mut Connection<S>) -> Result<(), FileFault>
     // The answer is the verdict on the file, or the store gave none:
     ensures answer { HasCleanDisk (state S.Store conn.new) →

@@ -10,7 +10,7 @@ use crate::tables::LabTable;
 use sqlite_schema::names::same_name;
 use sqlite_schema::schema::{Schema, Table};
 
-/// The table of a name.
+// The table of a name.
 fn table_named<'a>(schema: &'a Schema, name: &str) -> Option<&'a Table>
     ensures { option_copied result ≡ spec.table_named schema.now name.now }
 {

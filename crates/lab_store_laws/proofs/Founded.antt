@@ -19,6 +19,7 @@ use Rattle.lab_store_tables.specs.WellKept.{same_person, are_ids_unique, are_key
 use Rattle.lab_store_tables.specs.Changes.{InTurn, put_told, told_row_of, in_lab, AddsPerson, SetsPerson}
 use Rattle.lab_store_tables.specs.Placing.{lab_row_of, put_lab, unasked, is_asked_for, PlacesLab}
 use Rattle.lab_store_tables.specs.Held.{AreRising}
+use Rattle.lab_store_laws.specs.Founding.{PlacesNewborn}
 use Rattle.lab_store_laws.proofs.Bridges.{apart_from_test}
 use Rattle.lab_store_laws.proofs.Parts.{codes_apart, arrows_led}
 use Rattle.lab_store_laws.proofs.CodeOrder.{founders_in_order, all_founders}
@@ -104,8 +105,8 @@ module _ (newborn : Newborn) (old new : Tables) (nobody : AreUnasked (newborn_la
       )
 
 -- a laboratory that is founded, by three persons for whom nothing was asked
-pub founded_is_placed : (old new : Tables) (newborn : Newborn) → AreRising old → AreWellKept old → are_ids_unique new ≡ true → are_keys_unique new ≡ true
-    → are_arrows_whole new ≡ true → newborn.first.ask ≡ None → newborn.second.ask ≡ None → newborn.third.ask ≡ None → PlacesLab (newborn_lab newborn) old new
+pub founded_is_placed : (old new : Tables) (newborn : Newborn) → AreRising old → AreWellKept old → PlacesNewborn newborn old new
     → Places (newborn_lab newborn) (meaning old) (meaning new) × AreWellKept new
-founded_is_placed old new newborn rising well ids keys arrows first second third it =
-    lab_is_founded newborn old new (all_founders (λ (one : Person). one.ask ≡ None) newborn first second third) it rising well ids keys arrows
+founded_is_placed old new newborn rising well it =
+    lab_is_founded newborn old new (all_founders (λ (one : Person). one.ask ≡ None) newborn it.first it.second it.third) it.placed rising well
+    it.rules.ids it.rules.keys it.rules.arrows

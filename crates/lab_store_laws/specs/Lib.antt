@@ -1,4 +1,5 @@
 pub mod ByRules
 pub mod Chain
+pub mod Founding
 pub mod Steps
 pub mod Stored

@@ -1,25 +1,21 @@
 //! Law: what the rows of a laboratory that is founded mean.
-ghost use Rattle.std.specs.Prelude.{◌≡◌, IsTrue, None};
 ghost use Rattle.lab_records_kept.specs.declared.births.Newborn.{Newborn};
 ghost use Rattle.lab_records_kept.specs.Births.{newborn_lab};
 ghost use Rattle.lab_records_kept.specs.Worlds.{Places};
 ghost use Rattle.lab_store_tables.specs.Rows.{Tables};
 ghost use Rattle.lab_store_tables.specs.Meaning.{meaning};
-ghost use Rattle.lab_store_tables.specs.WellKept.{are_ids_unique, are_keys_unique, are_arrows_whole, AreWellKept};
-ghost use Rattle.lab_store_tables.specs.Placing.{PlacesLab};
+ghost use Rattle.lab_store_tables.specs.WellKept.{AreWellKept};
 ghost use Rattle.lab_store_tables.specs.Held.{AreRising};
+ghost use Rattle.lab_store_laws.specs.Founding.{PlacesNewborn};
 
 /// Law: a newborn laboratory that is placed in well-kept tables, where none of its code was, is there then under its code,
 /// with its three founders and the first row of its trail, and every other laboratory means what it meant; and the tables are
-/// well kept. The premises: nothing was asked for any of the founders, and the database's own rules hold of the new tables.
+/// well kept. The premise `PlacesNewborn`: nothing was asked for any of the founders, and the database's own rules hold of the
+/// new tables.
 pub fn a_founded_laboratory_is_placed()
     ensures placed { (old new : Tables) (newborn : Newborn) → AreRising old → AreWellKept old
-        → IsTrue (are_ids_unique new) → IsTrue (are_keys_unique new) → IsTrue (are_arrows_whole new)
-        → newborn.first.ask ≡ None → newborn.second.ask ≡ None → newborn.third.ask ≡ None
-        → PlacesLab (newborn_lab newborn) old new
+        → PlacesNewborn newborn old new
         → Places (newborn_lab newborn) (meaning old) (meaning new) }
     ensures kept { (old new : Tables) (newborn : Newborn) → AreRising old → AreWellKept old
-        → IsTrue (are_ids_unique new) → IsTrue (are_keys_unique new) → IsTrue (are_arrows_whole new)
-        → newborn.first.ask ≡ None → newborn.second.ask ≡ None → newborn.third.ask ≡ None
-        → PlacesLab (newborn_lab newborn) old new → AreWellKept new }
+        → PlacesNewborn newborn old new → AreWellKept new }
 {}

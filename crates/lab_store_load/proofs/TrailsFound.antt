@@ -1,14 +1,12 @@
 -- What was read of the rows of the trail, as what the tables have.
-use Rattle.std.proofs.Common.{◌≡◌, ℕ, ℤ, map, filter, Option, Some, None, refl, sym, ap, ◌∙◌, int_eq}
+use Rattle.std.proofs.Common.{◌≡◌, ℕ, ℤ, map, filter, sym, ap, ◌∙◌, int_eq}
 use Rattle.std.specs.Cmp.{on_total}
 use Rattle.std.proofs.lemmas.Cmp.{nat_cmp_total}
-use Rattle.sqlite_value.specs.declared.value.Value.TheVariants.{Int}
-use Rattle.sqlite_rules.specs.Edit.{id_in}
 use Rattle.sqlite_keyed.specs.Lists.{sort_by}
 use Rattle.sqlite_keyed.proofs.ListLemmas.{filter-map, map-map, map_same}
 use Rattle.lab_records_kept.specs.declared.trails.TrailRow.{TrailRow as Told}
 use Rattle.lab_records_kept.specs.Lookups.{is_within, rows_within}
-use Rattle.lab_store_tables.specs.Rows.{TrailRow, Tables, optional, optional_in}
+use Rattle.lab_store_tables.specs.Rows.{TrailRow, Tables}
 use Rattle.lab_store_tables.specs.Meaning.{told_in, trail_of, by_trail}
 use Rattle.lab_store_load.specs.Trails.{told_head, told_heads_within, told_by}
 use Rattle.lab_store_load.specs.Shown.{told_shown, told_shown_within, told_read}

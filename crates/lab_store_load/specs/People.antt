@@ -13,7 +13,7 @@ callers_by lab token = record {
   caller = caller_of lab (option_and_then (session_at lab) token);
 }
 
--- the same, and the person of a code
+-- the session of a token, whose it is, and the person of a code
 abbrev pub people_by : Lab → Need → People
 people_by lab need = record {
   session = option_and_then (session_at lab) need.token;

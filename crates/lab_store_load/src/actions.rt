@@ -5,7 +5,7 @@ ghost use Rattle.lab_store_tables.specs.Columns.{action_in};
 
 use lab_records_kept::Action;
 
-/// The action of the word. There may be none that is written so.
+/// The action that the word names. `None` where no action has this word.
 pub(crate) fn action_by(word: &str) -> Option<Action>
     ensures { IfSome result (λ action. action ≡ action_in word.now) }
 {

@@ -9,7 +9,7 @@ use sqlite::Row;
 use sqlite::types::ValueRef;
 use std::alloc::Global;
 
-/// The bytes of a text, which may be a subject.
+// The bytes of a text, which may be a subject.
 fn subject_by(alloc: Global, text: &[u8]) -> Result<Subject, ReadFault>
     ensures { IfOk result (λ subject. subject ≡ text.now) }
 {
@@ -20,6 +20,9 @@ fn subject_by(alloc: Global, text: &[u8]) -> Result<Subject, ReadFault>
 }
 
 /// What something was done to.
+///
+/// # Errors
+/// The store refused, a row is none that this program writes, or memory ran out.
 pub(crate) fn subject_of(alloc: Global, row: &Row, at: usize) -> Result<Subject, ReadFault>
     ensures { IfOk result (λ subject. subject ≡ bytes (column row.now at)) }
 {

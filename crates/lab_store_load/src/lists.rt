@@ -1,11 +1,10 @@
 //! How many a laboratory has, and which of them are meant.
 
-ghost use Rattle.std.specs.Prelude.{◌≡◌, Some, IfOk, OnOk, IsTrue};
-ghost use Rattle.sqlite.specs.State.{HasCleanDisk, IsUnchanged};
-ghost use Rattle.lab_store_tables.specs.Ready.{IsReady, PassesBy, tables_of};
+ghost use Rattle.std.specs.Prelude.{◌≡◌, Some};
 ghost use Rattle.lab_records_kept.specs.declared.needs.ListWanted.TheVariants.{Persons, Records, Trail};
 ghost use Rattle.lab_store_read_records.specs.Laboratories.{lab_by};
 ghost use Rattle.lab_store_load.specs.Lists.{counts_by, listed_by};
+ghost use Rattle.lab_store_columns.specs.Reads.{Reads, MayRead};
 
 use crate::trail_within;
 use lab_forms_texts::{Ordinal, Series};
@@ -29,13 +28,12 @@ pub struct Listed {
 }
 
 /// How many the laboratory has.
+///
+/// # Errors
+/// The store refused, a row is none that this program writes, or memory ran out.
 pub fn counts_at<D: Readable>(conn: &mut D, lab: &LabHead) -> Result<Counts, ReadFault>
-    ensures passes { PassesBy (D.state conn.old) (D.state conn.new) }
-    ensures same { HasCleanDisk (D.state conn.new) →
-        OnOk result (IsUnchanged (D.state conn.old) (D.state conn.new)) }
-    ensures counts { IsReady (D.state conn.old) → HasCleanDisk (D.state conn.new) →
-        IfOk result
-        (λ counts. counts ≡ counts_by (tables_of (D.state conn.old)) lab.now) }
+    ensures { Reads (λ t counts. counts ≡ counts_by t lab.now)
+        (D.state conn.old) (D.state conn.new) result }
 {
     let persons = person_count(conn, lab.id)?;
     Ok(Counts {
@@ -46,18 +44,14 @@ pub fn counts_at<D: Readable>(conn: &mut D, lab: &LabHead) -> Result<Counts, Rea
     })
 }
 
-/// All persons.
+// All persons.
 fn persons_listed<D: Readable>(
     alloc: Global,
     conn: &mut D,
     lab: &LabHead,
 ) -> Result<Listed, ReadFault>
-    ensures passes { PassesBy (D.state conn.old) (D.state conn.new) }
-    ensures same { HasCleanDisk (D.state conn.new) →
-        OnOk result (IsUnchanged (D.state conn.old) (D.state conn.new)) }
-    ensures listed { IsReady (D.state conn.old) → HasCleanDisk (D.state conn.new) →
-        IfOk result (λ listed. listed
-        ≡ listed_by (lab_by (tables_of (D.state conn.old)) lab.now) (Some Persons)) }
+    ensures { Reads (λ t listed. listed ≡ listed_by (lab_by t lab.now) (Some Persons))
+        (D.state conn.old) (D.state conn.new) result }
 {
     let persons = persons_at(alloc, conn, lab.id)?;
     Ok(Listed {
@@ -67,7 +61,7 @@ fn persons_listed<D: Readable>(
     })
 }
 
-/// The records from a number to a number.
+// The records from a number to a number.
 fn records_listed<D: Readable>(
     alloc: Global,
     conn: &mut D,
@@ -75,12 +69,8 @@ fn records_listed<D: Readable>(
     from: Ordinal,
     to: Ordinal,
 ) -> Result<Listed, ReadFault>
-    ensures passes { PassesBy (D.state conn.old) (D.state conn.new) }
-    ensures same { HasCleanDisk (D.state conn.new) →
-        OnOk result (IsUnchanged (D.state conn.old) (D.state conn.new)) }
-    ensures listed { IsReady (D.state conn.old) → HasCleanDisk (D.state conn.new) →
-        IfOk result (λ listed. listed ≡ listed_by
-        (lab_by (tables_of (D.state conn.old)) lab.now) (Some (Records from to))) }
+    ensures { Reads (λ t listed. listed ≡ listed_by (lab_by t lab.now) (Some (Records from to)))
+        (D.state conn.old) (D.state conn.new) result }
 {
     let records = filed_within(alloc, conn, &lab.code, lab.id, from, to)?;
     Ok(Listed {
@@ -90,7 +80,7 @@ fn records_listed<D: Readable>(
     })
 }
 
-/// The rows of the trail from a number to a number.
+// The rows of the trail from a number to a number.
 fn trail_listed<D: Readable>(
     alloc: Global,
     conn: &mut D,
@@ -98,12 +88,8 @@ fn trail_listed<D: Readable>(
     from: Ordinal,
     to: Ordinal,
 ) -> Result<Listed, ReadFault>
-    ensures passes { PassesBy (D.state conn.old) (D.state conn.new) }
-    ensures same { HasCleanDisk (D.state conn.new) →
-        OnOk result (IsUnchanged (D.state conn.old) (D.state conn.new)) }
-    ensures listed { IsReady (D.state conn.old) → HasCleanDisk (D.state conn.new) →
-        IfOk result (λ listed. listed ≡ listed_by
-        (lab_by (tables_of (D.state conn.old)) lab.now) (Some (Trail from to))) }
+    ensures { Reads (λ t listed. listed ≡ listed_by (lab_by t lab.now) (Some (Trail from to)))
+        (D.state conn.old) (D.state conn.new) result }
 {
     let trail = trail_within(alloc, conn, lab.id, from, to)?;
     Ok(Listed {
@@ -114,18 +100,17 @@ fn trail_listed<D: Readable>(
 }
 
 /// The list that is meant.
+///
+/// # Errors
+/// The store refused, a row is none that this program writes, or memory ran out.
 pub fn listed_at<D: Readable>(
     alloc: Global,
     conn: &mut D,
     lab: &LabHead,
     list: &Option<ListWanted>,
 ) -> Result<Listed, ReadFault>
-    ensures passes { PassesBy (D.state conn.old) (D.state conn.new) }
-    ensures same { HasCleanDisk (D.state conn.new) → IsTrue (D.state conn.old).is_open →
-        OnOk result (IsUnchanged (D.state conn.old) (D.state conn.new)) }
-    ensures listed { IsReady (D.state conn.old) → HasCleanDisk (D.state conn.new) →
-        IfOk result (λ listed. listed
-        ≡ listed_by (lab_by (tables_of (D.state conn.old)) lab.now) list.now) }
+    ensures { MayRead (λ t listed. listed ≡ listed_by (lab_by t lab.now) list.now)
+        (D.state conn.old) (D.state conn.new) result }
 {
     match list {
         Some(ListWanted::Persons) => persons_listed(alloc, conn, lab),

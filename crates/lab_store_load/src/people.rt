@@ -1,11 +1,10 @@
 //! Who is meant: by a token, and by a code.
 
-ghost use Rattle.std.specs.Prelude.{◌≡◌, option_and_then, IfOk, OnOk, IsTrue};
-ghost use Rattle.sqlite.specs.State.{HasCleanDisk, IsUnchanged};
-ghost use Rattle.lab_store_tables.specs.Ready.{IsReady, PassesBy, tables_of};
+ghost use Rattle.std.specs.Prelude.{◌≡◌, option_and_then};
 ghost use Rattle.lab_records_kept.specs.Lookups.{session_at, person_at, caller_of};
 ghost use Rattle.lab_store_read_records.specs.Laboratories.{lab_by};
 ghost use Rattle.lab_store_load.specs.People.{callers_by, people_by};
+ghost use Rattle.lab_store_columns.specs.Reads.{MayRead};
 
 use lab_forms_texts::PersonCode;
 use lab_people_access::{Person, Session};
@@ -25,7 +24,7 @@ struct Callers {
     caller: Option<Person>,
 }
 
-/// Who is meant.
+/// The session that a command asks for, its person, and the person whom the command names.
 #[derive(Drop)]
 pub struct People {
     /// The session, where it is there.
@@ -36,19 +35,16 @@ pub struct People {
     pub person: Option<Person>,
 }
 
-/// The session whose token has the digest, where one is given.
+// The session whose token has the digest, where one is given.
 fn session_if<D: Readable>(
     alloc: Global,
     conn: &mut D,
     lab: &LabHead,
     token: &Option<Digest>,
 ) -> Result<Option<Session>, ReadFault>
-    ensures passes { PassesBy (D.state conn.old) (D.state conn.new) }
-    ensures same { HasCleanDisk (D.state conn.new) → IsTrue (D.state conn.old).is_open →
-        OnOk result (IsUnchanged (D.state conn.old) (D.state conn.new)) }
-    ensures session { IsReady (D.state conn.old) → HasCleanDisk (D.state conn.new) →
-        IfOk result (λ session. session ≡ option_and_then
-        (session_at (lab_by (tables_of (D.state conn.old)) lab.now)) token.now) }
+    ensures { MayRead (λ t session. session
+        ≡ option_and_then (session_at (lab_by t lab.now)) token.now)
+        (D.state conn.old) (D.state conn.new) result }
 {
     match token {
         Some(token) => session_at(alloc, conn, lab.id, token),
@@ -56,19 +52,15 @@ fn session_if<D: Readable>(
     }
 }
 
-/// Whose session it is.
+// Whose session it is.
 fn caller_if<D: Readable>(
     alloc: Global,
     conn: &mut D,
     lab: &LabHead,
     session: &Option<Session>,
 ) -> Result<Option<Person>, ReadFault>
-    ensures passes { PassesBy (D.state conn.old) (D.state conn.new) }
-    ensures same { HasCleanDisk (D.state conn.new) → IsTrue (D.state conn.old).is_open →
-        OnOk result (IsUnchanged (D.state conn.old) (D.state conn.new)) }
-    ensures caller { IsReady (D.state conn.old) → HasCleanDisk (D.state conn.new) →
-        IfOk result (λ caller. caller
-        ≡ caller_of (lab_by (tables_of (D.state conn.old)) lab.now) session.now) }
+    ensures { MayRead (λ t caller. caller ≡ caller_of (lab_by t lab.now) session.now)
+        (D.state conn.old) (D.state conn.new) result }
 {
     match session {
         Some(session) => person_at(alloc, conn, lab.id, &session.person),
@@ -76,38 +68,30 @@ fn caller_if<D: Readable>(
     }
 }
 
-/// The session that is meant, and its person.
+// The session that is meant, and its person.
 fn callers_at<D: Readable>(
     alloc: Global,
     conn: &mut D,
     lab: &LabHead,
     token: &Option<Digest>,
 ) -> Result<Callers, ReadFault>
-    ensures passes { PassesBy (D.state conn.old) (D.state conn.new) }
-    ensures same { HasCleanDisk (D.state conn.new) → IsTrue (D.state conn.old).is_open →
-        OnOk result (IsUnchanged (D.state conn.old) (D.state conn.new)) }
-    ensures callers { IsReady (D.state conn.old) → HasCleanDisk (D.state conn.new) →
-        IsTrue (D.state conn.old).is_open → IfOk result (λ callers. callers
-        ≡ callers_by (lab_by (tables_of (D.state conn.old)) lab.now) token.now) }
+    ensures { MayRead (λ t callers. callers ≡ callers_by (lab_by t lab.now) token.now)
+        (D.state conn.old) (D.state conn.new) result }
 {
     let session = session_if(alloc, conn, lab, token)?;
     let caller = caller_if(alloc, conn, lab, &session)?;
     Ok(Callers { session, caller })
 }
 
-/// The person of the code, where one is given.
+// The person of the code, where one is given.
 fn person_if<D: Readable>(
     alloc: Global,
     conn: &mut D,
     lab: &LabHead,
     code: &Option<PersonCode>,
 ) -> Result<Option<Person>, ReadFault>
-    ensures passes { PassesBy (D.state conn.old) (D.state conn.new) }
-    ensures same { HasCleanDisk (D.state conn.new) → IsTrue (D.state conn.old).is_open →
-        OnOk result (IsUnchanged (D.state conn.old) (D.state conn.new)) }
-    ensures person { IsReady (D.state conn.old) → HasCleanDisk (D.state conn.new) →
-        IfOk result (λ person. person ≡ option_and_then
-        (person_at (lab_by (tables_of (D.state conn.old)) lab.now)) code.now) }
+    ensures { MayRead (λ t person. person ≡ option_and_then (person_at (lab_by t lab.now)) code.now)
+        (D.state conn.old) (D.state conn.new) result }
 {
     match code {
         Some(code) => person_at(alloc, conn, lab.id, code),
@@ -115,19 +99,18 @@ fn person_if<D: Readable>(
     }
 }
 
-/// Who is meant.
+/// The session of the command's token, its person, and the person whom the command names, as far as they are there.
+///
+/// # Errors
+/// The store refused, a row is none that this program writes, or memory ran out.
 pub fn people_at<D: Readable>(
     alloc: Global,
     conn: &mut D,
     lab: &LabHead,
     need: &Need,
 ) -> Result<People, ReadFault>
-    ensures passes { PassesBy (D.state conn.old) (D.state conn.new) }
-    ensures same { HasCleanDisk (D.state conn.new) → IsTrue (D.state conn.old).is_open →
-        OnOk result (IsUnchanged (D.state conn.old) (D.state conn.new)) }
-    ensures people { IsReady (D.state conn.old) → HasCleanDisk (D.state conn.new) →
-        IsTrue (D.state conn.old).is_open → IfOk result (λ people. people
-        ≡ people_by (lab_by (tables_of (D.state conn.old)) lab.now) need.now) }
+    ensures { MayRead (λ t people. people ≡ people_by (lab_by t lab.now) need.now)
+        (D.state conn.old) (D.state conn.new) result }
 {
     let callers = callers_at(alloc, conn, lab, &need.token)?;
     let person = person_if(alloc, conn, lab, &need.person)?;

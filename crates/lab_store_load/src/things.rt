@@ -1,11 +1,10 @@
 //! What is meant: a version of a form, and a record.
 
-ghost use Rattle.std.specs.Prelude.{◌≡◌, option_and_then, IfOk, OnOk, IsTrue};
-ghost use Rattle.sqlite.specs.State.{HasCleanDisk, IsUnchanged};
-ghost use Rattle.lab_store_tables.specs.Ready.{IsReady, PassesBy, tables_of};
+ghost use Rattle.std.specs.Prelude.{◌≡◌, option_and_then};
 ghost use Rattle.lab_records_kept.specs.Parts.{form_meant, record_meant};
 ghost use Rattle.lab_store_read_records.specs.Laboratories.{lab_by};
 ghost use Rattle.lab_store_load.specs.Things.{things_by};
+ghost use Rattle.lab_store_columns.specs.Reads.{Reads, MayRead};
 
 use lab_records_kept::{FormVersion, FormWanted, Need, Record, RecordWanted};
 use lab_store_columns::{ReadFault, Readable};
@@ -13,7 +12,7 @@ use lab_store_read_forms::{about_at, exact_form_at, last_form_at, numbered_at};
 use lab_store_read_records::LabHead;
 use std::alloc::Global;
 
-/// What is meant.
+/// The form and the record that a command names.
 #[derive(Drop)]
 pub struct Things {
     /// The version of a form, where it is there.
@@ -22,19 +21,15 @@ pub struct Things {
     pub filed: Option<Record>,
 }
 
-/// The version of a form.
+// The version of a form.
 fn form_wanted<D: Readable>(
     alloc: Global,
     conn: &mut D,
     lab: &LabHead,
     wanted: &FormWanted,
 ) -> Result<Option<FormVersion>, ReadFault>
-    ensures passes { PassesBy (D.state conn.old) (D.state conn.new) }
-    ensures same { HasCleanDisk (D.state conn.new) →
-        OnOk result (IsUnchanged (D.state conn.old) (D.state conn.new)) }
-    ensures form { IsReady (D.state conn.old) → HasCleanDisk (D.state conn.new) →
-        IfOk result (λ form. form
-        ≡ form_meant (lab_by (tables_of (D.state conn.old)) lab.now) wanted.now) }
+    ensures { Reads (λ t form. form ≡ form_meant (lab_by t lab.now) wanted.now)
+        (D.state conn.old) (D.state conn.new) result }
 {
     match wanted {
         FormWanted::Last { code } => last_form_at(alloc, conn, lab.id, code),
@@ -42,19 +37,15 @@ fn form_wanted<D: Readable>(
     }
 }
 
-/// The version of a form, where one is meant.
+// The version of a form, where one is meant.
 fn form_if<D: Readable>(
     alloc: Global,
     conn: &mut D,
     lab: &LabHead,
     wanted: &Option<FormWanted>,
 ) -> Result<Option<FormVersion>, ReadFault>
-    ensures passes { PassesBy (D.state conn.old) (D.state conn.new) }
-    ensures same { HasCleanDisk (D.state conn.new) → IsTrue (D.state conn.old).is_open →
-        OnOk result (IsUnchanged (D.state conn.old) (D.state conn.new)) }
-    ensures form { IsReady (D.state conn.old) → HasCleanDisk (D.state conn.new) →
-        IfOk result (λ form. form ≡ option_and_then
-        (form_meant (lab_by (tables_of (D.state conn.old)) lab.now)) wanted.now) }
+    ensures { MayRead (λ t form. form ≡ option_and_then (form_meant (lab_by t lab.now)) wanted.now)
+        (D.state conn.old) (D.state conn.new) result }
 {
     match wanted {
         Some(wanted) => form_wanted(alloc, conn, lab, wanted),
@@ -62,19 +53,15 @@ fn form_if<D: Readable>(
     }
 }
 
-/// The record.
+// The record.
 fn filed_wanted<D: Readable>(
     alloc: Global,
     conn: &mut D,
     lab: &LabHead,
     wanted: &RecordWanted,
 ) -> Result<Option<Record>, ReadFault>
-    ensures passes { PassesBy (D.state conn.old) (D.state conn.new) }
-    ensures same { HasCleanDisk (D.state conn.new) →
-        OnOk result (IsUnchanged (D.state conn.old) (D.state conn.new)) }
-    ensures filed { IsReady (D.state conn.old) → HasCleanDisk (D.state conn.new) →
-        IfOk result (λ filed. filed
-        ≡ record_meant (lab_by (tables_of (D.state conn.old)) lab.now) wanted.now) }
+    ensures { Reads (λ t filed. filed ≡ record_meant (lab_by t lab.now) wanted.now)
+        (D.state conn.old) (D.state conn.new) result }
 {
     match wanted {
         RecordWanted::Numbered { number } => numbered_at(alloc, conn, &lab.code, lab.id, *number),
@@ -84,19 +71,16 @@ fn filed_wanted<D: Readable>(
     }
 }
 
-/// The record, where one is meant.
+// The record, where one is meant.
 fn filed_if<D: Readable>(
     alloc: Global,
     conn: &mut D,
     lab: &LabHead,
     wanted: &Option<RecordWanted>,
 ) -> Result<Option<Record>, ReadFault>
-    ensures passes { PassesBy (D.state conn.old) (D.state conn.new) }
-    ensures same { HasCleanDisk (D.state conn.new) → IsTrue (D.state conn.old).is_open →
-        OnOk result (IsUnchanged (D.state conn.old) (D.state conn.new)) }
-    ensures filed { IsReady (D.state conn.old) → HasCleanDisk (D.state conn.new) →
-        IfOk result (λ filed. filed ≡ option_and_then
-        (record_meant (lab_by (tables_of (D.state conn.old)) lab.now)) wanted.now) }
+    ensures { MayRead (λ t filed. filed
+        ≡ option_and_then (record_meant (lab_by t lab.now)) wanted.now)
+        (D.state conn.old) (D.state conn.new) result }
 {
     match wanted {
         Some(wanted) => filed_wanted(alloc, conn, lab, wanted),
@@ -104,19 +88,18 @@ fn filed_if<D: Readable>(
     }
 }
 
-/// What is meant.
+/// The form and the record that the command names, as far as they are there.
+///
+/// # Errors
+/// The store refused, a row is none that this program writes, or memory ran out.
 pub fn things_at<D: Readable>(
     alloc: Global,
     conn: &mut D,
     lab: &LabHead,
     need: &Need,
 ) -> Result<Things, ReadFault>
-    ensures passes { PassesBy (D.state conn.old) (D.state conn.new) }
-    ensures same { HasCleanDisk (D.state conn.new) → IsTrue (D.state conn.old).is_open →
-        OnOk result (IsUnchanged (D.state conn.old) (D.state conn.new)) }
-    ensures things { IsReady (D.state conn.old) → HasCleanDisk (D.state conn.new) →
-        IsTrue (D.state conn.old).is_open → IfOk result (λ things. things
-        ≡ things_by (lab_by (tables_of (D.state conn.old)) lab.now) need.now) }
+    ensures { MayRead (λ t things. things ≡ things_by (lab_by t lab.now) need.now)
+        (D.state conn.old) (D.state conn.new) result }
 {
     let form = form_if(alloc, conn, lab, &need.form)?;
     let filed = filed_if(alloc, conn, lab, &need.filed)?;

@@ -1,10 +1,9 @@
 //! Rows of the trail.
 
-ghost use Rattle.std.specs.Prelude.{◌≡◌, [], ◌∷◌, ◌++◌, map, IfOk, OnOk, IsTrue};
-ghost use Rattle.sqlite.specs.State.{HasCleanDisk, IsUnchanged};
-ghost use Rattle.lab_store_tables.specs.Ready.{IsReady, PassesBy, tables_of};
+ghost use Rattle.std.specs.Prelude.{◌≡◌, [], ◌∷◌, ◌++◌, map, IfOk};
 ghost use Rattle.lab_records_kept.specs.Lookups.{rows_within};
 ghost use Rattle.lab_store_tables.specs.Meaning.{trail_of};
+ghost use Rattle.lab_store_columns.specs.Reads.{Reads, MayRead};
 ghost use Rattle.lab_store_load.specs.Trails.{told_heads_within, told_by};
 ghost use Rattle.lab_store_load.specs.Shown.{told_shown_within, told_read};
 
@@ -19,14 +18,10 @@ use lab_store_columns::{ReadFault, Readable, code_if};
 use sqlite::{Error, Row};
 use std::alloc::Global;
 
-/// The rows of the trail of a range of numbers, in the laboratory with the id.
+// The rows of the trail of a range of numbers, in the laboratory with the id.
 fn told_rows<D: Readable>(conn: &mut D, lab: i64, from: u32, to: u32) -> Result<Vec<Row>, Error>
-    ensures passes { PassesBy (D.state conn.old) (D.state conn.new) }
-    ensures same { HasCleanDisk (D.state conn.new) →
-        OnOk result (IsUnchanged (D.state conn.old) (D.state conn.new)) }
-    ensures rows { IsReady (D.state conn.old) → HasCleanDisk (D.state conn.new) →
-        IfOk result (λ rows. rows.items
-        ≡ told_shown_within (tables_of (D.state conn.old)) lab from to) }
+    ensures { Reads (λ t rows. rows.items ≡ told_shown_within t lab from to)
+        (D.state conn.old) (D.state conn.new) result }
 {
     rows_by_range(
         conn,
@@ -37,7 +32,7 @@ fn told_rows<D: Readable>(conn: &mut D, lab: i64, from: u32, to: u32) -> Result<
     )
 }
 
-/// What a row shows.
+// What a row shows.
 fn told_of_row(alloc: Global, row: &Row) -> Result<ToldHead, ReadFault>
     ensures { IfOk result (λ told. told ≡ told_read row.now) }
 {
@@ -56,7 +51,7 @@ fn told_of_row(alloc: Global, row: &Row) -> Result<ToldHead, ReadFault>
     })
 }
 
-/// What rows show.
+// What rows show.
 fn told_of_rows(alloc: Global, rows: &[Row]) -> Result<Vec<ToldHead>, ReadFault>
     ensures { IfOk result (λ made. made.items ≡ map told_read rows.now) }
 {
@@ -67,7 +62,7 @@ fn told_of_rows(alloc: Global, rows: &[Row]) -> Result<Vec<ToldHead>, ReadFault>
     Ok(made)
 }
 
-/// The own rows of the trail of a range of numbers, in the laboratory with the id.
+// The own rows of the trail of a range of numbers, in the laboratory with the id.
 fn told_heads_at<D: Readable>(
     alloc: Global,
     conn: &mut D,
@@ -75,28 +70,21 @@ fn told_heads_at<D: Readable>(
     from: Ordinal,
     to: Ordinal,
 ) -> Result<Vec<ToldHead>, ReadFault>
-    ensures passes { PassesBy (D.state conn.old) (D.state conn.new) }
-    ensures same { HasCleanDisk (D.state conn.new) →
-        OnOk result (IsUnchanged (D.state conn.old) (D.state conn.new)) }
-    ensures heads { IsReady (D.state conn.old) → HasCleanDisk (D.state conn.new) →
-        IfOk result (λ made. made.items
-        ≡ told_heads_within (tables_of (D.state conn.old)) lab from to) }
+    ensures { Reads (λ t made. made.items ≡ told_heads_within t lab from to)
+        (D.state conn.old) (D.state conn.new) result }
 {
     let rows = told_rows(conn, lab, from.get(), to.get())?;
     told_of_rows(alloc, &rows)
 }
 
-/// The row of the trail, with the person's code.
+// The row of the trail, with the person's code.
 fn told_whole<D: Readable>(
     alloc: Global,
     conn: &mut D,
     head: ToldHead,
 ) -> Result<TrailRow, ReadFault>
-    ensures passes { PassesBy (D.state conn.old) (D.state conn.new) }
-    ensures same { HasCleanDisk (D.state conn.new) → IsTrue (D.state conn.old).is_open →
-        OnOk result (IsUnchanged (D.state conn.old) (D.state conn.new)) }
-    ensures told { IsReady (D.state conn.old) → HasCleanDisk (D.state conn.new) →
-        IfOk result (λ told. told ≡ told_by (tables_of (D.state conn.old)) head) }
+    ensures { MayRead (λ t told. told ≡ told_by t head)
+        (D.state conn.old) (D.state conn.new) result }
 {
     let person = code_if(alloc, conn, head.person)?;
     Ok(TrailRow {
@@ -108,38 +96,30 @@ fn told_whole<D: Readable>(
     })
 }
 
-/// The row of the trail, behind others.
+// The row of the trail, behind others.
 fn add_told<D: Readable>(
     alloc: Global,
     conn: &mut D,
     made: &mut Vec<TrailRow>,
     head: ToldHead,
 ) -> Result<(), ReadFault>
-    ensures passes { PassesBy (D.state conn.old) (D.state conn.new) }
-    ensures same { HasCleanDisk (D.state conn.new) → IsTrue (D.state conn.old).is_open →
-        OnOk result (IsUnchanged (D.state conn.old) (D.state conn.new)) }
-    ensures told { IsReady (D.state conn.old) → HasCleanDisk (D.state conn.new) →
-        OnOk result (made.new.items
-        ≡ made.old.items ++ told_by (tables_of (D.state conn.old)) head ∷ []) }
+    ensures { MayRead (λ t _. made.new.items ≡ made.old.items ++ told_by t head ∷ [])
+        (D.state conn.old) (D.state conn.new) result }
 {
     let told = told_whole(alloc, conn, head)?;
     made.push(told)?;
     Ok(())
 }
 
-/// The rows of the trail, behind others.
+// The rows of the trail, behind others.
 fn add_all_told<D: Readable>(
     alloc: Global,
     conn: &mut D,
     made: &mut Vec<TrailRow>,
     heads: Vec<ToldHead>,
 ) -> Result<(), ReadFault>
-    ensures passes { PassesBy (D.state conn.old) (D.state conn.new) }
-    ensures same { HasCleanDisk (D.state conn.new) → IsTrue (D.state conn.old).is_open →
-        OnOk result (IsUnchanged (D.state conn.old) (D.state conn.new)) }
-    ensures told { IsReady (D.state conn.old) → HasCleanDisk (D.state conn.new) →
-        IsTrue (D.state conn.old).is_open → OnOk result (made.new.items
-        ≡ made.old.items ++ map (told_by (tables_of (D.state conn.old))) heads.items) }
+    ensures { MayRead (λ t _. made.new.items ≡ made.old.items ++ map (told_by t) heads.items)
+        (D.state conn.old) (D.state conn.new) result }
 {
     for head in heads {
         add_told(alloc, conn, made, head)?;
@@ -148,6 +128,9 @@ fn add_all_told<D: Readable>(
 }
 
 /// The rows of the trail from a number to a number in the laboratory with the id, in the order of the numbers.
+///
+/// # Errors
+/// The store refused, a row is none that this program writes, or memory ran out.
 pub fn trail_within<D: Readable>(
     alloc: Global,
     conn: &mut D,
@@ -155,12 +138,8 @@ pub fn trail_within<D: Readable>(
     from: Ordinal,
     to: Ordinal,
 ) -> Result<Vec<TrailRow>, ReadFault>
-    ensures passes { PassesBy (D.state conn.old) (D.state conn.new) }
-    ensures same { HasCleanDisk (D.state conn.new) →
-        OnOk result (IsUnchanged (D.state conn.old) (D.state conn.new)) }
-    ensures trail { IsReady (D.state conn.old) → HasCleanDisk (D.state conn.new) →
-        IfOk result (λ made. made.items
-        ≡ rows_within from to (trail_of (tables_of (D.state conn.old)) lab)) }
+    ensures { Reads (λ t made. made.items ≡ rows_within from to (trail_of t lab))
+        (D.state conn.old) (D.state conn.new) result }
 {
     let heads = told_heads_at(alloc, conn, lab, from, to)?;
     let mut made = Vec::new(alloc);

@@ -1,6 +1,6 @@
 -- Versions of a record that went out one after the other, each behind the digest of the one before
 -- it, as the record's chain has them.
-use Rattle.std.proofs.Common.{◌≡◌, ℕ, List, [], ◌∷◌, ◌++◌, map, length, arith, Option, Some, None, refl, sym, ap, subst, ◌∙◌, append_assoc, append-nil}
+use Rattle.std.proofs.Common.{◌≡◌, ℕ, List, [], ◌∷◌, ◌++◌, map, Option, Some, None, refl, sym, ap, subst, ◌∙◌, append_assoc, append-nil}
 use Rattle.std.specs.Io.KnownBytes.{Appends}
 use Rattle.std.proofs.KnownBytes.{Appends-nil, Appends-trans}
 use Rattle.lab_records_kept.specs.declared.records.Record.{Record}
@@ -89,10 +89,6 @@ module _ (lab : List ℕ) (cover : Record) (before : Option (List ℕ)) (leaf : 
       (csv_text (pages_rows lab cover later)) cut))
 
 -- ---- at the end
-
-pub none_left : {A : Type 0} (rest : List A) → length rest ≡ 0 → rest ≡ []
-none_left [] none = refl
-none_left (one ∷ more) none = absurd (omega (arith, none))
 
 module _ (lab : List ℕ) (cover : Record) (before : Option (List ℕ)) (rest all : List Leaf)
     (old now : Option (List ℕ)) (start out : CopyOut) (none : rest ≡ [])

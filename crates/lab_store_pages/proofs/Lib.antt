@@ -1,4 +1,3 @@
-pub mod StateLemmas
 pub mod GoneLemmas
 pub mod FoundLemmas
 pub mod RowLemmas

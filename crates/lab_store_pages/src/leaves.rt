@@ -48,7 +48,7 @@ pub fn give_cover<W: Write>(
     Ok(())
 }
 
-/// Writes the rows of a version.
+// Writes the rows of a version.
 fn give_version<W: Write>(
     alloc: Global,
     lab: &LabCode,
@@ -69,8 +69,8 @@ fn give_version<W: Write>(
     Ok(())
 }
 
-/// Writes the rows of the version that its own rows tell, behind one of the digest or none, and
-/// answers its digest.
+// Writes the rows of the version that its own rows tell, behind one of the digest or none, and
+// answers its digest.
 fn give_leaf<W: Write>(
     alloc: Global,
     lab: &LabCode,

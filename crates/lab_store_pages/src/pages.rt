@@ -25,7 +25,7 @@ use lab_store_read_records::{RecordHead, VersionHead, versions_at};
 use std::alloc::Global;
 use std::io::Write;
 
-/// Writes the rows of the versions with the rows, each behind the digest of the one before it.
+// Writes the rows of the versions with the rows, each behind the digest of the one before it.
 fn give_pages<D: Readable, W: Write>(
     alloc: Global,
     conn: &mut D,
@@ -59,7 +59,7 @@ fn give_pages<D: Readable, W: Write>(
     Ok(())
 }
 
-/// Writes the rows of the versions of the record with the id.
+// Writes the rows of the versions of the record with the id.
 fn give_versions<D: Readable, W: Write>(
     alloc: Global,
     conn: &mut D,
@@ -90,7 +90,7 @@ fn give_versions<D: Readable, W: Write>(
     }
 }
 
-/// Writes the rows of the record with the id: its own, and those of its versions.
+// Writes the rows of the record with the id: its own, and those of its versions.
 fn give_covered<D: Readable, W: Write>(
     alloc: Global,
     conn: &mut D,
@@ -121,7 +121,7 @@ fn give_covered<D: Readable, W: Write>(
     give_versions(alloc, conn, lab, cover, kept, out, writer)
 }
 
-/// Writes the rows of the record with the row.
+// Writes the rows of the record with the row.
 fn give_headed<D: Readable, W: Write>(
     alloc: Global,
     conn: &mut D,

@@ -8,10 +8,10 @@ use Rattle.std.proofs.lemmas.List.Elements.{filter-append}
 use Rattle.sqlite_keyed.specs.Lists.{sort_by}
 use Rattle.sqlite_keyed.proofs.ListLemmas.{slice_get-filter, filter-map}
 use Rattle.lab_records_kept.specs.Lookups.{last_of, is_version_of, is_form_version, last_form, exact_form}
-use Rattle.lab_store_tables.specs.Rows.{FormRow, Tables, flag, flag_in}
+use Rattle.lab_store_tables.specs.Rows.{FormRow, Tables}
 use Rattle.lab_store_tables.specs.WellKept.{IsWellKept}
 use Rattle.lab_store_tables.specs.Meaning.{form_in, forms_of, by_form}
-use Rattle.lab_store_read_forms.specs.Forms.{form_head, form_by}
+use Rattle.lab_store_read_forms.specs.Forms.{form_by}
 use Rattle.lab_store_read_forms.specs.Shown.{form_shown, form_read}
 use Rattle.lab_store_columns.proofs.Lists.{both_filtered}
 use Rattle.lab_store_columns.proofs.Finds.{found_alone}

@@ -1,13 +1,16 @@
 //! Queries, by what they ask with.
 
-ghost use Rattle.std.specs.Prelude.{◌≡◌, [], ◌∷◌, pos, IfOk, IfErr, false};
+ghost use Rattle.std.specs.Prelude.{[], ◌∷◌, pos};
 ghost use Rattle.sqlite_value.specs.declared.value.Value.TheVariants.{Int, Text};
-ghost use Rattle.sqlite.specs.State.{HasCleanDisk, Survives, Shown, CommitsShowing, FailsToQuery};
+ghost use Rattle.lab_store_columns.specs.Reads.{Asks};
 
 use lab_store_columns::Readable;
 use sqlite::{Error, Row, params};
 
 /// The rows of a query with an id, a text and a number.
+///
+/// # Errors
+/// The store refused, or memory ran out.
 pub(crate) fn rows_by_version<D: Readable>(
     conn: &mut D,
     sql: &str,
@@ -15,17 +18,8 @@ pub(crate) fn rows_by_version<D: Readable>(
     second: &str,
     third: u32,
 ) -> Result<Vec<Row>, Error>
-    ensures ok { HasCleanDisk (D.state conn.new) → IfOk result
-        (λ rows. Shown sql.now (Int first ∷ Text second.now ∷ Int (pos third) ∷ [])
-        (D.state conn.old) (D.state conn.new) rows.items) }
-    ensures err { HasCleanDisk (D.state conn.new) → IfErr result
-        (FailsToQuery sql.now (Int first ∷ Text second.now ∷ Int (pos third) ∷ [])
-        (D.state conn.old) (D.state conn.new)) }
-    ensures mode { (D.state conn.old).in_transaction ≡ false
-        → (D.state conn.new).in_transaction ≡ false }
-    ensures survives { Survives (D.state conn.old) (D.state conn.new)
-        (CommitsShowing sql.now (Int first ∷ Text second.now ∷ Int (pos third) ∷ [])
-        (D.state conn.old)) }
+    ensures { Asks sql.now (Int first ∷ Text second.now ∷ Int (pos third) ∷ [])
+        (D.state conn.old) (D.state conn.new) result }
 {
     conn.query_all(sql, params![first, second, third])
 }

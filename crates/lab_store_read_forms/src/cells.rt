@@ -10,7 +10,7 @@ use sqlite::Row;
 use sqlite::types::ValueRef;
 use std::alloc::Global;
 
-/// The bytes of a text, which may be a bound.
+// The bytes of a text, which may be a bound.
 fn bound_of(alloc: Global, text: &[u8]) -> Result<Bound, ReadFault>
     ensures { IfOk result (λ bound. bound ≡ text.now) }
 {
@@ -21,6 +21,9 @@ fn bound_of(alloc: Global, text: &[u8]) -> Result<Bound, ReadFault>
 }
 
 /// The least or the greatest amount of a number, or none.
+///
+/// # Errors
+/// The store refused, a row is none that this program writes, or memory ran out.
 pub(crate) fn bound_if(alloc: Global, row: &Row, at: usize) -> Result<Option<Bound>, ReadFault>
     ensures { IfOk result (λ bound. bound ≡ optional_in bytes (column row.now at)) }
 {

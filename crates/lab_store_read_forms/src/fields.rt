@@ -1,9 +1,8 @@
 //! The fields of a version of a form, with their choices.
 
-ghost use Rattle.std.specs.Prelude.{◌≡◌, [], ◌∷◌, ◌++◌, map, IfOk, OnOk, IsTrue};
-ghost use Rattle.sqlite.specs.State.{HasCleanDisk, IsUnchanged};
-ghost use Rattle.lab_store_tables.specs.Ready.{IsReady, PassesBy, tables_of};
+ghost use Rattle.std.specs.Prelude.{◌≡◌, [], ◌∷◌, ◌++◌, map, IfOk};
 ghost use Rattle.lab_store_tables.specs.Meaning.{fields_of};
+ghost use Rattle.lab_store_columns.specs.Reads.{Reads, MayRead};
 ghost use Rattle.lab_store_read_forms.specs.Forms.{field_heads_of, field_by};
 ghost use Rattle.lab_store_read_forms.specs.Shown.{fields_shown, field_read};
 
@@ -17,14 +16,10 @@ use lab_store_columns::{ReadFault, Readable};
 use sqlite::{Error, Row};
 use std::alloc::Global;
 
-/// The fields of the version of a form with the id, in the order of their places.
+// The fields of the version of a form with the id, in the order of their places.
 fn field_rows<D: Readable>(conn: &mut D, form: i64) -> Result<Vec<Row>, Error>
-    ensures passes { PassesBy (D.state conn.old) (D.state conn.new) }
-    ensures same { HasCleanDisk (D.state conn.new) →
-        OnOk result (IsUnchanged (D.state conn.old) (D.state conn.new)) }
-    ensures rows { IsReady (D.state conn.old) → HasCleanDisk (D.state conn.new) →
-        IfOk result
-        (λ rows. rows.items ≡ fields_shown (tables_of (D.state conn.old)) form) }
+    ensures { Reads (λ t rows. rows.items ≡ fields_shown t form)
+        (D.state conn.old) (D.state conn.new) result }
 {
     rows_by_one(
         conn,
@@ -33,7 +28,7 @@ fn field_rows<D: Readable>(conn: &mut D, form: i64) -> Result<Vec<Row>, Error>
     )
 }
 
-/// The field that a row shows.
+// The field that a row shows.
 fn field_of_row(alloc: Global, row: &Row) -> Result<FieldHead, ReadFault>
     ensures { IfOk result (λ field. field ≡ field_read row.now) }
 {
@@ -51,7 +46,7 @@ fn field_of_row(alloc: Global, row: &Row) -> Result<FieldHead, ReadFault>
     })
 }
 
-/// The fields that rows show.
+// The fields that rows show.
 fn fields_of_rows(alloc: Global, rows: &[Row]) -> Result<Vec<FieldHead>, ReadFault>
     ensures { IfOk result (λ made. made.items ≡ map field_read rows.now) }
 {
@@ -62,34 +57,27 @@ fn fields_of_rows(alloc: Global, rows: &[Row]) -> Result<Vec<FieldHead>, ReadFau
     Ok(made)
 }
 
-/// The own rows of the fields of the version of a form with the id, in the order of their places.
+// The own rows of the fields of the version of a form with the id, in the order of their places.
 fn field_heads_at<D: Readable>(
     alloc: Global,
     conn: &mut D,
     form: i64,
 ) -> Result<Vec<FieldHead>, ReadFault>
-    ensures passes { PassesBy (D.state conn.old) (D.state conn.new) }
-    ensures same { HasCleanDisk (D.state conn.new) →
-        OnOk result (IsUnchanged (D.state conn.old) (D.state conn.new)) }
-    ensures heads { IsReady (D.state conn.old) → HasCleanDisk (D.state conn.new) →
-        IfOk result
-        (λ made. made.items ≡ field_heads_of (tables_of (D.state conn.old)) form) }
+    ensures { Reads (λ t made. made.items ≡ field_heads_of t form)
+        (D.state conn.old) (D.state conn.new) result }
 {
     let rows = field_rows(conn, form)?;
     fields_of_rows(alloc, &rows)
 }
 
-/// The field with the row, with its choices.
+// The field with the row, with its choices.
 fn field_whole<D: Readable>(
     alloc: Global,
     conn: &mut D,
     head: FieldHead,
 ) -> Result<Field, ReadFault>
-    ensures passes { PassesBy (D.state conn.old) (D.state conn.new) }
-    ensures same { HasCleanDisk (D.state conn.new) → IsTrue (D.state conn.old).is_open →
-        OnOk result (IsUnchanged (D.state conn.old) (D.state conn.new)) }
-    ensures field { IsReady (D.state conn.old) → HasCleanDisk (D.state conn.new) →
-        IfOk result (λ field. field ≡ field_by (tables_of (D.state conn.old)) head) }
+    ensures { MayRead (λ t field. field ≡ field_by t head)
+        (D.state conn.old) (D.state conn.new) result }
 {
     let names = names_if(alloc, conn, head.id, is_choice(&head.kind))?;
     Ok(Field {
@@ -100,38 +88,30 @@ fn field_whole<D: Readable>(
     })
 }
 
-/// The field with the row, behind others.
+// The field with the row, behind others.
 fn add_field<D: Readable>(
     alloc: Global,
     conn: &mut D,
     made: &mut Vec<Field>,
     head: FieldHead,
 ) -> Result<(), ReadFault>
-    ensures passes { PassesBy (D.state conn.old) (D.state conn.new) }
-    ensures same { HasCleanDisk (D.state conn.new) → IsTrue (D.state conn.old).is_open →
-        OnOk result (IsUnchanged (D.state conn.old) (D.state conn.new)) }
-    ensures field { IsReady (D.state conn.old) → HasCleanDisk (D.state conn.new) →
-        OnOk result (made.new.items
-        ≡ made.old.items ++ field_by (tables_of (D.state conn.old)) head ∷ []) }
+    ensures { MayRead (λ t _. made.new.items ≡ made.old.items ++ field_by t head ∷ [])
+        (D.state conn.old) (D.state conn.new) result }
 {
     let field = field_whole(alloc, conn, head)?;
     made.push(field)?;
     Ok(())
 }
 
-/// The fields with the rows, behind others.
+// The fields with the rows, behind others.
 fn add_fields<D: Readable>(
     alloc: Global,
     conn: &mut D,
     made: &mut Vec<Field>,
     heads: Vec<FieldHead>,
 ) -> Result<(), ReadFault>
-    ensures passes { PassesBy (D.state conn.old) (D.state conn.new) }
-    ensures same { HasCleanDisk (D.state conn.new) → IsTrue (D.state conn.old).is_open →
-        OnOk result (IsUnchanged (D.state conn.old) (D.state conn.new)) }
-    ensures fields { IsReady (D.state conn.old) → HasCleanDisk (D.state conn.new) →
-        IsTrue (D.state conn.old).is_open → OnOk result (made.new.items
-        ≡ made.old.items ++ map (field_by (tables_of (D.state conn.old))) heads.items) }
+    ensures { MayRead (λ t _. made.new.items ≡ made.old.items ++ map (field_by t) heads.items)
+        (D.state conn.old) (D.state conn.new) result }
 {
     for head in heads {
         add_field(alloc, conn, made, head)?;
@@ -140,16 +120,16 @@ fn add_fields<D: Readable>(
 }
 
 /// The fields of the version of a form with the id, in the order of their places, with their choices.
+///
+/// # Errors
+/// The store refused, a row is none that this program writes, or memory ran out.
 pub fn fields_at<D: Readable>(
     alloc: Global,
     conn: &mut D,
     form: i64,
 ) -> Result<Vec<Field>, ReadFault>
-    ensures passes { PassesBy (D.state conn.old) (D.state conn.new) }
-    ensures same { HasCleanDisk (D.state conn.new) →
-        OnOk result (IsUnchanged (D.state conn.old) (D.state conn.new)) }
-    ensures fields { IsReady (D.state conn.old) → HasCleanDisk (D.state conn.new) →
-        IfOk result (λ made. made.items ≡ fields_of (tables_of (D.state conn.old)) form) }
+    ensures { Reads (λ t made. made.items ≡ fields_of t form)
+        (D.state conn.old) (D.state conn.new) result }
 {
     let heads = field_heads_at(alloc, conn, form)?;
     let mut made = Vec::new(alloc);

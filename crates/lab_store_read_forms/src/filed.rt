@@ -1,11 +1,10 @@
 //! Records, whole, by what a request names.
 
-ghost use Rattle.std.specs.Prelude.{◌≡◌, [], ◌∷◌, ◌++◌, map, option_map, IfOk, OnOk, IsTrue};
-ghost use Rattle.sqlite.specs.State.{HasCleanDisk, IsUnchanged};
-ghost use Rattle.lab_store_tables.specs.Ready.{IsReady, PassesBy, tables_of};
+ghost use Rattle.std.specs.Prelude.{◌≡◌, [], ◌∷◌, ◌++◌, map, option_map};
 ghost use Rattle.lab_records_kept.specs.Lookups.{record_of, record_about};
 ghost use Rattle.lab_records_kept.specs.Lookups.{records_within};
 ghost use Rattle.lab_store_tables.specs.Meaning.{records_of};
+ghost use Rattle.lab_store_columns.specs.Reads.{Reads, MayRead};
 ghost use Rattle.lab_store_read_forms.specs.Wholes.{record_by};
 
 use crate::wholes::record_whole;
@@ -15,19 +14,15 @@ use lab_store_columns::{ReadFault, Readable};
 use lab_store_read_records::{RecordHead, record_about, record_at, records_within};
 use std::alloc::Global;
 
-/// The record of the row, where there is one.
+// The record of the row, where there is one.
 fn record_if<D: Readable>(
     alloc: Global,
     conn: &mut D,
     code: &LabCode,
     head: Option<RecordHead>,
 ) -> Result<Option<Record>, ReadFault>
-    ensures passes { PassesBy (D.state conn.old) (D.state conn.new) }
-    ensures same { HasCleanDisk (D.state conn.new) → IsTrue (D.state conn.old).is_open →
-        OnOk result (IsUnchanged (D.state conn.old) (D.state conn.new)) }
-    ensures kept { IsReady (D.state conn.old) → HasCleanDisk (D.state conn.new) →
-        IfOk result (λ kept. kept
-        ≡ option_map (record_by (tables_of (D.state conn.old)) code.now) head) }
+    ensures { MayRead (λ t kept. kept ≡ option_map (record_by t code.now) head)
+        (D.state conn.old) (D.state conn.new) result }
 {
     match head {
         Some(head) => {
@@ -39,6 +34,9 @@ fn record_if<D: Readable>(
 }
 
 /// The record of the number, whole, in the laboratory with the code, whose row has the id.
+///
+/// # Errors
+/// The store refused, a row is none that this program writes, or memory ran out.
 pub fn numbered_at<D: Readable>(
     alloc: Global,
     conn: &mut D,
@@ -46,18 +44,17 @@ pub fn numbered_at<D: Readable>(
     lab: i64,
     number: Ordinal,
 ) -> Result<Option<Record>, ReadFault>
-    ensures passes { PassesBy (D.state conn.old) (D.state conn.new) }
-    ensures same { HasCleanDisk (D.state conn.new) →
-        OnOk result (IsUnchanged (D.state conn.old) (D.state conn.new)) }
-    ensures kept { IsReady (D.state conn.old) → HasCleanDisk (D.state conn.new) →
-        IfOk result (λ kept. kept
-        ≡ record_of (records_of (tables_of (D.state conn.old)) code.now lab) number) }
+    ensures { Reads (λ t kept. kept ≡ record_of (records_of t code.now lab) number)
+        (D.state conn.old) (D.state conn.new) result }
 {
     let head = record_at(alloc, conn, lab, number)?;
     record_if(alloc, conn, code, head)
 }
 
 /// The record by the form about the sample, whole, in the laboratory with the code, whose row has the id.
+///
+/// # Errors
+/// The store refused, a row is none that this program writes, or memory ran out.
 pub fn about_at<D: Readable>(
     alloc: Global,
     conn: &mut D,
@@ -66,19 +63,14 @@ pub fn about_at<D: Readable>(
     form: &Key,
     sample: &Name,
 ) -> Result<Option<Record>, ReadFault>
-    ensures passes { PassesBy (D.state conn.old) (D.state conn.new) }
-    ensures same { HasCleanDisk (D.state conn.new) →
-        OnOk result (IsUnchanged (D.state conn.old) (D.state conn.new)) }
-    ensures kept { IsReady (D.state conn.old) → HasCleanDisk (D.state conn.new) →
-        IfOk result (λ kept. kept
-        ≡ record_about (records_of (tables_of (D.state conn.old)) code.now lab)
-        form.now sample.now) }
+    ensures { Reads (λ t kept. kept ≡ record_about (records_of t code.now lab) form.now sample.now)
+        (D.state conn.old) (D.state conn.new) result }
 {
     let head = record_about(alloc, conn, lab, form, sample)?;
     record_if(alloc, conn, code, head)
 }
 
-/// The record of the row, behind others.
+// The record of the row, behind others.
 fn add_record<D: Readable>(
     alloc: Global,
     conn: &mut D,
@@ -86,19 +78,15 @@ fn add_record<D: Readable>(
     made: &mut Vec<Record>,
     head: RecordHead,
 ) -> Result<(), ReadFault>
-    ensures passes { PassesBy (D.state conn.old) (D.state conn.new) }
-    ensures same { HasCleanDisk (D.state conn.new) →
-        OnOk result (IsUnchanged (D.state conn.old) (D.state conn.new)) }
-    ensures kept { IsReady (D.state conn.old) → HasCleanDisk (D.state conn.new) →
-        OnOk result (made.new.items ≡ made.old.items
-        ++ record_by (tables_of (D.state conn.old)) code.now head ∷ []) }
+    ensures { Reads (λ t _. made.new.items ≡ made.old.items ++ record_by t code.now head ∷ [])
+        (D.state conn.old) (D.state conn.new) result }
 {
     let kept = record_whole(alloc, conn, code, head)?;
     made.push(kept)?;
     Ok(())
 }
 
-/// The records of the rows, behind others.
+// The records of the rows, behind others.
 fn add_records<D: Readable>(
     alloc: Global,
     conn: &mut D,
@@ -106,12 +94,9 @@ fn add_records<D: Readable>(
     made: &mut Vec<Record>,
     heads: Vec<RecordHead>,
 ) -> Result<(), ReadFault>
-    ensures passes { PassesBy (D.state conn.old) (D.state conn.new) }
-    ensures same { HasCleanDisk (D.state conn.new) → IsTrue (D.state conn.old).is_open →
-        OnOk result (IsUnchanged (D.state conn.old) (D.state conn.new)) }
-    ensures kept { IsReady (D.state conn.old) → HasCleanDisk (D.state conn.new) →
-        IsTrue (D.state conn.old).is_open → OnOk result (made.new.items
-        ≡ made.old.items ++ map (record_by (tables_of (D.state conn.old)) code.now) heads.items) }
+    ensures { MayRead (λ t _. made.new.items
+        ≡ made.old.items ++ map (record_by t code.now) heads.items)
+        (D.state conn.old) (D.state conn.new) result }
 {
     for head in heads {
         add_record(alloc, conn, code, made, head)?;
@@ -121,6 +106,9 @@ fn add_records<D: Readable>(
 
 /// The records from a number to a number, whole, in the laboratory with the code, whose row has the id, in the order of the
 /// numbers.
+///
+/// # Errors
+/// The store refused, a row is none that this program writes, or memory ran out.
 pub fn filed_within<D: Readable>(
     alloc: Global,
     conn: &mut D,
@@ -129,12 +117,8 @@ pub fn filed_within<D: Readable>(
     from: Ordinal,
     to: Ordinal,
 ) -> Result<Vec<Record>, ReadFault>
-    ensures passes { PassesBy (D.state conn.old) (D.state conn.new) }
-    ensures same { HasCleanDisk (D.state conn.new) →
-        OnOk result (IsUnchanged (D.state conn.old) (D.state conn.new)) }
-    ensures kept { IsReady (D.state conn.old) → HasCleanDisk (D.state conn.new) →
-        IfOk result (λ made. made.items ≡ records_within from to
-        (records_of (tables_of (D.state conn.old)) code.now lab)) }
+    ensures { Reads (λ t made. made.items ≡ records_within from to (records_of t code.now lab))
+        (D.state conn.old) (D.state conn.new) result }
 {
     let heads = records_within(alloc, conn, lab, from, to)?;
     let mut made = Vec::new(alloc);

@@ -1,11 +1,10 @@
 //! Versions of forms, with their fields.
 
-ghost use Rattle.std.specs.Prelude.{◌≡◌, option_map, slice_get, IfOk, IfSome, OnOk};
+ghost use Rattle.std.specs.Prelude.{◌≡◌, option_map, slice_get, IfOk, IfSome};
 ghost use Rattle.sqlite_keyed.specs.Keyed.{get_by};
-ghost use Rattle.sqlite.specs.State.{HasCleanDisk, IsUnchanged};
-ghost use Rattle.lab_store_tables.specs.Ready.{IsReady, PassesBy, tables_of};
 ghost use Rattle.lab_store_tables.specs.Rows.{form_id};
 ghost use Rattle.lab_store_tables.specs.Meaning.{form_at};
+ghost use Rattle.lab_store_columns.specs.Reads.{Reads};
 ghost use Rattle.lab_store_read_forms.specs.Forms.{form_head, form_by};
 ghost use Rattle.lab_store_read_forms.specs.Shown.{forms_shown, form_read};
 
@@ -19,13 +18,10 @@ use lab_store_columns::{ReadFault, Readable};
 use sqlite::{Error, Row};
 use std::alloc::Global;
 
-/// The row of the version of a form with the id.
+// The row of the version of a form with the id.
 fn form_rows<D: Readable>(conn: &mut D, id: i64) -> Result<Vec<Row>, Error>
-    ensures passes { PassesBy (D.state conn.old) (D.state conn.new) }
-    ensures same { HasCleanDisk (D.state conn.new) →
-        OnOk result (IsUnchanged (D.state conn.old) (D.state conn.new)) }
-    ensures rows { IsReady (D.state conn.old) → HasCleanDisk (D.state conn.new) →
-        IfOk result (λ rows. rows.items ≡ forms_shown (tables_of (D.state conn.old)) id) }
+    ensures { Reads (λ t rows. rows.items ≡ forms_shown t id)
+        (D.state conn.old) (D.state conn.new) result }
 {
     rows_by_one(
         conn,
@@ -35,6 +31,9 @@ fn form_rows<D: Readable>(conn: &mut D, id: i64) -> Result<Vec<Row>, Error>
 }
 
 /// The version of a form that a row shows.
+///
+/// # Errors
+/// The store refused, a row is none that this program writes, or memory ran out.
 pub fn form_of_row(alloc: Global, row: &Row) -> Result<FormHead, ReadFault>
     ensures { IfOk result (λ form. form ≡ form_read row.now) }
 {
@@ -51,6 +50,9 @@ pub fn form_of_row(alloc: Global, row: &Row) -> Result<FormHead, ReadFault>
 }
 
 /// The version of a form that the first row shows.
+///
+/// # Errors
+/// The store refused, a row is none that this program writes, or memory ran out.
 pub fn first_form(alloc: Global, rows: &[Row]) -> Result<Option<FormHead>, ReadFault>
     ensures { IfOk result (λ form. form ≡ option_map form_read (slice_get rows.now 0)) }
 {
@@ -60,24 +62,20 @@ pub fn first_form(alloc: Global, rows: &[Row]) -> Result<Option<FormHead>, ReadF
     }
 }
 
-/// The own row of the version of a form with the id.
+// The own row of the version of a form with the id.
 fn form_head_at<D: Readable>(
     alloc: Global,
     conn: &mut D,
     id: i64,
 ) -> Result<Option<FormHead>, ReadFault>
-    ensures passes { PassesBy (D.state conn.old) (D.state conn.new) }
-    ensures same { HasCleanDisk (D.state conn.new) →
-        OnOk result (IsUnchanged (D.state conn.old) (D.state conn.new)) }
-    ensures found { IsReady (D.state conn.old) → HasCleanDisk (D.state conn.new) →
-        IfOk result (λ form. form ≡ option_map form_head
-        (get_by form_id (tables_of (D.state conn.old)).forms id)) }
+    ensures { Reads (λ t form. form ≡ option_map form_head (get_by form_id t.forms id))
+        (D.state conn.old) (D.state conn.new) result }
 {
     let rows = form_rows(conn, id)?;
     first_form(alloc, &rows)
 }
 
-/// The form of the fields. There may be none.
+// The form of the fields. There may be none.
 fn form_made(fields: Vec<Field>, approval: bool) -> Option<Form>
     ensures { IfSome result
         (λ form. form ≡ record { fields = fields.items; approval = approval }) }
@@ -89,16 +87,15 @@ fn form_made(fields: Vec<Field>, approval: bool) -> Option<Form>
 }
 
 /// The version of a form that has the row, with its fields. Fields that no form may have are a fault of the store.
+///
+/// # Errors
+/// The store refused, a row is none that this program writes, or memory ran out.
 pub fn form_whole<D: Readable>(
     alloc: Global,
     conn: &mut D,
     head: FormHead,
 ) -> Result<FormVersion, ReadFault>
-    ensures passes { PassesBy (D.state conn.old) (D.state conn.new) }
-    ensures same { HasCleanDisk (D.state conn.new) →
-        OnOk result (IsUnchanged (D.state conn.old) (D.state conn.new)) }
-    ensures form { IsReady (D.state conn.old) → HasCleanDisk (D.state conn.new) →
-        IfOk result (λ form. form ≡ form_by (tables_of (D.state conn.old)) head) }
+    ensures { Reads (λ t form. form ≡ form_by t head) (D.state conn.old) (D.state conn.new) result }
 {
     let fields = fields_at(alloc, conn, head.id)?;
     let form = form_made(fields, head.approval).ok_or(ReadFault::Storage)?;
@@ -110,12 +107,11 @@ pub fn form_whole<D: Readable>(
 }
 
 /// The version of a form with the id, with its fields. That there is none is a fault of the store.
+///
+/// # Errors
+/// The store refused, a row is none that this program writes, or memory ran out.
 pub fn form_at<D: Readable>(alloc: Global, conn: &mut D, id: i64) -> Result<FormVersion, ReadFault>
-    ensures passes { PassesBy (D.state conn.old) (D.state conn.new) }
-    ensures same { HasCleanDisk (D.state conn.new) →
-        OnOk result (IsUnchanged (D.state conn.old) (D.state conn.new)) }
-    ensures form { IsReady (D.state conn.old) → HasCleanDisk (D.state conn.new) →
-        IfOk result (λ form. form ≡ form_at (tables_of (D.state conn.old)) id) }
+    ensures { Reads (λ t form. form ≡ form_at t id) (D.state conn.old) (D.state conn.new) result }
 {
     let Some(head) = form_head_at(alloc, conn, id)? else {
         return Err(ReadFault::Storage);

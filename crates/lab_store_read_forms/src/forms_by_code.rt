@@ -1,10 +1,9 @@
 //! Versions of forms, by the codes of the forms.
 
-ghost use Rattle.std.specs.Prelude.{◌≡◌, option_map, slice_get, IfOk, OnOk, IsTrue};
-ghost use Rattle.sqlite.specs.State.{HasCleanDisk, IsUnchanged};
-ghost use Rattle.lab_store_tables.specs.Ready.{IsReady, PassesBy, tables_of};
+ghost use Rattle.std.specs.Prelude.{◌≡◌, option_map, IfOk};
 ghost use Rattle.lab_records_kept.specs.Lookups.{last_of, last_form, exact_form};
 ghost use Rattle.lab_store_tables.specs.Meaning.{forms_of};
+ghost use Rattle.lab_store_columns.specs.Reads.{Reads, MayRead};
 ghost use Rattle.lab_store_read_forms.specs.Forms.{form_by};
 ghost use Rattle.lab_store_read_forms.specs.Shown.{form_read};
 ghost use Rattle.lab_store_read_forms.specs.FormsByCode.{exact_shown, form_versions_shown};
@@ -18,19 +17,15 @@ use lab_store_columns::{ReadFault, Readable};
 use sqlite::{Error, Row};
 use std::alloc::Global;
 
-/// The row of the version of the form, in the laboratory with the id.
+// The row of the version of the form, in the laboratory with the id.
 fn exact_rows<D: Readable>(
     conn: &mut D,
     lab: i64,
     code: &str,
     version: u32,
 ) -> Result<Vec<Row>, Error>
-    ensures passes { PassesBy (D.state conn.old) (D.state conn.new) }
-    ensures same { HasCleanDisk (D.state conn.new) →
-        OnOk result (IsUnchanged (D.state conn.old) (D.state conn.new)) }
-    ensures rows { IsReady (D.state conn.old) → HasCleanDisk (D.state conn.new) →
-        IfOk result (λ rows. rows.items
-        ≡ exact_shown (tables_of (D.state conn.old)) lab code.now version) }
+    ensures { Reads (λ t rows. rows.items ≡ exact_shown t lab code.now version)
+        (D.state conn.old) (D.state conn.new) result }
 {
     rows_by_version(
         conn,
@@ -41,14 +36,10 @@ fn exact_rows<D: Readable>(
     )
 }
 
-/// The rows of the versions of the form, in the laboratory with the id, in the order of their numbers.
+// The rows of the versions of the form, in the laboratory with the id, in the order of their numbers.
 fn form_version_rows<D: Readable>(conn: &mut D, lab: i64, code: &str) -> Result<Vec<Row>, Error>
-    ensures passes { PassesBy (D.state conn.old) (D.state conn.new) }
-    ensures same { HasCleanDisk (D.state conn.new) →
-        OnOk result (IsUnchanged (D.state conn.old) (D.state conn.new)) }
-    ensures rows { IsReady (D.state conn.old) → HasCleanDisk (D.state conn.new) →
-        IfOk result (λ rows. rows.items
-        ≡ form_versions_shown (tables_of (D.state conn.old)) lab code.now) }
+    ensures { Reads (λ t rows. rows.items ≡ form_versions_shown t lab code.now)
+        (D.state conn.old) (D.state conn.new) result }
 {
     rows_by_code(
         conn,
@@ -58,7 +49,7 @@ fn form_version_rows<D: Readable>(conn: &mut D, lab: i64, code: &str) -> Result<
     )
 }
 
-/// The version of a form that the last row shows.
+// The version of a form that the last row shows.
 fn last_form_of(alloc: Global, rows: &[Row]) -> Result<Option<FormHead>, ReadFault>
     ensures { IfOk result (λ form. form ≡ option_map form_read (last_of rows.now)) }
 {
@@ -68,18 +59,14 @@ fn last_form_of(alloc: Global, rows: &[Row]) -> Result<Option<FormHead>, ReadFau
     }
 }
 
-/// The version of a form that has the row, where there is one.
+// The version of a form that has the row, where there is one.
 fn form_if<D: Readable>(
     alloc: Global,
     conn: &mut D,
     head: Option<FormHead>,
 ) -> Result<Option<FormVersion>, ReadFault>
-    ensures passes { PassesBy (D.state conn.old) (D.state conn.new) }
-    ensures same { HasCleanDisk (D.state conn.new) → IsTrue (D.state conn.old).is_open →
-        OnOk result (IsUnchanged (D.state conn.old) (D.state conn.new)) }
-    ensures form { IsReady (D.state conn.old) → HasCleanDisk (D.state conn.new) →
-        IfOk result
-        (λ form. form ≡ option_map (form_by (tables_of (D.state conn.old))) head) }
+    ensures { MayRead (λ t form. form ≡ option_map (form_by t) head)
+        (D.state conn.old) (D.state conn.new) result }
 {
     match head {
         Some(head) => {
@@ -91,6 +78,9 @@ fn form_if<D: Readable>(
 }
 
 /// The version of the form that has the number, in the laboratory with the id.
+///
+/// # Errors
+/// The store refused, a row is none that this program writes, or memory ran out.
 pub fn exact_form_at<D: Readable>(
     alloc: Global,
     conn: &mut D,
@@ -98,12 +88,8 @@ pub fn exact_form_at<D: Readable>(
     code: &Key,
     version: Ordinal,
 ) -> Result<Option<FormVersion>, ReadFault>
-    ensures passes { PassesBy (D.state conn.old) (D.state conn.new) }
-    ensures same { HasCleanDisk (D.state conn.new) →
-        OnOk result (IsUnchanged (D.state conn.old) (D.state conn.new)) }
-    ensures form { IsReady (D.state conn.old) → HasCleanDisk (D.state conn.new) →
-        IfOk result (λ form. form
-        ≡ exact_form (forms_of (tables_of (D.state conn.old)) lab) code.now version) }
+    ensures { Reads (λ t form. form ≡ exact_form (forms_of t lab) code.now version)
+        (D.state conn.old) (D.state conn.new) result }
 {
     let rows = exact_rows(conn, lab, code.as_str(), version.get())?;
     let head = first_form(alloc, &rows)?;
@@ -111,18 +97,17 @@ pub fn exact_form_at<D: Readable>(
 }
 
 /// The last version of the form, in the laboratory with the id.
+///
+/// # Errors
+/// The store refused, a row is none that this program writes, or memory ran out.
 pub fn last_form_at<D: Readable>(
     alloc: Global,
     conn: &mut D,
     lab: i64,
     code: &Key,
 ) -> Result<Option<FormVersion>, ReadFault>
-    ensures passes { PassesBy (D.state conn.old) (D.state conn.new) }
-    ensures same { HasCleanDisk (D.state conn.new) →
-        OnOk result (IsUnchanged (D.state conn.old) (D.state conn.new)) }
-    ensures form { IsReady (D.state conn.old) → HasCleanDisk (D.state conn.new) →
-        IfOk result (λ form. form
-        ≡ last_form (forms_of (tables_of (D.state conn.old)) lab) code.now) }
+    ensures { Reads (λ t form. form ≡ last_form (forms_of t lab) code.now)
+        (D.state conn.old) (D.state conn.new) result }
 {
     let rows = form_version_rows(conn, lab, code.as_str())?;
     let head = last_form_of(alloc, &rows)?;

@@ -14,7 +14,7 @@ use lab_store_columns::cells::{small_if, text_if, text_of};
 use sqlite::Row;
 use std::alloc::Global;
 
-/// A number.
+// A number.
 fn number_of_row(alloc: Global, row: &Row) -> Result<Kind, ReadFault>
     ensures { IfOk result (λ kind. kind ≡ number_kind (kind_cells row.now)) }
 {
@@ -34,7 +34,7 @@ fn number_of_row(alloc: Global, row: &Row) -> Result<Kind, ReadFault>
     })
 }
 
-/// A text.
+// A text.
 fn text_of_row(row: &Row) -> Result<Kind, ReadFault>
     ensures { IfOk result (λ kind. kind ≡ text_kind (unwrap_or (kind_cells row.now).size 0)) }
 {
@@ -44,7 +44,7 @@ fn text_of_row(row: &Row) -> Result<Kind, ReadFault>
     }
 }
 
-/// What a field takes, by its word and the other columns. A word that none is written as is a fault of the store.
+// What a field takes, by its word and the other columns. A word that none is written as is a fault of the store.
 fn kind_by(alloc: Global, row: &Row, word: &str) -> Result<Kind, ReadFault>
     ensures { IfOk result
         (λ kind. kind ≡ kind_in (record (kind_cells row.now) { word = word.now }) []) }
@@ -62,6 +62,9 @@ fn kind_by(alloc: Global, row: &Row, word: &str) -> Result<Kind, ReadFault>
 }
 
 /// What the field takes whose row it is; a choice has no names yet.
+///
+/// # Errors
+/// The store refused, a row is none that this program writes, or memory ran out.
 pub fn kind_of_row(alloc: Global, row: &Row) -> Result<Kind, ReadFault>
     ensures { IfOk result (λ kind. kind ≡ kind_in (kind_cells row.now) []) }
 {

@@ -1,10 +1,9 @@
 //! Records, with their forms and all their versions.
 
-ghost use Rattle.std.specs.Prelude.{◌≡◌, map, IfOk, OnOk};
-ghost use Rattle.sqlite.specs.State.{HasCleanDisk, IsUnchanged};
-ghost use Rattle.lab_store_tables.specs.Ready.{IsReady, PassesBy, tables_of};
+ghost use Rattle.std.specs.Prelude.{◌≡◌, map, IfOk};
 ghost use Rattle.lab_store_read_records.specs.Leaves.{leaf_of};
 ghost use Rattle.lab_store_read_forms.specs.Wholes.{record_with, record_by};
+ghost use Rattle.lab_store_columns.specs.Reads.{Reads};
 
 use crate::form_at;
 use lab_forms_texts::{LabCode, Series};
@@ -13,7 +12,7 @@ use lab_store_columns::{ReadFault, Readable};
 use lab_store_read_records::{RecordHead, VersionLeaf, chain, leaves_at};
 use std::alloc::Global;
 
-/// The record of the row, the form and the versions.
+// The record of the row, the form and the versions.
 fn record_with(
     alloc: Global,
     lab: &LabCode,
@@ -35,17 +34,17 @@ fn record_with(
 }
 
 /// The record with the row, of the laboratory with the code, with its form and all its versions.
+///
+/// # Errors
+/// The store refused, a row is none that this program writes, or memory ran out.
 pub fn record_whole<D: Readable>(
     alloc: Global,
     conn: &mut D,
     lab: &LabCode,
     head: RecordHead,
 ) -> Result<Record, ReadFault>
-    ensures passes { PassesBy (D.state conn.old) (D.state conn.new) }
-    ensures same { HasCleanDisk (D.state conn.new) →
-        OnOk result (IsUnchanged (D.state conn.old) (D.state conn.new)) }
-    ensures kept { IsReady (D.state conn.old) → HasCleanDisk (D.state conn.new) →
-        IfOk result (λ kept. kept ≡ record_by (tables_of (D.state conn.old)) lab.now head) }
+    ensures { Reads (λ t kept. kept ≡ record_by t lab.now head)
+        (D.state conn.old) (D.state conn.new) result }
 {
     let form = form_at(alloc, conn, head.form)?;
     let leaves = leaves_at(alloc, conn, head.id)?;

@@ -11,6 +11,9 @@ use sqlite::Row;
 use sqlite::types::ValueRef;
 
 /// A moment, or none.
+///
+/// # Errors
+/// The store refused, a row is none that this program writes, or memory ran out.
 pub(crate) fn moment_if(row: &Row, at: usize) -> Result<Option<Moment>, ReadFault>
     ensures { IfOk result (λ moment. moment ≡ optional_in number_in (column row.now at)) }
 {
@@ -22,6 +25,9 @@ pub(crate) fn moment_if(row: &Row, at: usize) -> Result<Option<Moment>, ReadFaul
 }
 
 /// A moment that this row has to have.
+///
+/// # Errors
+/// The store refused, a row is none that this program writes, or memory ran out.
 pub(crate) fn moment_due(row: &Row, at: usize) -> Result<Moment, ReadFault>
     ensures { IfOk result
         (λ moment. moment ≡ unwrap_or (optional_in number_in (column row.now at)) 0) }
@@ -33,6 +39,9 @@ pub(crate) fn moment_due(row: &Row, at: usize) -> Result<Moment, ReadFault>
 }
 
 /// A number that this row has to have.
+///
+/// # Errors
+/// The store refused, a row is none that this program writes, or memory ran out.
 pub(crate) fn small_due(row: &Row, at: usize) -> Result<u32, ReadFault>
     ensures { IfOk result
         (λ count. count ≡ unwrap_or (optional_in number_in (column row.now at)) 0) }
@@ -44,6 +53,9 @@ pub(crate) fn small_due(row: &Row, at: usize) -> Result<u32, ReadFault>
 }
 
 /// A salt that this row has to have.
+///
+/// # Errors
+/// The store refused, a row is none that this program writes, or memory ran out.
 pub(crate) fn salt_due(row: &Row, at: usize) -> Result<[u8; 16], ReadFault>
     ensures { IfOk result
         (λ salt. salt ≡ unwrap_or (optional_in bytes (column row.now at)) []) }
@@ -60,6 +72,9 @@ pub(crate) fn salt_due(row: &Row, at: usize) -> Result<[u8; 16], ReadFault>
 }
 
 /// 32 bytes that this row has to have.
+///
+/// # Errors
+/// The store refused, a row is none that this program writes, or memory ran out.
 pub(crate) fn bytes_due(row: &Row, at: usize) -> Result<[u8; 32], ReadFault>
     ensures { IfOk result
         (λ made. made ≡ unwrap_or (optional_in bytes (column row.now at)) []) }

@@ -29,7 +29,7 @@ pub(crate) fn roles_of(sum: u32) -> Roles
     }
 }
 
-/// The verifier whose parts stand in three columns.
+// The verifier whose parts stand in three columns.
 fn verifier_of(row: &Row, salt: usize, rounds: usize, made: usize) -> Result<Verifier, ReadFault>
     ensures { IfOk result (λ verifier. verifier
         ≡ verifier_in (optional_in bytes (column row.now salt))
@@ -45,7 +45,7 @@ fn verifier_of(row: &Row, salt: usize, rounds: usize, made: usize) -> Result<Ver
     Ok(Verifier::from_parts(salt, rounds, made))
 }
 
-/// A password that was chosen.
+// A password that was chosen.
 fn chosen_of_row(row: &Row) -> Result<Password, ReadFault>
     ensures { let cells = password_cells row.now in IfOk result (λ password. password
         ≡ Chosen (verifier_in cells.salt cells.rounds cells.bytes) (unwrap_or cells.changed 0)) }
@@ -55,7 +55,7 @@ fn chosen_of_row(row: &Row) -> Result<Password, ReadFault>
     Ok(Password::Chosen { verifier, changed })
 }
 
-/// A one-time word.
+// A one-time word.
 fn one_time_of_row(row: &Row) -> Result<Password, ReadFault>
     ensures { let cells = password_cells row.now in IfOk result (λ password. password
         ≡ OneTime (verifier_in cells.salt cells.rounds cells.bytes)
@@ -72,6 +72,9 @@ fn one_time_of_row(row: &Row) -> Result<Password, ReadFault>
 }
 
 /// What is kept of the password of the person whose row it is.
+///
+/// # Errors
+/// The store refused, a row is none that this program writes, or memory ran out.
 pub(crate) fn password_of_row(row: &Row) -> Result<Password, ReadFault>
     ensures { IfOk result (λ password. password ≡ password_in (password_cells row.now)) }
 {
@@ -88,6 +91,9 @@ pub(crate) fn password_of_row(row: &Row) -> Result<Password, ReadFault>
 }
 
 /// What an administrator asked for.
+///
+/// # Errors
+/// The store refused, a row is none that this program writes, or memory ran out.
 pub(crate) fn ask_of_row(row: &Row) -> Result<Option<AskHead>, ReadFault>
     ensures { IfOk result (λ ask. ask ≡ ask_head (ask_cells row.now)) }
 {

@@ -1,10 +1,9 @@
 //! Persons, with their accounts.
 
-ghost use Rattle.std.specs.Prelude.{◌≡◌, [], ◌∷◌, ◌++◌, map, length, option_map, slice_get, IfOk, OnOk, IsTrue};
-ghost use Rattle.sqlite.specs.State.{HasCleanDisk, IsUnchanged};
-ghost use Rattle.lab_store_tables.specs.Ready.{IsReady, PassesBy, tables_of};
+ghost use Rattle.std.specs.Prelude.{◌≡◌, [], ◌∷◌, ◌++◌, map, length, option_map, slice_get, IfOk};
 ghost use Rattle.lab_people_access.specs.Persons.{person_of};
 ghost use Rattle.lab_store_tables.specs.Meaning.{persons_of};
+ghost use Rattle.lab_store_columns.specs.Reads.{Reads, MayRead};
 ghost use Rattle.lab_store_read_people.specs.Heads.{ask_by, person_by, person_heads_of};
 ghost use Rattle.lab_store_read_people.specs.PersonsShown.{person_shown_by, persons_shown, all_codes_shown, person_read};
 
@@ -19,14 +18,10 @@ use lab_store_columns::{ReadFault, Readable, code_at};
 use sqlite::{Error, Row};
 use std::alloc::Global;
 
-/// The row of the person with the code, in the laboratory with the id.
+// The row of the person with the code, in the laboratory with the id.
 fn person_rows<D: Readable>(conn: &mut D, lab: i64, code: &str) -> Result<Vec<Row>, Error>
-    ensures passes { PassesBy (D.state conn.old) (D.state conn.new) }
-    ensures same { HasCleanDisk (D.state conn.new) →
-        OnOk result (IsUnchanged (D.state conn.old) (D.state conn.new)) }
-    ensures rows { IsReady (D.state conn.old) → HasCleanDisk (D.state conn.new) →
-        IfOk result (λ rows. rows.items
-        ≡ person_shown_by (tables_of (D.state conn.old)) lab code.now) }
+    ensures { Reads (λ t rows. rows.items ≡ person_shown_by t lab code.now)
+        (D.state conn.old) (D.state conn.new) result }
 {
     rows_by_code(
         conn,
@@ -36,14 +31,10 @@ fn person_rows<D: Readable>(conn: &mut D, lab: i64, code: &str) -> Result<Vec<Ro
     )
 }
 
-/// The rows of the persons of the laboratory with the id, in the order of their codes.
+// The rows of the persons of the laboratory with the id, in the order of their codes.
 fn persons_rows<D: Readable>(conn: &mut D, lab: i64) -> Result<Vec<Row>, Error>
-    ensures passes { PassesBy (D.state conn.old) (D.state conn.new) }
-    ensures same { HasCleanDisk (D.state conn.new) →
-        OnOk result (IsUnchanged (D.state conn.old) (D.state conn.new)) }
-    ensures rows { IsReady (D.state conn.old) → HasCleanDisk (D.state conn.new) →
-        IfOk result
-        (λ rows. rows.items ≡ persons_shown (tables_of (D.state conn.old)) lab) }
+    ensures { Reads (λ t rows. rows.items ≡ persons_shown t lab)
+        (D.state conn.old) (D.state conn.new) result }
 {
     rows_by_one(
         conn,
@@ -52,14 +43,10 @@ fn persons_rows<D: Readable>(conn: &mut D, lab: i64) -> Result<Vec<Row>, Error>
     )
 }
 
-/// The codes of the persons of the laboratory with the id, in order.
+// The codes of the persons of the laboratory with the id, in order.
 fn all_code_rows<D: Readable>(conn: &mut D, lab: i64) -> Result<Vec<Row>, Error>
-    ensures passes { PassesBy (D.state conn.old) (D.state conn.new) }
-    ensures same { HasCleanDisk (D.state conn.new) →
-        OnOk result (IsUnchanged (D.state conn.old) (D.state conn.new)) }
-    ensures rows { IsReady (D.state conn.old) → HasCleanDisk (D.state conn.new) →
-        IfOk result
-        (λ rows. rows.items ≡ all_codes_shown (tables_of (D.state conn.old)) lab) }
+    ensures { Reads (λ t rows. rows.items ≡ all_codes_shown t lab)
+        (D.state conn.old) (D.state conn.new) result }
 {
     rows_by_one(
         conn,
@@ -68,7 +55,7 @@ fn all_code_rows<D: Readable>(conn: &mut D, lab: i64) -> Result<Vec<Row>, Error>
     )
 }
 
-/// The person whom a row shows.
+// The person whom a row shows.
 fn person_of_row(alloc: Global, row: &Row) -> Result<PersonHead, ReadFault>
     ensures { IfOk result (λ person. person ≡ person_read row.now) }
 {
@@ -92,7 +79,7 @@ fn person_of_row(alloc: Global, row: &Row) -> Result<PersonHead, ReadFault>
     })
 }
 
-/// The person whom the first row shows.
+// The person whom the first row shows.
 fn first_person(alloc: Global, rows: &[Row]) -> Result<Option<PersonHead>, ReadFault>
     ensures { IfOk result (λ person. person ≡ option_map person_read (slice_get rows.now 0)) }
 {
@@ -102,7 +89,7 @@ fn first_person(alloc: Global, rows: &[Row]) -> Result<Option<PersonHead>, ReadF
     }
 }
 
-/// The persons whom rows show.
+// The persons whom rows show.
 fn persons_of_rows(alloc: Global, rows: &[Row]) -> Result<Vec<PersonHead>, ReadFault>
     ensures { IfOk result (λ made. made.items ≡ map person_read rows.now) }
 {
@@ -113,18 +100,14 @@ fn persons_of_rows(alloc: Global, rows: &[Row]) -> Result<Vec<PersonHead>, ReadF
     Ok(made)
 }
 
-/// What was asked for, with the code of whoever asked.
+// What was asked for, with the code of whoever asked.
 fn ask_whole<D: Readable>(
     alloc: Global,
     conn: &mut D,
     ask: Option<AskHead>,
 ) -> Result<Option<Ask>, ReadFault>
-    ensures passes { PassesBy (D.state conn.old) (D.state conn.new) }
-    ensures same { HasCleanDisk (D.state conn.new) → IsTrue (D.state conn.old).is_open →
-        OnOk result (IsUnchanged (D.state conn.old) (D.state conn.new)) }
-    ensures ask { IsReady (D.state conn.old) → HasCleanDisk (D.state conn.new) →
-        IfOk result (λ whole. whole
-        ≡ option_map (ask_by (tables_of (D.state conn.old))) ask) }
+    ensures { MayRead (λ t whole. whole ≡ option_map (ask_by t) ask)
+        (D.state conn.old) (D.state conn.new) result }
 {
     match ask {
         Some(ask) => {
@@ -139,17 +122,14 @@ fn ask_whole<D: Readable>(
     }
 }
 
-/// The person of the row.
+// The person of the row.
 fn person_whole<D: Readable>(
     alloc: Global,
     conn: &mut D,
     head: PersonHead,
 ) -> Result<Person, ReadFault>
-    ensures passes { PassesBy (D.state conn.old) (D.state conn.new) }
-    ensures same { HasCleanDisk (D.state conn.new) → IsTrue (D.state conn.old).is_open →
-        OnOk result (IsUnchanged (D.state conn.old) (D.state conn.new)) }
-    ensures person { IsReady (D.state conn.old) → HasCleanDisk (D.state conn.new) →
-        IfOk result (λ person. person ≡ person_by (tables_of (D.state conn.old)) head) }
+    ensures { MayRead (λ t person. person ≡ person_by t head)
+        (D.state conn.old) (D.state conn.new) result }
 {
     let ask = ask_whole(alloc, conn, head.ask)?;
     Ok(Person {
@@ -164,18 +144,14 @@ fn person_whole<D: Readable>(
     })
 }
 
-/// The person of the row, where there is one.
+// The person of the row, where there is one.
 fn person_if<D: Readable>(
     alloc: Global,
     conn: &mut D,
     head: Option<PersonHead>,
 ) -> Result<Option<Person>, ReadFault>
-    ensures passes { PassesBy (D.state conn.old) (D.state conn.new) }
-    ensures same { HasCleanDisk (D.state conn.new) → IsTrue (D.state conn.old).is_open →
-        OnOk result (IsUnchanged (D.state conn.old) (D.state conn.new)) }
-    ensures person { IsReady (D.state conn.old) → HasCleanDisk (D.state conn.new) →
-        IfOk result (λ person. person
-        ≡ option_map (person_by (tables_of (D.state conn.old))) head) }
+    ensures { MayRead (λ t person. person ≡ option_map (person_by t) head)
+        (D.state conn.old) (D.state conn.new) result }
 {
     match head {
         Some(head) => {
@@ -186,38 +162,30 @@ fn person_if<D: Readable>(
     }
 }
 
-/// The person of the row, behind others.
+// The person of the row, behind others.
 fn add_person<D: Readable>(
     alloc: Global,
     conn: &mut D,
     made: &mut Vec<Person>,
     head: PersonHead,
 ) -> Result<(), ReadFault>
-    ensures passes { PassesBy (D.state conn.old) (D.state conn.new) }
-    ensures same { HasCleanDisk (D.state conn.new) → IsTrue (D.state conn.old).is_open →
-        OnOk result (IsUnchanged (D.state conn.old) (D.state conn.new)) }
-    ensures person { IsReady (D.state conn.old) → HasCleanDisk (D.state conn.new) →
-        OnOk result (made.new.items
-        ≡ made.old.items ++ person_by (tables_of (D.state conn.old)) head ∷ []) }
+    ensures { MayRead (λ t _. made.new.items ≡ made.old.items ++ person_by t head ∷ [])
+        (D.state conn.old) (D.state conn.new) result }
 {
     let person = person_whole(alloc, conn, head)?;
     made.push(person)?;
     Ok(())
 }
 
-/// The persons of the rows, behind others.
+// The persons of the rows, behind others.
 fn add_persons<D: Readable>(
     alloc: Global,
     conn: &mut D,
     made: &mut Vec<Person>,
     heads: Vec<PersonHead>,
 ) -> Result<(), ReadFault>
-    ensures passes { PassesBy (D.state conn.old) (D.state conn.new) }
-    ensures same { HasCleanDisk (D.state conn.new) → IsTrue (D.state conn.old).is_open →
-        OnOk result (IsUnchanged (D.state conn.old) (D.state conn.new)) }
-    ensures persons { IsReady (D.state conn.old) → HasCleanDisk (D.state conn.new) →
-        IsTrue (D.state conn.old).is_open → OnOk result (made.new.items
-        ≡ made.old.items ++ map (person_by (tables_of (D.state conn.old))) heads.items) }
+    ensures { MayRead (λ t _. made.new.items ≡ made.old.items ++ map (person_by t) heads.items)
+        (D.state conn.old) (D.state conn.new) result }
 {
     for head in heads {
         add_person(alloc, conn, made, head)?;
@@ -225,36 +193,31 @@ fn add_persons<D: Readable>(
     Ok(())
 }
 
-/// The own rows of the persons of the laboratory with the id, in the order of their codes.
+// The own rows of the persons of the laboratory with the id, in the order of their codes.
 fn person_heads_at<D: Readable>(
     alloc: Global,
     conn: &mut D,
     lab: i64,
 ) -> Result<Vec<PersonHead>, ReadFault>
-    ensures passes { PassesBy (D.state conn.old) (D.state conn.new) }
-    ensures same { HasCleanDisk (D.state conn.new) →
-        OnOk result (IsUnchanged (D.state conn.old) (D.state conn.new)) }
-    ensures heads { IsReady (D.state conn.old) → HasCleanDisk (D.state conn.new) →
-        IfOk result
-        (λ made. made.items ≡ person_heads_of (tables_of (D.state conn.old)) lab) }
+    ensures { Reads (λ t made. made.items ≡ person_heads_of t lab)
+        (D.state conn.old) (D.state conn.new) result }
 {
     let rows = persons_rows(conn, lab)?;
     persons_of_rows(alloc, &rows)
 }
 
 /// The person who has or had the code, in the laboratory with the id.
+///
+/// # Errors
+/// The store refused, a row is none that this program writes, or memory ran out.
 pub fn person_at<D: Readable>(
     alloc: Global,
     conn: &mut D,
     lab: i64,
     code: &PersonCode,
 ) -> Result<Option<Person>, ReadFault>
-    ensures passes { PassesBy (D.state conn.old) (D.state conn.new) }
-    ensures same { HasCleanDisk (D.state conn.new) →
-        OnOk result (IsUnchanged (D.state conn.old) (D.state conn.new)) }
-    ensures person { IsReady (D.state conn.old) → HasCleanDisk (D.state conn.new) →
-        IfOk result (λ person. person
-        ≡ person_of (persons_of (tables_of (D.state conn.old)) lab) code.now) }
+    ensures { Reads (λ t person. person ≡ person_of (persons_of t lab) code.now)
+        (D.state conn.old) (D.state conn.new) result }
 {
     let rows = person_rows(conn, lab, code.as_str())?;
     let head = first_person(alloc, &rows)?;
@@ -262,16 +225,16 @@ pub fn person_at<D: Readable>(
 }
 
 /// The persons of the laboratory with the id, in the order of their codes.
+///
+/// # Errors
+/// The store refused, a row is none that this program writes, or memory ran out.
 pub fn persons_at<D: Readable>(
     alloc: Global,
     conn: &mut D,
     lab: i64,
 ) -> Result<Vec<Person>, ReadFault>
-    ensures passes { PassesBy (D.state conn.old) (D.state conn.new) }
-    ensures same { HasCleanDisk (D.state conn.new) →
-        OnOk result (IsUnchanged (D.state conn.old) (D.state conn.new)) }
-    ensures persons { IsReady (D.state conn.old) → HasCleanDisk (D.state conn.new) →
-        IfOk result (λ made. made.items ≡ persons_of (tables_of (D.state conn.old)) lab) }
+    ensures { Reads (λ t made. made.items ≡ persons_of t lab)
+        (D.state conn.old) (D.state conn.new) result }
 {
     let heads = person_heads_at(alloc, conn, lab)?;
     let mut made = Vec::new(alloc);
@@ -280,13 +243,12 @@ pub fn persons_at<D: Readable>(
 }
 
 /// How many persons the laboratory with the id has.
+///
+/// # Errors
+/// The store refused, a row is none that this program writes, or memory ran out.
 pub fn person_count<D: Readable>(conn: &mut D, lab: i64) -> Result<u64, ReadFault>
-    ensures passes { PassesBy (D.state conn.old) (D.state conn.new) }
-    ensures same { HasCleanDisk (D.state conn.new) →
-        OnOk result (IsUnchanged (D.state conn.old) (D.state conn.new)) }
-    ensures count { IsReady (D.state conn.old) → HasCleanDisk (D.state conn.new) →
-        IfOk result
-        (λ count. count ≡ length (persons_of (tables_of (D.state conn.old)) lab)) }
+    ensures { Reads (λ t count. count ≡ length (persons_of t lab))
+        (D.state conn.old) (D.state conn.new) result }
 {
     let rows = all_code_rows(conn, lab)?;
     Ok(rows.len() as u64)

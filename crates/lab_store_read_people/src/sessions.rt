@@ -1,10 +1,9 @@
 //! Sessions, by the digests of their tokens.
 
-ghost use Rattle.std.specs.Prelude.{◌≡◌, option_map, slice_get, IfOk, OnOk};
-ghost use Rattle.sqlite.specs.State.{HasCleanDisk, IsUnchanged};
-ghost use Rattle.lab_store_tables.specs.Ready.{IsReady, PassesBy, tables_of};
+ghost use Rattle.std.specs.Prelude.{◌≡◌, option_map, slice_get, IfOk};
 ghost use Rattle.lab_people_access.specs.Sessions.{session_of};
 ghost use Rattle.lab_store_tables.specs.Meaning.{sessions_of};
+ghost use Rattle.lab_store_columns.specs.Reads.{Reads};
 ghost use Rattle.lab_store_read_people.specs.SessionsShown.{sessions_shown, session_read};
 
 use crate::asking::rows_by_token;
@@ -15,14 +14,10 @@ use lab_store_columns::{ReadFault, Readable};
 use sqlite::{Error, Row};
 use std::alloc::Global;
 
-/// The row of the session whose token has the digest, in the laboratory with the id.
+// The row of the session whose token has the digest, in the laboratory with the id.
 fn session_rows<D: Readable>(conn: &mut D, lab: i64, token: &[u8]) -> Result<Vec<Row>, Error>
-    ensures passes { PassesBy (D.state conn.old) (D.state conn.new) }
-    ensures same { HasCleanDisk (D.state conn.new) →
-        OnOk result (IsUnchanged (D.state conn.old) (D.state conn.new)) }
-    ensures rows { IsReady (D.state conn.old) → HasCleanDisk (D.state conn.new) →
-        IfOk result (λ rows. rows.items
-        ≡ sessions_shown (tables_of (D.state conn.old)) lab token.now) }
+    ensures { Reads (λ t rows. rows.items ≡ sessions_shown t lab token.now)
+        (D.state conn.old) (D.state conn.new) result }
 {
     rows_by_token(
         conn,
@@ -32,7 +27,7 @@ fn session_rows<D: Readable>(conn: &mut D, lab: i64, token: &[u8]) -> Result<Vec
     )
 }
 
-/// The session that a row shows.
+// The session that a row shows.
 fn session_of_row(alloc: Global, row: &Row) -> Result<Session, ReadFault>
     ensures { IfOk result (λ session. session ≡ session_read row.now) }
 {
@@ -54,7 +49,7 @@ fn session_of_row(alloc: Global, row: &Row) -> Result<Session, ReadFault>
     })
 }
 
-/// The session that the first row shows.
+// The session that the first row shows.
 fn first_session(alloc: Global, rows: &[Row]) -> Result<Option<Session>, ReadFault>
     ensures { IfOk result
         (λ session. session ≡ option_map session_read (slice_get rows.now 0)) }
@@ -66,18 +61,17 @@ fn first_session(alloc: Global, rows: &[Row]) -> Result<Option<Session>, ReadFau
 }
 
 /// The session whose token has the digest, open or closed, in the laboratory with the id.
+///
+/// # Errors
+/// The store refused, a row is none that this program writes, or memory ran out.
 pub fn session_at<D: Readable>(
     alloc: Global,
     conn: &mut D,
     lab: i64,
     token: &Digest,
 ) -> Result<Option<Session>, ReadFault>
-    ensures passes { PassesBy (D.state conn.old) (D.state conn.new) }
-    ensures same { HasCleanDisk (D.state conn.new) →
-        OnOk result (IsUnchanged (D.state conn.old) (D.state conn.new)) }
-    ensures session { IsReady (D.state conn.old) → HasCleanDisk (D.state conn.new) →
-        IfOk result (λ session. session
-        ≡ session_of (sessions_of (tables_of (D.state conn.old)) lab) token.now) }
+    ensures { Reads (λ t session. session ≡ session_of (sessions_of t lab) token.now)
+        (D.state conn.old) (D.state conn.new) result }
 {
     let bytes = token.bytes();
     let rows = session_rows(conn, lab, &bytes)?;

@@ -1,11 +1,9 @@
 -- What was read of the rows that a query shows, as what the tables have.
-use Rattle.std.proofs.Common.{◌≡◌, ℕ, ℤ, Option, Some, None, List, [], ◌∷◌, map, filter, find, slice_get, option_map, refl, ap, ◌∙◌}
+use Rattle.std.proofs.Common.{◌≡◌, ℕ, ℤ, List, [], ◌∷◌, map, filter, find, slice_get, option_map, refl, ap, ◌∙◌}
 use Rattle.sqlite_keyed.proofs.ListLemmas.{slice_get-filter, map-map, map_same}
-use Rattle.sqlite_value.specs.declared.value.Value.TheVariants.{Text}
-use Rattle.sqlite_value.specs.Order.{bytes}
-use Rattle.lab_store_tables.specs.Rows.{LabRow, RecordRow, VersionRow, EntryRow, SignatureRow, Tables, optional, optional_in}
+use Rattle.lab_store_tables.specs.Rows.{LabRow, RecordRow, VersionRow, EntryRow, SignatureRow, Tables}
 use Rattle.lab_store_tables.specs.Columns.{meaning_in}
-use Rattle.lab_store_tables.specs.Meaning.{has_code, code_of, entry_in, entries_of, signature_in, signatures_of}
+use Rattle.lab_store_tables.specs.Meaning.{has_code, entry_in, entries_of, signature_in, signatures_of}
 use Rattle.lab_store_columns.proofs.Found.{text_back}
 use Rattle.lab_store_read_records.specs.Heads.{lab_head, is_record, record_head, version_head, versions_of}
 use Rattle.lab_seal_versions.specs.declared.rows.EntryRow.{EntryRow as Entry}

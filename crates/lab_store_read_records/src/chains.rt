@@ -1,8 +1,6 @@
 //! Versions of a record, each of which amends the one before it as that is now.
 
-ghost use Rattle.std.specs.Prelude.{◌≡◌, None, [], ◌∷◌, ◌++◌, map, option_map, unwrap_or, IfOk, IfSome, OnOk};
-ghost use Rattle.lab_records_kept.specs.Digests.{digest_of};
-ghost use Rattle.lab_records_kept.specs.Lookups.{last_of};
+ghost use Rattle.std.specs.Prelude.{◌≡◌, None, [], ◌∷◌, ◌++◌, map, IfOk, IfSome, OnOk};
 ghost use Rattle.lab_store_tables.specs.Columns.{format_in};
 ghost use Rattle.lab_store_tables.specs.Meaning.{version_after, chained};
 ghost use Rattle.lab_store_read_records.specs.Leaves.{leaf_of};
@@ -16,7 +14,7 @@ use lab_seal_versions::{Amendment, Format, Origin};
 use lab_store_columns::ReadFault;
 use std::alloc::Global;
 
-/// The format of a number, where the form wants an approval or not.
+// The format of a number, where the form wants an approval or not.
 fn format_of(number: u32, approval: bool) -> Format
     ensures { result ≡ format_in number approval }
 {
@@ -27,8 +25,8 @@ fn format_of(number: u32, approval: bool) -> Format
     }
 }
 
-/// Where a version comes from, whose number and reason these are, behind one of the digest or none. A first version of a
-/// later number, and a later one without a reason or of the first number, come from nowhere.
+// Where a version comes from, whose number and reason these are, behind one of the digest or none. A first version of a
+// later number, and a later one without a reason or of the first number, come from nowhere.
 fn origin_after(number: Ordinal, reason: Option<Note>, before: Option<Digest>) -> Option<Origin>
     ensures { IfSome result (λ origin. origin ≡ origin_after number reason before) }
 {
@@ -46,8 +44,8 @@ fn origin_after(number: Ordinal, reason: Option<Note>, before: Option<Digest>) -
     }
 }
 
-/// The version that the rows tell, behind one of the digest or none. Of the record all but its versions is read. There is
-/// none that is first and of another number, nor a later one without a reason or of the first number.
+/// The version that its rows make, behind a version of the digest, or as the first one. Only the parts of the record are read
+/// that aren't versions. `None` where version 1 has a version before it or a reason, or a later version lacks either.
 pub fn version_after(cover: &Record, before: Option<Digest>, leaf: VersionLeaf) -> Option<Version>
     ensures { IfSome result (λ version. version ≡ version_after cover.now before (leaf_of leaf)) }
 {
@@ -62,7 +60,7 @@ pub fn version_after(cover: &Record, before: Option<Digest>, leaf: VersionLeaf) 
     })
 }
 
-/// The digest of the last version, if there is one.
+// The digest of the last version, if there is one.
 fn before_next(
     alloc: Global,
     lab: &LabCode,
@@ -80,7 +78,7 @@ fn before_next(
     }
 }
 
-/// One version more, which amends the last one.
+// One version more, which amends the last one.
 fn add_version(
     alloc: Global,
     lab: &LabCode,
@@ -97,7 +95,7 @@ fn add_version(
     Ok(())
 }
 
-/// All of them, behind others.
+// All of them, behind others.
 fn add_versions(
     alloc: Global,
     lab: &LabCode,
@@ -117,6 +115,9 @@ fn add_versions(
 
 /// The versions of a record of the laboratory, from what their own rows tell: each after the first amends the one before
 /// it. Of the record all but its versions is read.
+///
+/// # Errors
+/// The store refused, a row is none that this program writes, or memory ran out.
 pub fn chain(
     alloc: Global,
     lab: &LabCode,

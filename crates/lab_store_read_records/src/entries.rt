@@ -1,9 +1,8 @@
 //! Rows that persons entered in a version.
 
-ghost use Rattle.std.specs.Prelude.{◌≡◌, map, IfOk, OnOk};
-ghost use Rattle.sqlite.specs.State.{HasCleanDisk, IsUnchanged};
-ghost use Rattle.lab_store_tables.specs.Ready.{IsReady, PassesBy, tables_of};
+ghost use Rattle.std.specs.Prelude.{◌≡◌, map, IfOk};
 ghost use Rattle.lab_store_tables.specs.Meaning.{entries_of};
+ghost use Rattle.lab_store_columns.specs.Reads.{Reads};
 ghost use Rattle.lab_store_read_records.specs.Shown.{entries_shown, entry_read};
 
 use lab_seal_versions::EntryRow;
@@ -13,14 +12,10 @@ use lab_store_columns::{ReadFault, Readable};
 use sqlite::{Error, Row};
 use std::alloc::Global;
 
-/// The entries of the version with the id, in the order of their places.
+// The entries of the version with the id, in the order of their places.
 fn entry_rows<D: Readable>(conn: &mut D, version: i64) -> Result<Vec<Row>, Error>
-    ensures passes { PassesBy (D.state conn.old) (D.state conn.new) }
-    ensures same { HasCleanDisk (D.state conn.new) →
-        OnOk result (IsUnchanged (D.state conn.old) (D.state conn.new)) }
-    ensures rows { IsReady (D.state conn.old) → HasCleanDisk (D.state conn.new) →
-        IfOk result
-        (λ rows. rows.items ≡ entries_shown (tables_of (D.state conn.old)) version) }
+    ensures { Reads (λ t rows. rows.items ≡ entries_shown t version)
+        (D.state conn.old) (D.state conn.new) result }
 {
     rows_by_one(
         conn,
@@ -29,7 +24,7 @@ fn entry_rows<D: Readable>(conn: &mut D, version: i64) -> Result<Vec<Row>, Error
     )
 }
 
-/// The entry that a row shows.
+// The entry that a row shows.
 fn entry_of_row(alloc: Global, row: &Row) -> Result<EntryRow, ReadFault>
     ensures { IfOk result (λ entry. entry ≡ entry_read row.now) }
 {
@@ -49,7 +44,7 @@ fn entry_of_row(alloc: Global, row: &Row) -> Result<EntryRow, ReadFault>
     })
 }
 
-/// The entries that rows show.
+// The entries that rows show.
 fn entries_of_rows(alloc: Global, rows: &[Row]) -> Result<Vec<EntryRow>, ReadFault>
     ensures { IfOk result (λ made. made.items ≡ map entry_read rows.now) }
 {
@@ -61,17 +56,16 @@ fn entries_of_rows(alloc: Global, rows: &[Row]) -> Result<Vec<EntryRow>, ReadFau
 }
 
 /// The entries of the version with the id, in the order of their places.
+///
+/// # Errors
+/// The store refused, a row is none that this program writes, or memory ran out.
 pub fn entries_at<D: Readable>(
     alloc: Global,
     conn: &mut D,
     version: i64,
 ) -> Result<Vec<EntryRow>, ReadFault>
-    ensures passes { PassesBy (D.state conn.old) (D.state conn.new) }
-    ensures same { HasCleanDisk (D.state conn.new) →
-        OnOk result (IsUnchanged (D.state conn.old) (D.state conn.new)) }
-    ensures entries { IsReady (D.state conn.old) → HasCleanDisk (D.state conn.new) →
-        IfOk result
-        (λ made. made.items ≡ entries_of (tables_of (D.state conn.old)) version) }
+    ensures { Reads (λ t made. made.items ≡ entries_of t version)
+        (D.state conn.old) (D.state conn.new) result }
 {
     let rows = entry_rows(conn, version)?;
     entries_of_rows(alloc, &rows)

@@ -1,9 +1,9 @@
 //! Laboratories, by their codes.
 
-ghost use Rattle.std.specs.Prelude.{◌≡◌, map, filter, find, option_map, slice_get, IfOk, OnOk};
-ghost use Rattle.sqlite.specs.State.{HasCleanDisk, IsUnchanged};
+ghost use Rattle.std.specs.Prelude.{◌≡◌, find, option_map, slice_get, IfOk};
+ghost use Rattle.sqlite.specs.State.{HasCleanDisk, KeepsCommit};
 ghost use Rattle.lab_store_tables.specs.Meaning.{has_code};
-ghost use Rattle.lab_store_tables.specs.Ready.{IsReady, PassesBy, tables_of};
+ghost use Rattle.lab_store_columns.specs.Reads.{Reads};
 ghost use Rattle.lab_store_read_records.specs.Heads.{lab_head};
 ghost use Rattle.lab_store_read_records.specs.Shown.{labs_shown, lab_read};
 
@@ -16,14 +16,15 @@ use lab_store_columns::{ReadFault, Readable};
 use sqlite::{Error, Row};
 use std::alloc::Global;
 
-/// The row of the laboratory with the code.
-fn lab_rows<D: Readable>(conn: &mut D, code: &str) -> Result<Vec<Row>, Error>
-    ensures passes { PassesBy (D.state conn.old) (D.state conn.new) }
-    ensures same { HasCleanDisk (D.state conn.new) →
-        OnOk result (IsUnchanged (D.state conn.old) (D.state conn.new)) }
-    ensures rows { IsReady (D.state conn.old) → HasCleanDisk (D.state conn.new) →
-        IfOk result
-        (λ rows. rows.items ≡ labs_shown (tables_of (D.state conn.old)) code.now) }
+/// The row of the laboratory with the code, if there is one. Nothing is committed.
+///
+/// # Errors
+/// The store refuses, or memory runs out.
+pub fn lab_rows<D: Readable>(conn: &mut D, code: &str) -> Result<Vec<Row>, Error>
+    ensures kept { HasCleanDisk (D.state conn.new) →
+        KeepsCommit (D.state conn.old) (D.state conn.new) }
+    ensures reads { Reads (λ t rows. rows.items ≡ labs_shown t code.now)
+        (D.state conn.old) (D.state conn.new) result }
 {
     rows_by_text(
         conn,
@@ -32,7 +33,7 @@ fn lab_rows<D: Readable>(conn: &mut D, code: &str) -> Result<Vec<Row>, Error>
     )
 }
 
-/// The laboratory that a row shows.
+// The laboratory that a row shows.
 fn lab_of_row(alloc: Global, row: &Row) -> Result<LabHead, ReadFault>
     ensures { IfOk result (λ lab. lab ≡ lab_read row.now) }
 {
@@ -56,7 +57,7 @@ fn lab_of_row(alloc: Global, row: &Row) -> Result<LabHead, ReadFault>
     })
 }
 
-/// The laboratory that the first row shows.
+// The laboratory that the first row shows.
 fn first_lab(alloc: Global, rows: &[Row]) -> Result<Option<LabHead>, ReadFault>
     ensures { IfOk result (λ lab. lab ≡ option_map lab_read (slice_get rows.now 0)) }
 {
@@ -67,17 +68,16 @@ fn first_lab(alloc: Global, rows: &[Row]) -> Result<Option<LabHead>, ReadFault>
 }
 
 /// The laboratory's own row, where there is one of the code.
+///
+/// # Errors
+/// The store refused, a row is none that this program writes, or memory ran out.
 pub fn lab_at<D: Readable>(
     alloc: Global,
     conn: &mut D,
     code: &LabCode,
 ) -> Result<Option<LabHead>, ReadFault>
-    ensures passes { PassesBy (D.state conn.old) (D.state conn.new) }
-    ensures same { HasCleanDisk (D.state conn.new) →
-        OnOk result (IsUnchanged (D.state conn.old) (D.state conn.new)) }
-    ensures found { IsReady (D.state conn.old) → HasCleanDisk (D.state conn.new) →
-        IfOk result (λ lab. lab
-        ≡ option_map lab_head (find (has_code code.now) (tables_of (D.state conn.old)).labs)) }
+    ensures { Reads (λ t lab. lab ≡ option_map lab_head (find (has_code code.now) t.labs))
+        (D.state conn.old) (D.state conn.new) result }
 {
     let rows = lab_rows(conn, code.as_str())?;
     first_lab(alloc, &rows)

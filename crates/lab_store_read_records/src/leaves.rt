@@ -1,9 +1,8 @@
 //! Whole versions, each as its own rows tell it.
 
-ghost use Rattle.std.specs.Prelude.{◌≡◌, IfOk, OnOk};
-ghost use Rattle.sqlite.specs.State.{HasCleanDisk, IsUnchanged};
-ghost use Rattle.lab_store_tables.specs.Ready.{IsReady, PassesBy, tables_of};
+ghost use Rattle.std.specs.Prelude.{◌≡◌};
 ghost use Rattle.lab_store_read_records.specs.Leaves.{leaf_of, leaf_by};
+ghost use Rattle.lab_store_columns.specs.Reads.{Reads};
 
 use crate::entries::entries_at;
 use crate::heads::VersionHead;
@@ -34,16 +33,16 @@ pub struct VersionLeaf {
 }
 
 /// The version with the row, with its entries and signatures.
+///
+/// # Errors
+/// The store refused, a row is none that this program writes, or memory ran out.
 pub fn leaf_at<D: Readable>(
     alloc: Global,
     conn: &mut D,
     head: VersionHead,
 ) -> Result<VersionLeaf, ReadFault>
-    ensures passes { PassesBy (D.state conn.old) (D.state conn.new) }
-    ensures same { HasCleanDisk (D.state conn.new) →
-        OnOk result (IsUnchanged (D.state conn.old) (D.state conn.new)) }
-    ensures leaf { IsReady (D.state conn.old) → HasCleanDisk (D.state conn.new) →
-        IfOk result (λ leaf. leaf_of leaf ≡ leaf_by (tables_of (D.state conn.old)) head) }
+    ensures { Reads (λ t leaf. leaf_of leaf ≡ leaf_by t head)
+        (D.state conn.old) (D.state conn.new) result }
 {
     let rows = entries_at(alloc, conn, head.id)?;
     let signatures = signatures_at(alloc, conn, head.id)?;

@@ -19,7 +19,7 @@ mod versions;
 pub use chains::{chain, version_after};
 pub use entries::entries_at;
 pub use heads::{LabHead, RecordHead, VersionHead};
-pub use labs::lab_at;
+pub use labs::{lab_at, lab_rows};
 pub use leaves::{VersionLeaf, leaf_at};
 pub use record_leaves::leaves_at;
 pub use records::record_at;

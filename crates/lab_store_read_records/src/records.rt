@@ -1,10 +1,9 @@
 //! Records, each by its own row.
 
-ghost use Rattle.std.specs.Prelude.{◌≡◌, find, option_map, slice_get, IfOk, OnOk};
-ghost use Rattle.sqlite.specs.State.{HasCleanDisk, IsUnchanged};
-ghost use Rattle.lab_store_tables.specs.Ready.{IsReady, PassesBy, tables_of};
+ghost use Rattle.std.specs.Prelude.{◌≡◌, find, option_map, slice_get, IfOk};
 ghost use Rattle.lab_store_read_records.specs.Heads.{is_record, record_head};
 ghost use Rattle.lab_store_read_records.specs.Shown.{records_shown, record_read};
+ghost use Rattle.lab_store_columns.specs.Reads.{Reads};
 
 use crate::asking::rows_by_two;
 use crate::heads::RecordHead;
@@ -14,14 +13,10 @@ use lab_store_columns::{ReadFault, Readable};
 use sqlite::{Error, Row};
 use std::alloc::Global;
 
-/// The row of the record with the number, in the laboratory with the id.
+// The row of the record with the number, in the laboratory with the id.
 fn record_rows<D: Readable>(conn: &mut D, lab: i64, number: u32) -> Result<Vec<Row>, Error>
-    ensures passes { PassesBy (D.state conn.old) (D.state conn.new) }
-    ensures same { HasCleanDisk (D.state conn.new) →
-        OnOk result (IsUnchanged (D.state conn.old) (D.state conn.new)) }
-    ensures rows { IsReady (D.state conn.old) → HasCleanDisk (D.state conn.new) →
-        IfOk result
-        (λ rows. rows.items ≡ records_shown (tables_of (D.state conn.old)) lab number) }
+    ensures { Reads (λ t rows. rows.items ≡ records_shown t lab number)
+        (D.state conn.old) (D.state conn.new) result }
 {
     rows_by_two(
         conn,
@@ -32,7 +27,10 @@ fn record_rows<D: Readable>(conn: &mut D, lab: i64, number: u32) -> Result<Vec<R
 }
 
 /// The record that a row shows.
-fn record_of_row(alloc: Global, row: &Row) -> Result<RecordHead, ReadFault>
+///
+/// # Errors
+/// The store refused, a row is none that this program writes, or memory ran out.
+pub(crate) fn record_of_row(alloc: Global, row: &Row) -> Result<RecordHead, ReadFault>
     ensures { IfOk result (λ found. found ≡ record_read row.now) }
 {
     let id = id_of(row, 0)?;
@@ -52,7 +50,10 @@ fn record_of_row(alloc: Global, row: &Row) -> Result<RecordHead, ReadFault>
 }
 
 /// The record that the first row shows.
-fn first_record(alloc: Global, rows: &[Row]) -> Result<Option<RecordHead>, ReadFault>
+///
+/// # Errors
+/// The store refused, a row is none that this program writes, or memory ran out.
+pub(crate) fn first_record(alloc: Global, rows: &[Row]) -> Result<Option<RecordHead>, ReadFault>
     ensures { IfOk result (λ found. found ≡ option_map record_read (slice_get rows.now 0)) }
 {
     match rows.first() {
@@ -62,18 +63,18 @@ fn first_record(alloc: Global, rows: &[Row]) -> Result<Option<RecordHead>, ReadF
 }
 
 /// The record's own row, where there is one of the number in the laboratory with the id.
+///
+/// # Errors
+/// The store refused, a row is none that this program writes, or memory ran out.
 pub fn record_at<D: Readable>(
     alloc: Global,
     conn: &mut D,
     lab: i64,
     number: Ordinal,
 ) -> Result<Option<RecordHead>, ReadFault>
-    ensures passes { PassesBy (D.state conn.old) (D.state conn.new) }
-    ensures same { HasCleanDisk (D.state conn.new) →
-        OnOk result (IsUnchanged (D.state conn.old) (D.state conn.new)) }
-    ensures found { IsReady (D.state conn.old) → HasCleanDisk (D.state conn.new) →
-        IfOk result (λ found. found ≡ option_map record_head
-        (find (is_record lab number) (tables_of (D.state conn.old)).records)) }
+    ensures { Reads (λ t found. found
+        ≡ option_map record_head (find (is_record lab number) t.records))
+        (D.state conn.old) (D.state conn.new) result }
 {
     let rows = record_rows(conn, lab, number.get())?;
     first_record(alloc, &rows)

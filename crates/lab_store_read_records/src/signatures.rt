@@ -1,13 +1,12 @@
 //! Signatures of a version.
 
-ghost use Rattle.std.specs.Prelude.{◌≡◌, map, IfOk, IfSome, OnOk};
-ghost use Rattle.sqlite.specs.State.{HasCleanDisk, IsUnchanged};
-ghost use Rattle.lab_store_tables.specs.Ready.{IsReady, PassesBy, tables_of};
+ghost use Rattle.std.specs.Prelude.{◌≡◌, map, IfOk, IfSome};
 ghost use Rattle.lab_store_tables.specs.Columns.{meaning_in};
 ghost use Rattle.lab_store_tables.specs.Meaning.{signatures_of};
 ghost use Rattle.lab_store_read_records.specs.Shown.{signatures_shown, signature_read};
 ghost use Rattle.sqlite_value.specs.Order.{column, bytes};
 ghost use Rattle.lab_store_tables.specs.Rows.{optional_in};
+ghost use Rattle.lab_store_columns.specs.Reads.{Reads};
 
 use lab_forms_texts::{Keys, Note, Text};
 use lab_records_kept::Signature;
@@ -18,14 +17,10 @@ use lab_store_columns::{ReadFault, Readable};
 use sqlite::{Error, Row};
 use std::alloc::Global;
 
-/// The signatures of the version with the id, in the order of their places.
+// The signatures of the version with the id, in the order of their places.
 fn signature_rows<D: Readable>(conn: &mut D, version: i64) -> Result<Vec<Row>, Error>
-    ensures passes { PassesBy (D.state conn.old) (D.state conn.new) }
-    ensures same { HasCleanDisk (D.state conn.new) →
-        OnOk result (IsUnchanged (D.state conn.old) (D.state conn.new)) }
-    ensures rows { IsReady (D.state conn.old) → HasCleanDisk (D.state conn.new) →
-        IfOk result
-        (λ rows. rows.items ≡ signatures_shown (tables_of (D.state conn.old)) version) }
+    ensures { Reads (λ t rows. rows.items ≡ signatures_shown t version)
+        (D.state conn.old) (D.state conn.new) result }
 {
     rows_by_one(
         conn,
@@ -34,7 +29,8 @@ fn signature_rows<D: Readable>(conn: &mut D, version: i64) -> Result<Vec<Row>, E
     )
 }
 
-/// What a version was signed as, by its word and its reason. There may be none that is written so.
+// What a version was signed as, by its word and its reason. `None` where no meaning is stored with this word and reason: only
+// a rejection has a reason.
 fn meaning_by(word: &str, reason: Option<Note>) -> Option<Meaning>
     ensures { IfSome result (λ meaning. meaning ≡ meaning_in word.now reason) }
 {
@@ -50,7 +46,7 @@ fn meaning_by(word: &str, reason: Option<Note>) -> Option<Meaning>
     }
 }
 
-/// What the version was signed as, which stands in two columns of a row.
+// What the version was signed as, which stands in two columns of a row.
 fn meaning_of(alloc: Global, row: &Row) -> Result<Meaning, ReadFault>
     ensures { IfOk result (λ meaning. meaning
         ≡ meaning_in (bytes (column row.now 2)) (optional_in bytes (column row.now 3))) }
@@ -60,7 +56,7 @@ fn meaning_of(alloc: Global, row: &Row) -> Result<Meaning, ReadFault>
     meaning_by(word.as_str(), reason).ok_or(ReadFault::Storage)
 }
 
-/// The signature that a row shows.
+// The signature that a row shows.
 fn signature_of_row(alloc: Global, row: &Row) -> Result<Signature, ReadFault>
     ensures { IfOk result (λ signature. signature ≡ signature_read row.now) }
 {
@@ -80,7 +76,7 @@ fn signature_of_row(alloc: Global, row: &Row) -> Result<Signature, ReadFault>
     })
 }
 
-/// The signatures that rows show.
+// The signatures that rows show.
 fn signatures_of_rows(alloc: Global, rows: &[Row]) -> Result<Vec<Signature>, ReadFault>
     ensures { IfOk result (λ made. made.items ≡ map signature_read rows.now) }
 {
@@ -92,17 +88,16 @@ fn signatures_of_rows(alloc: Global, rows: &[Row]) -> Result<Vec<Signature>, Rea
 }
 
 /// The signatures of the version with the id, in the order of their places.
+///
+/// # Errors
+/// The store refused, a row is none that this program writes, or memory ran out.
 pub fn signatures_at<D: Readable>(
     alloc: Global,
     conn: &mut D,
     version: i64,
 ) -> Result<Vec<Signature>, ReadFault>
-    ensures passes { PassesBy (D.state conn.old) (D.state conn.new) }
-    ensures same { HasCleanDisk (D.state conn.new) →
-        OnOk result (IsUnchanged (D.state conn.old) (D.state conn.new)) }
-    ensures signatures { IsReady (D.state conn.old) → HasCleanDisk (D.state conn.new) →
-        IfOk result
-        (λ made. made.items ≡ signatures_of (tables_of (D.state conn.old)) version) }
+    ensures { Reads (λ t made. made.items ≡ signatures_of t version)
+        (D.state conn.old) (D.state conn.new) result }
 {
     let rows = signature_rows(conn, version)?;
     signatures_of_rows(alloc, &rows)

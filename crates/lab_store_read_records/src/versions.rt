@@ -1,10 +1,9 @@
 //! Versions of a record, each by its own row.
 
-ghost use Rattle.std.specs.Prelude.{◌≡◌, map, IfOk, OnOk};
-ghost use Rattle.sqlite.specs.State.{HasCleanDisk, IsUnchanged};
-ghost use Rattle.lab_store_tables.specs.Ready.{IsReady, PassesBy, tables_of};
+ghost use Rattle.std.specs.Prelude.{◌≡◌, map, IfOk};
 ghost use Rattle.lab_store_read_records.specs.Heads.{versions_of};
 ghost use Rattle.lab_store_read_records.specs.Shown.{versions_shown, version_read};
+ghost use Rattle.lab_store_columns.specs.Reads.{Reads};
 
 use crate::heads::VersionHead;
 use lab_store_columns::asking::rows_by_one;
@@ -13,14 +12,10 @@ use lab_store_columns::{ReadFault, Readable};
 use sqlite::{Error, Row};
 use std::alloc::Global;
 
-/// The versions of the record with the id, in the order of their numbers.
+// The versions of the record with the id, in the order of their numbers.
 fn version_rows<D: Readable>(conn: &mut D, kept: i64) -> Result<Vec<Row>, Error>
-    ensures passes { PassesBy (D.state conn.old) (D.state conn.new) }
-    ensures same { HasCleanDisk (D.state conn.new) →
-        OnOk result (IsUnchanged (D.state conn.old) (D.state conn.new)) }
-    ensures rows { IsReady (D.state conn.old) → HasCleanDisk (D.state conn.new) →
-        IfOk result
-        (λ rows. rows.items ≡ versions_shown (tables_of (D.state conn.old)) kept) }
+    ensures { Reads (λ t rows. rows.items ≡ versions_shown t kept)
+        (D.state conn.old) (D.state conn.new) result }
 {
     rows_by_one(
         conn,
@@ -29,7 +24,7 @@ fn version_rows<D: Readable>(conn: &mut D, kept: i64) -> Result<Vec<Row>, Error>
     )
 }
 
-/// The version that a row shows.
+// The version that a row shows.
 fn version_of_row(alloc: Global, row: &Row) -> Result<VersionHead, ReadFault>
     ensures { IfOk result (λ version. version ≡ version_read row.now) }
 {
@@ -49,7 +44,7 @@ fn version_of_row(alloc: Global, row: &Row) -> Result<VersionHead, ReadFault>
     })
 }
 
-/// The versions that rows show.
+// The versions that rows show.
 fn versions_of_rows(alloc: Global, rows: &[Row]) -> Result<Vec<VersionHead>, ReadFault>
     ensures { IfOk result (λ made. made.items ≡ map version_read rows.now) }
 {
@@ -61,17 +56,16 @@ fn versions_of_rows(alloc: Global, rows: &[Row]) -> Result<Vec<VersionHead>, Rea
 }
 
 /// The versions of the record with the id, in the order of their numbers.
+///
+/// # Errors
+/// The store refused, a row is none that this program writes, or memory ran out.
 pub fn versions_at<D: Readable>(
     alloc: Global,
     conn: &mut D,
     kept: i64,
 ) -> Result<Vec<VersionHead>, ReadFault>
-    ensures passes { PassesBy (D.state conn.old) (D.state conn.new) }
-    ensures same { HasCleanDisk (D.state conn.new) →
-        OnOk result (IsUnchanged (D.state conn.old) (D.state conn.new)) }
-    ensures versions { IsReady (D.state conn.old) → HasCleanDisk (D.state conn.new) →
-        IfOk result
-        (λ made. made.items ≡ versions_of (tables_of (D.state conn.old)) kept) }
+    ensures { Reads (λ t made. made.items ≡ versions_of t kept)
+        (D.state conn.old) (D.state conn.new) result }
 {
     let rows = version_rows(conn, kept)?;
     versions_of_rows(alloc, &rows)

@@ -313,8 +313,8 @@ version_row_of kept id opener version = record {
   reason = option_map (λ amendment. amendment.reason) version.origin.amendment;
 }
 
--- a version of a record, and then its rows and its signatures; that it amends the version before it
--- as that is now is no column
+-- a version of a record, and then its rows and its signatures; no column says that the version
+-- amends the one before it as that one is now
 pub record AddsVersion (lab kept : ℤ) (version : Version) (old new : Tables) : Type 0 where
   pub id : ℤ
   pub free : IsFree version_id old.versions id

@@ -30,7 +30,7 @@ made_exactly sql params old new made (Ok count) ran wrote = record {
 }
 made_exactly sql params old new made (Err e) ran wrote = tt
 
-ended_keeps : (old new : State) → IsUnchanged old new ⊎ IsRolledBack old new → KeepsCommit old new
+pub ended_keeps : (old new : State) → IsUnchanged old new ⊎ IsRolledBack old new → KeepsCommit old new
 ended_keeps old new (inl it) = record { was_open = λ _. it.0.was_open; committed = λ _. it.0.committed_is }
 ended_keeps old new (inr it) = record { was_open = it.was_open; committed = λ opened. (it.undone opened).1 }
 
@@ -57,11 +57,6 @@ steps_then first second both a b c f p q = record {
   sound = λ typed rules. q.sound (p.made typed).0 (p.sound typed rules);
 }
 
--- after a look-up
-pub finds_then : (P : Tables → Type 0) (step both : Tables → Tables → Type 0) (a b c : State) → ((x z : Tables) → P x → step x z → both x z) → Steps (Finds P) a b → Steps step b c → Steps both a c
-finds_then P step both a b c f =
-    steps_then (Finds P) step both a b c (λ x y z found made. f x z found.0 (subst (λ (t : Tables). step t z) found.1 made))
-
 -- nothing is asked
 pub steps_none : (P : Tables → Type 0) (s : State) → IsTrue s.in_transaction → ((t : Tables) → P t) → Steps (Finds P) s s
 steps_none P s inside all = record { inside = inside; made = λ typed. (typed, (all (tables_of s), refl)); sound = λ _ rules. rules }
@@ -80,7 +75,7 @@ turns_then : {A : Type 0} (step : A → Tables → Tables → Type 0) (xs ys : L
 turns_then step [] ys a b c p q = subst (λ t. InTurn step ys t c) p q
 turns_then step (x ∷ xs) ys a b c p q = (p.0, p.1, turns_then step xs ys p.0 b c p.2 q)
 
-turn_more : {A : Type 0} (step : A → Tables → Tables → Type 0) (xs : List A) (i : ℕ) (d : A) → i < length xs → (a b c : Tables) → InTurn step (take i xs) a b → step (get_or xs i d) b c
+pub turn_more : {A : Type 0} (step : A → Tables → Tables → Type 0) (xs : List A) (i : ℕ) (d : A) → i < length xs → (a b c : Tables) → InTurn step (take i xs) a b → step (get_or xs i d) b c
     → InTurn step (take (i + 1) xs) a c
 turn_more step xs i d within a b c p q =
     subst (λ l. InTurn step l a c) (sym (take_more xs i d within)) (turns_then step (take i xs) (get_or xs i d ∷ []) a b c p (c, q, refl))

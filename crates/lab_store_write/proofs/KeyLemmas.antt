@@ -14,47 +14,20 @@ use Rattle.sqlite_sql.specs.declared.ops.CompareOp.TheVariants.{Eq}
 use Rattle.sqlite_tied.specs.Compute.{everything}
 use Rattle.sqlite.specs.Listing.{understood}
 use Rattle.sqlite.specs.State.{State, Shown}
-use Rattle.lab_store_tables.specs.Rows.{LabRow, lab_row, lab_id, PersonRow, SessionRow, tables_in, person_row, person_id, session_row, session_id}
-use Rattle.lab_store_tables.specs.Meaning.{has_code}
+use Rattle.lab_store_tables.specs.Rows.{PersonRow, SessionRow, tables_in, person_row, person_id, session_row, session_id}
 use Rattle.lab_store_tables.specs.Changes.{is_person, person_named, is_session, IsNamedIfAny}
 use Rattle.lab_store_tables.specs.Held.{IsTyped}
 use Rattle.lab_store_columns.proofs.Texts.{Means, is_param}
 use Rattle.lab_store_columns.proofs.Sorted.{truth_is, equal_ints, equal_texts, and_true}
 use Rattle.lab_store_write.specs.Calls.{Steps, Finds}
 use Rattle.lab_store_write.specs.Ids.{id_read}
-use Rattle.lab_store_write.specs.Shown.{labs_shown, persons_shown, sessions_shown}
+use Rattle.lab_store_write.specs.Shown.{persons_shown, sessions_shown}
 use Rattle.lab_store_write.proofs.Inside.{steps_weaker, steps_none}
 use Rattle.lab_store_write.proofs.Lookups.{by_key_query, rows_by_key, first_key}
 
 equal_blobs : (s t : List ℕ) → is_true (binary (Compare Eq Binary) (Blob s) (Blob t)) ≡ bytes_eq s t
 unfolding binary
 equal_blobs s t = truth_is _ ∙ ap is_eq (value_cmp-Blob s t) ∙ is_eq-slice_cmp s t
-
--- ---- a laboratory by the code
-
-abbrev pub lab_text : List ℕ
-lab_text = codes "SELECT id FROM labs WHERE code = ?1 ORDER BY id"
-
-pub lab_means : Means lab_text (by_key_query 1 (is_param 2 0 ∷ []) (col 1 0 ∷ [])) (codes "id" ∷ [])
-unfolding understood everything
-lab_means = record { read = (_, refl); command = refl; unlisted = refl; plain = (refl, refl) }
-
-pub labs_read : (old new : State) (code : List ℕ) (rows : List Row) → IsTyped old.now → Shown lab_text (Text code ∷ []) old new rows → rows ≡ labs_shown code (tables_in old.now.trees)
-labs_read old new code rows typed h =
-    let t = tables_in old.now.trees in
-    rows_by_key 1 lab_id lab_row (λ _. refl) t.labs (overlay old.now.trees []) typed.labs typed.rising.labs lab_text (is_param 2 0 ∷ []) (col 1 0 ∷ []) (codes "id" ∷ []) lab_means
-    (Text code ∷ []) (has_code code) (λ (one : LabRow). Int one.id ∷ []) (λ x. and_true _ ∙ equal_texts x.code code) (λ x. refl) old new typed.schema refl rows h
-
-pub lab_found : (code text : List ℕ) (shown rows : List Row) (id : ℤ) (old new : State) → text ≡ code → shown ≡ rows → Steps (Finds (λ t. rows ≡ labs_shown text t)) old new
-    → option_map id_read (slice_get shown 0) ≡ Some id → Steps (Finds (λ t. option_map lab_id (find (has_code code) t.labs) ≡ Some id)) old new
-lab_found code text shown rows id old new same slice it first =
-    steps_weaker (Finds (λ t. rows ≡ labs_shown text t)) (Finds (λ t. option_map lab_id (find (has_code code) t.labs) ≡ Some id)) old new
-    (λ before after found. (
-      ap (λ (c : List ℕ). option_map lab_id (find (has_code c) before.labs)) (sym same) ∙ sym (first_key lab_id (has_code text) before.labs)
-          ∙ ap (λ (l : List Row). option_map id_read (slice_get l 0)) (sym (slice ∙ found.0)) ∙ first,
-      found.1,
-    ))
-    it
 
 -- ---- a person by the code
 

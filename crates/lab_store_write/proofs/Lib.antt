@@ -5,6 +5,7 @@ pub mod Inside
 pub mod Placed
 pub mod LabWrites
 pub mod Lookups
+pub mod Writers
 pub mod KeyLemmas
 pub mod KnownValues
 pub mod TrailWrites

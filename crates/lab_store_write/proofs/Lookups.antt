@@ -34,6 +34,7 @@ use Rattle.lab_store_columns.proofs.Texts.{Means}
 use Rattle.lab_store_columns.proofs.Sorted.{sorted_answer}
 use Rattle.lab_store_write.specs.Calls.{Steps, Finds}
 use Rattle.lab_store_write.specs.Ids.{id_read}
+use Rattle.lab_store_write.proofs.Inside.{ended_keeps}
 
 -- ---- rows in the order of their ids
 
@@ -100,10 +101,6 @@ first_key {X} key p xs = go (filter p xs) ∙ ap (option_map key) (slice_get-fil
     go (x ∷ more) = refl
 
 -- ---- what a query leaves
-
-ended_keeps : (old new : State) → IsUnchanged old new ⊎ IsRolledBack old new → KeepsCommit old new
-ended_keeps old new (inl it) = record { was_open = λ _. it.0.was_open; committed = λ _. it.0.committed_is }
-ended_keeps old new (inr it) = record { was_open = it.was_open; committed = λ opened. (it.undone opened).1 }
 
 fails_kept : (sql : List ℕ) (params : Row) (old new : State) (e : Error) → FailsToQuery sql params old new e → IsUnchanged old new ⊎ IsRolledBack old new
 unfolding FailsToQuery IsNotRun

@@ -1,19 +1,32 @@
 -- A row more whose id is wanted: the connection tells it, and it is the next one.
-use Rattle.std.proofs.Common.{◌≡◌, ℕ, ℤ, List, Ok, ◌∙◌}
+use Rattle.std.proofs.Common.{◌≡◌, ℕ, ℤ, List, Result, Ok, IfOk, IsTrue, ◌∙◌, subst}
 use Rattle.sqlite_value.specs.Order.{Row}
-use Rattle.sqlite.specs.State.{State, Executes, ExecutesInside}
+use Rattle.sqlite.specs.declared.error.Error.{Error}
+use Rattle.sqlite.specs.State.{State, HasCleanDisk, Executes, ExecutesInside}
+use Rattle.lab_store_columns.proofs.Queries.{if_then}
 use Rattle.lab_store_tables.specs.Rows.{Tables}
 use Rattle.lab_store_tables.specs.Held.{IsTyped}
 use Rattle.lab_store_tables.specs.Ready.{tables_of}
-use Rattle.lab_store_write.specs.Calls.{Steps}
+use Rattle.lab_store_write.specs.declared.statements.RowId.{RowId}
+use Rattle.lab_store_write.specs.Calls.{Stays, Answers}
 use Rattle.lab_store_write.proofs.Inside.{Wrote}
 
-pub placed_exactly : (sql : List ℕ) (params : Row) (old new : State) (made : Tables → Tables) (next : Tables → ℤ) (id : ℤ) (count : ℕ)
-    → ExecutesInside 0 sql params old new (Ok count) → id ≡ new.last_rowid
-    → (IsTyped old.now → Executes sql params old new (Ok count) → Wrote (made (tables_of old)) new.now × (new.last_rowid ≡ next (tables_of old)))
-    → Steps (λ before after. (id ≡ next before) × (after ≡ made before)) old new
-placed_exactly sql params old new made next id count ran told wrote = record {
-  inside = ran.1.mode;
-  made = λ typed. let it = wrote typed ran.0 in (it.0.held.typed, (told ∙ it.1, it.0.held.tables));
-  sound = λ typed _. (wrote typed ran.0).0.sound;
-}
+module _ {T : Type 0} {lender : T → ℕ × ℕ} {state : T → State} {old new : T} where
+  -- a statement that makes these tables of one row more; its parameters are given in other words
+  pub placed : (sql : List ℕ) (params : Row) (made : Tables → Tables) (next : Tables → ℤ) {given : Row} {r : Result RowId Error} → Stays lender state old new → given ≡ params
+      → (IsTrue (state old).in_transaction → HasCleanDisk (state new)
+      → IfOk r (λ one. (count : ℕ) × ExecutesInside 0 sql given (state old) (state new) (Ok count) × (one.id ≡ (state new).last_rowid)))
+      → ((count : ℕ) → IsTyped (state old).now → Executes sql params (state old) (state new) (Ok count)
+      → Wrote (made (tables_of (state old))) (state new).now × ((state new).last_rowid ≡ next (tables_of (state old))))
+      → Answers lender state (λ (one : RowId) before after. (one.id ≡ next before) × (after ≡ made before)) old new r
+  placed sql params made next {given} {r} stays same ran wrote = record {
+    stays = stays;
+    made = λ inside clean. if_then r (λ one it.
+        let told : ExecutesInside 0 sql params (state old) (state new) (Ok it.0) =
+        subst (λ (row : Row). ExecutesInside 0 sql row (state old) (state new) (Ok it.0)) same it.1 in
+        record {
+          inside = told.1.mode;
+          made = λ typed. let row = wrote it.0 typed told.0 in (row.0.held.typed, (it.2 ∙ row.1, row.0.held.tables));
+          sound = λ typed _. (wrote it.0 typed told.0).0.sound;
+        }) (ran inside clean);
+  }

@@ -2,12 +2,8 @@
 use Rattle.std.specs.Prelude.{ℤ, ℕ, List, [], ◌∷◌, map, filter}
 use Rattle.sqlite_value.specs.declared.value.Value.TheVariants.{Int}
 use Rattle.sqlite_value.specs.Order.{Row}
-use Rattle.lab_store_tables.specs.Rows.{LabRow, PersonRow, SessionRow, Tables}
-use Rattle.lab_store_tables.specs.Meaning.{has_code}
+use Rattle.lab_store_tables.specs.Rows.{PersonRow, SessionRow, Tables}
 use Rattle.lab_store_tables.specs.Changes.{is_person, is_session}
-
-abbrev pub labs_shown : List ℕ → Tables → List Row
-labs_shown code t = map (λ (one : LabRow). Int one.id ∷ []) (filter (has_code code) t.labs)
 
 abbrev pub persons_shown : ℤ → List ℕ → Tables → List Row
 persons_shown lab code t =

@@ -1,9 +1,9 @@
 //! A row more whose id is wanted.
 
-ghost use Rattle.std.specs.Prelude.{◌≡◌, ℕ, Ok, IfOk};
-ghost use Rattle.sqlite.specs.State.{HasCleanDisk, KeepsCommit, Survives, ExecutesInside};
+ghost use Rattle.std.specs.Prelude.{◌≡◌, ℕ, Ok, IfOk, IsTrue};
+ghost use Rattle.sqlite.specs.State.{HasCleanDisk, ExecutesInside};
 ghost use Rattle.sqlite.specs.Values.{bound};
-ghost use Rattle.lab_store_write.specs.Calls.{IsInside};
+ghost use Rattle.lab_store_write.specs.Calls.{Stays};
 
 use crate::statements::{RowId, run};
 use crate::writable::Writable;
@@ -11,17 +11,15 @@ use sqlite::Error;
 use sqlite::types::ValueRef;
 
 /// Runs a statement that adds a row, and answers the row's id.
+///
+/// # Errors
+/// The store refused, or memory ran out.
 pub fn insert<W: Writable>(tx: &mut W, text: &str, params: &[ValueRef<'_>]) -> Result<RowId, Error>
-    requires inside { IsInside (W.state tx.old) }
-    ensures same_lender { W.lender tx.new ≡ W.lender tx.old }
-    ensures ran { HasCleanDisk (W.state tx.new) →
+    ensures stays { Stays W.lender W.state tx.old tx.new }
+    ensures ran { IsTrue (W.state tx.old).in_transaction → HasCleanDisk (W.state tx.new) →
         IfOk result (λ one. (count : ℕ) × ExecutesInside 0 text.now (bound params.now)
         (W.state tx.old) (W.state tx.new) (Ok count)
         × (one.id ≡ (W.state tx.new).last_rowid)) }
-    ensures kept { HasCleanDisk (W.state tx.new) → KeepsCommit
-        (W.state tx.old) (W.state tx.new) }
-    ensures survives { Survives
-        (W.state tx.old) (W.state tx.new) (λ _. ⊥) }
 {
     run(tx, text, params)?;
     Ok(RowId {

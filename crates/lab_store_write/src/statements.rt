@@ -1,9 +1,9 @@
 //! A statement inside a transaction.
 
-ghost use Rattle.std.specs.Prelude.{◌≡◌};
-ghost use Rattle.sqlite.specs.State.{HasCleanDisk, KeepsCommit, ExecutesInside, Survives};
+ghost use Rattle.std.specs.Prelude.{IsTrue};
+ghost use Rattle.sqlite.specs.State.{HasCleanDisk, ExecutesInside};
 ghost use Rattle.sqlite.specs.Values.{bound};
-ghost use Rattle.lab_store_write.specs.Calls.{IsInside};
+ghost use Rattle.lab_store_write.specs.Calls.{Stays};
 
 use crate::writable::Writable;
 use sqlite::Error;
@@ -17,16 +17,13 @@ pub struct RowId {
 }
 
 /// Runs a statement that writes, and answers how many rows it wrote.
+///
+/// # Errors
+/// The store refused, or memory ran out.
 pub fn run<W: Writable>(tx: &mut W, text: &str, params: &[ValueRef<'_>]) -> Result<usize, Error>
-    requires inside { IsInside (W.state tx.old) }
-    ensures same_lender { W.lender tx.new ≡ W.lender tx.old }
-    ensures runs { HasCleanDisk (W.state tx.new) →
-        ExecutesInside 0 text.now (bound params.now)
-        (W.state tx.old) (W.state tx.new) result }
-    ensures kept { HasCleanDisk (W.state tx.new) → KeepsCommit
-        (W.state tx.old) (W.state tx.new) }
-    ensures survives { Survives
-        (W.state tx.old) (W.state tx.new) (λ _. ⊥) }
+    ensures stays { Stays W.lender W.state tx.old tx.new }
+    ensures runs { IsTrue (W.state tx.old).in_transaction → HasCleanDisk (W.state tx.new) →
+        ExecutesInside 0 text.now (bound params.now) (W.state tx.old) (W.state tx.new) result }
 {
     tx.execute(text, params)
 }

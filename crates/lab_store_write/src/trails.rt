@@ -1,10 +1,9 @@
 //! Rows of the trail.
 
-ghost use Rattle.std.specs.Prelude.{◌≡◌, option_map};
-ghost use Rattle.sqlite.specs.State.{HasCleanDisk, KeepsCommit, Survives};
+ghost use Rattle.std.specs.Prelude.{option_map};
 ghost use Rattle.lab_store_tables.specs.Rows.{LabRow};
 ghost use Rattle.lab_store_tables.specs.Changes.{in_lab, AddsTold};
-ghost use Rattle.lab_store_write.specs.Calls.{IsInside, Makes};
+ghost use Rattle.lab_store_write.specs.Calls.{Writes, Becomes};
 ghost use Rattle.lab_store_write.specs.Ids.{row_id};
 ghost use Rattle.lab_store_write.specs.TrailAdded.{with_told};
 
@@ -16,22 +15,15 @@ use lab_forms_texts::Ordinal;
 use lab_records_kept::TrailRow;
 use sqlite::Error;
 
-/// Adds the row.
+// Adds the row.
 fn insert_told<W: Writable>(
     tx: &mut W,
     lab: RowId,
     person: Option<RowId>,
     told: &TrailRow,
 ) -> Result<usize, Error>
-    requires inside { IsInside (W.state tx.old) }
-    ensures same_lender { W.lender tx.new ≡ W.lender tx.old }
-    ensures made { Makes result (λ before after. after
-        ≡ with_told lab.id (option_map row_id person) told.now before)
-        (W.state tx.old) (W.state tx.new) }
-    ensures kept { HasCleanDisk (W.state tx.new) → KeepsCommit
-        (W.state tx.old) (W.state tx.new) }
-    ensures survives { Survives
-        (W.state tx.old) (W.state tx.new) (λ _. ⊥) }
+    ensures { Writes W.lender W.state
+        (Becomes (with_told lab.id (option_map row_id person) told.now)) tx.old tx.new result }
 {
     let action = told.action.word();
     let subject = told.subject.as_str();
@@ -49,17 +41,11 @@ fn insert_told<W: Writable>(
     )
 }
 
-/// Sets how many rows of the trail the laboratory has.
+// Sets how many rows of the trail the laboratory has.
 fn set_trail<W: Writable>(tx: &mut W, lab: RowId, count: Ordinal) -> Result<usize, Error>
-    requires inside { IsInside (W.state tx.old) }
-    ensures same_lender { W.lender tx.new ≡ W.lender tx.old }
-    ensures made { Makes result (λ before after. after
-        ≡ in_lab lab.id (λ (one : LabRow). record one { trail = count }) before)
-        (W.state tx.old) (W.state tx.new) }
-    ensures kept { HasCleanDisk (W.state tx.new) → KeepsCommit
-        (W.state tx.old) (W.state tx.new) }
-    ensures survives { Survives
-        (W.state tx.old) (W.state tx.new) (λ _. ⊥) }
+    ensures { Writes W.lender W.state
+        (Becomes (in_lab lab.id (λ (one : LabRow). record one { trail = count })))
+        tx.old tx.new result }
 {
     run(
         tx,
@@ -70,16 +56,10 @@ fn set_trail<W: Writable>(tx: &mut W, lab: RowId, count: Ordinal) -> Result<usiz
 
 /// Adds a row of the trail.
 ///
-/// Errors: also that nobody has the code of who is named.
+/// # Errors
+/// Those of `Writable`, and that nobody has the code of who is named.
 pub fn add_told<W: Writable>(tx: &mut W, lab: RowId, told: &TrailRow) -> Result<(), Error>
-    requires inside { IsInside (W.state tx.old) }
-    ensures same_lender { W.lender tx.new ≡ W.lender tx.old }
-    ensures made { Makes result (AddsTold lab.id told.now)
-        (W.state tx.old) (W.state tx.new) }
-    ensures kept { HasCleanDisk (W.state tx.new) → KeepsCommit
-        (W.state tx.old) (W.state tx.new) }
-    ensures survives { Survives
-        (W.state tx.old) (W.state tx.new) (λ _. ⊥) }
+    ensures { Writes W.lender W.state (AddsTold lab.id told.now) tx.old tx.new result }
 {
     let person = person_if_any(tx, lab, &told.person)?;
     insert_told(tx, lab, person, told)?;

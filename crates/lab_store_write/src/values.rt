@@ -86,6 +86,9 @@ pub fn blob_value(bytes: &[u8]) -> ValueRef<'_>
 }
 
 /// A number that may be too great for the store, which has those below 2^63.
+///
+/// # Errors
+/// The store refused, or memory ran out.
 pub fn count_value<'a>(count: u64) -> Result<ValueRef<'a>, Error>
     ensures { IfOk result (λ value. bound_value (owned value) ≡ number count) }
 {

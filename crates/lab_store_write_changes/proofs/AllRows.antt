@@ -1,25 +1,16 @@
 -- The rows of a laboratory, one kind after the other, in a database that keeps its own rules.
 use Rattle.std.proofs.Common.{◌≡◌, ℤ, List, subst}
-use Rattle.sqlite_schema.specs.Rules.{Obeys}
-use Rattle.sqlite.specs.Effect.{Database, IsDatabase}
+use Rattle.sqlite.specs.Effect.{IsDatabase}
 use Rattle.sqlite.specs.State.{State}
 use Rattle.lab_people_access.specs.declared.persons.Person.{Person}
 use Rattle.lab_records_kept.specs.declared.labs.Lab.{Lab}
 use Rattle.lab_records_kept.specs.declared.trails.TrailRow.{TrailRow as Told}
-use Rattle.lab_store_tables.specs.Schema.{lab_schema}
-use Rattle.lab_store_tables.specs.Rows.{tables_in}
 use Rattle.lab_store_tables.specs.Changes.{InTurn, AddsPerson, AddsTold}
 use Rattle.lab_store_tables.specs.Held.{IsTyped}
 use Rattle.lab_store_tables.specs.Ready.{tables_of}
-use Rattle.lab_store_laws.proofs.KeptByRules.{ids_by_order, keys_by_rules, arrows_by_rules}
-use Rattle.lab_store_laws.specs.ByRules.{IsByRules}
 use Rattle.lab_store_write.specs.Calls.{Steps}
+use Rattle.lab_store_write_changes.proofs.Steps.{rules_of}
 use Rattle.lab_store_write_changes.specs.NewbornRows.{AddsLab, AddsRows}
-
-rules_of : (db : Database) → IsTyped db → IsDatabase db → IsByRules (tables_in db.trees)
-rules_of db typed sound =
-    let obeys : Obeys lab_schema db.trees = subst (λ schema. Obeys schema db.trees) typed.schema sound.obeys in
-    record { ids = ids_by_order (tables_in db.trees) typed.rising; keys = keys_by_rules db typed obeys; arrows = arrows_by_rules db typed obeys }
 
 -- persons and trail are given as slices
 pub rows_added : (lab : Lab) (id : ℤ) (persons : List Person) (trail : List Told) (a b c d : State) → (IsTyped a.now → IsDatabase b.now)

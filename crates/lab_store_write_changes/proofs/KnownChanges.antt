@@ -1,5 +1,5 @@
 -- Small instances of the definitions: the row of a laboratory that is founded.
-use Rattle.std.proofs.Common.{◌≡◌, refl, pos, true, false, [], ◌∷◌, true≢false}
+use Rattle.std.proofs.Common.{refl, pos, [], ◌∷◌, true≢false}
 use Rattle.std.specs.Prelude.{codes}
 use Rattle.lab_records_kept.specs.declared.labs.Lab.{Lab}
 use Rattle.lab_store_tables.specs.Rows.{Tables}

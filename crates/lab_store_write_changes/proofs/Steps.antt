@@ -1,6 +1,5 @@
 -- Changes one after the other, in a database that keeps its own rules.
-use Rattle.std.proofs.Common.{◌≡◌, ℕ, ◌+◌, ◌<◌, ℤ, List, [], ◌∷◌, ◌++◌, take, length, get_or, Result, Ok, Err, OnOk, IsTrue, refl, sym, subst}
-use Rattle.std.proofs.lemmas.List.{take_more}
+use Rattle.std.proofs.Common.{ℕ, ◌+◌, ◌<◌, ℤ, List, [], take, length, get_or, IsTrue, refl, subst}
 use Rattle.sqlite_schema.specs.Rules.{Obeys}
 use Rattle.sqlite.specs.Effect.{Database, IsDatabase}
 use Rattle.sqlite.specs.State.{State}
@@ -8,7 +7,7 @@ use Rattle.lab_people_access.specs.declared.sessions.Closing.{Closing}
 use Rattle.lab_records_kept.specs.declared.changes.Change.{Change}
 use Rattle.lab_records_kept.specs.declared.changes.Change.TheVariants.{SessionsClosed}
 use Rattle.lab_store_tables.specs.Schema.{lab_schema}
-use Rattle.lab_store_tables.specs.Rows.{Tables, tables_in}
+use Rattle.lab_store_tables.specs.Rows.{tables_in}
 use Rattle.lab_store_tables.specs.Changes.{InTurn}
 use Rattle.lab_store_tables.specs.Held.{IsTyped}
 use Rattle.lab_store_tables.specs.Ready.{tables_of}
@@ -16,22 +15,14 @@ use Rattle.lab_store_laws.proofs.KeptByRules.{ids_by_order, keys_by_rules, arrow
 use Rattle.lab_store_laws.specs.ByRules.{IsByRules}
 use Rattle.lab_store_laws.specs.Steps.{AppliesWhereKept, StepsBy}
 use Rattle.lab_store_write.specs.Calls.{Steps}
+use Rattle.lab_store_write.proofs.Inside.{turn_more}
 use Rattle.lab_store_write_people.specs.Closings.{ClosesOf}
 use Rattle.lab_store_write_people.proofs.ClosedAlike.{closes_as_said}
 
-rules_of : (db : Database) → IsTyped db → IsDatabase db → IsByRules (tables_in db.trees)
+pub rules_of : (db : Database) → IsTyped db → IsDatabase db → IsByRules (tables_in db.trees)
 rules_of db typed sound =
     let obeys : Obeys lab_schema db.trees = subst (λ schema. Obeys schema db.trees) typed.schema sound.obeys in
     record { ids = ids_by_order (tables_in db.trees) typed.rising; keys = keys_by_rules db typed obeys; arrows = arrows_by_rules db typed obeys }
-
-turns_then : {A : Type 0} (step : A → Tables → Tables → Type 0) (xs ys : List A) (a b c : Tables) → InTurn step xs a b → InTurn step ys b c → InTurn step (xs ++ ys) a c
-turns_then step [] ys a b c p q = subst (λ t. InTurn step ys t c) p q
-turns_then step (x ∷ xs) ys a b c p q = (p.0, p.1, turns_then step xs ys p.0 b c p.2 q)
-
-turn_more : {A : Type 0} (step : A → Tables → Tables → Type 0) (xs : List A) (i : ℕ) (d : A) → i < length xs → (a b c : Tables) → InTurn step (take i xs) a b → step (get_or xs i d) b c
-    → InTurn step (take (i + 1) xs) a c
-turn_more step xs i d within a b c p q =
-    subst (λ l. InTurn step l a c) (sym (take_more xs i d within)) (turns_then step (take i xs) (get_or xs i d ∷ []) a b c p (c, q, refl))
 
 pub none_made : (lab : ℤ) (s : State) → IsTrue s.in_transaction → Steps (InTurn (StepsBy lab) []) s s
 none_made lab s inside = record { inside = inside; made = λ typed. (typed, refl); sound = λ typed rules. rules }
@@ -50,11 +41,9 @@ one_more lab changes i d within a b c rules p q = record {
 }
 
 -- sessions that are closed by the id of their person
-pub closed_where_kept : {A E : Type 0} (lab : ℤ) (code : List ℕ) (closing : Closing) (a b : State) (r : Result A E) → OnOk r (Steps (ClosesOf lab code closing) a b)
-    → OnOk r (Steps (AppliesWhereKept lab (SessionsClosed code closing)) a b)
-closed_where_kept lab code closing a b (Ok done) did = record {
+pub closed_where_kept : (lab : ℤ) (code : List ℕ) (closing : Closing) (a b : State) → Steps (ClosesOf lab code closing) a b → Steps (AppliesWhereKept lab (SessionsClosed code closing)) a b
+closed_where_kept lab code closing a b did = record {
   inside = did.inside;
   made = λ typed. let it = did.made typed in (it.0, λ rising well. closes_as_said (tables_of a) (tables_of b) rising.persons well lab code closing it.1);
   sound = did.sound;
 }
-closed_where_kept lab code closing a b (Err e) did = tt

@@ -1,12 +1,12 @@
 //! Each change inside a transaction, and one after the other.
 
-ghost use Rattle.std.specs.Prelude.{◌≡◌, OnOk, IsTrue};
+ghost use Rattle.std.specs.Prelude.{OnOk, IsTrue};
 ghost use Rattle.sqlite.specs.Effect.{IsDatabase};
-ghost use Rattle.sqlite.specs.State.{HasCleanDisk, KeepsCommit, Survives};
+ghost use Rattle.sqlite.specs.State.{HasCleanDisk};
 ghost use Rattle.lab_records_kept.specs.declared.changes.Change.TheVariants.{Last, Strays, SessionsClosed};
 ghost use Rattle.lab_store_tables.specs.Changes.{AppliesIn, InTurn};
 ghost use Rattle.lab_store_laws.specs.Steps.{AppliesWhereKept, StepsBy};
-ghost use Rattle.lab_store_write.specs.Calls.{IsInside, Makes, Steps};
+ghost use Rattle.lab_store_write.specs.Calls.{Stays, Steps, Writes};
 
 use lab_forms_texts::{Moment, PersonCode};
 use lab_records_kept::{Change, Closing};
@@ -15,65 +15,38 @@ use lab_store_write_people::{add_person, add_session, close_sessions, set_person
 use lab_store_write_records::{add_form, add_record, enter_row, open_version, sign_version};
 use sqlite::Error;
 
-/// Sets the last moment.
+// Sets the last moment.
 fn change_last<W: Writable>(tx: &mut W, lab: RowId, moment: Moment) -> Result<(), Error>
-    requires inside { IsInside (W.state tx.old) }
-    ensures same_lender { W.lender tx.new ≡ W.lender tx.old }
-    ensures made { Makes result (AppliesIn lab.id (Last moment))
-        (W.state tx.old) (W.state tx.new) }
-    ensures kept { HasCleanDisk (W.state tx.new) → KeepsCommit
-        (W.state tx.old) (W.state tx.new) }
-    ensures survives { Survives
-        (W.state tx.old) (W.state tx.new) (λ _. ⊥) }
+    ensures { Writes W.lender W.state (AppliesIn lab.id (Last moment)) tx.old tx.new result }
 {
     set_last(tx, lab, moment)?;
     Ok(())
 }
 
-/// Sets how many passwords were given for nobody's account.
+// Sets how many passwords were given for nobody's account.
 fn change_strays<W: Writable>(tx: &mut W, lab: RowId, count: u64) -> Result<(), Error>
-    requires inside { IsInside (W.state tx.old) }
-    ensures same_lender { W.lender tx.new ≡ W.lender tx.old }
-    ensures made { Makes result (AppliesIn lab.id (Strays count))
-        (W.state tx.old) (W.state tx.new) }
-    ensures kept { HasCleanDisk (W.state tx.new) → KeepsCommit
-        (W.state tx.old) (W.state tx.new) }
-    ensures survives { Survives
-        (W.state tx.old) (W.state tx.new) (λ _. ⊥) }
+    ensures { Writes W.lender W.state (AppliesIn lab.id (Strays count)) tx.old tx.new result }
 {
     set_strays(tx, lab, count)?;
     Ok(())
 }
 
-/// Closes the sessions of the person that are meant.
+// Closes the sessions of the person that are meant.
 fn change_sessions<W: Writable>(
     tx: &mut W,
     lab: RowId,
     person: &PersonCode,
     closing: Closing,
 ) -> Result<(), Error>
-    requires inside { IsInside (W.state tx.old) }
-    ensures same_lender { W.lender tx.new ≡ W.lender tx.old }
-    ensures made { Makes result (AppliesWhereKept lab.id (SessionsClosed person.now closing))
-        (W.state tx.old) (W.state tx.new) }
-    ensures kept { HasCleanDisk (W.state tx.new) → KeepsCommit
-        (W.state tx.old) (W.state tx.new) }
-    ensures survives { Survives
-        (W.state tx.old) (W.state tx.new) (λ _. ⊥) }
+    ensures { Writes W.lender W.state (AppliesWhereKept lab.id (SessionsClosed person.now closing))
+        tx.old tx.new result }
 {
     close_sessions(tx, lab, person, closing)
 }
 
-/// Makes the change of the laboratory whose row has the id.
+// Makes the change of the laboratory whose row has the id.
 fn change_rows<W: Writable>(tx: &mut W, lab: RowId, change: &Change) -> Result<(), Error>
-    requires inside { IsInside (W.state tx.old) }
-    ensures same_lender { W.lender tx.new ≡ W.lender tx.old }
-    ensures made { Makes result (AppliesWhereKept lab.id change.now)
-        (W.state tx.old) (W.state tx.new) }
-    ensures kept { HasCleanDisk (W.state tx.new) → KeepsCommit
-        (W.state tx.old) (W.state tx.new) }
-    ensures survives { Survives
-        (W.state tx.old) (W.state tx.new) (λ _. ⊥) }
+    ensures { Writes W.lender W.state (AppliesWhereKept lab.id change.now) tx.old tx.new result }
 {
     match change {
         Change::Last(moment) => change_last(tx, lab, *moment),
@@ -97,20 +70,17 @@ fn change_rows<W: Writable>(tx: &mut W, lab: RowId, change: &Change) -> Result<(
 }
 
 /// Makes the changes, one after the other.
+///
+/// # Errors
+/// The store refused, or memory ran out.
 pub fn all_inside<W: Writable>(tx: &mut W, lab: RowId, changes: &[Change]) -> Result<(), Error>
-    requires inside { IsInside (W.state tx.old) }
-    ensures same_lender { W.lender tx.new ≡ W.lender tx.old }
-    ensures inside { HasCleanDisk (W.state tx.new) →
+    ensures stays { Stays W.lender W.state tx.old tx.new }
+    ensures inside { IsTrue (W.state tx.old).in_transaction → HasCleanDisk (W.state tx.new) →
         OnOk result (IsTrue (W.state tx.new).in_transaction) }
     // In a database that keeps its own rules:
-    ensures made { HasCleanDisk (W.state tx.new) →
+    ensures made { IsTrue (W.state tx.old).in_transaction → HasCleanDisk (W.state tx.new) →
         OnOk result (IsDatabase (W.state tx.old).now →
-        Steps (InTurn (StepsBy lab.id) changes.now)
-        (W.state tx.old) (W.state tx.new)) }
-    ensures kept { HasCleanDisk (W.state tx.new) → KeepsCommit
-        (W.state tx.old) (W.state tx.new) }
-    ensures survives { Survives
-        (W.state tx.old) (W.state tx.new) (λ _. ⊥) }
+        Steps (InTurn (StepsBy lab.id) changes.now) (W.state tx.old) (W.state tx.new)) }
 {
     for change in changes {
         change_rows(tx, lab, change)?;

@@ -23,7 +23,7 @@ pub fn is_asked(newborn: &Newborn) -> bool
     newborn.first.ask.is_some() || newborn.second.ask.is_some() || newborn.third.ask.is_some()
 }
 
-/// Whether a text comes before another in the order of their bytes.
+// Whether a text comes before another in the order of their bytes.
 fn comes_before<R: Rule>(one: &Text<R>, other: &Text<R>) -> bool
     ensures { result ≡ comes_before one.now other.now }
 {
@@ -33,14 +33,14 @@ fn comes_before<R: Rule>(one: &Text<R>, other: &Text<R>) -> bool
     }
 }
 
-/// Where the first person of a later code stands.
+// Where the first person of a later code stands.
 fn later_person(persons: &[Person], code: &PersonCode) -> Option<usize>
     ensures { result ≡ position (λ one. comes_before code.now one.code) persons.now }
 {
     persons.iter().position(|one| comes_before(code, &one.code))
 }
 
-/// Where a person of the code is added: before the first of a later code, or at the end.
+// Where a person of the code is added: before the first of a later code, or at the end.
 #[tactic(auto, using(crate::proofs::Positions::place_found, crate::proofs::Positions::place_at_end, crate::proofs::Positions::place_within))]
 fn place_for_person(persons: &[Person], code: &PersonCode) -> usize
     ensures value { result ≡ position_or_len (λ one. comes_before code.now one.code) persons.now }
@@ -52,7 +52,7 @@ fn place_for_person(persons: &[Person], code: &PersonCode) -> usize
     }
 }
 
-/// Adds the person, in the order of codes. The only error is out of memory.
+// Adds the person, in the order of codes. The only error is out of memory.
 fn insert_person(persons: &mut Vec<Person>, person: Person) -> Result<(), OutOfMemory>
     ensures { OnOk result (persons.new.items ≡ added_person person persons.old.items) }
 {
@@ -61,7 +61,7 @@ fn insert_person(persons: &mut Vec<Person>, person: Person) -> Result<(), OutOfM
     Ok(())
 }
 
-/// The founders, in the order of their codes. The only error is out of memory.
+// The founders, in the order of their codes. The only error is out of memory.
 fn founders(
     alloc: Global,
     first: Person,
@@ -78,7 +78,7 @@ fn founders(
     Ok(Series::from_vec(persons))
 }
 
-/// The first row of the trail: that the laboratory was founded. The only error is out of memory.
+// The first row of the trail: that the laboratory was founded. The only error is out of memory.
 fn first_trail(alloc: Global, newborn: &Newborn) -> Result<Series<TrailRow>, OutOfMemory>
     ensures { IfOk result (λ trail.
         trail ≡ row_of 1 newborn.now.moment None (Found newborn.now.code) ∷ []) }
@@ -96,6 +96,9 @@ fn first_trail(alloc: Global, newborn: &Newborn) -> Result<Series<TrailRow>, Out
 }
 
 /// The laboratory that is founded. The only error is out of memory.
+///
+/// # Errors
+/// Memory ran out.
 pub fn laboratory(alloc: Global, newborn: Newborn) -> Result<Lab, OutOfMemory>
     ensures { IfOk result (λ lab. lab ≡ newborn_lab newborn) }
 {

@@ -1,11 +1,11 @@
 //! The rows of a laboratory that is placed, each inside a transaction.
 
-ghost use Rattle.std.specs.Prelude.{◌≡◌, OnOk};
+ghost use Rattle.std.specs.Prelude.{OnOk, IsTrue};
 ghost use Rattle.sqlite.specs.Effect.{IsDatabase};
-ghost use Rattle.sqlite.specs.State.{HasCleanDisk, KeepsCommit, Survives};
+ghost use Rattle.sqlite.specs.State.{HasCleanDisk};
 ghost use Rattle.lab_store_tables.specs.Changes.{InTurn, AddsPerson, AddsTold};
 ghost use Rattle.lab_store_tables.specs.Held.{IsTyped};
-ghost use Rattle.lab_store_write.specs.Calls.{IsInside, Makes, Answers};
+ghost use Rattle.lab_store_write.specs.Calls.{Answers, Writes};
 ghost use Rattle.lab_store_write_changes.specs.NewbornRows.{AddsLab, AddsRows};
 
 use lab_people_access::Person;
@@ -16,21 +16,15 @@ use lab_store_write::{RowId, Writable, add_told};
 use lab_store_write_people::add_person;
 use sqlite::Error;
 
-/// Adds the laboratory's row, and tells its id.
-///
-/// Errors: also a number that is too great for the store.
+// Adds the laboratory's row, and tells its id.
+//
+// # Errors
+// Those of `Writable`, and a number that is too great for the store.
 fn add_lab<W: Writable>(tx: &mut W, lab: &Lab) -> Result<RowId, Error>
-    requires inside { IsInside (W.state tx.old) }
-    ensures same_lender { W.lender tx.new ≡ W.lender tx.old }
-    ensures made { Answers result (λ one. AddsLab one.id lab.now)
-        (W.state tx.old) (W.state tx.new) }
+    ensures writes { Answers W.lender W.state (λ one. AddsLab one.id lab.now) tx.old tx.new result }
     // The database keeps its own rules then, whatever it did before:
-    ensures rules { HasCleanDisk (W.state tx.new) → OnOk result
-        (IsTyped (W.state tx.old).now → IsDatabase (W.state tx.new).now) }
-    ensures kept { HasCleanDisk (W.state tx.new) → KeepsCommit
-        (W.state tx.old) (W.state tx.new) }
-    ensures survives { Survives
-        (W.state tx.old) (W.state tx.new) (λ _. ⊥) }
+    ensures rules { IsTrue (W.state tx.old).in_transaction → HasCleanDisk (W.state tx.new) →
+        OnOk result (IsTyped (W.state tx.old).now → IsDatabase (W.state tx.new).now) }
 {
     let code = lab.code.as_str();
     let name = lab.name.as_str();
@@ -49,16 +43,10 @@ fn add_lab<W: Writable>(tx: &mut W, lab: &Lab) -> Result<RowId, Error>
     Ok(RowId { id })
 }
 
-/// Adds the persons, one after the other.
+// Adds the persons, one after the other.
 fn add_persons<W: Writable>(tx: &mut W, lab: RowId, persons: &[Person]) -> Result<(), Error>
-    requires inside { IsInside (W.state tx.old) }
-    ensures same_lender { W.lender tx.new ≡ W.lender tx.old }
-    ensures made { Makes result (InTurn (AddsPerson lab.id) persons.now)
-        (W.state tx.old) (W.state tx.new) }
-    ensures kept { HasCleanDisk (W.state tx.new) → KeepsCommit
-        (W.state tx.old) (W.state tx.new) }
-    ensures survives { Survives
-        (W.state tx.old) (W.state tx.new) (λ _. ⊥) }
+    ensures { Writes W.lender W.state (InTurn (AddsPerson lab.id) persons.now)
+        tx.old tx.new result }
 {
     for person in persons {
         add_person(tx, lab, person)?;
@@ -66,16 +54,9 @@ fn add_persons<W: Writable>(tx: &mut W, lab: RowId, persons: &[Person]) -> Resul
     Ok(())
 }
 
-/// Adds the rows of the trail, one after the other.
+// Adds the rows of the trail, one after the other.
 fn add_trail<W: Writable>(tx: &mut W, lab: RowId, trail: &[TrailRow]) -> Result<(), Error>
-    requires inside { IsInside (W.state tx.old) }
-    ensures same_lender { W.lender tx.new ≡ W.lender tx.old }
-    ensures made { Makes result (InTurn (AddsTold lab.id) trail.now)
-        (W.state tx.old) (W.state tx.new) }
-    ensures kept { HasCleanDisk (W.state tx.new) → KeepsCommit
-        (W.state tx.old) (W.state tx.new) }
-    ensures survives { Survives
-        (W.state tx.old) (W.state tx.new) (λ _. ⊥) }
+    ensures { Writes W.lender W.state (InTurn (AddsTold lab.id) trail.now) tx.old tx.new result }
 {
     for told in trail {
         add_told(tx, lab, told)?;
@@ -84,15 +65,11 @@ fn add_trail<W: Writable>(tx: &mut W, lab: RowId, trail: &[TrailRow]) -> Result<
 }
 
 /// Adds all of it.
+///
+/// # Errors
+/// The store refused, or memory ran out.
 pub fn add_rows<W: Writable>(tx: &mut W, lab: &Lab) -> Result<(), Error>
-    requires inside { IsInside (W.state tx.old) }
-    ensures same_lender { W.lender tx.new ≡ W.lender tx.old }
-    ensures made { Makes result (AddsRows lab.now)
-        (W.state tx.old) (W.state tx.new) }
-    ensures kept { HasCleanDisk (W.state tx.new) → KeepsCommit
-        (W.state tx.old) (W.state tx.new) }
-    ensures survives { Survives
-        (W.state tx.old) (W.state tx.new) (λ _. ⊥) }
+    ensures { Writes W.lender W.state (AddsRows lab.now) tx.old tx.new result }
 {
     let row = add_lab(tx, lab)?;
     add_persons(tx, row, lab.persons.as_slice())?;

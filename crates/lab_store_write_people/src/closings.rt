@@ -1,10 +1,9 @@
 //! Sessions that a change of their person's account closes, at a lock and at a retirement (21 CFR 11.300(b) and (d)).
 
 ghost use Rattle.std.specs.Prelude.{◌≡◌};
-ghost use Rattle.sqlite.specs.State.{HasCleanDisk, KeepsCommit, Survives};
 ghost use Rattle.lab_people_access.specs.declared.sessions.Closing.TheVariants.{All, Others};
 ghost use Rattle.lab_store_tables.specs.Changes.{InTurn};
-ghost use Rattle.lab_store_write.specs.Calls.{IsInside, Makes, Answers, Finds};
+ghost use Rattle.lab_store_write.specs.Calls.{Answers, Writes, Becomes, Finds};
 ghost use Rattle.lab_store_write_people.specs.Closings.{close_one, close_of, ClosesRow, ClosesOf, opened_shown};
 
 use lab_forms_texts::{Ordinal, PersonCode};
@@ -14,16 +13,9 @@ use lab_store_write::values::{id_value, ordinal_value};
 use lab_store_write::{RowId, Writable, id_of, person_id_at};
 use sqlite::{Error, Row};
 
-/// Closes the session.
+// Closes the session.
 fn close_session<W: Writable>(tx: &mut W, session: RowId) -> Result<usize, Error>
-    requires inside { IsInside (W.state tx.old) }
-    ensures same_lender { W.lender tx.new ≡ W.lender tx.old }
-    ensures made { Makes result (λ before after. after ≡ close_one session.id before)
-        (W.state tx.old) (W.state tx.new) }
-    ensures kept { HasCleanDisk (W.state tx.new) → KeepsCommit
-        (W.state tx.old) (W.state tx.new) }
-    ensures survives { Survives
-        (W.state tx.old) (W.state tx.new) (λ _. ⊥) }
+    ensures { Writes W.lender W.state (Becomes (close_one session.id)) tx.old tx.new result }
 {
     run(
         tx,
@@ -32,16 +24,9 @@ fn close_session<W: Writable>(tx: &mut W, session: RowId) -> Result<usize, Error
     )
 }
 
-/// Closes the sessions whose ids the rows show, one after the other.
+// Closes the sessions whose ids the rows show, one after the other.
 fn close_rows<W: Writable>(tx: &mut W, rows: &[Row]) -> Result<(), Error>
-    requires inside { IsInside (W.state tx.old) }
-    ensures same_lender { W.lender tx.new ≡ W.lender tx.old }
-    ensures made { Makes result (InTurn ClosesRow rows.now)
-        (W.state tx.old) (W.state tx.new) }
-    ensures kept { HasCleanDisk (W.state tx.new) → KeepsCommit
-        (W.state tx.old) (W.state tx.new) }
-    ensures survives { Survives
-        (W.state tx.old) (W.state tx.new) (λ _. ⊥) }
+    ensures { Writes W.lender W.state (InTurn ClosesRow rows.now) tx.old tx.new result }
 {
     for row in rows {
         let session = id_of(row)?;
@@ -50,16 +35,10 @@ fn close_rows<W: Writable>(tx: &mut W, rows: &[Row]) -> Result<(), Error>
     Ok(())
 }
 
-/// The open sessions of the person.
+// The open sessions of the person.
 fn all_rows<W: Writable>(tx: &mut W, person: RowId) -> Result<Vec<Row>, Error>
-    requires inside { IsInside (W.state tx.old) }
-    ensures same_lender { W.lender tx.new ≡ W.lender tx.old }
-    ensures rows { Answers result (λ rows. Finds (λ t. rows.items ≡ opened_shown person.id All t))
-        (W.state tx.old) (W.state tx.new) }
-    ensures kept { HasCleanDisk (W.state tx.new) → KeepsCommit
-        (W.state tx.old) (W.state tx.new) }
-    ensures survives { Survives
-        (W.state tx.old) (W.state tx.new) (λ _. ⊥) }
+    ensures { Answers W.lender W.state
+        (λ rows. Finds (λ t. rows.items ≡ opened_shown person.id All t)) tx.old tx.new result }
 {
     tx.query_all(
         "SELECT id FROM sessions WHERE person = ?1 AND closed = 0 ORDER BY id",
@@ -67,17 +46,11 @@ fn all_rows<W: Writable>(tx: &mut W, person: RowId) -> Result<Vec<Row>, Error>
     )
 }
 
-/// The open sessions of the person but the one of the number.
+// The open sessions of the person but the one of the number.
 fn other_rows<W: Writable>(tx: &mut W, person: RowId, kept: Ordinal) -> Result<Vec<Row>, Error>
-    requires inside { IsInside (W.state tx.old) }
-    ensures same_lender { W.lender tx.new ≡ W.lender tx.old }
-    ensures rows { Answers result
+    ensures { Answers W.lender W.state
         (λ rows. Finds (λ t. rows.items ≡ opened_shown person.id (Others kept) t))
-        (W.state tx.old) (W.state tx.new) }
-    ensures kept { HasCleanDisk (W.state tx.new) → KeepsCommit
-        (W.state tx.old) (W.state tx.new) }
-    ensures survives { Survives
-        (W.state tx.old) (W.state tx.new) (λ _. ⊥) }
+        tx.old tx.new result }
 {
     tx.query_all(
         "SELECT id FROM sessions WHERE person = ?1 AND closed = 0 AND number <> ?2 ORDER BY id",
@@ -85,49 +58,28 @@ fn other_rows<W: Writable>(tx: &mut W, person: RowId, kept: Ordinal) -> Result<V
     )
 }
 
-/// Closes all sessions of the person.
+// Closes all sessions of the person.
 fn close_all<W: Writable>(tx: &mut W, person: RowId) -> Result<(), Error>
-    requires inside { IsInside (W.state tx.old) }
-    ensures same_lender { W.lender tx.new ≡ W.lender tx.old }
-    ensures made { Makes result (λ before after. after ≡ close_of person.id All before)
-        (W.state tx.old) (W.state tx.new) }
-    ensures kept { HasCleanDisk (W.state tx.new) → KeepsCommit
-        (W.state tx.old) (W.state tx.new) }
-    ensures survives { Survives
-        (W.state tx.old) (W.state tx.new) (λ _. ⊥) }
+    ensures { Writes W.lender W.state (Becomes (close_of person.id All)) tx.old tx.new result }
 {
     let rows = all_rows(tx, person)?;
     close_rows(tx, &rows)?;
     Ok(())
 }
 
-/// Closes all sessions of the person but the one of the number.
+// Closes all sessions of the person but the one of the number.
 fn close_others<W: Writable>(tx: &mut W, person: RowId, kept: Ordinal) -> Result<(), Error>
-    requires inside { IsInside (W.state tx.old) }
-    ensures same_lender { W.lender tx.new ≡ W.lender tx.old }
-    ensures made { Makes result (λ before after. after
-        ≡ close_of person.id (Others kept) before)
-        (W.state tx.old) (W.state tx.new) }
-    ensures kept { HasCleanDisk (W.state tx.new) → KeepsCommit
-        (W.state tx.old) (W.state tx.new) }
-    ensures survives { Survives
-        (W.state tx.old) (W.state tx.new) (λ _. ⊥) }
+    ensures { Writes W.lender W.state (Becomes (close_of person.id (Others kept)))
+        tx.old tx.new result }
 {
     let rows = other_rows(tx, person, kept)?;
     close_rows(tx, &rows)?;
     Ok(())
 }
 
-/// Closes the sessions of the person that are meant.
+// Closes the sessions of the person that are meant.
 fn close_meant<W: Writable>(tx: &mut W, person: RowId, closing: Closing) -> Result<(), Error>
-    requires inside { IsInside (W.state tx.old) }
-    ensures same_lender { W.lender tx.new ≡ W.lender tx.old }
-    ensures made { Makes result (λ before after. after ≡ close_of person.id closing before)
-        (W.state tx.old) (W.state tx.new) }
-    ensures kept { HasCleanDisk (W.state tx.new) → KeepsCommit
-        (W.state tx.old) (W.state tx.new) }
-    ensures survives { Survives
-        (W.state tx.old) (W.state tx.new) (λ _. ⊥) }
+    ensures { Writes W.lender W.state (Becomes (close_of person.id closing)) tx.old tx.new result }
 {
     match closing {
         Closing::Nothing => Ok(()),
@@ -138,21 +90,15 @@ fn close_meant<W: Writable>(tx: &mut W, person: RowId, closing: Closing) -> Resu
 
 /// Closes the sessions of the person of the code that are meant.
 ///
-/// Errors: also that nobody has the code.
+/// # Errors
+/// Those of `Writable`, and that nobody has the code.
 pub fn close_sessions<W: Writable>(
     tx: &mut W,
     lab: RowId,
     code: &PersonCode,
     closing: Closing,
 ) -> Result<(), Error>
-    requires inside { IsInside (W.state tx.old) }
-    ensures same_lender { W.lender tx.new ≡ W.lender tx.old }
-    ensures made { Makes result (ClosesOf lab.id code.now closing)
-        (W.state tx.old) (W.state tx.new) }
-    ensures kept { HasCleanDisk (W.state tx.new) → KeepsCommit
-        (W.state tx.old) (W.state tx.new) }
-    ensures survives { Survives
-        (W.state tx.old) (W.state tx.new) (λ _. ⊥) }
+    ensures { Writes W.lender W.state (ClosesOf lab.id code.now closing) tx.old tx.new result }
 {
     let person = person_id_at(tx, lab, code)?;
     close_meant(tx, person, closing)?;

@@ -86,7 +86,7 @@ pub(crate) fn ask_cells(asker: Option<RowId>, ask: &Option<Ask>) -> AskCells
     }
 }
 
-/// A weight, where it counts.
+// A weight, where it counts.
 fn weight(counts: bool, weight: u32) -> u32
     ensures { result ≡ (if counts then weight else 0) }
 {

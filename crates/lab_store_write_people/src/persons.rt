@@ -1,9 +1,8 @@
 //! Persons, with their accounts.
 
-ghost use Rattle.std.specs.Prelude.{◌≡◌, option_map};
-ghost use Rattle.sqlite.specs.State.{HasCleanDisk, KeepsCommit, Survives};
+ghost use Rattle.std.specs.Prelude.{option_map};
 ghost use Rattle.lab_store_tables.specs.Changes.{IsNamedIfAny, AddsPerson, SetsPerson, person_row_of, set_person as with_row};
-ghost use Rattle.lab_store_write.specs.Calls.{IsInside, Makes, Answers, Finds};
+ghost use Rattle.lab_store_write.specs.Calls.{Answers, Writes, Becomes, Finds};
 ghost use Rattle.lab_store_write.specs.Ids.{row_id};
 ghost use Rattle.lab_store_write_people.specs.Persons.{asker_in, with_person};
 
@@ -18,21 +17,15 @@ use lab_store_write::values::{
 use lab_store_write::{RowId, Writable, person_id_at};
 use sqlite::Error;
 
-/// Who asked for a one-time word, where somebody did.
+// Who asked for a one-time word, where somebody did.
 fn asker_if_any<W: Writable>(
     tx: &mut W,
     lab: RowId,
     ask: &Option<Ask>,
 ) -> Result<Option<RowId>, Error>
-    requires inside { IsInside (W.state tx.old) }
-    ensures same_lender { W.lender tx.new ≡ W.lender tx.old }
-    ensures found { Answers result (λ one. Finds (λ t.
+    ensures { Answers W.lender W.state (λ one. Finds (λ t.
         IsNamedIfAny t lab.id (option_map asker_in ask.now) (option_map row_id one)))
-        (W.state tx.old) (W.state tx.new) }
-    ensures kept { HasCleanDisk (W.state tx.new) → KeepsCommit
-        (W.state tx.old) (W.state tx.new) }
-    ensures survives { Survives
-        (W.state tx.old) (W.state tx.new) (λ _. ⊥) }
+        tx.old tx.new result }
 {
     match ask {
         Some(ask) => {
@@ -43,22 +36,15 @@ fn asker_if_any<W: Writable>(
     }
 }
 
-/// Adds the row.
+// Adds the row.
 fn insert_person<W: Writable>(
     tx: &mut W,
     lab: RowId,
     asker: Option<RowId>,
     person: &Person,
 ) -> Result<usize, Error>
-    requires inside { IsInside (W.state tx.old) }
-    ensures same_lender { W.lender tx.new ≡ W.lender tx.old }
-    ensures made { Makes result (λ before after. after
-        ≡ with_person lab.id (option_map row_id asker) person.now before)
-        (W.state tx.old) (W.state tx.new) }
-    ensures kept { HasCleanDisk (W.state tx.new) → KeepsCommit
-        (W.state tx.old) (W.state tx.new) }
-    ensures survives { Survives
-        (W.state tx.old) (W.state tx.new) (λ _. ⊥) }
+    ensures { Writes W.lender W.state
+        (Becomes (with_person lab.id (option_map row_id asker) person.now)) tx.old tx.new result }
 {
     let code = person.code.as_str();
     let name = person.name.as_str();
@@ -97,23 +83,17 @@ fn insert_person<W: Writable>(
 
 /// Adds a person.
 ///
-/// Errors: also that nobody has the code of who asked for a one-time word.
+/// # Errors
+/// Those of `Writable`, and that nobody has the code of who asked for a one-time word.
 pub fn add_person<W: Writable>(tx: &mut W, lab: RowId, person: &Person) -> Result<(), Error>
-    requires inside { IsInside (W.state tx.old) }
-    ensures same_lender { W.lender tx.new ≡ W.lender tx.old }
-    ensures made { Makes result (AddsPerson lab.id person.now)
-        (W.state tx.old) (W.state tx.new) }
-    ensures kept { HasCleanDisk (W.state tx.new) → KeepsCommit
-        (W.state tx.old) (W.state tx.new) }
-    ensures survives { Survives
-        (W.state tx.old) (W.state tx.new) (λ _. ⊥) }
+    ensures { Writes W.lender W.state (AddsPerson lab.id person.now) tx.old tx.new result }
 {
     let asker = asker_if_any(tx, lab, &person.ask)?;
     insert_person(tx, lab, asker, person)?;
     Ok(())
 }
 
-/// Sets the row.
+// Sets the row.
 fn update_person<W: Writable>(
     tx: &mut W,
     id: RowId,
@@ -121,15 +101,9 @@ fn update_person<W: Writable>(
     asker: Option<RowId>,
     person: &Person,
 ) -> Result<usize, Error>
-    requires inside { IsInside (W.state tx.old) }
-    ensures same_lender { W.lender tx.new ≡ W.lender tx.old }
-    ensures made { Makes result (λ before after. after
-        ≡ with_row (person_row_of lab.id id.id (option_map row_id asker) person.now) before)
-        (W.state tx.old) (W.state tx.new) }
-    ensures kept { HasCleanDisk (W.state tx.new) → KeepsCommit
-        (W.state tx.old) (W.state tx.new) }
-    ensures survives { Survives
-        (W.state tx.old) (W.state tx.new) (λ _. ⊥) }
+    ensures { Writes W.lender W.state
+        (Becomes (with_row (person_row_of lab.id id.id (option_map row_id asker) person.now)))
+        tx.old tx.new result }
 {
     let code = person.code.as_str();
     let name = person.name.as_str();
@@ -169,16 +143,10 @@ fn update_person<W: Writable>(
 
 /// Sets a person, whom the code names.
 ///
-/// Errors: also that nobody has that code, or that of who asked for a one-time word.
+/// # Errors
+/// Those of `Writable`, and that nobody has that code, or that of who asked for a one-time word.
 pub fn set_person<W: Writable>(tx: &mut W, lab: RowId, person: &Person) -> Result<(), Error>
-    requires inside { IsInside (W.state tx.old) }
-    ensures same_lender { W.lender tx.new ≡ W.lender tx.old }
-    ensures made { Makes result (SetsPerson lab.id person.now)
-        (W.state tx.old) (W.state tx.new) }
-    ensures kept { HasCleanDisk (W.state tx.new) → KeepsCommit
-        (W.state tx.old) (W.state tx.new) }
-    ensures survives { Survives
-        (W.state tx.old) (W.state tx.new) (λ _. ⊥) }
+    ensures { Writes W.lender W.state (SetsPerson lab.id person.now) tx.old tx.new result }
 {
     let id = person_id_at(tx, lab, &person.code)?;
     let asker = asker_if_any(tx, lab, &person.ask)?;

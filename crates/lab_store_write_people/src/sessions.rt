@@ -1,10 +1,8 @@
 //! Sessions.
 
-ghost use Rattle.std.specs.Prelude.{◌≡◌};
-ghost use Rattle.sqlite.specs.State.{HasCleanDisk, KeepsCommit, Survives};
 ghost use Rattle.lab_store_tables.specs.Rows.{LabRow};
 ghost use Rattle.lab_store_tables.specs.Changes.{in_lab, AddsSession, SetsSession, set_session as with_row, session_row_of};
-ghost use Rattle.lab_store_write.specs.Calls.{IsInside, Makes};
+ghost use Rattle.lab_store_write.specs.Calls.{Writes, Becomes};
 ghost use Rattle.lab_store_write_people.specs.Added.{with_session};
 
 use lab_forms_texts::Ordinal;
@@ -14,22 +12,15 @@ use lab_store_write::values::{blob_value, flag_value, id_value, moment_value, or
 use lab_store_write::{RowId, Writable, person_id_at, session_id_at};
 use sqlite::Error;
 
-/// Adds the row.
+// Adds the row.
 fn insert_session<W: Writable>(
     tx: &mut W,
     lab: RowId,
     person: RowId,
     session: &Session,
 ) -> Result<usize, Error>
-    requires inside { IsInside (W.state tx.old) }
-    ensures same_lender { W.lender tx.new ≡ W.lender tx.old }
-    ensures made { Makes result (λ before after. after
-        ≡ with_session lab.id person.id session.now before)
-        (W.state tx.old) (W.state tx.new) }
-    ensures kept { HasCleanDisk (W.state tx.new) → KeepsCommit
-        (W.state tx.old) (W.state tx.new) }
-    ensures survives { Survives
-        (W.state tx.old) (W.state tx.new) (λ _. ⊥) }
+    ensures { Writes W.lender W.state (Becomes (with_session lab.id person.id session.now))
+        tx.old tx.new result }
 {
     let token = session.token.bytes();
     run(
@@ -48,17 +39,11 @@ fn insert_session<W: Writable>(
     )
 }
 
-/// Sets how many sessions the laboratory has.
+// Sets how many sessions the laboratory has.
 fn set_sessions<W: Writable>(tx: &mut W, lab: RowId, count: Ordinal) -> Result<usize, Error>
-    requires inside { IsInside (W.state tx.old) }
-    ensures same_lender { W.lender tx.new ≡ W.lender tx.old }
-    ensures made { Makes result (λ before after. after
-        ≡ in_lab lab.id (λ (one : LabRow). record one { sessions = count }) before)
-        (W.state tx.old) (W.state tx.new) }
-    ensures kept { HasCleanDisk (W.state tx.new) → KeepsCommit
-        (W.state tx.old) (W.state tx.new) }
-    ensures survives { Survives
-        (W.state tx.old) (W.state tx.new) (λ _. ⊥) }
+    ensures { Writes W.lender W.state
+        (Becomes (in_lab lab.id (λ (one : LabRow). record one { sessions = count })))
+        tx.old tx.new result }
 {
     run(
         tx,
@@ -69,16 +54,10 @@ fn set_sessions<W: Writable>(tx: &mut W, lab: RowId, count: Ordinal) -> Result<u
 
 /// Adds a session.
 ///
-/// Errors: also that nobody has the code of its person.
+/// # Errors
+/// Those of `Writable`, and that nobody has the code of its person.
 pub fn add_session<W: Writable>(tx: &mut W, lab: RowId, session: &Session) -> Result<(), Error>
-    requires inside { IsInside (W.state tx.old) }
-    ensures same_lender { W.lender tx.new ≡ W.lender tx.old }
-    ensures made { Makes result (AddsSession lab.id session.now)
-        (W.state tx.old) (W.state tx.new) }
-    ensures kept { HasCleanDisk (W.state tx.new) → KeepsCommit
-        (W.state tx.old) (W.state tx.new) }
-    ensures survives { Survives
-        (W.state tx.old) (W.state tx.new) (λ _. ⊥) }
+    ensures { Writes W.lender W.state (AddsSession lab.id session.now) tx.old tx.new result }
 {
     let person = person_id_at(tx, lab, &session.person)?;
     insert_session(tx, lab, person, session)?;
@@ -86,7 +65,7 @@ pub fn add_session<W: Writable>(tx: &mut W, lab: RowId, session: &Session) -> Re
     Ok(())
 }
 
-/// Sets the row.
+// Sets the row.
 fn update_session<W: Writable>(
     tx: &mut W,
     id: RowId,
@@ -94,15 +73,9 @@ fn update_session<W: Writable>(
     person: RowId,
     session: &Session,
 ) -> Result<usize, Error>
-    requires inside { IsInside (W.state tx.old) }
-    ensures same_lender { W.lender tx.new ≡ W.lender tx.old }
-    ensures made { Makes result (λ before after. after
-        ≡ with_row (session_row_of lab.id id.id person.id session.now) before)
-        (W.state tx.old) (W.state tx.new) }
-    ensures kept { HasCleanDisk (W.state tx.new) → KeepsCommit
-        (W.state tx.old) (W.state tx.new) }
-    ensures survives { Survives
-        (W.state tx.old) (W.state tx.new) (λ _. ⊥) }
+    ensures { Writes W.lender W.state
+        (Becomes (with_row (session_row_of lab.id id.id person.id session.now)))
+        tx.old tx.new result }
 {
     let token = session.token.bytes();
     run(
@@ -124,16 +97,10 @@ fn update_session<W: Writable>(
 
 /// Sets a session, which its token names.
 ///
-/// Errors: also that no session has the token, or nobody the code of its person.
+/// # Errors
+/// Those of `Writable`, and that no session has the token, or nobody the code of its person.
 pub fn set_session<W: Writable>(tx: &mut W, lab: RowId, session: &Session) -> Result<(), Error>
-    requires inside { IsInside (W.state tx.old) }
-    ensures same_lender { W.lender tx.new ≡ W.lender tx.old }
-    ensures made { Makes result (SetsSession lab.id session.now)
-        (W.state tx.old) (W.state tx.new) }
-    ensures kept { HasCleanDisk (W.state tx.new) → KeepsCommit
-        (W.state tx.old) (W.state tx.new) }
-    ensures survives { Survives
-        (W.state tx.old) (W.state tx.new) (λ _. ⊥) }
+    ensures { Writes W.lender W.state (SetsSession lab.id session.now) tx.old tx.new result }
 {
     let id = session_id_at(tx, lab, &session.token)?;
     let person = person_id_at(tx, lab, &session.person)?;

@@ -1,6 +1,5 @@
 -- Rows that are named by their keys, or by their parents: what each look-up means, and what it finds.
-use Rattle.std.proofs.Common.{◌≡◌, ℕ, ℤ, ◌+◌, ◌&&◌, List, [], ◌∷◌, map, filter, length, codes, slice_get, Some, option_map, refl, sym, ap, ap₂, ◌∙◌}
-use Rattle.std.proofs.lemmas.List.{length-map}
+use Rattle.std.proofs.Common.{◌≡◌, ℕ, ℤ, ◌&&◌, List, [], ◌∷◌, map, filter, codes, slice_get, Some, option_map, refl, sym, ap, ap₂, ◌∙◌}
 use Rattle.sqlite_value.specs.declared.value.Value.TheVariants.{Int}
 use Rattle.sqlite_value.specs.Order.{Row}
 use Rattle.sqlite_keyed.proofs.ListLemmas.{slice_get-filter}
@@ -116,17 +115,6 @@ entries_read old new parent rows typed h =
     (Int parent ∷ []) (is_entry_of parent) (λ (one : EntryRow). Int one.id ∷ []) (λ x. and_true _ ∙ equal_ints x.version parent)
     (λ x. refl) old new typed.schema refl rows h
 
-pub entries_counted : (parent : ℤ) (count place : ℕ) (rows : List Row) (old new : State) → count ≡ length rows → place ≡ count + 1
-    → Steps (Finds (λ t. rows ≡ entries_shown parent t)) old new
-    → Steps (Finds (λ t. place ≡ length (filter (is_entry_of parent) t.entries) + 1)) old new
-entries_counted parent count place rows old new same next it =
-    steps_weaker (Finds (λ t. rows ≡ entries_shown parent t)) (Finds (λ t. place ≡ length (filter (is_entry_of parent) t.entries) + 1)) old new
-    (λ before after found. (
-      next ∙ ap (λ (n : ℕ). n + 1)
-          (same ∙ ap length found.0 ∙ length-map (filter (is_entry_of parent) before.entries) (λ (one : EntryRow). Int one.id ∷ [])),
-      found.1,
-    )) it
-
 -- ---- the place behind the signatures of one parent
 
 abbrev pub signatures_text : List ℕ
@@ -144,14 +132,3 @@ signatures_read old new parent rows typed h =
     signatures_text (is_param 2 0 ∷ []) (col 1 0 ∷ []) (codes "id" ∷ []) signatures_means
     (Int parent ∷ []) (is_signature_of parent) (λ (one : SignatureRow). Int one.id ∷ []) (λ x. and_true _ ∙ equal_ints x.version parent)
     (λ x. refl) old new typed.schema refl rows h
-
-pub signatures_counted : (parent : ℤ) (count place : ℕ) (rows : List Row) (old new : State) → count ≡ length rows → place ≡ count + 1
-    → Steps (Finds (λ t. rows ≡ signatures_shown parent t)) old new
-    → Steps (Finds (λ t. place ≡ length (filter (is_signature_of parent) t.signatures) + 1)) old new
-signatures_counted parent count place rows old new same next it =
-    steps_weaker (Finds (λ t. rows ≡ signatures_shown parent t)) (Finds (λ t. place ≡ length (filter (is_signature_of parent) t.signatures) + 1)) old new
-    (λ before after found. (
-      next ∙ ap (λ (n : ℕ). n + 1)
-          (same ∙ ap length found.0 ∙ length-map (filter (is_signature_of parent) before.signatures) (λ (one : SignatureRow). Int one.id ∷ [])),
-      found.1,
-    )) it

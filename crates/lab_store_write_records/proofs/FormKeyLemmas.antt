@@ -1,6 +1,5 @@
 -- Rows that are named by their parents: what each look-up means, and what it finds.
-use Rattle.std.proofs.Common.{◌≡◌, ℕ, ℤ, ◌+◌, List, [], ◌∷◌, filter, length, codes, refl, ap, ◌∙◌}
-use Rattle.std.proofs.lemmas.List.{length-map}
+use Rattle.std.proofs.Common.{◌≡◌, ℕ, ℤ, List, [], ◌∷◌, codes, refl, ◌∙◌}
 use Rattle.sqlite_value.specs.declared.value.Value.TheVariants.{Int}
 use Rattle.sqlite_value.specs.Order.{Row}
 use Rattle.sqlite_sql.specs.Program.{overlay}
@@ -12,8 +11,6 @@ use Rattle.lab_store_tables.specs.Rows.{FieldRow, ChoiceRow, tables_in, field_ro
 use Rattle.lab_store_tables.specs.Held.{IsTyped}
 use Rattle.lab_store_columns.proofs.Texts.{Means, is_param}
 use Rattle.lab_store_columns.proofs.Sorted.{equal_ints, and_true}
-use Rattle.lab_store_write.specs.Calls.{Steps, Finds}
-use Rattle.lab_store_write.proofs.Inside.{steps_weaker}
 use Rattle.lab_store_write.proofs.Lookups.{by_key_query, rows_by_key}
 use Rattle.lab_store_write_records.specs.FieldsShown.{is_field_of, is_choice_of, fields_shown, choices_shown}
 
@@ -35,17 +32,6 @@ fields_read old new parent rows typed h =
     (Int parent ∷ []) (is_field_of parent) (λ (one : FieldRow). Int one.id ∷ []) (λ x. and_true _ ∙ equal_ints x.form parent)
     (λ x. refl) old new typed.schema refl rows h
 
-pub fields_counted : (parent : ℤ) (count place : ℕ) (rows : List Row) (old new : State) → count ≡ length rows → place ≡ count + 1
-    → Steps (Finds (λ t. rows ≡ fields_shown parent t)) old new
-    → Steps (Finds (λ t. place ≡ length (filter (is_field_of parent) t.fields) + 1)) old new
-fields_counted parent count place rows old new same next it =
-    steps_weaker (Finds (λ t. rows ≡ fields_shown parent t)) (Finds (λ t. place ≡ length (filter (is_field_of parent) t.fields) + 1)) old new
-    (λ before after found. (
-      next ∙ ap (λ (n : ℕ). n + 1)
-          (same ∙ ap length found.0 ∙ length-map (filter (is_field_of parent) before.fields) (λ (one : FieldRow). Int one.id ∷ [])),
-      found.1,
-    )) it
-
 -- ---- the place behind the choices of one parent
 
 abbrev pub choices_text : List ℕ
@@ -63,14 +49,3 @@ choices_read old new parent rows typed h =
     choices_text (is_param 2 0 ∷ []) (col 1 0 ∷ []) (codes "id" ∷ []) choices_means
     (Int parent ∷ []) (is_choice_of parent) (λ (one : ChoiceRow). Int one.id ∷ []) (λ x. and_true _ ∙ equal_ints x.field parent)
     (λ x. refl) old new typed.schema refl rows h
-
-pub choices_counted : (parent : ℤ) (count place : ℕ) (rows : List Row) (old new : State) → count ≡ length rows → place ≡ count + 1
-    → Steps (Finds (λ t. rows ≡ choices_shown parent t)) old new
-    → Steps (Finds (λ t. place ≡ length (filter (is_choice_of parent) t.choices) + 1)) old new
-choices_counted parent count place rows old new same next it =
-    steps_weaker (Finds (λ t. rows ≡ choices_shown parent t)) (Finds (λ t. place ≡ length (filter (is_choice_of parent) t.choices) + 1)) old new
-    (λ before after found. (
-      next ∙ ap (λ (n : ℕ). n + 1)
-          (same ∙ ap length found.0 ∙ length-map (filter (is_choice_of parent) before.choices) (λ (one : ChoiceRow). Int one.id ∷ [])),
-      found.1,
-    )) it

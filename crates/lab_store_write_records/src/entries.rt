@@ -1,14 +1,12 @@
 //! Rows of a version, each behind those that it has.
 
-ghost use Rattle.std.specs.Prelude.{◌≡◌};
-ghost use Rattle.sqlite.specs.State.{HasCleanDisk, KeepsCommit, Survives};
 ghost use Rattle.lab_records_kept.specs.declared.changes.Change.TheVariants.{RowAdded};
 ghost use Rattle.lab_store_tables.specs.Changes.{AppliesIn, AddsEntry};
-ghost use Rattle.lab_store_write.specs.Calls.{IsInside, Makes};
+ghost use Rattle.lab_store_write.specs.Calls.{Writes, Becomes};
 ghost use Rattle.lab_store_write_records.specs.EntriesAdded.{with_entry};
 
-use crate::entry_places::entry_place;
 use crate::named::{record_at, version_id_at};
+use crate::places::entry_place;
 use crate::texts::note_or_null;
 use lab_forms_texts::Ordinal;
 use lab_seal_versions::EntryRow;
@@ -17,7 +15,7 @@ use lab_store_write::values::{count_value, id_value, moment_value, text_value};
 use lab_store_write::{RowId, Writable, person_id_at};
 use sqlite::Error;
 
-/// Adds the row.
+// Adds the row.
 fn insert_entry<W: Writable>(
     tx: &mut W,
     version: RowId,
@@ -25,15 +23,8 @@ fn insert_entry<W: Writable>(
     person: RowId,
     entry: &EntryRow,
 ) -> Result<usize, Error>
-    requires inside { IsInside (W.state tx.old) }
-    ensures same_lender { W.lender tx.new ≡ W.lender tx.old }
-    ensures made { Makes result (λ before after. after
-        ≡ with_entry version.id place person.id entry.now before)
-        (W.state tx.old) (W.state tx.new) }
-    ensures kept { HasCleanDisk (W.state tx.new) → KeepsCommit
-        (W.state tx.old) (W.state tx.new) }
-    ensures survives { Survives
-        (W.state tx.old) (W.state tx.new) (λ _. ⊥) }
+    ensures { Writes W.lender W.state (Becomes (with_entry version.id place person.id entry.now))
+        tx.old tx.new result }
 {
     let at = count_value(place)?;
     let key = entry.key.as_str();
@@ -57,21 +48,15 @@ fn insert_entry<W: Writable>(
 
 /// Adds an entry behind those that the version has.
 ///
-/// Errors: also that nobody has the code of who entered it.
+/// # Errors
+/// Those of `Writable`, and that nobody has the code of who entered it.
 pub fn add_entry<W: Writable>(
     tx: &mut W,
     lab: RowId,
     version: RowId,
     entry: &EntryRow,
 ) -> Result<(), Error>
-    requires inside { IsInside (W.state tx.old) }
-    ensures same_lender { W.lender tx.new ≡ W.lender tx.old }
-    ensures made { Makes result (AddsEntry lab.id version.id entry.now)
-        (W.state tx.old) (W.state tx.new) }
-    ensures kept { HasCleanDisk (W.state tx.new) → KeepsCommit
-        (W.state tx.old) (W.state tx.new) }
-    ensures survives { Survives
-        (W.state tx.old) (W.state tx.new) (λ _. ⊥) }
+    ensures { Writes W.lender W.state (AddsEntry lab.id version.id entry.now) tx.old tx.new result }
 {
     let person = person_id_at(tx, lab, &entry.person)?;
     let place = entry_place(tx, version)?;
@@ -81,21 +66,16 @@ pub fn add_entry<W: Writable>(
 
 /// Adds an entry in the current version of a record.
 ///
-/// Errors: also that there is no record of the number, or nobody of the code.
+/// # Errors
+/// Those of `Writable`, and that there is no record of the number, or nobody of the code.
 pub fn enter_row<W: Writable>(
     tx: &mut W,
     lab: RowId,
     wanted: Ordinal,
     entry: &EntryRow,
 ) -> Result<(), Error>
-    requires inside { IsInside (W.state tx.old) }
-    ensures same_lender { W.lender tx.new ≡ W.lender tx.old }
-    ensures made { Makes result (AppliesIn lab.id (RowAdded wanted entry.now))
-        (W.state tx.old) (W.state tx.new) }
-    ensures kept { HasCleanDisk (W.state tx.new) → KeepsCommit
-        (W.state tx.old) (W.state tx.new) }
-    ensures survives { Survives
-        (W.state tx.old) (W.state tx.new) (λ _. ⊥) }
+    ensures { Writes W.lender W.state (AppliesIn lab.id (RowAdded wanted entry.now))
+        tx.old tx.new result }
 {
     let kept = record_at(tx, lab, wanted)?;
     let version = version_id_at(tx, kept.id, kept.current)?;

@@ -1,19 +1,18 @@
 //! Versions of forms, each with its fields and their choices.
 
 ghost use Rattle.std.specs.Prelude.{◌≡◌};
-ghost use Rattle.sqlite.specs.State.{HasCleanDisk, KeepsCommit, Survives};
 ghost use Rattle.sqlite_keyed.specs.Keyed.{next_key};
 ghost use Rattle.lab_records_kept.specs.declared.changes.Change.TheVariants.{FormAdded};
 ghost use Rattle.lab_store_tables.specs.Rows.{form_id, field_id};
 ghost use Rattle.lab_store_tables.specs.Columns.{kind_names};
 ghost use Rattle.lab_store_tables.specs.Changes.{AppliesIn, InTurn, AddsChoice, AddsField};
-ghost use Rattle.lab_store_write.specs.Calls.{IsInside, Makes, Answers};
+ghost use Rattle.lab_store_write.specs.Calls.{Answers, Writes, Becomes};
 ghost use Rattle.lab_store_write_records.specs.FormsAdded.{with_choice, with_field, with_form};
 
-use crate::field_places::{choice_place, field_place};
 use crate::kinds::{
     decimals_or_null, high_or_null, kind_word, low_or_null, size_or_null, unit_or_null,
 };
+use crate::places::{choice_place, field_place};
 use lab_forms::{Field, Kind};
 use lab_forms_texts::Name;
 use lab_records_kept::FormVersion;
@@ -23,21 +22,15 @@ use lab_store_write::values::{count_value, flag_value, id_value, ordinal_value, 
 use lab_store_write::{RowId, Writable};
 use sqlite::Error;
 
-/// Adds the row.
+// Adds the row.
 fn insert_choice<W: Writable>(
     tx: &mut W,
     field: RowId,
     place: u64,
     name: &Name,
 ) -> Result<usize, Error>
-    requires inside { IsInside (W.state tx.old) }
-    ensures same_lender { W.lender tx.new ≡ W.lender tx.old }
-    ensures made { Makes result (λ before after. after ≡ with_choice field.id place name.now before)
-        (W.state tx.old) (W.state tx.new) }
-    ensures kept { HasCleanDisk (W.state tx.new) → KeepsCommit
-        (W.state tx.old) (W.state tx.new) }
-    ensures survives { Survives
-        (W.state tx.old) (W.state tx.new) (λ _. ⊥) }
+    ensures { Writes W.lender W.state (Becomes (with_choice field.id place name.now))
+        tx.old tx.new result }
 {
     let at = count_value(place)?;
     run(
@@ -47,32 +40,19 @@ fn insert_choice<W: Writable>(
     )
 }
 
-/// Adds a choice behind those that the field has.
+// Adds a choice behind those that the field has.
 fn add_choice<W: Writable>(tx: &mut W, field: RowId, name: &Name) -> Result<(), Error>
-    requires inside { IsInside (W.state tx.old) }
-    ensures same_lender { W.lender tx.new ≡ W.lender tx.old }
-    ensures made { Makes result (AddsChoice field.id name.now)
-        (W.state tx.old) (W.state tx.new) }
-    ensures kept { HasCleanDisk (W.state tx.new) → KeepsCommit
-        (W.state tx.old) (W.state tx.new) }
-    ensures survives { Survives
-        (W.state tx.old) (W.state tx.new) (λ _. ⊥) }
+    ensures { Writes W.lender W.state (AddsChoice field.id name.now) tx.old tx.new result }
 {
     let place = choice_place(tx, field)?;
     insert_choice(tx, field, place, name)?;
     Ok(())
 }
 
-/// Adds choices, one behind the other.
+// Adds choices, one behind the other.
 fn add_choices<W: Writable>(tx: &mut W, field: RowId, names: &[Name]) -> Result<(), Error>
-    requires inside { IsInside (W.state tx.old) }
-    ensures same_lender { W.lender tx.new ≡ W.lender tx.old }
-    ensures made { Makes result (InTurn (AddsChoice field.id) names.now)
-        (W.state tx.old) (W.state tx.new) }
-    ensures kept { HasCleanDisk (W.state tx.new) → KeepsCommit
-        (W.state tx.old) (W.state tx.new) }
-    ensures survives { Survives
-        (W.state tx.old) (W.state tx.new) (λ _. ⊥) }
+    ensures { Writes W.lender W.state (InTurn (AddsChoice field.id) names.now)
+        tx.old tx.new result }
 {
     for one in names {
         add_choice(tx, field, one)?;
@@ -80,16 +60,10 @@ fn add_choices<W: Writable>(tx: &mut W, field: RowId, names: &[Name]) -> Result<
     Ok(())
 }
 
-/// Adds the choices of a kind, where it has some.
+// Adds the choices of a kind, where it has some.
 fn add_kind<W: Writable>(tx: &mut W, field: RowId, kind: &Kind) -> Result<(), Error>
-    requires inside { IsInside (W.state tx.old) }
-    ensures same_lender { W.lender tx.new ≡ W.lender tx.old }
-    ensures made { Makes result (InTurn (AddsChoice field.id) (kind_names kind.now))
-        (W.state tx.old) (W.state tx.new) }
-    ensures kept { HasCleanDisk (W.state tx.new) → KeepsCommit
-        (W.state tx.old) (W.state tx.new) }
-    ensures survives { Survives
-        (W.state tx.old) (W.state tx.new) (λ _. ⊥) }
+    ensures { Writes W.lender W.state (InTurn (AddsChoice field.id) (kind_names kind.now))
+        tx.old tx.new result }
 {
     match kind {
         Kind::Choice { choices } => add_choices(tx, field, choices.names()),
@@ -97,18 +71,12 @@ fn add_kind<W: Writable>(tx: &mut W, field: RowId, kind: &Kind) -> Result<(), Er
     }
 }
 
-/// Adds the row.
+// Adds the row.
 fn insert_form<W: Writable>(tx: &mut W, lab: RowId, form: &FormVersion) -> Result<RowId, Error>
-    requires inside { IsInside (W.state tx.old) }
-    ensures same_lender { W.lender tx.new ≡ W.lender tx.old }
-    ensures placed { Answers result (λ one before after.
+    ensures { Answers W.lender W.state (λ one before after.
         (one.id ≡ next_key form_id before.forms)
         × (after ≡ with_form lab.id form.now before))
-        (W.state tx.old) (W.state tx.new) }
-    ensures kept { HasCleanDisk (W.state tx.new) → KeepsCommit
-        (W.state tx.old) (W.state tx.new) }
-    ensures survives { Survives
-        (W.state tx.old) (W.state tx.new) (λ _. ⊥) }
+        tx.old tx.new result }
 {
     let code = form.code.as_str();
     let approval = form.form.approval();
@@ -124,23 +92,17 @@ fn insert_form<W: Writable>(tx: &mut W, lab: RowId, form: &FormVersion) -> Resul
     )
 }
 
-/// Adds the row.
+// Adds the row.
 fn insert_field<W: Writable>(
     tx: &mut W,
     form: RowId,
     place: u64,
     field: &Field,
 ) -> Result<RowId, Error>
-    requires inside { IsInside (W.state tx.old) }
-    ensures same_lender { W.lender tx.new ≡ W.lender tx.old }
-    ensures placed { Answers result (λ one before after.
+    ensures { Answers W.lender W.state (λ one before after.
         (one.id ≡ next_key field_id before.fields)
         × (after ≡ with_field form.id place field.now before))
-        (W.state tx.old) (W.state tx.new) }
-    ensures kept { HasCleanDisk (W.state tx.new) → KeepsCommit
-        (W.state tx.old) (W.state tx.new) }
-    ensures survives { Survives
-        (W.state tx.old) (W.state tx.new) (λ _. ⊥) }
+        tx.old tx.new result }
 {
     let at = count_value(place)?;
     let key = field.key.as_str();
@@ -165,16 +127,9 @@ fn insert_field<W: Writable>(
     )
 }
 
-/// Adds a field, with its choices, behind those that the form has.
+// Adds a field, with its choices, behind those that the form has.
 fn add_field<W: Writable>(tx: &mut W, form: RowId, field: &Field) -> Result<(), Error>
-    requires inside { IsInside (W.state tx.old) }
-    ensures same_lender { W.lender tx.new ≡ W.lender tx.old }
-    ensures made { Makes result (AddsField form.id field.now)
-        (W.state tx.old) (W.state tx.new) }
-    ensures kept { HasCleanDisk (W.state tx.new) → KeepsCommit
-        (W.state tx.old) (W.state tx.new) }
-    ensures survives { Survives
-        (W.state tx.old) (W.state tx.new) (λ _. ⊥) }
+    ensures { Writes W.lender W.state (AddsField form.id field.now) tx.old tx.new result }
 {
     let place = field_place(tx, form)?;
     let id = insert_field(tx, form, place, field)?;
@@ -182,16 +137,9 @@ fn add_field<W: Writable>(tx: &mut W, form: RowId, field: &Field) -> Result<(), 
     Ok(())
 }
 
-/// Adds fields, one behind the other.
+// Adds fields, one behind the other.
 fn add_fields<W: Writable>(tx: &mut W, form: RowId, fields: &[Field]) -> Result<(), Error>
-    requires inside { IsInside (W.state tx.old) }
-    ensures same_lender { W.lender tx.new ≡ W.lender tx.old }
-    ensures made { Makes result (InTurn (AddsField form.id) fields.now)
-        (W.state tx.old) (W.state tx.new) }
-    ensures kept { HasCleanDisk (W.state tx.new) → KeepsCommit
-        (W.state tx.old) (W.state tx.new) }
-    ensures survives { Survives
-        (W.state tx.old) (W.state tx.new) (λ _. ⊥) }
+    ensures { Writes W.lender W.state (InTurn (AddsField form.id) fields.now) tx.old tx.new result }
 {
     for one in fields {
         add_field(tx, form, one)?;
@@ -200,15 +148,11 @@ fn add_fields<W: Writable>(tx: &mut W, form: RowId, fields: &[Field]) -> Result<
 }
 
 /// Adds a version of a form with its fields.
+///
+/// # Errors
+/// The store refused, or memory ran out.
 pub fn add_form<W: Writable>(tx: &mut W, lab: RowId, form: &FormVersion) -> Result<(), Error>
-    requires inside { IsInside (W.state tx.old) }
-    ensures same_lender { W.lender tx.new ≡ W.lender tx.old }
-    ensures made { Makes result (AppliesIn lab.id (FormAdded form.now))
-        (W.state tx.old) (W.state tx.new) }
-    ensures kept { HasCleanDisk (W.state tx.new) → KeepsCommit
-        (W.state tx.old) (W.state tx.new) }
-    ensures survives { Survives
-        (W.state tx.old) (W.state tx.new) (λ _. ⊥) }
+    ensures { Writes W.lender W.state (AppliesIn lab.id (FormAdded form.now)) tx.old tx.new result }
 {
     let id = insert_form(tx, lab, form)?;
     add_fields(tx, id, form.form.fields())?;

@@ -23,7 +23,7 @@ pub(crate) fn kind_word(kind: &Kind) -> &'static str
     }
 }
 
-/// A bound, or NULL.
+// A bound, or NULL.
 fn bound_or_null(bound: &Option<Bound>) -> ValueRef<'_>
     ensures { bound_value (owned result) ≡ optional Text bound.now }
 {

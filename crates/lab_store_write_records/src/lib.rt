@@ -3,12 +3,11 @@
 #![tactic(auto)]
 
 mod entries;
-mod entry_places;
-mod field_places;
 mod forms;
 mod kinds;
 mod named;
 mod named_forms;
+mod places;
 mod reason_texts;
 mod records;
 mod signatures;

@@ -1,9 +1,8 @@
 //! A version of a form that is named by the key of its table.
 
 ghost use Rattle.std.specs.Prelude.{◌≡◌, Some};
-ghost use Rattle.sqlite.specs.State.{HasCleanDisk, KeepsCommit, Survives};
 ghost use Rattle.lab_store_tables.specs.Changes.{form_named};
-ghost use Rattle.lab_store_write.specs.Calls.{IsInside, Answers, Finds};
+ghost use Rattle.lab_store_write.specs.Calls.{Answers, Finds};
 ghost use Rattle.lab_store_write_records.specs.FormsShown.{forms_shown};
 
 use lab_forms_texts::{Key, Ordinal};
@@ -11,22 +10,16 @@ use lab_store_write::values::{id_value, ordinal_value, text_value};
 use lab_store_write::{RowId, Writable, first_id};
 use sqlite::{Error, Row};
 
-/// The rows of the version of the form, in the laboratory.
+// The rows of the version of the form, in the laboratory.
 fn form_rows<W: Writable>(
     tx: &mut W,
     lab: RowId,
     code: &str,
     version: Ordinal,
 ) -> Result<Vec<Row>, Error>
-    requires inside { IsInside (W.state tx.old) }
-    ensures same_lender { W.lender tx.new ≡ W.lender tx.old }
-    ensures rows { Answers result (λ rows. Finds (λ t.
-        rows.items ≡ forms_shown lab.id code.now version t))
-        (W.state tx.old) (W.state tx.new) }
-    ensures kept { HasCleanDisk (W.state tx.new) → KeepsCommit
-        (W.state tx.old) (W.state tx.new) }
-    ensures survives { Survives
-        (W.state tx.old) (W.state tx.new) (λ _. ⊥) }
+    ensures { Answers W.lender W.state
+        (λ rows. Finds (λ t. rows.items ≡ forms_shown lab.id code.now version t))
+        tx.old tx.new result }
 {
     tx.query_all(
         "SELECT id FROM forms WHERE lab = ?1 AND code = ?2 AND version = ?3 ORDER BY id",
@@ -36,22 +29,17 @@ fn form_rows<W: Writable>(
 
 /// The version of the form, in the laboratory.
 ///
-/// Errors: also that there is none.
+/// # Errors
+/// Those of `Writable`, and that there is none.
 pub(crate) fn form_id_at<W: Writable>(
     tx: &mut W,
     lab: RowId,
     code: &Key,
     version: Ordinal,
 ) -> Result<RowId, Error>
-    requires inside { IsInside (W.state tx.old) }
-    ensures same_lender { W.lender tx.new ≡ W.lender tx.old }
-    ensures found { Answers result (λ one. Finds (λ t.
-        form_named t lab.id code.now version ≡ Some one.id))
-        (W.state tx.old) (W.state tx.new) }
-    ensures kept { HasCleanDisk (W.state tx.new) → KeepsCommit
-        (W.state tx.old) (W.state tx.new) }
-    ensures survives { Survives
-        (W.state tx.old) (W.state tx.new) (λ _. ⊥) }
+    ensures { Answers W.lender W.state
+        (λ one. Finds (λ t. form_named t lab.id code.now version ≡ Some one.id))
+        tx.old tx.new result }
 {
     let rows = form_rows(tx, lab, code.as_str(), version)?;
     first_id(&rows)

@@ -1,12 +1,11 @@
 //! Records, each with its versions.
 
 ghost use Rattle.std.specs.Prelude.{◌≡◌};
-ghost use Rattle.sqlite.specs.State.{HasCleanDisk, KeepsCommit, Survives};
 ghost use Rattle.sqlite_keyed.specs.Keyed.{next_key};
 ghost use Rattle.lab_records_kept.specs.declared.changes.Change.TheVariants.{RecordAdded};
 ghost use Rattle.lab_store_tables.specs.Rows.{LabRow, record_id};
 ghost use Rattle.lab_store_tables.specs.Changes.{AppliesIn, in_lab, InTurn, AddsVersion};
-ghost use Rattle.lab_store_write.specs.Calls.{IsInside, Makes, Answers};
+ghost use Rattle.lab_store_write.specs.Calls.{Answers, Writes, Becomes};
 ghost use Rattle.lab_store_write_records.specs.RecordsAdded.{with_record};
 
 use crate::named_forms::form_id_at;
@@ -19,23 +18,17 @@ use lab_store_write::values::{count_value, id_value, ordinal_value, text_value};
 use lab_store_write::{RowId, Writable};
 use sqlite::Error;
 
-/// Adds the row.
+// Adds the row.
 fn insert_record<W: Writable>(
     tx: &mut W,
     lab: RowId,
     form: RowId,
     kept: &Record,
 ) -> Result<RowId, Error>
-    requires inside { IsInside (W.state tx.old) }
-    ensures same_lender { W.lender tx.new ≡ W.lender tx.old }
-    ensures placed { Answers result (λ one before after.
+    ensures { Answers W.lender W.state (λ one before after.
         (one.id ≡ next_key record_id before.records)
         × (after ≡ with_record lab.id form.id kept.now before))
-        (W.state tx.old) (W.state tx.new) }
-    ensures kept { HasCleanDisk (W.state tx.new) → KeepsCommit
-        (W.state tx.old) (W.state tx.new) }
-    ensures survives { Survives
-        (W.state tx.old) (W.state tx.new) (λ _. ⊥) }
+        tx.old tx.new result }
 {
     let code = kept.form.code.as_str();
     let sample = kept.sample.as_str();
@@ -55,17 +48,11 @@ fn insert_record<W: Writable>(
     )
 }
 
-/// Sets how many records the laboratory has.
+// Sets how many records the laboratory has.
 fn set_records<W: Writable>(tx: &mut W, lab: RowId, count: Ordinal) -> Result<usize, Error>
-    requires inside { IsInside (W.state tx.old) }
-    ensures same_lender { W.lender tx.new ≡ W.lender tx.old }
-    ensures made { Makes result (λ before after. after
-        ≡ in_lab lab.id (λ (one : LabRow). record one { records = count }) before)
-        (W.state tx.old) (W.state tx.new) }
-    ensures kept { HasCleanDisk (W.state tx.new) → KeepsCommit
-        (W.state tx.old) (W.state tx.new) }
-    ensures survives { Survives
-        (W.state tx.old) (W.state tx.new) (λ _. ⊥) }
+    ensures { Writes W.lender W.state
+        (Becomes (in_lab lab.id (λ (one : LabRow). record one { records = count })))
+        tx.old tx.new result }
 {
     run(
         tx,
@@ -74,21 +61,15 @@ fn set_records<W: Writable>(tx: &mut W, lab: RowId, count: Ordinal) -> Result<us
     )
 }
 
-/// Adds versions, one after the other.
+// Adds versions, one after the other.
 fn add_versions<W: Writable>(
     tx: &mut W,
     lab: RowId,
     kept: RowId,
     versions: &[Version],
 ) -> Result<(), Error>
-    requires inside { IsInside (W.state tx.old) }
-    ensures same_lender { W.lender tx.new ≡ W.lender tx.old }
-    ensures made { Makes result (InTurn (AddsVersion lab.id kept.id) versions.now)
-        (W.state tx.old) (W.state tx.new) }
-    ensures kept { HasCleanDisk (W.state tx.new) → KeepsCommit
-        (W.state tx.old) (W.state tx.new) }
-    ensures survives { Survives
-        (W.state tx.old) (W.state tx.new) (λ _. ⊥) }
+    ensures { Writes W.lender W.state (InTurn (AddsVersion lab.id kept.id) versions.now)
+        tx.old tx.new result }
 {
     for one in versions {
         add_version(tx, lab, kept, one)?;
@@ -98,16 +79,11 @@ fn add_versions<W: Writable>(
 
 /// Adds a record with its versions.
 ///
-/// Errors: also that there is no such version of a form, or nobody of a code.
+/// # Errors
+/// Those of `Writable`, and that there is no such version of a form, or nobody of a code.
 pub fn add_record<W: Writable>(tx: &mut W, lab: RowId, kept: &Record) -> Result<(), Error>
-    requires inside { IsInside (W.state tx.old) }
-    ensures same_lender { W.lender tx.new ≡ W.lender tx.old }
-    ensures made { Makes result (AppliesIn lab.id (RecordAdded kept.now))
-        (W.state tx.old) (W.state tx.new) }
-    ensures kept { HasCleanDisk (W.state tx.new) → KeepsCommit
-        (W.state tx.old) (W.state tx.new) }
-    ensures survives { Survives
-        (W.state tx.old) (W.state tx.new) (λ _. ⊥) }
+    ensures { Writes W.lender W.state (AppliesIn lab.id (RecordAdded kept.now))
+        tx.old tx.new result }
 {
     let form = form_id_at(tx, lab, &kept.form.code, kept.form.version)?;
     let id = insert_record(tx, lab, form, kept)?;

@@ -1,14 +1,12 @@
 //! Signatures of a version, each behind those that it has.
 
-ghost use Rattle.std.specs.Prelude.{◌≡◌};
-ghost use Rattle.sqlite.specs.State.{HasCleanDisk, KeepsCommit, Survives};
 ghost use Rattle.lab_records_kept.specs.declared.changes.Change.TheVariants.{SignatureAdded};
 ghost use Rattle.lab_store_tables.specs.Changes.{AppliesIn, AddsSignature};
-ghost use Rattle.lab_store_write.specs.Calls.{IsInside, Makes};
+ghost use Rattle.lab_store_write.specs.Calls.{Writes, Becomes};
 ghost use Rattle.lab_store_write_records.specs.EntriesAdded.{with_signature};
 
-use crate::entry_places::signature_place;
 use crate::named::{record_at, version_id_at};
+use crate::places::signature_place;
 use crate::texts::reason_or_null;
 use lab_forms_texts::Ordinal;
 use lab_records_kept::Signature;
@@ -17,7 +15,7 @@ use lab_store_write::values::{blob_value, count_value, id_value, moment_value, t
 use lab_store_write::{RowId, Writable, person_id_at};
 use sqlite::Error;
 
-/// Adds the row.
+// Adds the row.
 fn insert_signature<W: Writable>(
     tx: &mut W,
     version: RowId,
@@ -25,15 +23,8 @@ fn insert_signature<W: Writable>(
     person: RowId,
     signature: &Signature,
 ) -> Result<usize, Error>
-    requires inside { IsInside (W.state tx.old) }
-    ensures same_lender { W.lender tx.new ≡ W.lender tx.old }
-    ensures made { Makes result (λ before after. after
-        ≡ with_signature version.id place person.id signature.now before)
-        (W.state tx.old) (W.state tx.new) }
-    ensures kept { HasCleanDisk (W.state tx.new) → KeepsCommit
-        (W.state tx.old) (W.state tx.new) }
-    ensures survives { Survives
-        (W.state tx.old) (W.state tx.new) (λ _. ⊥) }
+    ensures { Writes W.lender W.state
+        (Becomes (with_signature version.id place person.id signature.now)) tx.old tx.new result }
 {
     let at = count_value(place)?;
     let name = signature.name.as_str();
@@ -59,21 +50,16 @@ fn insert_signature<W: Writable>(
 
 /// Adds a signature behind those that the version has.
 ///
-/// Errors: also that nobody has the code of who signed.
+/// # Errors
+/// Those of `Writable`, and that nobody has the code of who signed.
 pub fn add_signature<W: Writable>(
     tx: &mut W,
     lab: RowId,
     version: RowId,
     signature: &Signature,
 ) -> Result<(), Error>
-    requires inside { IsInside (W.state tx.old) }
-    ensures same_lender { W.lender tx.new ≡ W.lender tx.old }
-    ensures made { Makes result (AddsSignature lab.id version.id signature.now)
-        (W.state tx.old) (W.state tx.new) }
-    ensures kept { HasCleanDisk (W.state tx.new) → KeepsCommit
-        (W.state tx.old) (W.state tx.new) }
-    ensures survives { Survives
-        (W.state tx.old) (W.state tx.new) (λ _. ⊥) }
+    ensures { Writes W.lender W.state (AddsSignature lab.id version.id signature.now)
+        tx.old tx.new result }
 {
     let person = person_id_at(tx, lab, &signature.person)?;
     let place = signature_place(tx, version)?;
@@ -83,7 +69,8 @@ pub fn add_signature<W: Writable>(
 
 /// Adds a signature of a version of a record.
 ///
-/// Errors: also that there is no such version, or nobody of the code.
+/// # Errors
+/// Those of `Writable`, and that there is no such version, or nobody of the code.
 pub fn sign_version<W: Writable>(
     tx: &mut W,
     lab: RowId,
@@ -91,14 +78,8 @@ pub fn sign_version<W: Writable>(
     version: Ordinal,
     signature: &Signature,
 ) -> Result<(), Error>
-    requires inside { IsInside (W.state tx.old) }
-    ensures same_lender { W.lender tx.new ≡ W.lender tx.old }
-    ensures made { Makes result (AppliesIn lab.id (SignatureAdded wanted version signature.now))
-        (W.state tx.old) (W.state tx.new) }
-    ensures kept { HasCleanDisk (W.state tx.new) → KeepsCommit
-        (W.state tx.old) (W.state tx.new) }
-    ensures survives { Survives
-        (W.state tx.old) (W.state tx.new) (λ _. ⊥) }
+    ensures { Writes W.lender W.state
+        (AppliesIn lab.id (SignatureAdded wanted version signature.now)) tx.old tx.new result }
 {
     let kept = record_at(tx, lab, wanted)?;
     let signed = version_id_at(tx, kept.id, version.get())?;

@@ -1,13 +1,12 @@
 //! Versions of records, each with its rows and its signatures.
 
 ghost use Rattle.std.specs.Prelude.{◌≡◌};
-ghost use Rattle.sqlite.specs.State.{HasCleanDisk, KeepsCommit, Survives};
 ghost use Rattle.sqlite_keyed.specs.Keyed.{next_key};
 ghost use Rattle.lab_records_kept.specs.declared.changes.Change.TheVariants.{VersionOpened};
 ghost use Rattle.lab_store_tables.specs.Rows.{version_id};
 ghost use Rattle.lab_store_tables.specs.Columns.{format_number};
 ghost use Rattle.lab_store_tables.specs.Changes.{AppliesIn, InTurn, AddsEntry, AddsSignature, AddsVersion, set_current as with_current};
-ghost use Rattle.lab_store_write.specs.Calls.{IsInside, Makes, Answers};
+ghost use Rattle.lab_store_write.specs.Calls.{Answers, Writes, Becomes};
 ghost use Rattle.lab_store_write_records.specs.RecordsAdded.{with_version};
 
 use crate::reason_texts::cause_or_null;
@@ -21,7 +20,7 @@ use lab_store_write::values::{id_value, moment_value, ordinal_value, small_value
 use lab_store_write::{RowId, Writable, person_id_at};
 use sqlite::Error;
 
-/// The number of a format.
+// The number of a format.
 fn format_number(format: Format) -> u32
     ensures { result ≡ format_number format }
 {
@@ -31,23 +30,17 @@ fn format_number(format: Format) -> u32
     }
 }
 
-/// Adds the row.
+// Adds the row.
 fn insert_version<W: Writable>(
     tx: &mut W,
     kept: RowId,
     opener: RowId,
     version: &Version,
 ) -> Result<RowId, Error>
-    requires inside { IsInside (W.state tx.old) }
-    ensures same_lender { W.lender tx.new ≡ W.lender tx.old }
-    ensures placed { Answers result (λ one before after.
+    ensures { Answers W.lender W.state (λ one before after.
         (one.id ≡ next_key version_id before.versions)
         × (after ≡ with_version kept.id opener.id version.now before))
-        (W.state tx.old) (W.state tx.new) }
-    ensures kept { HasCleanDisk (W.state tx.new) → KeepsCommit
-        (W.state tx.old) (W.state tx.new) }
-    ensures survives { Survives
-        (W.state tx.old) (W.state tx.new) (λ _. ⊥) }
+        tx.old tx.new result }
 {
     let number = version.origin.number();
     let format = format_number(version.format);
@@ -65,21 +58,15 @@ fn insert_version<W: Writable>(
     )
 }
 
-/// Adds entries, one behind the other.
+// Adds entries, one behind the other.
 fn add_entries<W: Writable>(
     tx: &mut W,
     lab: RowId,
     version: RowId,
     rows: &[EntryRow],
 ) -> Result<(), Error>
-    requires inside { IsInside (W.state tx.old) }
-    ensures same_lender { W.lender tx.new ≡ W.lender tx.old }
-    ensures made { Makes result (InTurn (AddsEntry lab.id version.id) rows.now)
-        (W.state tx.old) (W.state tx.new) }
-    ensures kept { HasCleanDisk (W.state tx.new) → KeepsCommit
-        (W.state tx.old) (W.state tx.new) }
-    ensures survives { Survives
-        (W.state tx.old) (W.state tx.new) (λ _. ⊥) }
+    ensures { Writes W.lender W.state (InTurn (AddsEntry lab.id version.id) rows.now)
+        tx.old tx.new result }
 {
     for one in rows {
         add_entry(tx, lab, version, one)?;
@@ -87,21 +74,15 @@ fn add_entries<W: Writable>(
     Ok(())
 }
 
-/// Adds signatures, one behind the other.
+// Adds signatures, one behind the other.
 fn add_signatures<W: Writable>(
     tx: &mut W,
     lab: RowId,
     version: RowId,
     signatures: &[Signature],
 ) -> Result<(), Error>
-    requires inside { IsInside (W.state tx.old) }
-    ensures same_lender { W.lender tx.new ≡ W.lender tx.old }
-    ensures made { Makes result (InTurn (AddsSignature lab.id version.id) signatures.now)
-        (W.state tx.old) (W.state tx.new) }
-    ensures kept { HasCleanDisk (W.state tx.new) → KeepsCommit
-        (W.state tx.old) (W.state tx.new) }
-    ensures survives { Survives
-        (W.state tx.old) (W.state tx.new) (λ _. ⊥) }
+    ensures { Writes W.lender W.state (InTurn (AddsSignature lab.id version.id) signatures.now)
+        tx.old tx.new result }
 {
     for one in signatures {
         add_signature(tx, lab, version, one)?;
@@ -111,21 +92,16 @@ fn add_signatures<W: Writable>(
 
 /// Adds a version with its rows and its signatures.
 ///
-/// Errors: also that nobody has the code of who opened, entered or signed.
+/// # Errors
+/// Those of `Writable`, and that nobody has the code of who opened, entered or signed.
 pub(crate) fn add_version<W: Writable>(
     tx: &mut W,
     lab: RowId,
     kept: RowId,
     version: &Version,
 ) -> Result<(), Error>
-    requires inside { IsInside (W.state tx.old) }
-    ensures same_lender { W.lender tx.new ≡ W.lender tx.old }
-    ensures made { Makes result (AddsVersion lab.id kept.id version.now)
-        (W.state tx.old) (W.state tx.new) }
-    ensures kept { HasCleanDisk (W.state tx.new) → KeepsCommit
-        (W.state tx.old) (W.state tx.new) }
-    ensures survives { Survives
-        (W.state tx.old) (W.state tx.new) (λ _. ⊥) }
+    ensures { Writes W.lender W.state (AddsVersion lab.id kept.id version.now)
+        tx.old tx.new result }
 {
     let opener = person_id_at(tx, lab, &version.opener)?;
     let id = insert_version(tx, kept, opener, version)?;
@@ -134,16 +110,10 @@ pub(crate) fn add_version<W: Writable>(
     Ok(())
 }
 
-/// Sets which version of the record is the current one.
+// Sets which version of the record is the current one.
 fn set_current<W: Writable>(tx: &mut W, kept: RowId, version: Ordinal) -> Result<usize, Error>
-    requires inside { IsInside (W.state tx.old) }
-    ensures same_lender { W.lender tx.new ≡ W.lender tx.old }
-    ensures made { Makes result (λ before after. after ≡ with_current kept.id version before)
-        (W.state tx.old) (W.state tx.new) }
-    ensures kept { HasCleanDisk (W.state tx.new) → KeepsCommit
-        (W.state tx.old) (W.state tx.new) }
-    ensures survives { Survives
-        (W.state tx.old) (W.state tx.new) (λ _. ⊥) }
+    ensures { Writes W.lender W.state (Becomes (with_current kept.id version))
+        tx.old tx.new result }
 {
     run(
         tx,
@@ -154,21 +124,16 @@ fn set_current<W: Writable>(tx: &mut W, kept: RowId, version: Ordinal) -> Result
 
 /// Adds a version of a record, which is then the current one.
 ///
-/// Errors: also that there is no record of the number, or nobody of a code.
+/// # Errors
+/// Those of `Writable`, and that there is no record of the number, or nobody of a code.
 pub fn open_version<W: Writable>(
     tx: &mut W,
     lab: RowId,
     wanted: Ordinal,
     version: &Version,
 ) -> Result<(), Error>
-    requires inside { IsInside (W.state tx.old) }
-    ensures same_lender { W.lender tx.new ≡ W.lender tx.old }
-    ensures made { Makes result (AppliesIn lab.id (VersionOpened wanted version.now))
-        (W.state tx.old) (W.state tx.new) }
-    ensures kept { HasCleanDisk (W.state tx.new) → KeepsCommit
-        (W.state tx.old) (W.state tx.new) }
-    ensures survives { Survives
-        (W.state tx.old) (W.state tx.new) (λ _. ⊥) }
+    ensures { Writes W.lender W.state (AppliesIn lab.id (VersionOpened wanted version.now))
+        tx.old tx.new result }
 {
     let kept = record_at(tx, lab, wanted)?;
     add_version(tx, lab, kept.id, version)?;

@@ -17,7 +17,7 @@ pub struct Moody {
 }
 
 impl Moody {
-    /// The fault of this call, if it is one that is refused: of four, the second and the last.
+    // The fault of this call, if it is one that is refused: of four, the second and the last.
     fn refusal(&mut self) -> Option<KeeperFault> {
         self.calls = (self.calls % 4).saturating_add(1);
         match (self.is_moody, self.calls) {
@@ -87,7 +87,7 @@ impl Keeper for Moody {
     ghost moves_on = { λ _ _ _ _ _ _ _. tt };
 }
 
-/// The fault of a founding that is refused for what a change would be.
+// The fault of a founding that is refused for what a change would be.
 fn placing(fault: KeeperFault) -> PlacingFault {
     match fault {
         KeeperFault::Memory => PlacingFault::Memory,

@@ -1,6 +1,6 @@
 //! The texts of versions, which `lab_seal_versions` writes and `lab_seal` reads.
 use lab_forms_texts::{Rule, Text};
-use lab_seal::{TextFault, one_spelling, read_version};
+use lab_seal::{BadText, TextFault, one_spelling, read_version};
 use lab_seal_versions::{
     Amendment, EntryRow, EntryRows, Format, Moment, Note, Ordinal, Origin, VersionParts, digest,
     write_version,
@@ -248,7 +248,7 @@ fn other_texts_are_refused(rt: HostRuntime) {
     for &(front, rest) in &REFUSED {
         let text = joined(&rt, front, rest, 1);
         let fault = read_version(rt.alloc(), &text).err();
-        assert_eq!(rt; fault, Some(TextFault::BadText), "of {text:?}");
+        assert_eq!(rt; fault, Some(TextFault::Refused(BadText)), "of {text:?}");
         drop(text);
     }
     one_spelling();

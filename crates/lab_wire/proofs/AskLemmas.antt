@@ -3,12 +3,13 @@ use Rattle.std.proofs.Common.{◌≡◌, ℕ, List, Ok, Err, ap, ◌∙◌}
 use Rattle.lab_wire_heads.specs.declared.refusals.HeadRefusal.{HeadRefusal}
 use Rattle.lab_wire_heads.specs.Requests.{RequestParts, request_in}
 use Rattle.lab_wire.specs.declared.commands.Asked.{Asked}
-use Rattle.lab_wire.specs.declared.route_refusals.RouteFault.{RouteFault}
-use Rattle.lab_wire.specs.declared.route_refusals.RouteFault.TheVariants as routes
+use Rattle.lab_forms_texts.specs.declared.refusals.Fault.{Fault}
+use Rattle.lab_wire.specs.declared.refusals.RequestRefusal.{RequestRefusal}
+use Rattle.lab_wire.specs.declared.route_refusals.RouteRefusal.{RouteRefusal}
+use Rattle.lab_forms_texts.specs.declared.refusals.Fault.TheVariants as routes
 use Rattle.lab_wire.specs.Commands.{command_asked, RouteFaultFits}
 use Rattle.lab_wire.specs.declared.refusals.RequestRefusal.TheVariants.{Head, Route}
-use Rattle.lab_wire.specs.declared.refusals.RequestFault.{RequestFault}
-use Rattle.lab_wire.specs.declared.refusals.RequestFault.TheVariants.{Refused, Memory}
+use Rattle.lab_forms_texts.specs.declared.refusals.Fault.TheVariants.{Refused, Memory}
 use Rattle.lab_wire.specs.Asked.{of_route, of_request, asked, RequestFaultFits}
 
 pub asks_of_request : (bytes : List ℕ) (parts : RequestParts) (asks : Asked) → request_in bytes ≡ Ok parts
@@ -17,11 +18,11 @@ unfolding asked
 asks_of_request bytes parts asks is says = ap (of_request command_asked) is ∙ ap of_route says
 
 -- the fault of a request's route, as the wire's
-abbrev pub fault_shown : RouteFault → RequestFault
+abbrev pub fault_shown : Fault RouteRefusal → Fault RequestRefusal
 fault_shown (routes.Refused refusal) = Refused (Route refusal)
 fault_shown routes.Memory = Memory
 
-pub fault_of_route : (bytes : List ℕ) (parts : RequestParts) (fault : RouteFault) → request_in bytes ≡ Ok parts
+pub fault_of_route : (bytes : List ℕ) (parts : RequestParts) (fault : Fault RouteRefusal) → request_in bytes ≡ Ok parts
     → RouteFaultFits parts fault → RequestFaultFits bytes (fault_shown fault)
 unfolding asked
 fault_of_route bytes parts (routes.Refused refusal) is says = ap (of_request command_asked) is ∙ ap of_route says

@@ -4,6 +4,7 @@ use Rattle.std.proofs.Common.{◌≡◌, refl, [], ◌∷◌, codes, Some, None,
 use Rattle.std.specs.Fmt.{digits}
 use Rattle.lab_forms_texts.specs.Names.{is_key, is_lab_code}
 use Rattle.lab_records_machine.specs.declared.commands.Command.TheVariants as command
+use Rattle.lab_records_machine.specs.declared.commands.ReadingCommand.TheVariants as reading
 use Rattle.lab_wire_members.specs.declared.refusals.BodyRefusal.TheVariants.{BadBody}
 use Rattle.lab_wire_bodies.specs.declared.bodies.Post.TheVariants.{Open, Close, ChangePassword, Enrol, AskIssue, ConfirmIssue, SetRoles, Retire, Unlock, MakeForm, OpenRecord, Enter, Amend, Sign}
 use Rattle.lab_wire.specs.declared.route_refusals.RouteRefusal.TheVariants.{NoRoute, Method, Body}
@@ -13,7 +14,7 @@ use Rattle.lab_wire.specs.Numbers.{ordinal_in}
 use Rattle.lab_wire.specs.Paths.{path_of, query_of, behind, segments}
 use Rattle.lab_wire.specs.Queries.{range_in}
 use Rattle.lab_wire.specs.Routes.{admits, is_place, row_of, route_of, destination_of}
-use Rattle.lab_wire.specs.Commands.{command_at}
+use Rattle.lab_wire.specs.Commands.{reads_in, command_at}
 
 -- a path ends before the first question mark
 pub known_paths : (path_of (codes "/where?q=now") ≡ codes "/where")
@@ -144,12 +145,12 @@ unfolding range_in behind ordinal_in digits
 known_ranges = (refl, refl, refl, refl, refl, refl, refl, refl, refl, refl, refl, refl, refl, refl, refl)
 
 -- the command of a route, with its query
-pub known_at : (command_at Form (codes "/forms/water/3") ([]) ([]) ≡ Ok (command.ReadForm (codes "water") 3))
-    × (command_at Record (codes "/records/5") (codes "from=1") (codes "x") ≡ Ok (command.ReadRecord 5))
-    × (command_at Version (codes "/records/5/versions/2") ([]) ([]) ≡ Ok (command.ReadVersion 5 2))
-    × (command_at Records (codes "/records") (codes "from=1&to=100") ([]) ≡ Ok (command.ReadRecords 1 100))
-    × (command_at Trail (codes "/trail") (codes "from=3&to=4") ([]) ≡ Ok (command.ReadTrail 3 4))
-    × (command_at Copy (codes "/copy") (codes "from=3&to=5") ([]) ≡ Ok (command.TakeCopy 3 5))
+pub known_at : (command_at Form (codes "/forms/water/3") ([]) ([]) ≡ Ok (reads_in (reading.ReadForm (codes "water") 3)))
+    × (command_at Record (codes "/records/5") (codes "from=1") (codes "x") ≡ Ok (reads_in (reading.ReadRecord 5)))
+    × (command_at Version (codes "/records/5/versions/2") ([]) ([]) ≡ Ok (reads_in (reading.ReadVersion 5 2)))
+    × (command_at Records (codes "/records") (codes "from=1&to=100") ([]) ≡ Ok (reads_in (reading.ReadRecords 1 100)))
+    × (command_at Trail (codes "/trail") (codes "from=3&to=4") ([]) ≡ Ok (reads_in (reading.ReadTrail 3 4)))
+    × (command_at Copy (codes "/copy") (codes "from=3&to=5") ([]) ≡ Ok (reads_in (reading.TakeCopy 3 5)))
     × (command_at Trail (codes "/trail") ([]) ([]) ≡ Err (Body BadBody))
     × (command_at Copy (codes "/copy") (codes "from=5&to=3") ([]) ≡ Err (Body BadBody))
     × (command_at Card ([]) (codes "a") ([]) ≡ Ok command.Card)

@@ -23,8 +23,8 @@ use Rattle.lab_wire.specs.declared.commands.Asked.{Asked}
 use Rattle.lab_wire.specs.Commands.{command_asked, MakesSomething}
 use Rattle.lab_wire.specs.declared.refusals.RequestRefusal.{RequestRefusal}
 use Rattle.lab_wire.specs.declared.refusals.RequestRefusal.TheVariants.{Head, Route}
-use Rattle.lab_wire.specs.declared.refusals.RequestFault.{RequestFault}
-use Rattle.lab_wire.specs.declared.refusals.RequestFault.TheVariants.{Refused, Memory}
+use Rattle.lab_forms_texts.specs.declared.refusals.Fault.{Fault}
+use Rattle.lab_forms_texts.specs.declared.refusals.Fault.TheVariants.{Refused, Memory}
 
 -- what comes of a request's route, its refusal as the wire's
 abbrev pub of_route : {A : Type 0} → Result A RouteRefusal → Result A RequestRefusal
@@ -50,6 +50,6 @@ MakesOf (Err refusal) = ⊥
 -- bytes are a whole request of which something is made: it is known what it asks, or it posts a
 -- body with a byte. So it never hides what is wrong with a head, a length, a path, a method or a
 -- query, nor that a posted body is empty.
-abbrev pub RequestFaultFits : List ℕ → RequestFault → Type 0
+abbrev pub RequestFaultFits : List ℕ → Fault RequestRefusal → Type 0
 RequestFaultFits bytes (Refused refusal) = asked bytes ≡ Err refusal
 RequestFaultFits bytes Memory = MakesOf (request_in bytes)

@@ -5,14 +5,17 @@ use Rattle.std.specs.Prelude.{◌≡◌, ◌<◌, ◌⊎◌, ℕ, List, length, 
 use Rattle.std.specs.Str.Parse.{digits_value}
 use Rattle.lab_records_machine.specs.declared.commands.Command.{Command}
 use Rattle.lab_records_machine.specs.declared.commands.Command.TheVariants as command
+use Rattle.lab_records_machine.specs.declared.commands.SessionCommand.TheVariants as given
+use Rattle.lab_records_machine.specs.declared.commands.ReadingCommand.{ReadingCommand}
+use Rattle.lab_records_machine.specs.declared.commands.ReadingCommand.TheVariants as reading
 use Rattle.lab_records_machine.specs.declared.commands.Instruction.{Instruction}
 use Rattle.lab_wire_members.specs.declared.refusals.BodyRefusal.TheVariants.{BadBody}
 use Rattle.lab_wire_members.specs.Readings.{Reading}
 use Rattle.lab_wire_bodies.specs.Bodies.{post_named, body_named}
 use Rattle.lab_wire.specs.declared.route_refusals.RouteRefusal.{RouteRefusal}
 use Rattle.lab_wire.specs.declared.route_refusals.RouteRefusal.TheVariants.{Body}
-use Rattle.lab_wire.specs.declared.route_refusals.RouteFault.{RouteFault}
-use Rattle.lab_wire.specs.declared.route_refusals.RouteFault.TheVariants.{Refused, Memory}
+use Rattle.lab_forms_texts.specs.declared.refusals.Fault.{Fault}
+use Rattle.lab_forms_texts.specs.declared.refusals.Fault.TheVariants.{Refused, Memory}
 use Rattle.lab_wire.specs.declared.routes.Route.{Route}
 use Rattle.lab_wire.specs.declared.routes.Route.TheVariants.{Card, Persons, Form, Record, Version, Records, Trail, Copy, Posted}
 use Rattle.lab_wire.specs.declared.queries.Range.{Range}
@@ -30,10 +33,14 @@ use Rattle.lab_wire.specs.Routes.{Destination, destination_of}
 abbrev pub number_at : ℕ → List ℕ → ℕ
 number_at i place = digits_value 10 (segment_at i place)
 
+-- a command that reads, as one that is given in a session
+abbrev pub reads_in : ReadingCommand → Command
+reads_in asked = command.In (given.Reading asked)
+
 -- what is read of a range
-abbrev pub ranged : (ℕ → ℕ → Command) → Option Range → Result Command RouteRefusal
+abbrev pub ranged : (ℕ → ℕ → ReadingCommand) → Option Range → Result Command RouteRefusal
 ranged reads None = Err (Body BadBody)
-ranged reads (Some range) = Ok (reads range.from range.to)
+ranged reads (Some range) = Ok (reads_in (reads range.from range.to))
 
 -- what a body names, or its refusal
 abbrev pub by_body : Reading Command → Result Command RouteRefusal
@@ -43,15 +50,15 @@ by_body (Ok named) = Ok named
 -- the command of a route at a place, with its query and its body
 unfoldable pub command_at : Route → List ℕ → List ℕ → List ℕ → Result Command RouteRefusal
 command_at Card place query body = Ok command.Card
-command_at Persons place query body = Ok command.ReadPersons
+command_at Persons place query body = Ok (reads_in reading.ReadPersons)
 command_at Form place query body =
-    Ok (command.ReadForm (segment_at 1 place) (number_at 2 place))
-command_at Record place query body = Ok (command.ReadRecord (number_at 1 place))
+    Ok (reads_in (reading.ReadForm (segment_at 1 place) (number_at 2 place)))
+command_at Record place query body = Ok (reads_in (reading.ReadRecord (number_at 1 place)))
 command_at Version place query body =
-    Ok (command.ReadVersion (number_at 1 place) (number_at 3 place))
-command_at Records place query body = ranged command.ReadRecords (range_in query)
-command_at Trail place query body = ranged command.ReadTrail (range_in query)
-command_at Copy place query body = ranged command.TakeCopy (range_in query)
+    Ok (reads_in (reading.ReadVersion (number_at 1 place) (number_at 3 place)))
+command_at Records place query body = ranged reading.ReadRecords (range_in query)
+command_at Trail place query body = ranged reading.ReadTrail (range_in query)
+command_at Copy place query body = ranged reading.TakeCopy (range_in query)
 command_at (Posted post) place query body = by_body (body_named (post_named post) body)
 
 -- ---- what the code may count on
@@ -72,7 +79,7 @@ PostsBytes _ body = ⊥
 
 -- the faults of finding something: the refusal that comes of it; out of memory only where something
 -- is found, which is copied, or where bytes are read into memory
-abbrev pub FaultFits : {A : Type 0} → Type 0 → Result A RouteRefusal → RouteFault → Type 0
+abbrev pub FaultFits : {A : Type 0} → Type 0 → Result A RouteRefusal → Fault RouteRefusal → Type 0
 FaultFits reads found (Refused refusal) = found ≡ Err refusal
 FaultFits reads found Memory = IsOk found ⊎ reads
 
@@ -116,6 +123,6 @@ MakesSomething request =
 -- The faults of reading it: the refusal that comes of it; out of memory only where something is
 -- made, so that it never hides that there is no such place, no such method at it, that the query is
 -- bad, or that an empty body is.
-abbrev pub RouteFaultFits : RequestParts → RouteFault → Type 0
+abbrev pub RouteFaultFits : RequestParts → Fault RouteRefusal → Type 0
 RouteFaultFits request (Refused refusal) = command_asked request ≡ Err refusal
 RouteFaultFits request Memory = MakesSomething request

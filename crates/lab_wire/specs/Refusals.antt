@@ -1,16 +1,10 @@
 -- What the wire refuses: bytes that are no request, and requests that ask nothing.
-use Rattle.lab_forms_texts.specs.Faults.{Entry, memory_entry}
+use Rattle.lab_forms_texts.specs.Faults.{Entry}
 use Rattle.lab_wire_heads.specs.Refusals.{head_entry}
 use Rattle.lab_wire.specs.RouteRefusals.{route_entry}
 use Rattle.lab_wire.specs.declared.refusals.RequestRefusal.{RequestRefusal}
 use Rattle.lab_wire.specs.declared.refusals.RequestRefusal.TheVariants.{Head, Route}
-use Rattle.lab_wire.specs.declared.refusals.RequestFault.{RequestFault}
-use Rattle.lab_wire.specs.declared.refusals.RequestFault.TheVariants.{Refused, Memory}
 
 abbrev pub request_entry : RequestRefusal → Entry
 request_entry (Head refusal) = head_entry refusal
 request_entry (Route refusal) = route_entry refusal
-
-abbrev pub request_fault_entry : RequestFault → Entry
-request_fault_entry (Refused refusal) = request_entry refusal
-request_fault_entry Memory = memory_entry

@@ -1,14 +1,12 @@
 -- What an accepted request is refused for, and the methods that a refusal tells (RFC 9110, sections
 -- 10.2.1 and 15.5.6).
 use Rattle.std.specs.Prelude.{ℕ, List, codes}
-use Rattle.lab_forms_texts.specs.Faults.{Entry, memory_entry}
+use Rattle.lab_forms_texts.specs.Faults.{Entry}
 use Rattle.lab_wire_members.specs.Refusals.{body_entry}
 use Rattle.lab_wire.specs.declared.route_refusals.Allowed.{Allowed}
 use Rattle.lab_wire.specs.declared.route_refusals.Allowed.TheVariants.{Get, Post, GetOrPost}
 use Rattle.lab_wire.specs.declared.route_refusals.RouteRefusal.{RouteRefusal}
 use Rattle.lab_wire.specs.declared.route_refusals.RouteRefusal.TheVariants.{NoRoute, Method, Body}
-use Rattle.lab_wire.specs.declared.route_refusals.RouteFault.{RouteFault}
-use Rattle.lab_wire.specs.declared.route_refusals.RouteFault.TheVariants.{Refused, Memory}
 
 -- the methods of a place, as a list
 abbrev pub allowed_text : Allowed → List ℕ
@@ -20,7 +18,3 @@ abbrev pub route_entry : RouteRefusal → Entry
 route_entry NoRoute = record { number = 86; word = codes "no_route" }
 route_entry (Method allowed) = record { number = 87; word = codes "method" }
 route_entry (Body refusal) = body_entry refusal
-
-abbrev pub route_fault_entry : RouteFault → Entry
-route_fault_entry (Refused refusal) = route_entry refusal
-route_fault_entry Memory = memory_entry

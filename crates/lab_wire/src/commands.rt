@@ -3,12 +3,12 @@ ghost use Rattle.std.specs.Prelude.{◌≡◌, ◌<◌, Ok, Err, IfOk, IfErr, Is
 ghost use Rattle.lab_forms_texts.specs.Names.{is_key, is_lab_code};
 ghost use Rattle.lab_wire_heads.specs.Requests.{parts_shown};
 ghost use Rattle.lab_wire_bodies.specs.Bodies.{post_named, body_named};
-ghost use Rattle.lab_records_machine.specs.declared.commands.Command.TheVariants.{ReadForm, ReadRecord, ReadVersion, ReadRecords, ReadTrail, TakeCopy};
-ghost use Rattle.lab_wire.specs.declared.route_refusals.RouteFault.TheVariants.{Memory};
+ghost use Rattle.lab_records_machine.specs.declared.commands.ReadingCommand.TheVariants.{ReadForm, ReadRecord, ReadVersion, ReadRecords, ReadTrail, TakeCopy};
+ghost use Rattle.lab_forms_texts.specs.declared.refusals.Fault.TheVariants.{Memory};
 ghost use Rattle.lab_wire.specs.Numbers.{ordinal_in};
 ghost use Rattle.lab_wire.specs.Paths.{segment_at};
 ghost use Rattle.lab_wire.specs.Queries.{range_in};
-ghost use Rattle.lab_wire.specs.Commands.{number_at, by_body, command_at, Admitted, PostsBytes, FaultFits, asked_of, command_asked, RouteFaultFits};
+ghost use Rattle.lab_wire.specs.Commands.{number_at, by_body, reads_in, command_at, Admitted, PostsBytes, FaultFits, asked_of, command_asked, RouteFaultFits};
 
 use crate::numbers::ordinal_in;
 use crate::paths::segment_at;
@@ -16,7 +16,7 @@ use crate::queries::range_in;
 use crate::route_refusals::{RouteFault, RouteRefusal};
 use crate::routes::{Destination, Route, Routes};
 use lab_forms_texts::{Key, LabCode, NameFault, Ordinal};
-use lab_records_machine::{Command, Instruction};
+use lab_records_machine::{Command, Instruction, ReadingCommand, SessionCommand};
 use lab_seal_hashes::Token;
 use lab_wire_bodies::{Post, command_of as command_in};
 use lab_wire_heads::RequestParts;
@@ -47,76 +47,84 @@ fn number_at(i: usize, place: &str) -> Ordinal
     }
 }
 
+// A command that reads, as one that is given in a session.
+fn reads_in(command: ReadingCommand) -> Command
+    ensures { result ≡ reads_in command }
+{
+    Command::In(SessionCommand::Reading(command))
+}
+
 // A version of a form.
 fn form(alloc: Global, place: &str) -> Result<Command, RouteFault>
     requires key { IsTrue (is_key (segment_at 1 place.now)) }
     requires version { IsSome (ordinal_in (segment_at 2 place.now)) }
-    ensures read { IfOk result (λ command.
-        command ≡ ReadForm (segment_at 1 place.now) (number_at 2 place.now)) }
+    ensures read { IfOk result (λ command. command
+        ≡ reads_in (ReadForm (segment_at 1 place.now) (number_at 2 place.now))) }
     ensures fault { IfErr result (λ fault. fault ≡ Memory) }
 {
     let version = number_at(2, place);
     match Key::parse(alloc, segment_at(1, place)) {
-        Ok(code) => Ok(Command::ReadForm { code, version }),
-        Err(NameFault::Memory(_)) => Err(RouteFault::Memory),
-        Err(NameFault::BadName) => unreachable!(),
+        Ok(code) => Ok(reads_in(ReadingCommand::ReadForm { code, version })),
+        Err(NameFault::Memory) => Err(RouteFault::Memory),
+        Err(NameFault::Refused(_)) => unreachable!(),
     }
 }
 
 // A record.
 fn record(place: &str) -> Command
     requires { IsSome (ordinal_in (segment_at 1 place.now)) }
-    ensures { result ≡ ReadRecord (number_at 1 place.now) }
+    ensures { result ≡ reads_in (ReadRecord (number_at 1 place.now)) }
 {
     let number = number_at(1, place);
-    Command::ReadRecord { number }
+    reads_in(ReadingCommand::ReadRecord { number })
 }
 
 // A version of a record.
 fn version(place: &str) -> Command
     requires record { IsSome (ordinal_in (segment_at 1 place.now)) }
     requires version { IsSome (ordinal_in (segment_at 3 place.now)) }
-    ensures { result ≡ ReadVersion (number_at 1 place.now) (number_at 3 place.now) }
+    ensures { result
+        ≡ reads_in (ReadVersion (number_at 1 place.now) (number_at 3 place.now)) }
 {
     let number = number_at(1, place);
     let version = number_at(3, place);
-    Command::ReadVersion { number, version }
+    reads_in(ReadingCommand::ReadVersion { number, version })
 }
 
 // Records from a number to a number.
 fn records(query: &str) -> Option<Command>
-    ensures { result ≡ option_map (λ range. ReadRecords range.from range.to)
+    ensures { result ≡ option_map (λ range. reads_in (ReadRecords range.from range.to))
         (range_in query.now) }
 {
     let range = range_in(query)?;
-    Some(Command::ReadRecords {
+    Some(reads_in(ReadingCommand::ReadRecords {
         from: range.from,
         to: range.to,
-    })
+    }))
 }
 
 // Rows of the trail from a number to a number.
 fn trail(query: &str) -> Option<Command>
-    ensures { result ≡ option_map (λ range. ReadTrail range.from range.to)
+    ensures { result ≡ option_map (λ range. reads_in (ReadTrail range.from range.to))
         (range_in query.now) }
 {
     let range = range_in(query)?;
-    Some(Command::ReadTrail {
+    Some(reads_in(ReadingCommand::ReadTrail {
         from: range.from,
         to: range.to,
-    })
+    }))
 }
 
 // A copy of records from a number to a number.
 fn copy(query: &str) -> Option<Command>
-    ensures { result ≡ option_map (λ range. TakeCopy range.from range.to)
+    ensures { result ≡ option_map (λ range. reads_in (TakeCopy range.from range.to))
         (range_in query.now) }
 {
     let range = range_in(query)?;
-    Some(Command::TakeCopy {
+    Some(reads_in(ReadingCommand::TakeCopy {
         from: range.from,
         to: range.to,
-    })
+    }))
 }
 
 // What a body names.
@@ -144,7 +152,7 @@ fn command_at(alloc: Global, to: &Destination<'_>, body: &[u8]) -> Result<Comman
 {
     match to.route {
         Route::Card => Ok(Command::Card),
-        Route::Persons => Ok(Command::ReadPersons),
+        Route::Persons => Ok(reads_in(ReadingCommand::ReadPersons)),
         Route::Form => form(alloc, to.place),
         Route::Record => Ok(record(to.place)),
         Route::Version => Ok(version(to.place)),
@@ -171,11 +179,11 @@ fn asked_of(
             lab,
             instruction: Instruction { token, command },
         }),
-        Err(NameFault::Memory(_)) => {
+        Err(NameFault::Memory) => {
             drop(command);
             Err(RouteFault::Memory)
         }
-        Err(NameFault::BadName) => unreachable!(),
+        Err(NameFault::Refused(_)) => unreachable!(),
     }
 }
 

@@ -7,7 +7,7 @@ use crate::RouteRefusal;
 use crate::refusals::RequestRefusal;
 use crate::statuses::answer_status;
 use http::StatusCode;
-use lab_forms_texts::{OutOfMemory, Tick};
+use lab_forms_texts::{OutOfMemory, RefusalKind, Tick};
 use lab_records_kept::KeeperFault;
 use lab_records_machine::Reply;
 use lab_wire_heads::message;
@@ -30,7 +30,7 @@ pub enum Answer {
     Storage,
 }
 
-// It is written out, so that a caller doesn't prove again how each part is dropped.
+// `drop` is written out, so that a caller doesn't prove again how each part is dropped.
 impl Drop for Answer {
     fn drop(self) {
         match self {
@@ -42,6 +42,9 @@ impl Drop for Answer {
 }
 
 /// The bytes of an answer at a tick. The only error is out of memory.
+///
+/// # Errors
+/// Memory ran out.
 #[tactic(auto, unfolding(crate::specs::Replies::reply_text))]
 pub fn reply_bytes(alloc: Global, tick: &Tick, answer: &Answer) -> Result<Vec<u8>, OutOfMemory>
     ensures { IfOk result (λ bytes. bytes.items ≡ reply_text tick.now answer.now) }
@@ -59,6 +62,9 @@ pub fn reply_bytes(alloc: Global, tick: &Tick, answer: &Answer) -> Result<Vec<u8
 }
 
 /// The bytes of the reply that is sent where memory runs out, which are the same always. The only error is out of memory.
+///
+/// # Errors
+/// Memory ran out.
 #[tactic(auto, unfolding(crate::specs::Replies::memory_text))]
 pub fn memory_reply(alloc: Global) -> Result<Vec<u8>, OutOfMemory>
     ensures { IfOk result (λ bytes. bytes.items ≡ memory_text) }

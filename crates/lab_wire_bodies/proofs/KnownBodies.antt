@@ -7,7 +7,10 @@ use Rattle.lab_forms_texts.specs.Names.{is_person_code, is_key, is_name, is_note
 use lib.Utf8.{encode}
 use Rattle.lab_seal_hashes.specs.Digits.{bytes_of_digits}
 use Rattle.lab_forms.specs.Forms.{form_refusal}
-use Rattle.lab_records_machine.specs.declared.commands.Command.TheVariants.{Open, Close, AskIssue, ConfirmIssue, Retire, Unlock, MakeForm, Sign}
+use Rattle.lab_records_machine.specs.declared.commands.Command.TheVariants.{Open, In}
+use Rattle.lab_records_machine.specs.declared.commands.SessionCommand.TheVariants.{OnAccount, OnRecord}
+use Rattle.lab_records_machine.specs.declared.commands.AccountCommand.TheVariants.{Close, AskIssue, ConfirmIssue, Retire, Unlock}
+use Rattle.lab_records_machine.specs.declared.commands.RecordCommand.TheVariants.{MakeForm, Sign}
 use Rattle.lab_wire_members.specs.declared.refusals.BodyRefusal.TheVariants.{BadBody, BadName, Form}
 use Rattle.lab_forms.specs.declared.faults.FormRefusal.TheVariants.{NoFields}
 use Rattle.lab_forms.specs.declared.kinds.Kind.TheVariants.{Number, Choice, YesNo}
@@ -36,7 +39,7 @@ pub known_opening : (opening_named ann ≡ Ok (Open (codes "ann") (codes "p")))
 unfolding opening_named has_members is_person_code
 known_opening = (refl, refl, refl, refl, refl)
 
-pub known_closing : (closing_named (object no_members) ≡ Ok Close) × (closing_named null ≡ Err BadBody) × (closing_named ann ≡ Err BadBody)
+pub known_closing : (closing_named (object no_members) ≡ Ok (In (OnAccount Close))) × (closing_named null ≡ Err BadBody) × (closing_named ann ≡ Err BadBody)
 unfolding closing_named has_members
 known_closing = (refl, refl, refl)
 
@@ -44,12 +47,15 @@ known_closing = (refl, refl, refl)
 abbrev eve : Data
 eve = object (member (codes "code") (says (codes "eve")) no_members)
 
-pub known_persons : (post_named post.AskIssue eve ≡ Ok (AskIssue (codes "eve"))) × (post_named post.ConfirmIssue eve ≡ Ok (ConfirmIssue (codes "eve")))
-    × (post_named post.Retire eve ≡ Ok (Retire (codes "eve"))) × (post_named post.Unlock eve ≡ Ok (Unlock (codes "eve")))
+pub known_persons : (post_named post.AskIssue eve ≡ Ok (In (OnAccount (AskIssue (codes "eve")))))
+    × (post_named post.ConfirmIssue eve ≡ Ok (In (OnAccount (ConfirmIssue (codes "eve")))))
+    × (post_named post.Retire eve ≡ Ok (In (OnAccount (Retire (codes "eve")))))
+    × (post_named post.Unlock eve ≡ Ok (In (OnAccount (Unlock (codes "eve")))))
 unfolding issue_named confirmation_named retirement_named unlocking_named person_named has_members is_person_code
 known_persons = (refl, refl, refl, refl)
 
-pub known_issue : (issue_named (object (member (codes "code") (says (codes "ann")) no_members)) ≡ Ok (AskIssue (codes "ann"))) × (issue_named ann ≡ Err BadBody)
+pub known_issue : (issue_named (object (member (codes "code") (says (codes "ann")) no_members)) ≡ Ok (In (OnAccount (AskIssue (codes "ann")))))
+    × (issue_named ann ≡ Err BadBody)
 unfolding issue_named person_named has_members is_person_code
 known_issue = (refl, refl)
 
@@ -61,8 +67,8 @@ signs meaning = object (
     (member (codes "record") (number (unsigned 1)) (member (codes "version") (number (unsigned 1)) no_members))))))
 
 pub known_signature : signature_named (signs (codes "rejection"))
-    ≡ Ok (Sign 1 1 (0 ∷ 17 ∷ 34 ∷ 51 ∷ 68 ∷ 85 ∷ 102 ∷ 119 ∷ 136 ∷ 153 ∷ 170 ∷ 187 ∷ 204 ∷ 221 ∷ 238 ∷ 255
-    ∷ 0 ∷ 17 ∷ 34 ∷ 51 ∷ 68 ∷ 85 ∷ 102 ∷ 119 ∷ 136 ∷ 153 ∷ 170 ∷ 187 ∷ 204 ∷ 221 ∷ 238 ∷ 255 ∷ []) (Rejection (Some (codes "blurred"))) [] None)
+    ≡ Ok (In (OnRecord (Sign 1 1 (0 ∷ 17 ∷ 34 ∷ 51 ∷ 68 ∷ 85 ∷ 102 ∷ 119 ∷ 136 ∷ 153 ∷ 170 ∷ 187 ∷ 204 ∷ 221 ∷ 238 ∷ 255
+    ∷ 0 ∷ 17 ∷ 34 ∷ 51 ∷ 68 ∷ 85 ∷ 102 ∷ 119 ∷ 136 ∷ 153 ∷ 170 ∷ 187 ∷ 204 ∷ 221 ∷ 238 ∷ 255 ∷ []) (Rejection (Some (codes "blurred"))) [] None)))
 unfolding signature_named is_signature_body signature_read has_members bytes_of_digits decode_pairs is_note is_utf8 chars encode
 known_signature = refl
 
@@ -78,13 +84,13 @@ pub known_forms : (form_named (forms
     (item (field (codes "a") (codes "number") (member (codes "decimals") (number (unsigned 2)) (member (codes "unit") (says (codes "mg/L")) no_members)))
     (item (field (codes "b") (codes "choice") (member (codes "choices") (array (item (says (codes "clear")) no_items)) no_members))
     (item (field (codes "c") (codes "yesno") no_members) no_items))))
-    ≡ Ok (MakeForm (codes "w") (record {
+    ≡ Ok (In (OnRecord (MakeForm (codes "w") (record {
       approval = true;
       fields =
           record { key = codes "a"; label = codes "a"; required = true; kind = Number (codes "mg/L") 2 None None }
           ∷ record { key = codes "b"; label = codes "b"; required = true; kind = Choice (codes "clear" ∷ []) }
           ∷ record { key = codes "c"; label = codes "c"; required = true; kind = YesNo } ∷ [];
-    })))
+    })))))
     × (form_named (forms (item (field (codes "c") (codes "yes") no_members) no_items)) ≡ Err BadBody)
     × (form_named (forms no_items) ≡ Err (Form NoFields))
 unfolding form_named is_form_body is_field_body form_read field_read form_refusal has_members is_key is_name is_unit is_utf8 chars encode

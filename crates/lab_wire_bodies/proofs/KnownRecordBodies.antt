@@ -6,7 +6,9 @@ use Rattle.serde_json.specs.Data.{Data, null, number, unsigned, string, array, o
 use Rattle.lab_forms_texts.specs.Names.{is_key, is_name, is_note, is_unit}
 use Rattle.lab_forms.specs.declared.faults.FormRefusal.TheVariants.{KeyTwice}
 use Rattle.lab_records_rules.specs.declared.items.Item.{Item}
-use Rattle.lab_records_machine.specs.declared.commands.Command.TheVariants.{OpenRecord, Enter, Amend}
+use Rattle.lab_records_machine.specs.declared.commands.Command.TheVariants.{In}
+use Rattle.lab_records_machine.specs.declared.commands.SessionCommand.TheVariants.{OnRecord}
+use Rattle.lab_records_machine.specs.declared.commands.RecordCommand.TheVariants.{OpenRecord, Enter, Amend}
 use Rattle.lab_wire_members.specs.declared.refusals.BodyRefusal.TheVariants.{BadBody, BadName, Form}
 use Rattle.lab_wire_members.specs.Members.{has_members}
 use Rattle.lab_wire_bodies.specs.Records.{record_named, entry_named, is_amendment_body, item_read, altered_read, amendment_named}
@@ -20,7 +22,7 @@ says text = string text
 abbrev opens : List ℕ → Data
 opens form = object (member (codes "form") (says form) (member (codes "sample") (says (codes "S1")) no_members))
 
-pub known_records : (record_named (opens (codes "water")) ≡ Ok (OpenRecord (codes "water") (codes "S1")))
+pub known_records : (record_named (opens (codes "water")) ≡ Ok (In (OnRecord (OpenRecord (codes "water") (codes "S1")))))
     × (record_named (opens (codes "Water")) ≡ Err BadName)
     × (record_named (object (member (codes "form") (says (codes "water")) no_members)) ≡ Err BadBody)
 unfolding record_named has_members is_key is_name is_utf8 chars encode
@@ -37,9 +39,9 @@ behind_reason about =
 abbrev entry : Members → Data
 entry others = object (member (codes "key") (says (codes "lead")) others)
 
-pub known_entries : (entry_named (entry (behind_reason (number (unsigned 1)))) ≡ Ok (Enter 1 reading None))
+pub known_entries : (entry_named (entry (behind_reason (number (unsigned 1)))) ≡ Ok (In (OnRecord (Enter 1 reading None))))
     × (entry_named (entry (member (codes "reason") (says (codes "misread")) (behind_reason (number (unsigned 1)))))
-    ≡ Ok (Enter 1 reading (Some (codes "misread"))))
+    ≡ Ok (In (OnRecord (Enter 1 reading (Some (codes "misread"))))))
     × (entry_named (entry (member (codes "reason") (says []) (behind_reason (number (unsigned 1))))) ≡ Err BadName)
     × (entry_named (entry (behind_reason (number (unsigned 0)))) ≡ Err BadBody)
     × (entry_named (entry (behind_reason (says (codes "1")))) ≡ Err BadBody)
@@ -54,7 +56,7 @@ abbrev amends : Data → Data
 amends altered = object (member (codes "altered") altered (member (codes "record") (number (unsigned 1)) no_members))
 
 pub known_amendments : (amendment_named (amends (array (item lead no_items)))
-    ≡ Ok (Amend 1 None (record { key = codes "lead"; value = codes "7.5"; unit = [] } ∷ [])))
+    ≡ Ok (In (OnRecord (Amend 1 None (record { key = codes "lead"; value = codes "7.5"; unit = [] } ∷ [])))))
     × (amendment_named (amends (array (item lead (item lead no_items)))) ≡ Err (Form KeyTwice))
     × (amendment_named (amends (array (item null no_items))) ≡ Err BadBody)
     × (amendment_named (amends null) ≡ Err BadBody)

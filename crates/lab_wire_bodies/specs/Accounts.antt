@@ -3,7 +3,9 @@ use Rattle.std.specs.Prelude.{ℕ, List, [], ◌∷◌, codes, Ok}
 use Rattle.serde_json.specs.Data.{Data}
 use Rattle.lab_forms_texts.specs.Names.{is_person_code, is_name}
 use Rattle.lab_records_machine.specs.declared.commands.Command.{Command}
-use Rattle.lab_records_machine.specs.declared.commands.Command.TheVariants.{Open, Close, ChangePassword, Enrol, AskIssue, ConfirmIssue, SetRoles, Retire, Unlock}
+use Rattle.lab_records_machine.specs.declared.commands.Command.TheVariants.{Open, In}
+use Rattle.lab_records_machine.specs.declared.commands.SessionCommand.TheVariants.{OnAccount}
+use Rattle.lab_records_machine.specs.declared.commands.AccountCommand.TheVariants.{Close, ChangePassword, Enrol, AskIssue, ConfirmIssue, SetRoles, Retire, Unlock}
 use Rattle.lab_wire_members.specs.declared.members.MemberKind.TheVariants.{Text, Roles}
 use Rattle.lab_wire_members.specs.Members.{MemberRule, must, has_members, at, roles_in}
 use Rattle.lab_wire_members.specs.Readings.{Reading, then_read, wanted, text_at, named_at, shaped}
@@ -23,7 +25,7 @@ opening_named d = shaped (has_members opening_members d) (opening_read d)
 
 -- a session is closed by an object without members
 unfoldable pub closing_named : Data → Reading Command
-closing_named d = shaped (has_members [] d) (Ok Close)
+closing_named d = shaped (has_members [] d) (Ok (In (OnAccount Close)))
 
 -- a password takes the place of an old one
 abbrev pub password_members : List MemberRule
@@ -33,7 +35,7 @@ abbrev pub password_read : Data → Reading Command
 password_read d =
     then_read (text_at (codes "old") d) (λ old.
     then_read (text_at (codes "new") d) (λ new.
-    Ok (ChangePassword old new)))
+    Ok (In (OnAccount (ChangePassword old new)))))
 
 unfoldable pub password_named : Data → Reading Command
 password_named d = shaped (has_members password_members d) (password_read d)
@@ -48,7 +50,7 @@ enrolment_read d =
     then_read (named_at is_person_code (codes "code") d) (λ code.
     then_read (named_at is_name (codes "name") d) (λ name.
     then_read (wanted (at roles_in (codes "roles") d)) (λ roles.
-    Ok (Enrol code name roles))))
+    Ok (In (OnAccount (Enrol code name roles))))))
 
 unfoldable pub enrolment_named : Data → Reading Command
 enrolment_named d = shaped (has_members enrolment_members d) (enrolment_read d)
@@ -61,7 +63,7 @@ abbrev pub roles_read : Data → Reading Command
 roles_read d =
     then_read (named_at is_person_code (codes "code") d) (λ code.
     then_read (wanted (at roles_in (codes "roles") d)) (λ roles.
-    Ok (SetRoles code roles)))
+    Ok (In (OnAccount (SetRoles code roles)))))
 
 unfoldable pub roles_named : Data → Reading Command
 roles_named d = shaped (has_members roles_members d) (roles_read d)
@@ -75,13 +77,13 @@ person_named d =
     shaped (has_members person_members d) (named_at is_person_code (codes "code") d)
 
 unfoldable pub issue_named : Data → Reading Command
-issue_named d = then_read (person_named d) (λ code. Ok (AskIssue code))
+issue_named d = then_read (person_named d) (λ code. Ok (In (OnAccount (AskIssue code))))
 
 unfoldable pub confirmation_named : Data → Reading Command
-confirmation_named d = then_read (person_named d) (λ code. Ok (ConfirmIssue code))
+confirmation_named d = then_read (person_named d) (λ code. Ok (In (OnAccount (ConfirmIssue code))))
 
 unfoldable pub retirement_named : Data → Reading Command
-retirement_named d = then_read (person_named d) (λ code. Ok (Retire code))
+retirement_named d = then_read (person_named d) (λ code. Ok (In (OnAccount (Retire code))))
 
 unfoldable pub unlocking_named : Data → Reading Command
-unlocking_named d = then_read (person_named d) (λ code. Ok (Unlock code))
+unlocking_named d = then_read (person_named d) (λ code. Ok (In (OnAccount (Unlock code))))

@@ -5,8 +5,9 @@ use Rattle.std.specs.Prelude.{◌≡◌, ◌<◌, ℕ, List, length, Option, Som
 use Rattle.serde_json.specs.Data.{Data}
 use Rattle.lab_records_machine.specs.declared.commands.Command.{Command}
 use Rattle.lab_wire_members.specs.declared.refusals.BodyRefusal.TheVariants.{BadBody}
-use Rattle.lab_wire_members.specs.declared.refusals.BodyFault.{BodyFault}
-use Rattle.lab_wire_members.specs.declared.refusals.BodyFault.TheVariants.{Refused, Memory}
+use Rattle.lab_forms_texts.specs.declared.refusals.Fault.{Fault}
+use Rattle.lab_wire_members.specs.declared.refusals.BodyRefusal.{BodyRefusal}
+use Rattle.lab_forms_texts.specs.declared.refusals.Fault.TheVariants.{Refused, Memory}
 use Rattle.lab_wire_bodies.specs.declared.bodies.Post.{Post}
 use Rattle.lab_wire_bodies.specs.declared.bodies.Post.TheVariants.{Open, Close, ChangePassword, Enrol, AskIssue, ConfirmIssue, SetRoles, Retire, Unlock, MakeForm, OpenRecord, Enter, Amend, Sign}
 use Rattle.lab_wire_members.specs.Values.{json_of}
@@ -43,6 +44,6 @@ post_named Amend d = amendment_named d
 post_named Sign d = signature_named d
 
 -- the faults of reading a body: its refusal, or out of memory where a byte came
-abbrev pub BodyFaultFits : {A : Type 0} → (Data → Reading A) → List ℕ → BodyFault → Type 0
+abbrev pub BodyFaultFits : {A : Type 0} → (Data → Reading A) → List ℕ → Fault BodyRefusal → Type 0
 BodyFaultFits says body (Refused refusal) = body_named says body ≡ Err refusal
 BodyFaultFits says body Memory = 0 < length body

@@ -13,7 +13,9 @@ use Rattle.lab_forms.specs.declared.faults.FormRefusal.{FormRefusal}
 use Rattle.lab_forms.specs.Kinds.{kind_word}
 use Rattle.lab_forms.specs.Forms.{FormSheet, form_made}
 use Rattle.lab_records_machine.specs.declared.commands.Command.{Command}
-use Rattle.lab_records_machine.specs.declared.commands.Command.TheVariants.{MakeForm}
+use Rattle.lab_records_machine.specs.declared.commands.Command.TheVariants.{In}
+use Rattle.lab_records_machine.specs.declared.commands.SessionCommand.TheVariants.{OnRecord}
+use Rattle.lab_records_machine.specs.declared.commands.RecordCommand.TheVariants.{MakeForm}
 use Rattle.lab_wire_members.specs.declared.refusals.BodyRefusal.TheVariants.{Form}
 use Rattle.lab_wire_members.specs.declared.members.MemberKind.TheVariants.{Text, Flag, Whole, Texts, List as AnyList}
 use Rattle.lab_wire_bodies.specs.declared.forms.Sort.{Sort}
@@ -131,7 +133,7 @@ form_read d =
     then_read (wanted (elements_at (codes "fields") d)) (λ elements.
     then_read (each_read field_read elements) (λ fields.
     then_read (form_reading (form_made fields (unwrap_or (at as_bool (codes "approval") d) false)))
-    (λ form. Ok (MakeForm code form)))))
+    (λ form. Ok (In (OnRecord (MakeForm code form)))))))
 
 unfoldable pub form_named : Data → Reading Command
 form_named d = shaped (is_form_body d) (form_read d)

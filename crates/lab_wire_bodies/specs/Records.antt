@@ -7,7 +7,9 @@ use Rattle.lab_forms.specs.Words.{has_text_twice}
 use Rattle.lab_forms.specs.declared.faults.FormRefusal.TheVariants.{KeyTwice}
 use Rattle.lab_records_rules.specs.declared.items.Item.{Item}
 use Rattle.lab_records_machine.specs.declared.commands.Command.{Command}
-use Rattle.lab_records_machine.specs.declared.commands.Command.TheVariants.{OpenRecord, Enter, Amend}
+use Rattle.lab_records_machine.specs.declared.commands.Command.TheVariants.{In}
+use Rattle.lab_records_machine.specs.declared.commands.SessionCommand.TheVariants.{OnRecord}
+use Rattle.lab_records_machine.specs.declared.commands.RecordCommand.TheVariants.{OpenRecord, Enter, Amend}
 use Rattle.lab_wire_members.specs.declared.refusals.BodyRefusal.TheVariants.{Form}
 use Rattle.lab_wire_members.specs.declared.members.MemberKind.TheVariants.{Text, Ordinal, List as AnyList}
 use Rattle.lab_wire_members.specs.Members.{MemberRule, must, may, has_members, at, ordinal_in, elements_at, each_has}
@@ -22,7 +24,7 @@ abbrev pub record_read : Data → Reading Command
 record_read d =
     then_read (named_at is_key (codes "form") d) (λ form.
     then_read (named_at is_name (codes "sample") d) (λ sample.
-    Ok (OpenRecord form sample)))
+    Ok (In (OnRecord (OpenRecord form sample)))))
 
 unfoldable pub record_named : Data → Reading Command
 record_named d = shaped (has_members record_members d) (record_read d)
@@ -50,7 +52,7 @@ entry_read d =
     then_read (wanted (at ordinal_in (codes "record") d)) (λ number.
     then_read (item_read d) (λ item.
     then_read (named_if_at is_note (codes "reason") d) (λ reason.
-    Ok (Enter number item reason))))
+    Ok (In (OnRecord (Enter number item reason))))))
 
 unfoldable pub entry_named : Data → Reading Command
 entry_named d = shaped (has_members entry_members d) (entry_read d)
@@ -82,7 +84,7 @@ amendment_read d =
     then_read (wanted (at ordinal_in (codes "record") d)) (λ number.
     then_read (named_if_at is_note (codes "reason") d) (λ reason.
     then_read (altered_read d) (λ altered.
-    Ok (Amend number reason altered))))
+    Ok (In (OnRecord (Amend number reason altered))))))
 
 unfoldable pub amendment_named : Data → Reading Command
 amendment_named d = shaped (is_amendment_body d) (amendment_read d)

@@ -10,7 +10,9 @@ use Rattle.lab_seal_versions.specs.Seals.{meaning_word}
 use Rattle.lab_records_rules.specs.declared.outcomes.Signing.{Signing}
 use Rattle.lab_records_rules.specs.declared.outcomes.Signing.TheVariants as signing
 use Rattle.lab_records_machine.specs.declared.commands.Command.{Command}
-use Rattle.lab_records_machine.specs.declared.commands.Command.TheVariants.{Sign}
+use Rattle.lab_records_machine.specs.declared.commands.Command.TheVariants.{In}
+use Rattle.lab_records_machine.specs.declared.commands.SessionCommand.TheVariants.{OnRecord}
+use Rattle.lab_records_machine.specs.declared.commands.RecordCommand.TheVariants.{Sign}
 use Rattle.lab_wire_members.specs.declared.members.MemberKind.TheVariants.{Text, Ordinal, Digest}
 use Rattle.lab_wire_bodies.specs.declared.signatures.Meant.{Meant}
 use Rattle.lab_wire_bodies.specs.declared.signatures.Meant.TheVariants.{Authorship, Review, Rejection, Approval}
@@ -75,7 +77,7 @@ signature_by number version digest meant d =
     then_read (text_at (codes "password") d) (λ password.
     then_read (named_if_at is_person_code (codes "code") d) (λ code.
     then_read (signing_read meant d) (λ signing.
-    Ok (Sign number version digest signing password code))))
+    Ok (In (OnRecord (Sign number version digest signing password code))))))
 
 unfoldable pub signature_read : Data → Reading Command
 signature_read d =

@@ -5,7 +5,7 @@ ghost use Rattle.lab_wire_bodies.specs.Accounts.{opening_named, closing_named, p
 ghost use Rattle.lab_wire_members.specs.Readings.{FaultyInTurn};
 
 use lab_forms_texts::{Names, PersonCode, PersonCodes};
-use lab_records_machine::Command;
+use lab_records_machine::{AccountCommand, Command, SessionCommand};
 use lab_wire_members::{
     BodyFault, BodyRefusal, Member, has_members, must, named_at, roles_at, typed_at, wanted,
 };
@@ -27,6 +27,9 @@ const ROLES: [Member; 2] = [must!("code", Text), must!("roles", Roles)];
 const PERSON: [Member; 1] = [must!("code", Text)];
 
 /// A session is opened.
+///
+/// # Errors
+/// The body's refusal, or memory ran out.
 #[tactic(auto, using(lab_wire_members::proofs::ReadingLemmas::in_turn), unfolding(crate::specs::Accounts::opening_named))]
 pub fn opening(alloc: Global, value: &Value) -> Result<Command, BodyFault>
     ensures read { IfOk result (λ command. opening_named (view value.now) ≡ Ok command) }
@@ -41,6 +44,9 @@ pub fn opening(alloc: Global, value: &Value) -> Result<Command, BodyFault>
 }
 
 /// The session is closed.
+///
+/// # Errors
+/// Why the body is refused.
 #[tactic(auto, using(lab_wire_members::proofs::ReadingLemmas::in_turn), unfolding(crate::specs::Accounts::closing_named))]
 pub fn closing(value: &Value) -> Result<Command, BodyRefusal>
     ensures { result ≡ closing_named (view value.now) }
@@ -48,10 +54,13 @@ pub fn closing(value: &Value) -> Result<Command, BodyRefusal>
     if !has_members(value, &[]) {
         return Err(BodyRefusal::BadBody);
     }
-    Ok(Command::Close)
+    Ok(Command::In(SessionCommand::OnAccount(AccountCommand::Close)))
 }
 
 /// A password is changed.
+///
+/// # Errors
+/// The body's refusal, or memory ran out.
 #[tactic(auto, using(lab_wire_members::proofs::ReadingLemmas::in_turn), unfolding(crate::specs::Accounts::password_named))]
 pub fn password(alloc: Global, value: &Value) -> Result<Command, BodyFault>
     ensures read { IfOk result (λ command. password_named (view value.now) ≡ Ok command) }
@@ -62,10 +71,13 @@ pub fn password(alloc: Global, value: &Value) -> Result<Command, BodyFault>
     }
     let old = typed_at(alloc, value, "old")?;
     let new = typed_at(alloc, value, "new")?;
-    Ok(Command::ChangePassword { old, new })
+    Ok(Command::In(SessionCommand::OnAccount(AccountCommand::ChangePassword { old, new })))
 }
 
 /// A person is enrolled.
+///
+/// # Errors
+/// The body's refusal, or memory ran out.
 #[tactic(auto, using(lab_wire_members::proofs::ReadingLemmas::in_turn), unfolding(crate::specs::Accounts::enrolment_named))]
 pub fn enrolment(alloc: Global, value: &Value) -> Result<Command, BodyFault>
     ensures read { IfOk result (λ command. enrolment_named (view value.now) ≡ Ok command) }
@@ -77,10 +89,13 @@ pub fn enrolment(alloc: Global, value: &Value) -> Result<Command, BodyFault>
     let code = named_at::<PersonCodes>(alloc, value, "code")?;
     let name = named_at::<Names>(alloc, value, "name")?;
     let roles = wanted(roles_at(value, "roles"))?;
-    Ok(Command::Enrol { code, name, roles })
+    Ok(Command::In(SessionCommand::OnAccount(AccountCommand::Enrol { code, name, roles })))
 }
 
 /// A person's roles are set.
+///
+/// # Errors
+/// The body's refusal, or memory ran out.
 #[tactic(auto, using(lab_wire_members::proofs::ReadingLemmas::in_turn), unfolding(crate::specs::Accounts::roles_named))]
 pub fn setting_roles(alloc: Global, value: &Value) -> Result<Command, BodyFault>
     ensures read { IfOk result (λ command. roles_named (view value.now) ≡ Ok command) }
@@ -91,7 +106,7 @@ pub fn setting_roles(alloc: Global, value: &Value) -> Result<Command, BodyFault>
     }
     let code = named_at::<PersonCodes>(alloc, value, "code")?;
     let roles = wanted(roles_at(value, "roles"))?;
-    Ok(Command::SetRoles { code, roles })
+    Ok(Command::In(SessionCommand::OnAccount(AccountCommand::SetRoles { code, roles })))
 }
 
 #[tactic(auto, using(lab_wire_members::proofs::ReadingLemmas::in_turn), unfolding(crate::specs::Accounts::person_named))]
@@ -106,41 +121,53 @@ fn person(alloc: Global, value: &Value) -> Result<PersonCode, BodyFault>
 }
 
 /// A one-time password is asked for.
+///
+/// # Errors
+/// The body's refusal, or memory ran out.
 #[tactic(auto, using(lab_wire_members::proofs::ReadingLemmas::in_turn), unfolding(crate::specs::Accounts::issue_named))]
 pub fn issue(alloc: Global, value: &Value) -> Result<Command, BodyFault>
     ensures read { IfOk result (λ command. issue_named (view value.now) ≡ Ok command) }
     ensures fault { IfErr result (FaultyInTurn (issue_named (view value.now))) }
 {
     let code = person(alloc, value)?;
-    Ok(Command::AskIssue { code })
+    Ok(Command::In(SessionCommand::OnAccount(AccountCommand::AskIssue { code })))
 }
 
 /// A one-time password is confirmed.
+///
+/// # Errors
+/// The body's refusal, or memory ran out.
 #[tactic(auto, using(lab_wire_members::proofs::ReadingLemmas::in_turn), unfolding(crate::specs::Accounts::confirmation_named))]
 pub fn confirmation(alloc: Global, value: &Value) -> Result<Command, BodyFault>
     ensures read { IfOk result (λ command. confirmation_named (view value.now) ≡ Ok command) }
     ensures fault { IfErr result (FaultyInTurn (confirmation_named (view value.now))) }
 {
     let code = person(alloc, value)?;
-    Ok(Command::ConfirmIssue { code })
+    Ok(Command::In(SessionCommand::OnAccount(AccountCommand::ConfirmIssue { code })))
 }
 
 /// A person has left.
+///
+/// # Errors
+/// The body's refusal, or memory ran out.
 #[tactic(auto, using(lab_wire_members::proofs::ReadingLemmas::in_turn), unfolding(crate::specs::Accounts::retirement_named))]
 pub fn retirement(alloc: Global, value: &Value) -> Result<Command, BodyFault>
     ensures read { IfOk result (λ command. retirement_named (view value.now) ≡ Ok command) }
     ensures fault { IfErr result (FaultyInTurn (retirement_named (view value.now))) }
 {
     let code = person(alloc, value)?;
-    Ok(Command::Retire { code })
+    Ok(Command::In(SessionCommand::OnAccount(AccountCommand::Retire { code })))
 }
 
 /// A person's lock is taken away.
+///
+/// # Errors
+/// The body's refusal, or memory ran out.
 #[tactic(auto, using(lab_wire_members::proofs::ReadingLemmas::in_turn), unfolding(crate::specs::Accounts::unlocking_named))]
 pub fn unlocking(alloc: Global, value: &Value) -> Result<Command, BodyFault>
     ensures read { IfOk result (λ command. unlocking_named (view value.now) ≡ Ok command) }
     ensures fault { IfErr result (FaultyInTurn (unlocking_named (view value.now))) }
 {
     let code = person(alloc, value)?;
-    Ok(Command::Unlock { code })
+    Ok(Command::In(SessionCommand::OnAccount(AccountCommand::Unlock { code })))
 }

@@ -6,14 +6,14 @@ ghost use Rattle.serde_json.specs.Find.{as_bool, as_str};
 ghost use Rattle.serde_json.specs.View.{view};
 ghost use Rattle.lab_forms.specs.Forms.{form_made};
 ghost use Rattle.lab_wire_bodies.specs.declared.forms.Sort.TheVariants.{Choice, Date, YesNo};
-ghost use Rattle.lab_wire_members.specs.declared.refusals.BodyFault.TheVariants.{Memory};
+ghost use Rattle.lab_forms_texts.specs.declared.refusals.Fault.TheVariants.{Memory};
 ghost use Rattle.lab_wire_members.specs.Members.{at, elements_at, has_members};
 ghost use Rattle.lab_wire_bodies.specs.Forms.{sort_word, names_sort, sort_of, sort_in, field_members, is_field_body, is_form_body, number_read, text_read, choices_read, kind_read, form_reading, form_read, form_named};
 ghost use Rattle.lab_wire_members.specs.Readings.{FaultyInTurn};
 
 use lab_forms::{Bound, Choices, Field, Form, Kind};
 use lab_forms_texts::{Keys, Name, Names, Units};
-use lab_records_machine::Command;
+use lab_records_machine::{Command, RecordCommand, SessionCommand};
 use lab_wire_members::{
     BodyFault, BodyRefusal, Element, Member, admitted, each_of, elements_at, flag_at, has_members,
     may, must, named_at, str_at, wanted, whole_at,
@@ -305,10 +305,13 @@ fn form_read(alloc: Global, value: &Value) -> Result<Command, BodyFault>
     };
     let fields = each_of::<OfForm, Field>(alloc, elements)?;
     let form = made(fields, approval(value))?;
-    Ok(Command::MakeForm { code, form })
+    Ok(Command::In(SessionCommand::OnRecord(RecordCommand::MakeForm { code, form })))
 }
 
 /// A form is made, or its next version.
+///
+/// # Errors
+/// The body's refusal, or memory ran out.
 #[tactic(auto, using(lab_wire_members::proofs::ReadingLemmas::in_turn), unfolding(crate::specs::Forms::form_named))]
 pub fn form(alloc: Global, value: &Value) -> Result<Command, BodyFault>
     ensures read { IfOk result (λ command. form_named (view value.now) ≡ Ok command) }

@@ -104,6 +104,9 @@ fn founding_by(alloc: Global, values: &[Value], value: &Value) -> Result<Foundin
 }
 
 /// A laboratory is founded.
+///
+/// # Errors
+/// The body's refusal, or memory ran out.
 #[tactic(auto, using(lab_wire_members::proofs::ReadingLemmas::in_turn), unfolding(crate::specs::Foundings::founding_named))]
 pub fn founding(alloc: Global, value: &Value) -> Result<Founding, BodyFault>
     ensures read { IfOk result (λ founding. founding_named (view value.now) ≡ Ok founding) }

@@ -8,7 +8,7 @@ ghost use Rattle.lab_wire_members.specs.Readings.{FaultyInTurn};
 
 use lab_forms::FormRefusal;
 use lab_forms_texts::{Keys, Names, Notes, Units};
-use lab_records_machine::Command;
+use lab_records_machine::{Command, RecordCommand, SessionCommand};
 use lab_records_rules::{Altered, Item};
 use lab_wire_members::{
     BodyFault, BodyRefusal, Element, Member, each_has, each_of, elements_at, has_members, may,
@@ -40,6 +40,9 @@ const AMENDMENT: [Member; 3] = [
 ];
 
 /// A record is opened.
+///
+/// # Errors
+/// The body's refusal, or memory ran out.
 #[tactic(auto, using(lab_wire_members::proofs::ReadingLemmas::in_turn), unfolding(crate::specs::Records::record_named))]
 pub fn record(alloc: Global, value: &Value) -> Result<Command, BodyFault>
     ensures read { IfOk result (λ command. record_named (view value.now) ≡ Ok command) }
@@ -50,7 +53,7 @@ pub fn record(alloc: Global, value: &Value) -> Result<Command, BodyFault>
     }
     let form = named_at::<Keys>(alloc, value, "form")?;
     let sample = named_at::<Names>(alloc, value, "sample")?;
-    Ok(Command::OpenRecord { form, sample })
+    Ok(Command::In(SessionCommand::OnRecord(RecordCommand::OpenRecord { form, sample })))
 }
 
 /// What the bodies on records have lists of.
@@ -75,6 +78,9 @@ impl Element<OfRecords> for Item {
 }
 
 /// A value is entered.
+///
+/// # Errors
+/// The body's refusal, or memory ran out.
 #[tactic(auto, using(lab_wire_members::proofs::ReadingLemmas::in_turn), unfolding(crate::specs::Records::entry_named))]
 pub fn entry(alloc: Global, value: &Value) -> Result<Command, BodyFault>
     ensures read { IfOk result (λ command. entry_named (view value.now) ≡ Ok command) }
@@ -86,11 +92,11 @@ pub fn entry(alloc: Global, value: &Value) -> Result<Command, BodyFault>
     let number = wanted(ordinal_at(value, "record"))?;
     let item = Item::read(alloc, value)?;
     let reason = named_if_at::<Notes>(alloc, value, "reason")?;
-    Ok(Command::Enter {
+    Ok(Command::In(SessionCommand::OnRecord(RecordCommand::Enter {
         number,
         item,
         reason,
-    })
+    })))
 }
 
 #[tactic(auto, unfolding(crate::specs::Records::is_amendment_body))]
@@ -142,6 +148,9 @@ fn altered(alloc: Global, value: &Value) -> Result<Altered, BodyFault>
 }
 
 /// A record is amended.
+///
+/// # Errors
+/// The body's refusal, or memory ran out.
 #[tactic(auto, using(lab_wire_members::proofs::ReadingLemmas::in_turn), unfolding(crate::specs::Records::amendment_named))]
 pub fn amendment(alloc: Global, value: &Value) -> Result<Command, BodyFault>
     ensures read { IfOk result (λ command. amendment_named (view value.now) ≡ Ok command) }
@@ -153,9 +162,9 @@ pub fn amendment(alloc: Global, value: &Value) -> Result<Command, BodyFault>
     let number = wanted(ordinal_at(value, "record"))?;
     let reason = named_if_at::<Notes>(alloc, value, "reason")?;
     let altered = altered(alloc, value)?;
-    Ok(Command::Amend {
+    Ok(Command::In(SessionCommand::OnRecord(RecordCommand::Amend {
         number,
         reason,
         altered,
-    })
+    })))
 }

@@ -7,7 +7,7 @@ ghost use Rattle.lab_wire_bodies.specs.Signatures.{meant_word, names_meant, mean
 ghost use Rattle.lab_wire_members.specs.Readings.{FaultyInTurn};
 
 use lab_forms_texts::{Notes, Ordinal, PersonCodes};
-use lab_records_machine::Command;
+use lab_records_machine::{Command, RecordCommand, SessionCommand};
 use lab_records_rules::Signing;
 use lab_seal_hashes::Digest;
 use lab_wire_members::{
@@ -144,14 +144,14 @@ fn signature_by(
     let password = typed_at(alloc, value, "password")?;
     let code = named_if_at::<PersonCodes>(alloc, value, "code")?;
     let signing = signing(alloc, value, meant)?;
-    Ok(Command::Sign {
+    Ok(Command::In(SessionCommand::OnRecord(RecordCommand::Sign {
         number,
         version,
         digest,
         signing,
         password,
         code,
-    })
+    })))
 }
 
 #[tactic(auto, using(lab_wire_members::proofs::ReadingLemmas::in_turn), unfolding(crate::specs::Signatures::signature_read))]
@@ -167,6 +167,9 @@ fn signature_read(alloc: Global, value: &Value) -> Result<Command, BodyFault>
 }
 
 /// A version of a record is signed.
+///
+/// # Errors
+/// The body's refusal, or memory ran out.
 #[tactic(auto, using(lab_wire_members::proofs::ReadingLemmas::in_turn), unfolding(crate::specs::Signatures::signature_named))]
 pub fn signature(alloc: Global, value: &Value) -> Result<Command, BodyFault>
     ensures read { IfOk result (λ command. signature_named (view value.now) ≡ Ok command) }

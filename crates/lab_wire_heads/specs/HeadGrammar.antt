@@ -34,6 +34,6 @@ pub record IsReadByGrammar (text : List ℕ) : Type 0 where
   pub reads : (h : RequestHead) (rest : List ℕ) → ReadsRequest text h rest → IsReadAs text h rest
   pub only : (head : Head) → head_of text ≡ Some head → HasHead text
 
--- so it is with all bytes, from the request line on
+-- of all bytes, from the request line on, a head is read exactly by the grammar
 abbrev pub GrammarOfHeads : Type 0
 GrammarOfHeads = (bytes : List ℕ) → IsReadByGrammar (without_front bytes)

@@ -1,5 +1,5 @@
 -- The interim answer to a client that waits with its body (RFC 9110, sections 10.1.1 and 15.2.1).
--- It is due once, between an accepted head and its body.
+-- The interim answer is due once, between an accepted head and its body.
 use Rattle.std.specs.Prelude.{ℕ, Bool, ◌&&◌, nat_lt, List, [], ◌++◌, codes, if◌then◌else◌, Result, Ok, Err}
 use Rattle.std.specs.List.{list_any}
 use Rattle.std.specs.Str.{str_eq_ignore_ascii_case}

@@ -154,6 +154,9 @@ fn keeps_host_rule(minor_version: u8, hosts: usize) -> bool
 }
 
 /// Reads the head of a request, once its limits, its grammar and its Host are found good.
+///
+/// # Errors
+/// Why the bytes are no request head.
 pub fn read_head(bytes: &[u8]) -> Result<RequestHead<'_>, HeadRefusal>
     ensures good { IfOk result (λ read. good_head bytes.now ≡ Ok (head_received read)) }
     ensures within { IfOk result AreWithin }

@@ -10,6 +10,9 @@ use std::alloc::Global;
 
 /// A whole message: its status, the Date field where a moment is given, the type of its body, further field lines, each
 /// with its end, and its body.
+///
+/// # Errors
+/// Memory ran out.
 pub fn message(
     alloc: Global,
     status: StatusCode,
@@ -37,7 +40,7 @@ pub fn message(
     Ok(bytes)
 }
 
-/// The Date field of a moment, where one is given.
+// The Date field of a moment, where one is given.
 fn date_line(alloc: Global, moment: Option<Moment>) -> Result<String, OutOfMemory>
     ensures { IfOk result (λ line. string_bytes line ≡ date_field moment) }
 {

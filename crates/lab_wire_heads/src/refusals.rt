@@ -4,7 +4,7 @@ ghost use Rattle.std.specs.Prelude.{◌≡◌, Some};
 ghost use Rattle.lab_wire_heads.specs.Refusals.{head_entry, head_fault_number, head_fault_word};
 
 use crate::WriteFault;
-use lab_forms_texts::OutOfMemory;
+use lab_forms_texts::{OutOfMemory, RefusalKind};
 use std::alloc::AllocError;
 use std::fmt;
 use thiserror::Error;
@@ -26,11 +26,10 @@ pub enum HeadRefusal {
     ShortBody,
 }
 
-impl HeadRefusal {
-    fn entry(&self) -> (u32, &'static str)
-        ensures number { result.0 ≡ (head_entry self.now).number }
-        ensures word { result.1.now ≡ (head_entry self.now).word }
-    {
+impl RefusalKind for HeadRefusal {
+    ghost listed = { head_entry };
+
+    fn entry(&self) -> (u32, &'static str) {
         match self {
             HeadRefusal::BadHead => (80, "bad_head"),
             HeadRefusal::HeadTooLong => (81, "head_too_long"),
@@ -39,20 +38,6 @@ impl HeadRefusal {
             HeadRefusal::BodyTooLong => (84, "body_too_long"),
             HeadRefusal::ShortBody => (85, "short_body"),
         }
-    }
-
-    /// The number by which it is known.
-    pub fn number(&self) -> Option<u32>
-        ensures { result ≡ Some (head_entry self.now).number }
-    {
-        Some(self.entry().0)
-    }
-
-    /// The word by which it is known.
-    pub fn word(&self) -> &'static str
-        ensures { result.now ≡ (head_entry self.now).word }
-    {
-        self.entry().1
     }
 }
 

@@ -25,6 +25,9 @@ pub struct RequestParts<'b> {
 }
 
 /// Reads the head of a request whose body may be read.
+///
+/// # Errors
+/// Why the bytes are no request head.
 pub(crate) fn accept(bytes: &[u8]) -> Result<RequestHead<'_>, HeadRefusal>
     ensures accepted { IfOk result (λ read. accepted_head bytes.now ≡ Ok (head_received read)) }
     ensures within { IfOk result AreWithin }

@@ -43,6 +43,9 @@ impl fmt::Display for WriteFault {
 }
 
 /// Writes all the bytes of a reply. The first write that fails or takes no byte is the fault.
+///
+/// # Errors
+/// A write failed, or took no byte.
 pub fn write_reply<W: Write>(writer: &mut W, bytes: &[u8]) -> Result<(), WriteFault>
     ensures whole { OnOk result
         (Appends (W.contents writer.old) (W.contents writer.new) bytes.now) }

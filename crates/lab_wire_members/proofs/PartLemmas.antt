@@ -5,8 +5,9 @@ use Rattle.std.proofs.lemmas.List.{map-append, take-append-drop}
 use Rattle.serde_json.specs.Data.{Data}
 use Rattle.serde_json.specs.View.{view}
 use Rattle.serde_json.specs.declared.value.Value.{Value}
-use Rattle.lab_wire_members.specs.declared.refusals.BodyFault.{BodyFault}
-use Rattle.lab_wire_members.specs.declared.refusals.BodyFault.TheVariants.{Refused, Memory}
+use Rattle.lab_forms_texts.specs.declared.refusals.Fault.{Fault}
+use Rattle.lab_wire_members.specs.declared.refusals.BodyRefusal.{BodyRefusal}
+use Rattle.lab_forms_texts.specs.declared.refusals.Fault.TheVariants.{Refused, Memory}
 use Rattle.lab_wire_members.specs.Readings.{Reading, then_read, FaultyInTurn}
 use Rattle.lab_wire_members.specs.Parts.{each_read}
 
@@ -47,7 +48,7 @@ each_more says values i value xs x inside is read this =
     rw (here, map-append view (take i values) (value ∷ []), each_joined says (map view (take i values)) (view value ∷ []), read, this) refl
 
 -- the first fault of an element is that of the list
-pub each_fault : {A : Type 0} (says : Data → Reading A) (values : List Value) (i : ℕ) (value : Value) (xs : List A) (fault : BodyFault)
+pub each_fault : {A : Type 0} (says : Data → Reading A) (values : List Value) (i : ℕ) (value : Value) (xs : List A) (fault : Fault BodyRefusal)
     → i < length values → value ≡ get_or values i value
     → each_read says (map view (take i values)) ≡ Ok xs → FaultyInTurn (says (view value)) fault
     → FaultyInTurn (each_read says (map view values)) fault

@@ -5,8 +5,8 @@ use Rattle.serde_json.specs.Data.{Data}
 use Rattle.serde_json.specs.Find.{as_str}
 use Rattle.lab_wire_members.specs.declared.refusals.BodyRefusal.{BodyRefusal}
 use Rattle.lab_wire_members.specs.declared.refusals.BodyRefusal.TheVariants.{BadBody, BadName}
-use Rattle.lab_wire_members.specs.declared.refusals.BodyFault.{BodyFault}
-use Rattle.lab_wire_members.specs.declared.refusals.BodyFault.TheVariants.{Refused, Memory}
+use Rattle.lab_forms_texts.specs.declared.refusals.Fault.{Fault}
+use Rattle.lab_forms_texts.specs.declared.refusals.Fault.TheVariants.{Refused, Memory}
 use Rattle.lab_wire_members.specs.Members.{at}
 
 -- what comes of a reading: what was read, or the refusal
@@ -35,7 +35,7 @@ text_at name d = wanted (at as_str name d)
 abbrev pub named_at : (List ℕ → Bool) → List ℕ → Data → Reading (List ℕ)
 named_at admits name d = then_read (text_at name d) (admitted admits)
 
--- the same, where there is one
+-- a text that a rule admits, where there is one
 abbrev pub admitted_if : (List ℕ → Bool) → Option (List ℕ) → Reading (Option (List ℕ))
 admitted_if admits None = Ok None
 admitted_if admits (Some text) = then_read (admitted admits text) (λ named. Ok (Some named))
@@ -49,13 +49,13 @@ shaped is_shaped reading = if is_shaped then reading else Err BadBody
 
 -- The faults of one reading: its refusal; out of memory only where it reads, since a text is copied
 -- once it is known that it reads.
-abbrev pub Faulty : {A : Type 0} → Reading A → BodyFault → Type 0
+abbrev pub Faulty : {A : Type 0} → Reading A → Fault BodyRefusal → Type 0
 Faulty reading (Refused refusal) = reading ≡ Err refusal
 Faulty reading Memory = IsOk reading
 
 -- The faults of several readings, one after the other: the refusal that comes first, or out of
 -- memory. An earlier member is copied before a later one is read, so memory may run out where a
 -- later one would be refused.
-abbrev pub FaultyInTurn : {A : Type 0} → Reading A → BodyFault → Type 0
+abbrev pub FaultyInTurn : {A : Type 0} → Reading A → Fault BodyRefusal → Type 0
 FaultyInTurn reading (Refused refusal) = reading ≡ Err refusal
 FaultyInTurn reading Memory = ⊤

@@ -12,6 +12,9 @@ use serde_json::Value;
 use std::alloc::Global;
 
 /// The text at a name, as it was typed.
+///
+/// # Errors
+/// The body's refusal, or memory ran out.
 pub fn typed_at(alloc: Global, value: &Value, name: &str) -> Result<Typed, BodyFault>
     ensures read { IfOk result (λ typed. text_at name.now (view value.now) ≡ Ok typed) }
     ensures fault { IfErr result (Faulty (text_at name.now (view value.now))) }
@@ -34,6 +37,9 @@ pub trait Element<G>: Sized + Drop {
 }
 
 /// Reads each value of a list.
+///
+/// # Errors
+/// The body's refusal, or memory ran out.
 pub fn each_of<G, T: Element<G>>(alloc: Global, values: &[Value]) -> Result<Vec<T>, BodyFault>
     ensures read { IfOk result (λ list. each_read T.says (map view values.now) ≡ Ok list.items) }
     ensures fault { IfErr result (FaultyInTurn (each_read T.says (map view values.now))) }

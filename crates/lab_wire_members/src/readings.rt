@@ -15,18 +15,24 @@ use serde_json::Value;
 use std::alloc::Global;
 
 /// A text that a rule admits.
+///
+/// # Errors
+/// The body's refusal, or memory ran out.
 pub fn admitted<R: Rule>(alloc: Global, text: &str) -> Result<Text<R>, BodyFault>
     ensures read { IfOk result (λ named. admitted R.admits text.now ≡ Ok named) }
     ensures fault { IfErr result (Faulty (admitted R.admits text.now)) }
 {
     match Text::<R>::parse(alloc, text) {
         Ok(named) => Ok(named),
-        Err(NameFault::BadName) => Err(BodyFault::Refused(BodyRefusal::BadName)),
-        Err(NameFault::Memory(_)) => Err(BodyFault::Memory),
+        Err(NameFault::Refused(_)) => Err(BodyFault::Refused(BodyRefusal::BadName)),
+        Err(NameFault::Memory) => Err(BodyFault::Memory),
     }
 }
 
 /// The text at a name, which a rule admits.
+///
+/// # Errors
+/// The body's refusal, or memory ran out.
 pub fn named_at<R: Rule>(alloc: Global, value: &Value, name: &str) -> Result<Text<R>, BodyFault>
     ensures read { IfOk result (λ named. named_at R.admits name.now (view value.now) ≡ Ok named) }
     ensures fault { IfErr result (Faulty (named_at R.admits name.now (view value.now))) }
@@ -37,7 +43,10 @@ pub fn named_at<R: Rule>(alloc: Global, value: &Value, name: &str) -> Result<Tex
     }
 }
 
-/// The same, where there is one. Where there is none, that is no fault, and nothing is made.
+/// The text at an optional name, which a rule admits. `None` where the name is absent: then nothing is made.
+///
+/// # Errors
+/// The body's refusal, or memory ran out.
 pub fn named_if_at<R: Rule>(
     alloc: Global,
     value: &Value,
@@ -58,6 +67,9 @@ pub fn named_if_at<R: Rule>(
 }
 
 /// The text at a name, whatever it says.
+///
+/// # Errors
+/// The body's refusal, or memory ran out.
 pub fn text_at(alloc: Global, value: &Value, name: &str) -> Result<String, BodyFault>
     ensures read { IfOk result
         (λ text. text_at name.now (view value.now) ≡ Ok (string_bytes text)) }
@@ -73,6 +85,9 @@ pub fn text_at(alloc: Global, value: &Value, name: &str) -> Result<String, BodyF
 }
 
 /// What has to be there.
+///
+/// # Errors
+/// Why the body is refused.
 pub fn wanted<T: Drop>(found: Option<T>) -> Result<T, BodyRefusal>
     ensures { result ≡ wanted found }
 {

@@ -8,6 +8,9 @@ use serde_json::Value;
 use std::alloc::Global;
 
 /// The JSON value that a body is. Out of memory comes only where a byte came.
+///
+/// # Errors
+/// The body's refusal, or memory ran out.
 pub fn value_of(alloc: Global, body: &[u8]) -> Result<Value, BodyFault>
     ensures read { IfOk result (λ value. json_of body.now ≡ Some (view value)) }
     ensures fault { IfErr result (JsonFaultFits body.now) }

@@ -27,6 +27,9 @@ impl From<ReadFault> for HeadFault {
 }
 
 /// Asks for bytes, while asks are left. Where a signal interrupted the reader, it is asked again.
+///
+/// # Errors
+/// The store refused, a row is none that this program writes, or memory ran out.
 pub(crate) fn read_some<R: Read>(
     reader: &mut R,
     asks_left: &mut u32,
@@ -52,6 +55,9 @@ pub(crate) fn read_some<R: Read>(
 }
 
 /// Takes the next byte, and none at the end.
+///
+/// # Errors
+/// The store refused, a row is none that this program writes, or memory ran out.
 pub(crate) fn next_byte<R: Read>(
     reader: &mut R,
     asks_left: &mut u32,

@@ -12,7 +12,7 @@ use lab_wire_heads::{HeadFault, HeadRefusal};
 use std::alloc::Global;
 use std::io::Read;
 
-/// Reads from that place on until the bytes are full or the reader ends. It answers up to where they came.
+// Reads from that place on until the bytes are full or the reader ends. It answers up to where they came.
 fn fill<R: Read>(
     reader: &mut R,
     asks_left: &mut u32,

@@ -11,6 +11,9 @@ use std::io::Read;
 
 /// Reads the bytes of a head into the room, one at a time, so that those behind it are left to the reader: to the end of
 /// the head, or else to the limit or to the last byte. It answers how many they are.
+///
+/// # Errors
+/// The store refused, a row is none that this program writes, or memory ran out.
 pub(crate) fn read_head<R: Read>(
     reader: &mut R,
     asks_left: &mut u32,

@@ -11,6 +11,9 @@ use std::io::Write;
 const INTERIM_LINES: &[u8] = b"HTTP/1.1 100 Continue\r\n\r\n";
 
 /// Writes the interim answer where it is due, and else nothing.
+///
+/// # Errors
+/// A write failed, or took no byte.
 pub(crate) fn send_interim<W: Write>(writer: &mut W, is_due: bool) -> Result<(), WriteFault>
     ensures whole { OnOk result
         (Appends (W.contents writer.old) (W.contents writer.new) (lines_if is_due)) }

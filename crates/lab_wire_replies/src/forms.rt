@@ -13,6 +13,9 @@ use serde_json::{Map, Value};
 use std::alloc::Global;
 
 /// A version of a form that was made.
+///
+/// # Errors
+/// Memory ran out.
 pub fn form_made_value(alloc: Global, code: &Key, version: Ordinal) -> Result<Value, OutOfMemory>
     ensures { IfOk result (λ value. view value ≡ form_made_data code.now version) }
 {
@@ -23,6 +26,9 @@ pub fn form_made_value(alloc: Global, code: &Key, version: Ordinal) -> Result<Va
 }
 
 /// A version of a form.
+///
+/// # Errors
+/// Memory ran out.
 pub fn form_value(alloc: Global, form: &FormVersion) -> Result<Value, OutOfMemory>
     ensures { IfOk result (λ value. view value ≡ form_data form.now) }
 {

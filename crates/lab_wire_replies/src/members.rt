@@ -146,6 +146,9 @@ fn told_value(alloc: Global, told: &Told) -> Result<Value, OutOfMemory>
 }
 
 /// Adds members to an object. The only error is out of memory, here and below.
+///
+/// # Errors
+/// Memory ran out.
 pub fn put_all(
     members: &mut Map<String, Value>,
     alloc: Global,
@@ -161,6 +164,9 @@ pub fn put_all(
 }
 
 /// An object of these members.
+///
+/// # Errors
+/// Memory ran out.
 pub fn object_of(alloc: Global, members: &[Member]) -> Result<Value, OutOfMemory>
     ensures { IfOk result (λ value. view value ≡ object_from (map member_data members.now)) }
 {
@@ -170,6 +176,9 @@ pub fn object_of(alloc: Global, members: &[Member]) -> Result<Value, OutOfMemory
 }
 
 /// An object of these members and, at the name, a list.
+///
+/// # Errors
+/// Memory ran out.
 pub fn object_with(
     alloc: Global,
     members: &[Member],

@@ -23,6 +23,9 @@ pub trait Shown<G> {
 }
 
 /// What is listed, as values in its order. The only error is out of memory.
+///
+/// # Errors
+/// Memory ran out.
 pub fn list_of<G, T: Shown<G>>(alloc: Global, things: &[T]) -> Result<Vec<Value>, OutOfMemory>
     ensures { IfOk result (λ list. map view list.items ≡ map T.data_of things.now) }
 {
@@ -45,6 +48,9 @@ impl<R: Rule> Shown<AnyReply> for Text<R> {
 }
 
 /// A text.
+///
+/// # Errors
+/// Memory ran out.
 pub fn text_value(alloc: Global, text: &str) -> Result<Value, OutOfMemory>
     ensures { IfOk result (λ value. view value ≡ string text.now) }
 {
@@ -52,6 +58,9 @@ pub fn text_value(alloc: Global, text: &str) -> Result<Value, OutOfMemory>
 }
 
 /// A moment as it is printed.
+///
+/// # Errors
+/// Memory ran out.
 #[tactic(auto, using(crate::proofs::PartLemmas::moment_is_text))]
 pub fn moment_text(alloc: Global, moment: Moment) -> Result<String, OutOfMemory>
     ensures { IfOk result (λ text. string_bytes text ≡ moment_text moment) }
@@ -62,6 +71,9 @@ pub fn moment_text(alloc: Global, moment: Moment) -> Result<String, OutOfMemory>
 }
 
 /// A half of a one-time word as its digits.
+///
+/// # Errors
+/// Memory ran out.
 pub fn half_text(alloc: Global, half: &Half) -> Result<String, OutOfMemory>
     ensures { IfOk result (λ text. string_bytes text ≡ encode_lower half.now) }
 {
@@ -69,6 +81,9 @@ pub fn half_text(alloc: Global, half: &Half) -> Result<String, OutOfMemory>
 }
 
 /// Adds a member to an object. The only error is out of memory.
+///
+/// # Errors
+/// Memory ran out.
 pub fn put(
     members: &mut Map<String, Value>,
     alloc: Global,
@@ -82,6 +97,9 @@ pub fn put(
 }
 
 /// Adds a member that is a list. The only error is out of memory.
+///
+/// # Errors
+/// Memory ran out.
 pub fn put_list(
     members: &mut Map<String, Value>,
     alloc: Global,
@@ -96,6 +114,9 @@ pub fn put_list(
 }
 
 /// Adds a member that lists these, as values in their order. The only error is out of memory.
+///
+/// # Errors
+/// Memory ran out.
 pub fn put_list_of<G, T: Shown<G>>(
     members: &mut Map<String, Value>,
     alloc: Global,

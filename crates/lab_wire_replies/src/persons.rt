@@ -16,6 +16,9 @@ use serde_json::Value;
 use std::alloc::Global;
 
 /// A session that was opened.
+///
+/// # Errors
+/// Memory ran out.
 pub fn opened_value(
     alloc: Global,
     session: Ordinal,
@@ -35,6 +38,9 @@ pub fn opened_value(
 }
 
 /// A session that was closed.
+///
+/// # Errors
+/// Memory ran out.
 pub fn closed_value(alloc: Global, session: Ordinal) -> Result<Value, OutOfMemory>
     ensures { IfOk result (λ value. view value ≡ closed_data session) }
 {
@@ -42,6 +48,9 @@ pub fn closed_value(alloc: Global, session: Ordinal) -> Result<Value, OutOfMemor
 }
 
 /// A password that was changed.
+///
+/// # Errors
+/// Memory ran out.
 pub fn changed_value(alloc: Global, changed: Moment) -> Result<Value, OutOfMemory>
     ensures { IfOk result (λ value. view value ≡ changed_data changed) }
 {
@@ -49,6 +58,9 @@ pub fn changed_value(alloc: Global, changed: Moment) -> Result<Value, OutOfMemor
 }
 
 /// A person who was enrolled, retired or unlocked.
+///
+/// # Errors
+/// Memory ran out.
 pub fn person_done_value(alloc: Global, code: &PersonCode) -> Result<Value, OutOfMemory>
     ensures { IfOk result (λ value. view value ≡ person_done_data code.now) }
 {
@@ -56,6 +68,9 @@ pub fn person_done_value(alloc: Global, code: &PersonCode) -> Result<Value, OutO
 }
 
 /// A half of a one-time word.
+///
+/// # Errors
+/// Memory ran out.
 pub fn half_value(alloc: Global, half: &Half) -> Result<Value, OutOfMemory>
     ensures { IfOk result (λ value. view value ≡ half_data half.now) }
 {
@@ -83,6 +98,9 @@ fn roles_list(alloc: Global, roles: &Roles) -> Result<Vec<Value>, OutOfMemory>
 }
 
 /// The roles that a person has from now on.
+///
+/// # Errors
+/// Memory ran out.
 pub fn roles_set_value(
     alloc: Global,
     code: &PersonCode,
@@ -112,6 +130,9 @@ impl Shown<OfPersons> for PersonLine {
 }
 
 /// The persons.
+///
+/// # Errors
+/// Memory ran out.
 pub fn persons_value(alloc: Global, persons: &[PersonLine]) -> Result<Value, OutOfMemory>
     ensures { IfOk result (λ value. view value ≡ persons_data persons.now) }
 {

@@ -22,6 +22,9 @@ use std::alloc::Global;
 pub struct OfRecords;
 
 /// A record that was opened.
+///
+/// # Errors
+/// Memory ran out.
 pub fn record_opened_value(
     alloc: Global,
     number: Ordinal,
@@ -36,6 +39,9 @@ pub fn record_opened_value(
 }
 
 /// A value that was entered.
+///
+/// # Errors
+/// Memory ran out.
 pub fn entered_value(
     alloc: Global,
     number: Ordinal,
@@ -57,6 +63,9 @@ pub fn entered_value(
 }
 
 /// A version that was opened by an amendment.
+///
+/// # Errors
+/// Memory ran out.
 pub fn amended_value(
     alloc: Global,
     number: Ordinal,
@@ -76,6 +85,9 @@ pub fn amended_value(
 }
 
 /// A signature that was given.
+///
+/// # Errors
+/// Memory ran out.
 pub fn signed_value(
     alloc: Global,
     signature: &Signature,
@@ -118,6 +130,9 @@ fn current_of(versions: &[VersionState]) -> Option<Ordinal>
 }
 
 /// A record.
+///
+/// # Errors
+/// Memory ran out.
 pub fn record_value(alloc: Global, read: &RecordRead) -> Result<Value, OutOfMemory>
     ensures { IfOk result (λ value. view value ≡ record_data read.now) }
 {
@@ -215,6 +230,9 @@ fn amendment_reason(amendment: &Option<Amendment>) -> &str
 }
 
 /// A version of a record.
+///
+/// # Errors
+/// Memory ran out.
 pub fn version_value(alloc: Global, read: &VersionRead) -> Result<Value, OutOfMemory>
     ensures { IfOk result (λ value. view value ≡ version_data read.now) }
 {
@@ -303,6 +321,9 @@ impl Shown<OfRecords> for RecordState {
 }
 
 /// Records.
+///
+/// # Errors
+/// Memory ran out.
 pub fn records_value(alloc: Global, records: &[RecordState]) -> Result<Value, OutOfMemory>
     ensures { IfOk result (λ value. view value ≡ records_data records.now) }
 {

@@ -5,13 +5,16 @@ ghost use Rattle.lab_wire_replies.specs.Refusals.{refused_data, people_members, 
 ghost use Rattle.lab_records_rules.specs.Refusals.{refusal_entry};
 
 use crate::members::{bytes, count, object_of, ordinal, text};
-use lab_forms_texts::OutOfMemory;
+use lab_forms_texts::{OutOfMemory, RefusalKind};
 use lab_people_access::PeopleRefusal;
 use lab_records_rules::Refusal;
 use serde_json::Value;
 use std::alloc::Global;
 
 /// A refusal that tells its word and its number alone. The only error is out of memory.
+///
+/// # Errors
+/// Memory ran out.
 pub fn entry_value(alloc: Global, number: u32, word: &str) -> Result<Value, OutOfMemory>
     ensures { IfOk result (λ value. view value
         ≡ refused_data (record { number = number; word = word.now }) []) }
@@ -23,6 +26,9 @@ pub fn entry_value(alloc: Global, number: u32, word: &str) -> Result<Value, OutO
 }
 
 /// A refusal, with what else it tells. The only error is out of memory.
+///
+/// # Errors
+/// Memory ran out.
 pub fn refusal_value(alloc: Global, refusal: &Refusal) -> Result<Value, OutOfMemory>
     ensures { IfOk result (λ value. view value ≡ refusal_data refusal.now) }
 {

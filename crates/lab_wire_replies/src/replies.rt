@@ -29,6 +29,9 @@ pub(crate) enum Body<'r> {
 }
 
 /// The text of a reply's body. The only error is out of memory.
+///
+/// # Errors
+/// Memory ran out.
 #[tactic(auto, using(crate::proofs::ReplyLemmas::reply_floats))]
 pub fn reply_body(alloc: Global, reply: &Reply) -> Result<Vec<u8>, OutOfMemory>
     ensures { IfOk result (λ body. body.items ≡ reply_text reply.now) }
@@ -69,7 +72,7 @@ fn body_of(alloc: Global, reply: &Reply) -> Result<Body<'_>, OutOfMemory>
     }
 }
 
-// The same of a reply that is told in JSON. A copy isn't.
+// The value of a reply that is written in JSON. Only a copy isn't.
 fn json_of(alloc: Global, reply: &Reply) -> Result<Value, OutOfMemory>
     requires { is_json reply.now ≡ true }
     ensures { IfOk result (λ value. Json (view value) ≡ body_of reply.now) }

@@ -33,6 +33,9 @@ impl Shown<OfTrails> for TrailRow {
 }
 
 /// Rows of the trail.
+///
+/// # Errors
+/// Memory ran out.
 pub fn trail_value(alloc: Global, rows: &[TrailRow]) -> Result<Value, OutOfMemory>
     ensures { IfOk result (λ value. view value ≡ trail_data rows.now) }
 {

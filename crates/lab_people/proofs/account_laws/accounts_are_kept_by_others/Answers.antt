@@ -10,10 +10,10 @@ unfolding asking confirming setting_roles retiring unlocking
 returns c person tick roles =
     let own = own_meant person in
     let meant = person_meant person.code (Some person) in
-    let why = own_refusal person in (
-      refused_then meant _ why own,
-      refused_then meant _ why own,
-      refused_then meant _ why own,
-      refused_then meant _ why own,
-      refused_then meant _ why own,
-    )
+    let why = own_refusal person in record {
+      asks = refused_then meant _ why own;
+      confirms = refused_then meant _ why own;
+      sets_roles = refused_then meant _ why own;
+      retires = refused_then meant _ why own;
+      unlocks = refused_then meant _ why own;
+    }

@@ -2,15 +2,20 @@
 use Rattle.std.proofs.KnownBytes.{Keeps-refl}
 use Rattle.std.proofs.lemmas.Result.{err_from_is_err_and}
 use Rattle.lab_program_shelves.specs.Files.{IsOurs}
-use Rattle.lab_program_files.specs.FileWorlds.{file_rests, file_world}
+use Rattle.lab_program_files.specs.FileWorlds.{file_keeper}
 use Rattle.lab_program_files.proofs.ServingLemmas.{unopened_copies}
 use Rattle.lab_program_files.proofs.copying.copy_file.Goals as goal
 
 pub returns-in_err-conn : goal.returns-in_err-conn
 returns-in_err-conn g c =
     let fault = err_from_is_err_and c.from_residual.result c.from_residual.ensures.1 in
-    rw (fault.1, fault.2) (unopened_copies (file_world g.H.Disk.Store) (file_rests g.H.Disk.Store)
-    (IsOurs g.H.Disk.Store) _ _ c.args.lab.now _ _ (g.W.Write.contents c.args.output.now) _
+    rw (fault.1, fault.2) (unopened_copies (file_keeper g.H.Disk.Store) (record {
+      moments = g.C.Clock.coming c.args.host.now.clock;
+      later = g.C.Clock.coming c.args.host.now.clock;
+      code = c.args.lab.now;
+      from = c.args.from;
+      to = c.args.to;
+    }) (IsOurs g.H.Disk.Store) (g.W.Write.contents c.args.output.now) _
     c.in_err-conn.ensures.fault (Keeps-refl _))
 
 pub returns-in_err-moment : goal.returns-in_err-moment

@@ -10,7 +10,7 @@ use Rattle.lab_program_files.proofs.founding.found_over.Goals as goal
 pub returns-in_err-line-clause-ends : goal.returns-in_err-line-clause-ends
 returns-in_err-line-clause-ends g c =
     let fault = err_from_is_err_and c.from_residual.result c.from_residual.ensures.1 in
-    rw (fault.1, fault.2) (ends_idle g.S.Keeper.world g.S.Keeper.places undrawn c.args.lab.now
+    rw (fault.1, fault.2) (ends_idle g.S.Keeper undrawn c.args.lab.now
     (g.B.Read.remaining c.args.body.now) c.args.desk.now.keeper Memory tt)
 
 pub returns-in_err-line-clause-prints : goal.returns-in_err-line-clause-prints
@@ -22,7 +22,7 @@ pub returns-in_err-bytes-clause-ends : goal.returns-in_err-bytes-clause-ends
 returns-in_err-bytes-clause-ends g c =
     let fault = err_from_is_err_and c.from_residual-in_err-bytes.result
     c.from_residual-in_err-bytes.ensures.1 in
-    rw (fault.1, fault.2) (ends_idle g.S.Keeper.world g.S.Keeper.places _ c.args.lab.now
+    rw (fault.1, fault.2) (ends_idle g.S.Keeper _ c.args.lab.now
     (g.B.Read.remaining c.args.body.now) c.args.desk.now.keeper _ c.in_err-bytes.ensures.fault)
 
 pub returns-in_err-bytes-clause-prints : goal.returns-in_err-bytes-clause-prints
@@ -36,7 +36,7 @@ pub returns-in_err-tick-clause-ends : goal.returns-in_err-tick-clause-ends
 returns-in_err-tick-clause-ends g c =
     let fault = err_from_is_err_and c.from_residual-in_err-tick.result
     c.from_residual-in_err-tick.ensures.1 in
-    rw (fault.1, fault.2) (ends_idle g.S.Keeper.world g.S.Keeper.places undrawn c.args.lab.now
+    rw (fault.1, fault.2) (ends_idle g.S.Keeper undrawn c.args.lab.now
     (g.B.Read.remaining c.args.body.now) c.args.desk.now.keeper Read tt)
 
 pub returns-in_err-tick-clause-prints : goal.returns-in_err-tick-clause-prints
@@ -50,7 +50,7 @@ returns-in_err-noted-clause-ends g c =
     let fault = err_from_is_err_and c.from_residual-in_err-noted.result
     c.from_residual-in_err-noted.ensures.1 in
     let refused = sym c.in_err-noted.ensures in
-    rw (fault.1, fault.2) (ends_refused g.S.Keeper.world g.S.Keeper.places _ c.args.lab.now
+    rw (fault.1, fault.2) (ends_refused g.S.Keeper _ c.args.lab.now
     (g.B.Read.remaining c.args.body.now) c.as_slice.result.now c.in_ok-bytes.bytes.items
     c.args.desk.now.keeper c.found-founded.new.self.keeper c.in_ok-tick.tick _
     (c.in_ok-tick.ensures.moment, c.in_ok-tick.ensures.words) c.as_slice.ensures.value
@@ -66,7 +66,7 @@ returns-in_err-noted-clause-prints g c =
 pub returns-clause-ends : goal.returns-clause-ends
 returns-clause-ends g c =
     let founded = sym c.in_ok-noted.ensures in
-    ends_founded g.S.Keeper.world g.S.Keeper.places _ c.args.lab.now
+    ends_founded g.S.Keeper _ c.args.lab.now
     (g.B.Read.remaining c.args.body.now) c.as_slice.result.now c.in_ok-bytes.bytes.items
     c.args.desk.now.keeper c.found-founded.new.self.keeper c.in_ok-tick.tick _
     (c.in_ok-tick.ensures.moment, c.in_ok-tick.ensures.words) c.as_slice.ensures.value

@@ -24,10 +24,10 @@ loop-preserved g c =
           (c.in_ok-run.ensures.alone (so.within w kept r) h (so.reached w kept r));
       within = λ w h r.
           let kept = ran.honest h in
-          c.run.ensures.within (so.within w kept r) h (so.reached w kept r);
+          (c.run.ensures.stays (so.within w kept r) h (so.reached w kept r)).within;
       reached = λ w h r.
           let kept = ran.honest h in
-          c.run.ensures.reached (so.within w kept r) h (so.reached w kept r);
+          (c.run.ensures.stays (so.within w kept r) h (so.reached w kept r)).reached;
       passes = record {
         honest = λ h. before.honest (ran.honest h);
         live = λ h l. before.live (ran.honest h) (ran.live h l);

@@ -1,21 +1,18 @@
-use Rattle.lab_records_kept.specs.Worlds.{Passes, Given}
-use Rattle.lab_desk_runs.specs.Keeping.{AreWithin}
+use Rattle.lab_records_kept.specs.Worlds.{Passes}
+use Rattle.lab_desk_runs.specs.Keeping.{AreWithin, GivenWithin}
 use Rattle.lab_program_replay.proofs.EventRunLemmas.{SoFar}
 use Rattle.lab_program_replay.proofs.event_runs.run_events.Given as goal
 
 -- the events so far were run, and their answers were written
 abbrev pub invariant-loop : goal.invariant-loop
 invariant-loop g l = record {
-  sofar : AreWithin (g.S.Keeper.world l.initial.desk.keeper) →
-      Given (g.S.Keeper.world l.initial.desk.keeper) (g.S.Keeper.world l.desk.keeper)
+  sofar : GivenWithin (g.S.Keeper.world l.initial.desk.keeper) (g.S.Keeper.world l.desk.keeper)
       (SoFar (g.S.Keeper.world l.initial.desk.keeper) (g.S.Keeper.world l.desk.keeper)
       (g.B.Read.remaining l.initial.reader) (g.B.Read.remaining l.reader)
       (g.W.Write.contents l.initial.output) (g.W.Write.contents l.output));
-  within : AreWithin (g.S.Keeper.world l.initial.desk.keeper) →
-      Given (g.S.Keeper.world l.initial.desk.keeper) (g.S.Keeper.world l.desk.keeper)
+  within : GivenWithin (g.S.Keeper.world l.initial.desk.keeper) (g.S.Keeper.world l.desk.keeper)
       (AreWithin (g.S.Keeper.world l.desk.keeper));
-  reached : AreWithin (g.S.Keeper.world l.initial.desk.keeper) →
-      Given (g.S.Keeper.world l.initial.desk.keeper) (g.S.Keeper.world l.desk.keeper)
+  reached : GivenWithin (g.S.Keeper.world l.initial.desk.keeper) (g.S.Keeper.world l.desk.keeper)
       (g.S.Keeper.world l.desk.keeper).is_reached;
   passes : Passes (g.S.Keeper.world l.initial.desk.keeper) (g.S.Keeper.world l.desk.keeper);
 }

@@ -83,16 +83,21 @@ returns-in_err-serve_connection-clause-served g c = λ within honest reached.
     c.from_residual-in_err-serve_connection.ensures.1 in
     let served = c.serve_connection.ensures in
     let visit : Visit = record {
-      known = g.L.Reader.Read.remaining c.in_ok-connection.connection.reader;
-      tick = c.tick_at.result;
-      reply = c.serve_connection.new.desk.reply;
+      exchange = record {
+        known = g.L.Reader.Read.remaining c.in_ok-connection.connection.reader;
+        tick = c.tick_at.result;
+        reply = c.serve_connection.new.desk.reply;
+      };
       ending = c.serve_connection.result;
     } in (
       visit ∷ [],
       (
         c.serve_connection.new.desk.keeper,
         record {
-          handled = served.handled within honest reached;
+          within = within;
+          honest = honest;
+          reached = reached;
+          handled = served.handled;
           untouched = unserved c.serve_connection.result (ap (λ desk. desk.keeper))
               served.untouched;
         },
@@ -109,16 +114,21 @@ returns-clause-asked g c =
 pub returns-clause-served : goal.returns-clause-served
 returns-clause-served g c = λ within honest reached.
     let visit : Visit = record {
-      known = g.L.Reader.Read.remaining c.in_ok-connection.connection.reader;
-      tick = c.tick_at.result;
-      reply = c.serve_connection.new.desk.reply;
+      exchange = record {
+        known = g.L.Reader.Read.remaining c.in_ok-connection.connection.reader;
+        tick = c.tick_at.result;
+        reply = c.serve_connection.new.desk.reply;
+      };
       ending = Ok tt;
     } in (
       visit ∷ [],
       (
         c.serve_connection.new.desk.keeper,
         record {
-          handled = c.in_ok-serve_connection.ensures.handled within honest reached;
+          within = within;
+          honest = honest;
+          reached = reached;
+          handled = c.in_ok-serve_connection.ensures.handled;
           untouched = tt;
         },
         refl,

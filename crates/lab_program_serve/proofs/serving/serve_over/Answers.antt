@@ -12,7 +12,10 @@ use Rattle.lab_program_serve.proofs.serving.serve_over.Goals as goal
 pub returns-in_err-announce-clause-served : goal.returns-in_err-announce-clause-served
 returns-in_err-announce-clause-served g c = λ within honest reached.
     let fault = err_from_is_err_and c.from_residual.result c.from_residual.ensures.1 in
-    ([], refl, rw fault.1 (omega arith))
+    rw fault.1 (record {
+      serves = record { visits = []; are = refl; counted = omega arith };
+      given = tt;
+    })
 
 pub returns-in_err-announce-clause-stays : goal.returns-in_err-announce-clause-stays
 returns-in_err-announce-clause-stays g c = λ within honest reached.
@@ -24,8 +27,7 @@ loop-init g c = record {
   passes = record { honest = λ h. h; live = λ h l. l; refusing = λ m. m };
   stays = λ within honest reached.
       stays_first (g.S.Keeper.world c.args.desk.now.keeper) within reached;
-  so_far = λ within honest reached. so_far_none g.S.Keeper.world g.S.Keeper.rests
-      g.S.Keeper.moves c.args.desk.now.keeper _ _ _;
+  so_far = λ within honest reached. so_far_none g.S.Keeper c.args.desk.now.keeper _ _ _;
 }
 
 pub returns-in_err-connection-clause-printed : goal.returns-in_err-connection-clause-printed
@@ -43,7 +45,14 @@ returns-in_err-connection-clause-served g c = λ within honest reached.
     let fault = err_from_is_err_and c.from_residual-in_err-connection.result
     c.from_residual-in_err-connection.ensures.1 in
     let so = c.loop.invariant.so_far within honest reached in
-    (so.visits, so.are, rw fault.1 (omega (arith, so.counted, c.loop.invariant.bound)))
+    rw fault.1 (record {
+      serves = record {
+        visits = so.visits;
+        are = so.are;
+        counted = omega (arith, so.counted, c.loop.invariant.bound);
+      };
+      given = tt;
+    })
 
 pub returns-in_err-connection-clause-stays : goal.returns-in_err-connection-clause-stays
 returns-in_err-connection-clause-stays g c = c.loop.invariant.stays
@@ -66,7 +75,14 @@ returns-in_err-tick-clause-served g c = λ within honest reached.
     let fault = err_from_is_err_and c.from_residual-in_err-tick.result
     c.from_residual-in_err-tick.ensures.1 in
     let so = c.loop.invariant.so_far within honest reached in
-    (so.visits, so.are, rw fault.1 (omega (arith, so.counted, c.loop.invariant.bound)))
+    rw fault.1 (record {
+      serves = record {
+        visits = so.visits;
+        are = so.are;
+        counted = omega (arith, so.counted, c.loop.invariant.bound);
+      };
+      given = tt;
+    })
 
 pub returns-in_err-tick-clause-stays : goal.returns-in_err-tick-clause-stays
 returns-in_err-tick-clause-stays g c = c.loop.invariant.stays
@@ -92,16 +108,21 @@ loop-preserved g c =
           let earlier = served.passes.honest honest in
           let before = so.stays within earlier reached in
           let visit : Visit = record {
-            known = g.L.Reader.Read.remaining c.in_ok-connection.connection.reader;
-            tick = c.in_ok-tick.tick;
-            reply = c.serve_connection.new.desk.reply;
+            exchange = record {
+              known = g.L.Reader.Read.remaining c.in_ok-connection.connection.reader;
+              tick = c.in_ok-tick.tick;
+              reply = c.serve_connection.new.desk.reply;
+            };
             ending = c.serve_connection.result;
           } in
-          so_far_more g.S.Keeper.world g.S.Keeper.rests g.S.Keeper.moves c.loop.counter
+          so_far_more g.S.Keeper c.loop.counter
           c.args.desk.now.keeper c.loop.desk.keeper c.serve_connection.new.desk.keeper
           _ _ _ _ _ _ _ _ _ visit (so.so_far within earlier reached)
           (record {
-            handled = served.handled before.within honest before.reached;
+            within = before.within;
+            honest = honest;
+            reached = before.reached;
+            handled = served.handled;
             untouched = unserved c.serve_connection.result (ap (λ desk. desk.keeper))
                 served.untouched;
           }) c.in_ok-connection.ensures.given c.in_ok-tick.ensures.moment
@@ -116,11 +137,14 @@ returns-clause-printed g c =
 
 pub returns-clause-served : goal.returns-clause-served
 returns-clause-served g c = λ within honest reached.
-    let so = c.loop.invariant.so_far within honest reached in (
-      so.visits,
-      so.are,
-      (omega (arith, so.counted, c.loop-test.false, c.loop.invariant.bound), so.given),
-    )
+    let so = c.loop.invariant.so_far within honest reached in record {
+      serves = record {
+        visits = so.visits;
+        are = so.are;
+        counted = omega (arith, so.counted, c.loop-test.false, c.loop.invariant.bound);
+      };
+      given = so.given;
+    }
 
 pub returns-clause-stays : goal.returns-clause-stays
 returns-clause-stays g c = c.loop.invariant.stays

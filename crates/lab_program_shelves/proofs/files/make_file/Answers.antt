@@ -1,11 +1,15 @@
 -- It was opened, or made.
+use Rattle.std.proofs.Common.{subst, sym}
+use Rattle.std.specs.Prelude.{IfOk}
+use Rattle.lab_program_shelves.specs.Files.{IsOpened}
 use Rattle.lab_program_shelves.proofs.FileLemmas.{new_is_opened, ours_is_opened}
 use Rattle.lab_program_shelves.proofs.files.make_file.Goals as goal
 
-pub returns-then-has-clause-opened : goal.returns-then-has-clause-opened
-returns-then-has-clause-opened g c =
-    ours_is_opened g.H.Disk.Store c.open_file.result c.open_file.ensures.ours
+pub returns-else-is_empty-clause-opened : goal.returns-else-is_empty-clause-opened
+returns-else-is_empty-clause-opened g c =
+    subst (λ answer. IfOk answer (IsOpened g.H.Disk.Store)) (sym c.kept_tidy.ensures)
+    (ours_is_opened g.H.Disk.Store c.opened.result c.opened.ensures.ours)
 
-pub returns-else-has-clause-opened : goal.returns-else-has-clause-opened
-returns-else-has-clause-opened g c =
-    new_is_opened g.H.Disk.Store c.new_file.result c.new_file.ensures.made
+pub returns-then-is_empty-clause-opened : goal.returns-then-is_empty-clause-opened
+returns-then-is_empty-clause-opened g c =
+    new_is_opened g.H.Disk.Store c.made.result c.made.ensures.made

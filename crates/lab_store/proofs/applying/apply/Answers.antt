@@ -12,7 +12,7 @@ returns-in_err-commit_all-clause-ends g c ready =
     let new = state g.S.Store c.commit_all.new.conn in
     let fits : SFits w64 c.in-Some.head.id = search rules in
     ends_told c.args.code.now c.args.changes.now old middle new ready c.in_ok-found.ensures.passes c.in_ok-found.ensures.same (to_z w64 (of_z w64 c.in-Some.head.id))
-    (λ clean. let row = found_row _ c.in-Some.head (sym c.in-Some.is ∙ c.in_ok-found.ensures.found ready clean) in (row.0, row.1, row.2 ∙ sym (to_z-of_z w64 c.in-Some.head.id fits))) c.in_err-commit_all.field-0.0 c.from_residual-in_err-commit_all.result (search rules) c.in_err-commit_all.ensures.ends
+    (λ clean. let row = found_row _ c.in-Some.head (sym c.in-Some.is ∙ c.in_ok-found.ensures.answer ready clean) in (row.0, row.1, row.2 ∙ sym (to_z-of_z w64 c.in-Some.head.id fits))) c.in_err-commit_all.field-0.0 c.from_residual-in_err-commit_all.result (search rules) c.in_err-commit_all.ensures.ends
 
 pub returns-clause-ends : goal.returns-clause-ends
 returns-clause-ends g c ready =
@@ -21,4 +21,4 @@ returns-clause-ends g c ready =
     let new = state g.S.Store c.commit_all.new.conn in
     let fits : SFits w64 c.in-Some.head.id = search rules in
     ends_ok c.args.code.now c.args.changes.now old middle new ready c.in_ok-found.ensures.passes c.in_ok-found.ensures.same (to_z w64 (of_z w64 c.in-Some.head.id))
-    (λ clean. let row = found_row _ c.in-Some.head (sym c.in-Some.is ∙ c.in_ok-found.ensures.found ready clean) in (row.0, row.1, row.2 ∙ sym (to_z-of_z w64 c.in-Some.head.id fits))) ReadFault c.in_ok-commit_all.field-0 tt c.in_ok-commit_all.ensures.ends
+    (λ clean. let row = found_row _ c.in-Some.head (sym c.in-Some.is ∙ c.in_ok-found.ensures.answer ready clean) in (row.0, row.1, row.2 ∙ sym (to_z-of_z w64 c.in-Some.head.id fits))) ReadFault c.in_ok-commit_all.field-0 tt c.in_ok-commit_all.ensures.ends

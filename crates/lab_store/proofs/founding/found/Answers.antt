@@ -1,8 +1,8 @@
-use Rattle.std.proofs.Common.{find, sym, ◌∙◌, subst}
+use Rattle.std.proofs.Common.{◌≡◌, true, Option, Some, None, option_map, find, is_some, refl, sym, ◌∙◌, subst}
 use Rattle.sqlite.specs.Held.{state}
 use Rattle.lab_records_kept.specs.declared.labs.Lab.{Lab}
 use Rattle.lab_records_kept.specs.Births.{newborn_lab}
-use Rattle.lab_store_tables.specs.Meaning.{has_code}
+use Rattle.lab_store_tables.specs.Meaning.{has_code, lab_in}
 use Rattle.lab_store_tables.specs.Ready.{tables_of}
 use Rattle.lab_store.specs.Commits.{Ends}
 use Rattle.lab_store_write_changes.specs.NewbornRows.{AddsRows}
@@ -17,9 +17,24 @@ returns-clause-ends g c ready =
     let mid = state g.S.Store c.is_there.new.conn.conn in
     let new = state g.S.Store c.place.new.conn in
     let newborn = c.args.newborn in
-    let there = c.in_ok-is_there.ensures in
+    let there = c.in_ok-is_there.ensures.reads in
     ends_after (AddsRows (newborn_lab newborn)) (IsPlacedBy newborn) c.place.result old mid new ready there.passes there.same
     (λ clean t added. is_placed newborn (tables_of old) t
-    (none_found (find (has_code newborn.code) (tables_of old).labs) (sym (there.found ready clean) ∙ c.if-branch.false))
+    (none_found (find (has_code newborn.code) (tables_of old).labs) (sym (there.answer ready clean) ∙ c.if-branch.false))
     (sym c.is_asked.ensures ∙ c.if-is_asked.false) added)
     (subst (λ (lab : Lab). Ends (AddsRows lab) c.place.result mid new) c.in_ok-lab.ensures c.place.ensures.ends)
+
+mapped : {A B : Type 0} (f : A → B) (o : Option A) → is_some o ≡ true → is_some (option_map f o) ≡ true
+mapped f None is = absurd (cc)
+mapped f (Some one) is = refl
+
+pub returns-then-branch-clause-exists : goal.returns-then-branch-clause-exists
+returns-then-branch-clause-exists g c is ready =
+    let t = tables_of (state g.S.Store c.args.tables.now.conn) in
+    let it = c.in_ok-is_there.ensures.reads in
+    record {
+      quiet = it.passes.crash ready;
+      there = λ clean. mapped (lab_in t) (find (has_code c.args.newborn.code) t.labs) (sym (it.answer ready clean) ∙ c.if-branch.true);
+      was_open = λ clean. (it.same clean).0.was_open;
+      is_open = λ clean. (it.same clean).0.is_open;
+    }

@@ -1,19 +1,9 @@
-use Rattle.std.proofs.Common.{w64, arith}
+use Rattle.std.proofs.Common.{w64}
 use Rattle.std.proofs.lemmas.Int.{to_z-of_z}
-use Rattle.sqlite.specs.State.{HasCleanDisk}
-use Rattle.lab_store_columns.proofs.Queries.{passes, same, exactly}
-use Rattle.lab_store_columns.proofs.Texts.{code_text, code_means}
+use Rattle.lab_store_columns.proofs.Readers.{rows_read}
+use Rattle.lab_store_columns.proofs.Texts.{code_means}
 use Rattle.lab_store_columns.proofs.Exact.{codes_read}
 use Rattle.lab_store_columns.proofs.codes.code_rows.Goals as goal
 
 pub returns : goal.returns
-returns g c =
-    let old = g.D.Readable.state c.args.conn.now in
-    let new = g.D.Readable.state c.rows_by_one.new.conn in
-    let it = rw (to_z-of_z w64 c.args.id c.ranges.id) at c.rows_by_one.ensures in
-    let before : HasCleanDisk new → HasCleanDisk old = λ clean. omega (arith, it.survives.clean) in
-    record {
-      passes = passes code_text code_means.read _ old new before c.rows_by_one.result it.mode it.ok it.err it.survives;
-      same = λ clean. same code_text code_means.read _ old new before c.rows_by_one.result (it.ok clean);
-      rows = λ ready clean. exactly code_text code_means.read _ old new before c.rows_by_one.result _ (λ rows. codes_read old new c.args.id rows) ready clean (it.ok clean);
-    }
+returns g c = rows_read code_means.read (rw (to_z-of_z w64 c.args.id c.ranges.id) at c.rows_by_one.ensures) (λ rows. codes_read _ _ c.args.id rows.items)

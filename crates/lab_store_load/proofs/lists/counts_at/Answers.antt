@@ -1,12 +1,13 @@
 use Rattle.std.proofs.Common.{w64, rules, SFits}
 use Rattle.std.proofs.lemmas.Int.{to_z-of_z}
 use Rattle.lab_store_tables.specs.Ready.{tables_of}
+use Rattle.lab_store_columns.proofs.Readers.{reads_and}
 use Rattle.lab_store_load.specs.Lists.{counts_by}
 use Rattle.lab_store_load.proofs.lists.counts_at.Goals as goal
 
-pub returns-clause-counts : goal.returns-clause-counts
-returns-clause-counts g c ready clean =
+pub returns : goal.returns
+returns g c =
     let lab = c.args.lab.now in
     let fits : SFits w64 lab.id = search rules in
-    let persons = rw (to_z-of_z w64 lab.id fits) at (c.in_ok-persons.ensures.count ready clean) in
-    λ i. record (counts_by (tables_of (g.D.Readable.state c.args.conn.now)) lab) { persons = persons i }
+    reads_and (rw (to_z-of_z w64 lab.id fits) at c.in_ok-persons.ensures) (λ kept persons.
+    λ i. record (counts_by (tables_of (g.D.Readable.state c.args.conn.now)) lab) { persons = persons i })

@@ -1,18 +1,16 @@
-use Rattle.std.proofs.Common.{◌∙◌, ap}
-use Rattle.sqlite.specs.Effect.{Database}
-use Rattle.lab_store_tables.specs.Rows.{tables_in}
-use Rattle.lab_store_read_records.specs.Laboratories.{lab_by}
-use Rattle.lab_store_load.specs.Things.{things_by}
+use Rattle.std.proofs.lemmas.Result.{err_from_is_err_and}
+use Rattle.lab_store_columns.proofs.Readers.{may_end, may_both, may_fail}
 use Rattle.lab_store_load.specs.Parts.{slice_of}
 use Rattle.lab_store_load.proofs.loading.slice_with.Goals as goal
 
-pub returns-clause-slice : goal.returns-clause-slice
-returns-clause-slice g c ready clean live =
-    let head = c.args.head in
-    let need = c.args.need.now in
-    let was = c.in_ok-things.ensures.passes.clean clean in
-    let same = c.in_ok-people.ensures.same was live in
-    let people = c.in_ok-people.ensures.people ready was live in
-    let things = c.in_ok-things.ensures.things (c.in_ok-people.ensures.passes.ready ready) clean same.0.is_open
-    ∙ ap (λ (db : Database). things_by (lab_by (tables_in db.trees) head) need) same.0.now_is in
-    λ i. slice_of head c.args.counts c.args.listed (people i) (things i)
+pub returns-in_err-people : goal.returns-in_err-people
+returns-in_err-people g c = may_end c.in_err-people.ensures c.from_residual.result _ c.from_residual.ensures.1
+
+pub returns-in_err-things : goal.returns-in_err-things
+returns-in_err-things g c =
+    rw (err_from_is_err_and c.from_residual-in_err-things.result c.from_residual-in_err-things.ensures.1).1 (may_fail c.in_ok-people.ensures c.in_err-things.ensures)
+
+pub returns : goal.returns
+returns g c =
+    may_both c.in_ok-people.ensures c.in_ok-things.ensures
+    (λ people things. λ i. slice_of c.args.head c.args.counts c.args.listed (people i) (things i))

@@ -1,15 +1,15 @@
 use Rattle.std.proofs.Common.{◌∙◌, ap, sym, option_and_then, w64, rules, SFits}
 use Rattle.std.proofs.lemmas.Int.{to_z-of_z}
-use Rattle.lab_store_tables.specs.Ready.{tables_of}
-use Rattle.lab_store_columns.proofs.Queries.{if_then}
-use Rattle.lab_store_read_records.specs.Laboratories.{lab_by}
 use Rattle.lab_records_kept.specs.Lookups.{person_at}
+use Rattle.lab_store_tables.specs.Ready.{tables_of}
+use Rattle.lab_store_columns.proofs.Readers.{may_read, reads_as}
+use Rattle.lab_store_read_records.specs.Laboratories.{lab_by}
 use Rattle.lab_store_load.proofs.people.person_if.Goals as goal
 
-pub returns-in-Some-clause-person : goal.returns-in-Some-clause-person
-returns-in-Some-clause-person g c ready clean =
+pub returns-in-Some : goal.returns-in-Some
+returns-in-Some g c =
     let t = tables_of (g.D.Readable.state c.args.conn.now) in
     let lab = c.args.lab.now in
     let fits : SFits w64 lab.id = search rules in
-    let found = rw (to_z-of_z w64 lab.id fits) at (c.person_at.ensures.person ready clean) in
-    if_then c.person_at.result (λ person is. is ∙ ap (option_and_then (person_at (lab_by t lab))) (sym c.in-Some.is)) found
+    may_read (reads_as (rw (to_z-of_z w64 lab.id fits) at c.person_at.ensures)
+    (λ person is. is ∙ ap (option_and_then (person_at (lab_by t lab))) (sym c.in-Some.is)))

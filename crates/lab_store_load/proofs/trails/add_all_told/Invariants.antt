@@ -1,19 +1,13 @@
-use Rattle.std.proofs.Common.{◌≡◌, ◌++◌, map, length, IsTrue}
+use Rattle.std.proofs.Common.{◌≡◌, length}
 use Rattle.std.specs.Vec.Iter.{into_iter_items, into_iter_len}
-use Rattle.sqlite.specs.State.{HasCleanDisk, IsUnchanged}
-use Rattle.lab_store_tables.specs.Ready.{IsReady, PassesBy, tables_of}
+use Rattle.lab_store_columns.proofs.Loops.{HasPut}
 use Rattle.lab_store_load.specs.Trails.{told_by}
 use Rattle.lab_store_load.proofs.trails.add_all_told.Given as goal
 
--- the rows so far, and those to come, are all; nothing has changed
+-- the rows so far, and those to come, are all
 abbrev pub invariant-loop-head : goal.invariant-loop-head
-invariant-loop-head g l =
-    let old = g.D.Readable.state l.fn.conn in
-    let now = g.D.Readable.state l.conn in
-    record {
-      passes : PassesBy old now;
-      same : HasCleanDisk now → IsTrue old.is_open → IsUnchanged old now;
-      told : IsReady old → HasCleanDisk now → IsTrue old.is_open
-          → l.made.items ++ map (told_by (tables_of old)) (into_iter_items l.head-iterator) ≡ l.fn.made.items ++ map (told_by (tables_of old)) (into_iter_items l.initial.head-iterator);
-      counted : into_iter_len l.head-iterator ≡ length (into_iter_items l.head-iterator);
-    }
+invariant-loop-head g l = record {
+  put : HasPut told_by l.fn.made.items l.fn.heads.items l.made.items (into_iter_items l.head-iterator)
+      (g.D.Readable.state l.fn.conn) (g.D.Readable.state l.conn);
+  counted : into_iter_len l.head-iterator ≡ length (into_iter_items l.head-iterator);
+}

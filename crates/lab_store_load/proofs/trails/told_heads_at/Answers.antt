@@ -2,14 +2,15 @@ use Rattle.std.proofs.Common.{w64, ◌∙◌, ap, ap₂, map}
 use Rattle.std.proofs.lemmas.Int.{to_z-of_z}
 use Rattle.lab_store_tables.specs.Ready.{tables_of}
 use Rattle.lab_store_columns.proofs.Queries.{if_then}
+use Rattle.lab_store_columns.proofs.Readers.{reads_and}
 use Rattle.lab_store_load.specs.Trails.{told_heads_within}
 use Rattle.lab_store_load.specs.Shown.{told_read}
 use Rattle.lab_store_load.proofs.TrailsFound.{told_found}
 use Rattle.lab_store_load.proofs.trails.told_heads_at.Goals as goal
 
-pub returns-clause-heads : goal.returns-clause-heads
-returns-clause-heads g c ready clean =
+pub returns : goal.returns
+returns g c =
     let t = tables_of (g.D.Readable.state c.args.conn.now) in
-    let rows = rw (to_z-of_z w64 c.args.lab c.ranges.lab) at (c.in_ok-rows.ensures.rows ready clean) in
+    reads_and (rw (to_z-of_z w64 c.args.lab c.ranges.lab) at c.in_ok-rows.ensures) (λ kept rows.
     if_then c.told_of_rows.result (λ made is. is ∙ ap (map told_read) (c.deref.ensures.value ∙ rows)
-    ∙ told_found t c.args.lab c.get.result c.get-2.result ∙ ap₂ (told_heads_within t c.args.lab) c.get.ensures.value c.get-2.ensures.value) c.told_of_rows.ensures
+    ∙ told_found t c.args.lab c.get.result c.get-2.result ∙ ap₂ (told_heads_within t c.args.lab) c.get.ensures.value c.get-2.ensures.value) c.told_of_rows.ensures)

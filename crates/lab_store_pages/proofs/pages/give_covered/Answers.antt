@@ -4,9 +4,9 @@ use Rattle.std.proofs.lemmas.Int.{to_z-of_z}
 use Rattle.std.proofs.lemmas.Result.{err_from_is_err_and}
 use Rattle.lab_store_tables.specs.Meaning.{chained, leaves_of}
 use Rattle.lab_store_tables.specs.Ready.{tables_of}
+use Rattle.lab_store_columns.proofs.Readers.{passes_none}
 use Rattle.lab_store_pages.specs.Pages.{cover_rows, pages_rows}
 use Rattle.lab_store_pages.proofs.RowLemmas.{cut_in_first, given_as, given_behind, sends_as, sends_behind}
-use Rattle.lab_store_pages.proofs.StateLemmas.{passes_none}
 use Rattle.lab_store_pages.proofs.pages.give_covered.Goals as goal
 
 pub returns-in_err-give_cover-clause-passes : goal.returns-in_err-give_cover-clause-passes

@@ -29,7 +29,7 @@ returns-in-Ok-clause-text g c ready clean =
     ∙ headed_as (tables_of (g.D.Readable.state c.args.conn.now))
     (tables_of (g.D.Readable.state c.cover_at.new.conn))
     (ap (λ (db : Database). tables_in db.trees) same.0.now_is) c.args.lab.now head c.in-Ok.cover
-    (c.in-Ok.ensures.cover ready was)) went
+    (c.in-Ok.ensures.answer ready was)) went
 
 pub returns-in-Ok-clause-counts : goal.returns-in-Ok-clause-counts
 returns-in-Ok-clause-counts g c ready clean =
@@ -48,7 +48,7 @@ returns-in-Ok-clause-counts g c ready clean =
     ∙ headed_as (tables_of (g.D.Readable.state c.args.conn.now))
     (tables_of (g.D.Readable.state c.cover_at.new.conn))
     (ap (λ (db : Database). tables_in db.trees) same.0.now_is) c.args.lab.now head c.in-Ok.cover
-    (c.in-Ok.ensures.cover ready was)) gave
+    (c.in-Ok.ensures.answer ready was)) gave
 
 pub returns-in-Err-clause-text : goal.returns-in-Err-clause-text
 returns-in-Err-clause-text g c ready clean = none_went _ _

@@ -5,9 +5,10 @@ use Rattle.std.proofs.lemmas.Result.{err_from_is_err_and}
 use Rattle.sqlite.specs.Effect.{Database}
 use Rattle.lab_store_tables.specs.Rows.{tables_in}
 use Rattle.lab_store_tables.specs.Ready.{tables_of}
+use Rattle.lab_store_columns.proofs.Readers.{passes_none, unchanged_none, passes_on, unchanged_then}
+use Rattle.lab_store_columns.proofs.Loops.{none_left}
 use Rattle.lab_store_read_records.specs.Leaves.{leaf_by}
-use Rattle.lab_store_pages.proofs.GoneLemmas.{none_gone, none_left, page_more, page_cut, all_gone, all_given}
-use Rattle.lab_store_pages.proofs.StateLemmas.{passes_none, passes_on, unchanged_none, unchanged_then}
+use Rattle.lab_store_pages.proofs.GoneLemmas.{none_gone, page_more, page_cut, all_gone, all_given}
 use Rattle.lab_store_pages.proofs.pages.give_pages.Goals as goal
 
 pub loop-head-init : goal.loop-head-init

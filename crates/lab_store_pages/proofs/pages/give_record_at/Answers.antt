@@ -21,7 +21,7 @@ returns-in-Ok-Some-clause-text g c ready clean =
     (tables_of (g.D.Readable.state c.head_at.new.conn))
     (ap (λ (db : Database). tables_in db.trees) same.0.now_is) c.args.lab.now rows.rows
     c.args.number c.in-Ok-Some.head
-    (sym c.in-Ok-Some.field-0-is ∙ c.in-Ok-Some.ensures.found ready was))
+    (sym c.in-Ok-Some.field-0-is ∙ c.in-Ok-Some.ensures.answer ready was))
     (c.give_headed.ensures.text (c.head_at.ensures.passes.ready ready) clean)
 
 pub returns-in-Ok-Some-clause-counts : goal.returns-in-Ok-Some-clause-counts
@@ -34,7 +34,7 @@ returns-in-Ok-Some-clause-counts g c ready clean =
     (tables_of (g.D.Readable.state c.head_at.new.conn))
     (ap (λ (db : Database). tables_in db.trees) same.0.now_is) c.args.lab.now rows.rows
     c.args.number c.in-Ok-Some.head
-    (sym c.in-Ok-Some.field-0-is ∙ c.in-Ok-Some.ensures.found ready was))
+    (sym c.in-Ok-Some.field-0-is ∙ c.in-Ok-Some.ensures.answer ready was))
     (c.give_headed.ensures.counts (c.head_at.ensures.passes.ready ready) clean)
 
 pub returns-in-Ok-None-clause-text : goal.returns-in-Ok-None-clause-text
@@ -43,7 +43,7 @@ returns-in-Ok-None-clause-text g c ready clean =
     let rows = ready.kept (c.head_at.ensures.passes.clean clean) same.0.was_open in
     whole_as (g.W.Write.contents c.args.writer.now) (g.W.Write.contents c.args.writer.now) [] _
     (none_sought (tables_of (g.D.Readable.state c.args.conn.now)) rows.rows c.args.lab.now
-    c.args.number (sym c.in-Ok-None.field-0-is ∙ c.in-Ok-None.ensures.found ready clean))
+    c.args.number (sym c.in-Ok-None.field-0-is ∙ c.in-Ok-None.ensures.answer ready clean))
     (Appends-nil (g.W.Write.contents c.args.writer.now))
 
 pub returns-in-Ok-None-clause-counts : goal.returns-in-Ok-None-clause-counts
@@ -52,7 +52,7 @@ returns-in-Ok-None-clause-counts g c ready clean =
     let rows = ready.kept (c.head_at.ensures.passes.clean clean) same.0.was_open in
     subst (λ (it : List (List (List ℕ))). c.args.out.now ≡ given_rows c.args.out.now it)
     (none_sought (tables_of (g.D.Readable.state c.args.conn.now)) rows.rows c.args.lab.now
-    c.args.number (sym c.in-Ok-None.field-0-is ∙ c.in-Ok-None.ensures.found ready clean)) refl
+    c.args.number (sym c.in-Ok-None.field-0-is ∙ c.in-Ok-None.ensures.answer ready clean)) refl
 
 pub returns-in-Err-clause-text : goal.returns-in-Err-clause-text
 returns-in-Err-clause-text g c ready clean = none_went _ _

@@ -14,7 +14,7 @@ returns-in-Ok-clause-text g c ready clean =
     let was = c.give_pages.ensures.passes.clean clean in
     let same = c.in-Ok.ensures.same was in
     let given = rw (to_z-of_z w64 c.args.kept c.ranges.kept) at
-    (c.in-Ok.ensures.versions ready was) in
+    (c.in-Ok.ensures.answer ready was) in
     sends_as (g.W.Write.contents c.args.writer.now) (g.W.Write.contents c.give_pages.new.writer) _ _
     c.give_pages.result
     (leaves_as (tables_of (g.D.Readable.state c.args.conn.now))
@@ -28,7 +28,7 @@ returns-in-Ok-clause-counts g c ready clean =
     let was = c.give_pages.ensures.passes.clean clean in
     let same = c.in-Ok.ensures.same was in
     let given = rw (to_z-of_z w64 c.args.kept c.ranges.kept) at
-    (c.in-Ok.ensures.versions ready was) in
+    (c.in-Ok.ensures.answer ready was) in
     given_as c.args.out.now c.give_pages.new.out _ _ c.give_pages.result
     (leaves_as (tables_of (g.D.Readable.state c.args.conn.now))
     (tables_of (g.D.Readable.state c.versions_at.new.conn))

@@ -1,19 +1,11 @@
-use Rattle.std.proofs.Common.{w64, arith}
+use Rattle.std.proofs.Common.{w64}
 use Rattle.std.proofs.lemmas.Int.{to_z-of_z}
-use Rattle.sqlite.specs.State.{HasCleanDisk}
-use Rattle.lab_store_columns.proofs.Queries.{passes, same, exactly}
-use Rattle.lab_store_read_forms.proofs.KindTexts.{name_text, name_means}
+use Rattle.lab_store_columns.proofs.Readers.{rows_read}
+use Rattle.lab_store_read_forms.proofs.KindTexts.{name_means}
 use Rattle.lab_store_read_forms.proofs.KindsExact.{names_read}
 use Rattle.lab_store_read_forms.proofs.choices.name_rows.Goals as goal
 
 pub returns : goal.returns
 returns g c =
-    let old = g.D.Readable.state c.args.conn.now in
-    let new = g.D.Readable.state c.rows_by_one.new.conn in
-    let it = rw (to_z-of_z w64 c.args.field c.ranges.field) at c.rows_by_one.ensures in
-    let before : HasCleanDisk new → HasCleanDisk old = λ clean. omega (arith, it.survives.clean) in
-    record {
-      passes = passes name_text name_means.read _ old new before c.rows_by_one.result it.mode it.ok it.err it.survives;
-      same = λ clean. same name_text name_means.read _ old new before c.rows_by_one.result (it.ok clean);
-      rows = λ ready clean. exactly name_text name_means.read _ old new before c.rows_by_one.result _ (λ rows. names_read old new c.args.field rows) ready clean (it.ok clean);
-    }
+    rows_read name_means.read (rw (to_z-of_z w64 c.args.field c.ranges.field) at c.rows_by_one.ensures)
+    (λ rows. names_read _ _ c.args.field rows.items)

@@ -2,12 +2,14 @@ use Rattle.std.proofs.Common.{w64, ◌∙◌, ap, option_map, slice_get}
 use Rattle.std.proofs.lemmas.Int.{to_z-of_z}
 use Rattle.lab_store_tables.specs.Ready.{tables_of}
 use Rattle.lab_store_columns.proofs.Queries.{if_then}
+use Rattle.lab_store_columns.proofs.Readers.{reads_and}
 use Rattle.lab_store_read_forms.specs.Shown.{form_read}
 use Rattle.lab_store_read_forms.proofs.FormsFound.{form_found}
 use Rattle.lab_store_read_forms.proofs.forms.form_head_at.Goals as goal
 
-pub returns-clause-found : goal.returns-clause-found
-returns-clause-found g c ready clean =
+pub returns : goal.returns
+returns g c =
     let t = tables_of (g.D.Readable.state c.args.conn.now) in
-    let rows = rw (to_z-of_z w64 c.args.id c.ranges.id) at (c.in_ok-rows.ensures.rows ready clean) in
-    if_then c.first_form.result (λ made is. is ∙ ap (λ l. option_map form_read (slice_get l 0)) (c.deref.ensures.value ∙ rows) ∙ form_found t c.args.id) c.first_form.ensures
+    reads_and (rw (to_z-of_z w64 c.args.id c.ranges.id) at c.in_ok-rows.ensures) (λ kept rows.
+    if_then c.first_form.result (λ made is. is ∙ ap (λ l. option_map form_read (slice_get l 0)) (c.deref.ensures.value ∙ rows)
+    ∙ form_found t c.args.id) c.first_form.ensures)

@@ -1,19 +1,11 @@
-use Rattle.std.proofs.Common.{w64, arith}
+use Rattle.std.proofs.Common.{w64}
 use Rattle.std.proofs.lemmas.Int.{to_z-of_z}
-use Rattle.sqlite.specs.State.{HasCleanDisk}
-use Rattle.lab_store_columns.proofs.Queries.{passes, same, exactly}
-use Rattle.lab_store_read_people.proofs.PersonTexts.{all_codes_text, all_codes_means}
+use Rattle.lab_store_columns.proofs.Readers.{rows_read}
+use Rattle.lab_store_read_people.proofs.PersonTexts.{all_codes_means}
 use Rattle.lab_store_read_people.proofs.PersonsExact.{all_codes_read}
 use Rattle.lab_store_read_people.proofs.persons.all_code_rows.Goals as goal
 
 pub returns : goal.returns
 returns g c =
-    let old = g.D.Readable.state c.args.conn.now in
-    let new = g.D.Readable.state c.rows_by_one.new.conn in
-    let it = rw (to_z-of_z w64 c.args.lab c.ranges.lab) at c.rows_by_one.ensures in
-    let before : HasCleanDisk new → HasCleanDisk old = λ clean. omega (arith, it.survives.clean) in
-    record {
-      passes = passes all_codes_text all_codes_means.read _ old new before c.rows_by_one.result it.mode it.ok it.err it.survives;
-      same = λ clean. same all_codes_text all_codes_means.read _ old new before c.rows_by_one.result (it.ok clean);
-      rows = λ ready clean. exactly all_codes_text all_codes_means.read _ old new before c.rows_by_one.result _ (λ rows. all_codes_read old new c.args.lab rows) ready clean (it.ok clean);
-    }
+    rows_read all_codes_means.read (rw (to_z-of_z w64 c.args.lab c.ranges.lab) at c.rows_by_one.ensures)
+    (λ rows. all_codes_read _ _ c.args.lab rows.items)

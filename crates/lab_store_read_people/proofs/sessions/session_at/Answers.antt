@@ -4,15 +4,14 @@ use Rattle.lab_people_access.specs.Sessions.{session_of}
 use Rattle.lab_store_tables.specs.Meaning.{sessions_of}
 use Rattle.lab_store_tables.specs.Ready.{tables_of}
 use Rattle.lab_store_columns.proofs.Queries.{if_then}
+use Rattle.lab_store_columns.proofs.Readers.{reads_and}
 use Rattle.lab_store_read_people.specs.SessionsShown.{session_read}
 use Rattle.lab_store_read_people.proofs.SessionsFound.{session_found}
 use Rattle.lab_store_read_people.proofs.sessions.session_at.Goals as goal
 
-pub returns-clause-session : goal.returns-clause-session
-returns-clause-session g c ready clean =
+pub returns : goal.returns
+returns g c =
     let t = tables_of (g.D.Readable.state c.args.conn.now) in
-    let same = c.in_ok-rows.ensures.same clean in
-    let kept = ready.kept (c.in_ok-rows.ensures.passes.clean clean) same.0.was_open in
-    let rows = rw (to_z-of_z w64 c.args.lab c.ranges.lab) at (c.in_ok-rows.ensures.rows ready clean) in
+    reads_and (rw (to_z-of_z w64 c.args.lab c.ranges.lab) at c.in_ok-rows.ensures) (λ kept rows.
     if_then c.first_session.result (λ session is. is ∙ ap (λ l. option_map session_read (slice_get l 0)) (c.deref.ensures.value ∙ rows)
-    ∙ session_found t kept.rows c.args.lab c.bytes-bytes.result ∙ ap (session_of (sessions_of t c.args.lab)) c.bytes-bytes.ensures) c.first_session.ensures
+    ∙ session_found t kept.rows c.args.lab c.bytes-bytes.result ∙ ap (session_of (sessions_of t c.args.lab)) c.bytes-bytes.ensures) c.first_session.ensures)

@@ -1,19 +1,13 @@
-use Rattle.std.proofs.Common.{◌≡◌, ◌++◌, map, length, IsTrue}
+use Rattle.std.proofs.Common.{◌≡◌, length, map}
 use Rattle.std.specs.Vec.Iter.{into_iter_items, into_iter_len}
-use Rattle.sqlite.specs.State.{HasCleanDisk, IsUnchanged}
-use Rattle.lab_store_tables.specs.Ready.{IsReady, PassesBy, tables_of}
+use Rattle.lab_store_columns.proofs.Loops.{HasPut}
 use Rattle.lab_store_read_records.specs.Leaves.{leaf_of, leaf_by}
 use Rattle.lab_store_read_records.proofs.record_leaves.add_leaves.Given as goal
 
--- the versions so far, and those to come, are all; nothing has changed
+-- the versions so far, and those to come, are all
 abbrev pub invariant-loop-head : goal.invariant-loop-head
-invariant-loop-head g l =
-    let old = g.D.Readable.state l.fn.conn in
-    let now = g.D.Readable.state l.conn in
-    record {
-      passes : PassesBy old now;
-      same : HasCleanDisk now → IsTrue old.is_open → IsUnchanged old now;
-      leaves : IsReady old → HasCleanDisk now → IsTrue old.is_open
-          → map leaf_of l.made.items ++ map (leaf_by (tables_of old)) (into_iter_items l.head-iterator) ≡ map leaf_of l.fn.made.items ++ map (leaf_by (tables_of old)) (into_iter_items l.initial.head-iterator);
-      counted : into_iter_len l.head-iterator ≡ length (into_iter_items l.head-iterator);
-    }
+invariant-loop-head g l = record {
+  put : HasPut leaf_by (map leaf_of l.fn.made.items) l.fn.heads.items (map leaf_of l.made.items) (into_iter_items l.head-iterator)
+      (g.D.Readable.state l.fn.conn) (g.D.Readable.state l.conn);
+  counted : into_iter_len l.head-iterator ≡ length (into_iter_items l.head-iterator);
+}

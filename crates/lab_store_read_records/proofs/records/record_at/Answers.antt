@@ -5,11 +5,12 @@ use Rattle.lab_store_read_records.specs.Heads.{is_record, record_head}
 use Rattle.lab_store_read_records.specs.Shown.{record_read}
 use Rattle.lab_store_read_records.proofs.Found.{record_found}
 use Rattle.lab_store_columns.proofs.Queries.{if_then}
+use Rattle.lab_store_columns.proofs.Readers.{reads_and}
 use Rattle.lab_store_read_records.proofs.records.record_at.Goals as goal
 
-pub returns-clause-found : goal.returns-clause-found
-returns-clause-found g c ready clean =
+pub returns : goal.returns
+returns g c =
     let t = tables_of (g.D.Readable.state c.args.conn.now) in
-    let rows = rw (to_z-of_z w64 c.args.lab c.ranges.lab) at (c.in_ok-rows.ensures.rows ready clean) in
+    reads_and (rw (to_z-of_z w64 c.args.lab c.ranges.lab) at c.in_ok-rows.ensures) (λ kept rows.
     if_then c.first_record.result (λ made is. is ∙ ap (λ l. option_map record_read (slice_get l 0)) (c.deref.ensures.value ∙ rows)
-    ∙ record_found t c.args.lab c.get.result ∙ ap (λ n. option_map record_head (find (is_record c.args.lab n) t.records)) c.get.ensures.value) c.first_record.ensures
+    ∙ record_found t c.args.lab c.get.result ∙ ap (λ n. option_map record_head (find (is_record c.args.lab n) t.records)) c.get.ensures.value) c.first_record.ensures)

@@ -1,19 +1,11 @@
-use Rattle.std.proofs.Common.{w64, arith}
+use Rattle.std.proofs.Common.{w64}
 use Rattle.std.proofs.lemmas.Int.{to_z-of_z}
-use Rattle.sqlite.specs.State.{HasCleanDisk}
-use Rattle.lab_store_read_records.proofs.Texts.{record_text, record_means}
+use Rattle.lab_store_read_records.proofs.Texts.{record_means}
 use Rattle.lab_store_read_records.proofs.Exact.{records_read}
-use Rattle.lab_store_columns.proofs.Queries.{passes, same, exactly}
+use Rattle.lab_store_columns.proofs.Readers.{rows_read}
 use Rattle.lab_store_read_records.proofs.records.record_rows.Goals as goal
 
 pub returns : goal.returns
 returns g c =
-    let old = g.D.Readable.state c.args.conn.now in
-    let new = g.D.Readable.state c.rows_by_two.new.conn in
-    let it = rw (to_z-of_z w64 c.args.lab c.ranges.lab) at c.rows_by_two.ensures in
-    let before : HasCleanDisk new → HasCleanDisk old = λ clean. omega (arith, it.survives.clean) in
-    record {
-      passes = passes record_text record_means.read _ old new before c.rows_by_two.result it.mode it.ok it.err it.survives;
-      same = λ clean. same record_text record_means.read _ old new before c.rows_by_two.result (it.ok clean);
-      rows = λ ready clean. exactly record_text record_means.read _ old new before c.rows_by_two.result _ (λ rows. records_read old new c.args.lab c.args.number rows) ready clean (it.ok clean);
-    }
+    rows_read record_means.read (rw (to_z-of_z w64 c.args.lab c.ranges.lab) at c.rows_by_two.ensures)
+    (λ rows. records_read _ _ c.args.lab c.args.number rows.items)

@@ -4,14 +4,15 @@ use Rattle.lab_store_tables.specs.Ready.{tables_of}
 use Rattle.lab_store_read_records.specs.Heads.{record_head}
 use Rattle.lab_store_read_records.specs.Shown.{record_read}
 use Rattle.lab_store_columns.proofs.Queries.{if_then}
+use Rattle.lab_store_columns.proofs.Readers.{reads_and}
 use Rattle.lab_store_read_records.specs.Sought.{is_about}
 use Rattle.lab_store_read_records.proofs.RetrievalFound.{about_found}
 use Rattle.lab_store_read_records.proofs.retrieved_records.record_about.Goals as goal
 
-pub returns-clause-found : goal.returns-clause-found
-returns-clause-found g c ready clean =
+pub returns : goal.returns
+returns g c =
     let t = tables_of (g.D.Readable.state c.args.conn.now) in
-    let rows = rw (to_z-of_z w64 c.args.lab c.ranges.lab) at (c.in_ok-rows.ensures.rows ready clean) in
+    reads_and (rw (to_z-of_z w64 c.args.lab c.ranges.lab) at c.in_ok-rows.ensures) (λ kept rows.
     if_then c.first_record.result (λ made is. is ∙ ap (λ l. option_map record_read (slice_get l 0)) (c.deref.ensures.value ∙ rows)
     ∙ about_found t c.args.lab c.as_str.result.now c.as_str-2.result.now
-    ∙ ap₂ (λ form sample. option_map record_head (find (is_about c.args.lab form sample) t.records)) c.as_str.ensures.value c.as_str-2.ensures.value) c.first_record.ensures
+    ∙ ap₂ (λ form sample. option_map record_head (find (is_about c.args.lab form sample) t.records)) c.as_str.ensures.value c.as_str-2.ensures.value) c.first_record.ensures)

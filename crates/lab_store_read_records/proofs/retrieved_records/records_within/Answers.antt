@@ -3,13 +3,14 @@ use Rattle.std.proofs.lemmas.Int.{to_z-of_z}
 use Rattle.lab_store_tables.specs.Ready.{tables_of}
 use Rattle.lab_store_read_records.specs.Shown.{record_read}
 use Rattle.lab_store_columns.proofs.Queries.{if_then}
+use Rattle.lab_store_columns.proofs.Readers.{reads_and}
 use Rattle.lab_store_read_records.specs.Sought.{heads_within}
 use Rattle.lab_store_read_records.proofs.RetrievalFound.{within_found}
 use Rattle.lab_store_read_records.proofs.retrieved_records.records_within.Goals as goal
 
-pub returns-clause-found : goal.returns-clause-found
-returns-clause-found g c ready clean =
+pub returns : goal.returns
+returns g c =
     let t = tables_of (g.D.Readable.state c.args.conn.now) in
-    let rows = rw (to_z-of_z w64 c.args.lab c.ranges.lab) at (c.in_ok-rows.ensures.rows ready clean) in
+    reads_and (rw (to_z-of_z w64 c.args.lab c.ranges.lab) at c.in_ok-rows.ensures) (λ kept rows.
     if_then c.records_of_rows.result (λ made is. is ∙ ap (map record_read) (c.deref.ensures.value ∙ rows)
-    ∙ within_found t c.args.lab c.get.result c.get-2.result ∙ ap₂ (heads_within t c.args.lab) c.get.ensures.value c.get-2.ensures.value) c.records_of_rows.ensures
+    ∙ within_found t c.args.lab c.get.result c.get-2.result ∙ ap₂ (heads_within t c.args.lab) c.get.ensures.value c.get-2.ensures.value) c.records_of_rows.ensures)

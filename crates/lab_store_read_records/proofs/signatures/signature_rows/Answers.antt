@@ -1,19 +1,11 @@
-use Rattle.std.proofs.Common.{w64, arith}
+use Rattle.std.proofs.Common.{w64}
 use Rattle.std.proofs.lemmas.Int.{to_z-of_z}
-use Rattle.sqlite.specs.State.{HasCleanDisk}
-use Rattle.lab_store_read_records.proofs.Texts.{signature_text, signature_means}
+use Rattle.lab_store_read_records.proofs.Texts.{signature_means}
 use Rattle.lab_store_read_records.proofs.Exact.{signatures_read}
-use Rattle.lab_store_columns.proofs.Queries.{passes, same, exactly}
+use Rattle.lab_store_columns.proofs.Readers.{rows_read}
 use Rattle.lab_store_read_records.proofs.signatures.signature_rows.Goals as goal
 
 pub returns : goal.returns
 returns g c =
-    let old = g.D.Readable.state c.args.conn.now in
-    let new = g.D.Readable.state c.rows_by_one.new.conn in
-    let it = rw (to_z-of_z w64 c.args.version c.ranges.version) at c.rows_by_one.ensures in
-    let before : HasCleanDisk new → HasCleanDisk old = λ clean. omega (arith, it.survives.clean) in
-    record {
-      passes = passes signature_text signature_means.read _ old new before c.rows_by_one.result it.mode it.ok it.err it.survives;
-      same = λ clean. same signature_text signature_means.read _ old new before c.rows_by_one.result (it.ok clean);
-      rows = λ ready clean. exactly signature_text signature_means.read _ old new before c.rows_by_one.result _ (λ rows. signatures_read old new c.args.version rows) ready clean (it.ok clean);
-    }
+    rows_read signature_means.read (rw (to_z-of_z w64 c.args.version c.ranges.version) at c.rows_by_one.ensures)
+    (λ rows. signatures_read _ _ c.args.version rows.items)

@@ -4,9 +4,10 @@ use Rattle.lab_store_tables.specs.Ready.{tables_of}
 use Rattle.lab_store_read_records.specs.Shown.{version_read}
 use Rattle.lab_store_read_records.proofs.Found.{versions_found}
 use Rattle.lab_store_columns.proofs.Queries.{if_then}
+use Rattle.lab_store_columns.proofs.Readers.{reads_and}
 use Rattle.lab_store_read_records.proofs.versions.versions_at.Goals as goal
 
-pub returns-clause-versions : goal.returns-clause-versions
-returns-clause-versions g c ready clean =
-    let rows = rw (to_z-of_z w64 c.args.kept c.ranges.kept) at (c.in_ok-rows.ensures.rows ready clean) in
-    if_then c.versions_of_rows.result (λ made is. is ∙ ap (map version_read) (c.deref.ensures.value ∙ rows) ∙ versions_found (tables_of (g.D.Readable.state c.args.conn.now)) c.args.kept) c.versions_of_rows.ensures
+pub returns : goal.returns
+returns g c = reads_and (rw (to_z-of_z w64 c.args.kept c.ranges.kept) at c.in_ok-rows.ensures) (λ kept rows.
+    if_then c.versions_of_rows.result (λ made is. is ∙ ap (map version_read) (c.deref.ensures.value ∙ rows)
+    ∙ versions_found (tables_of (g.D.Readable.state c.args.conn.now)) c.args.kept) c.versions_of_rows.ensures)

@@ -1,19 +1,17 @@
-use Rattle.std.proofs.Common.{◌≡◌, [], ◌∷◌, subst}
+use Rattle.std.proofs.Common.{◌≡◌, [], ◌∷◌}
 use Rattle.sqlite_value.specs.declared.value.Value.TheVariants.{Int}
-use Rattle.sqlite_value.specs.Order.{Row}
 use Rattle.sqlite.specs.Values.{bound}
-use Rattle.sqlite.specs.State.{ExecutesInside}
 use Rattle.lab_store_tables.specs.Rows.{LabRow, number}
 use Rattle.lab_store_tables.specs.Changes.{in_lab}
-use Rattle.lab_store_write.proofs.Inside.{made_exactly}
+use Rattle.lab_store_write.proofs.Writers.{wrote}
 use Rattle.lab_store_write.proofs.LabWrites.{last_text, sets_last}
 use Rattle.lab_store_write.proofs.labs.set_last.Goals as goal
 
-pub returns-clause-made : goal.returns-clause-made
-returns-clause-made g c clean =
+pub returns : goal.returns
+returns g c =
     let old = g.W.Writable.state c.args.tx.now in
     let new = g.W.Writable.state c.run.new.tx in
     let lab = c.args.lab.id in
     let given : bound (c.id_value.result ∷ c.moment_value.result ∷ []) ≡ Int lab ∷ number c.args.moment ∷ [] = λ i. c.id_value.ensures i ∷ c.moment_value.ensures i ∷ [] in
-    made_exactly last_text (Int lab ∷ number c.args.moment ∷ []) old new (in_lab lab (λ (one : LabRow). record one { last = c.args.moment })) c.run.result
-    (subst (λ (row : Row). ExecutesInside 0 last_text row old new c.run.result) given (c.run.ensures.runs clean)) (λ count. sets_last lab c.args.moment old new count)
+    wrote last_text (Int lab ∷ number c.args.moment ∷ []) (in_lab lab (λ (one : LabRow). record one { last = c.args.moment })) c.run.ensures.stays given c.run.ensures.runs
+    (λ count. sets_last lab c.args.moment old new count)

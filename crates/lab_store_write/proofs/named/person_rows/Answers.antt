@@ -1,27 +1,16 @@
-use Rattle.std.proofs.Common.{◌≡◌, [], ◌∷◌, IfOk, subst, arith}
+use Rattle.std.proofs.Common.{◌≡◌, [], ◌∷◌}
 use Rattle.sqlite_value.specs.declared.value.Value.TheVariants.{Int, Text}
-use Rattle.sqlite_value.specs.Order.{Row}
 use Rattle.sqlite.specs.Values.{bound}
-use Rattle.sqlite.specs.State.{HasCleanDisk, Shown}
 use Rattle.lab_store_write.specs.Shown.{persons_shown}
-use Rattle.lab_store_write.proofs.Lookups.{looked, looked_keeps}
+use Rattle.lab_store_write.proofs.Writers.{rows_found}
 use Rattle.lab_store_write.proofs.KeyLemmas.{person_text, person_means, persons_read}
 use Rattle.lab_store_write.proofs.named.person_rows.Goals as goal
 
-pub returns-clause-rows : goal.returns-clause-rows
-returns-clause-rows g c clean =
-    let old = g.W.Writable.state c.args.tx.now in
-    let new = g.W.Writable.state c.query_all.new.self in
-    let before : HasCleanDisk new → HasCleanDisk old = λ clean. omega (arith, c.query_all.ensures.survives.clean) in
+pub returns : goal.returns
+returns g c =
     let lab = c.args.lab.id in
     let key = c.args.code.now in
+    let it = c.query_all.ensures in
     let given : bound (c.id_value.result ∷ c.text_value.result ∷ []) ≡ Int lab ∷ Text key ∷ [] = λ i. c.id_value.ensures i ∷ c.text_value.ensures i ∷ [] in
-    looked person_text person_means.read (Int lab ∷ Text key ∷ []) old new before c.query_all.result (persons_shown lab key) (c.requires.inside (before clean)) (λ rows. persons_read old new lab key rows)
-    (subst (λ (row : Row). IfOk c.query_all.result (λ rows. Shown person_text row old new rows.items)) given (c.query_all.ensures.ok clean))
-
-pub returns-clause-kept : goal.returns-clause-kept
-returns-clause-kept g c clean =
-    let old = g.W.Writable.state c.args.tx.now in
-    let new = g.W.Writable.state c.query_all.new.self in
-    let before : HasCleanDisk new → HasCleanDisk old = λ clean. omega (arith, c.query_all.ensures.survives.clean) in
-    looked_keeps person_text person_means.read (bound (c.id_value.result ∷ c.text_value.result ∷ [])) old new before c.query_all.result (c.query_all.ensures.ok clean) (c.query_all.ensures.err clean)
+    rows_found person_text person_means.read (Int lab ∷ Text key ∷ []) (persons_shown lab key)
+    given it.same_lender it.survives it.ok it.err (λ rows. persons_read _ _ lab key rows)

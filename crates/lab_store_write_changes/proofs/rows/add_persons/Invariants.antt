@@ -1,13 +1,10 @@
-use Rattle.std.proofs.Common.{◌≡◌, take}
-use Rattle.sqlite.specs.State.{HasCleanDisk, KeepsCommit, Survives}
+use Rattle.std.proofs.Common.{Ok, take}
+use Rattle.sqlite.specs.declared.error.Error.{Error}
 use Rattle.lab_store_tables.specs.Changes.{InTurn, AddsPerson}
-use Rattle.lab_store_write.specs.Calls.{Steps}
+use Rattle.lab_store_write.specs.Calls.{Writes}
 use Rattle.lab_store_write_changes.proofs.rows.add_persons.Given as goal
 
 -- those so far were added
 abbrev pub invariant-loop-person : goal.invariant-loop-person
 invariant-loop-person g l =
-    let old = g.W.Writable.state l.fn.tx in
-    let now = g.W.Writable.state l.tx in
-    (g.W.Writable.lender l.tx ≡ g.W.Writable.lender l.fn.tx) × Survives old now (λ _. ⊥) × (HasCleanDisk now → KeepsCommit old now)
-    × (HasCleanDisk now → Steps (InTurn (AddsPerson l.fn.lab.id) (take l.person-index l.persons)) old now)
+    Writes {A = Unit {0}} {E = Error} g.W.Writable.lender g.W.Writable.state (InTurn (AddsPerson l.fn.lab.id) (take l.person-index l.persons)) l.fn.tx l.tx (Ok tt)

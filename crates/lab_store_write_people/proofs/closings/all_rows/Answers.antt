@@ -1,26 +1,15 @@
-use Rattle.std.proofs.Common.{◌≡◌, [], ◌∷◌, IfOk, subst, arith}
+use Rattle.std.proofs.Common.{◌≡◌, [], ◌∷◌}
 use Rattle.sqlite_value.specs.declared.value.Value.TheVariants.{Int}
-use Rattle.sqlite_value.specs.Order.{Row}
 use Rattle.sqlite.specs.Values.{bound}
-use Rattle.sqlite.specs.State.{HasCleanDisk, Shown}
 use Rattle.lab_people_access.specs.declared.sessions.Closing.TheVariants.{All}
 use Rattle.lab_store_write_people.specs.Closings.{opened_shown}
-use Rattle.lab_store_write.proofs.Lookups.{looked, looked_keeps}
+use Rattle.lab_store_write.proofs.Writers.{rows_found}
 use Rattle.lab_store_write_people.proofs.ClosingLemmas.{all_text, all_means, all_read}
 use Rattle.lab_store_write_people.proofs.closings.all_rows.Goals as goal
 
-pub returns-clause-rows : goal.returns-clause-rows
-returns-clause-rows g c clean =
-    let old = g.W.Writable.state c.args.tx.now in
-    let new = g.W.Writable.state c.query_all.new.self in
-    let before : HasCleanDisk new → HasCleanDisk old = λ clean. omega (arith, c.query_all.ensures.survives.clean) in
+pub returns : goal.returns
+returns g c =
+    let it = c.query_all.ensures in
     let given : bound (c.id_value.result ∷ []) ≡ Int c.args.person.id ∷ [] = λ i. c.id_value.ensures i ∷ [] in
-    looked all_text all_means.read (Int c.args.person.id ∷ []) old new before c.query_all.result (opened_shown c.args.person.id All) (c.requires.inside (before clean)) (λ rows. all_read old new c.args.person.id rows)
-    (subst (λ (row : Row). IfOk c.query_all.result (λ rows. Shown all_text row old new rows.items)) given (c.query_all.ensures.ok clean))
-
-pub returns-clause-kept : goal.returns-clause-kept
-returns-clause-kept g c clean =
-    let old = g.W.Writable.state c.args.tx.now in
-    let new = g.W.Writable.state c.query_all.new.self in
-    let before : HasCleanDisk new → HasCleanDisk old = λ clean. omega (arith, c.query_all.ensures.survives.clean) in
-    looked_keeps all_text all_means.read (bound (c.id_value.result ∷ [])) old new before c.query_all.result (c.query_all.ensures.ok clean) (c.query_all.ensures.err clean)
+    rows_found all_text all_means.read (Int c.args.person.id ∷ []) (opened_shown c.args.person.id All)
+    given it.same_lender it.survives it.ok it.err (λ rows. all_read _ _ c.args.person.id rows)

@@ -1,13 +1,9 @@
-use Rattle.std.proofs.Common.{arith}
-use Rattle.sqlite.specs.State.{HasCleanDisk}
 use Rattle.lab_people_access.specs.declared.sessions.Closing.TheVariants.{Others}
+use Rattle.lab_store_write.proofs.Writers.{and_then}
 use Rattle.lab_store_write_people.proofs.ClosingLemmas.{sessions_closed}
 use Rattle.lab_store_write_people.proofs.closings.close_others.Goals as goal
 
-pub returns-clause-made : goal.returns-clause-made
-returns-clause-made g c clean =
-    let one = g.W.Writable.state c.args.tx.now in
-    let two = g.W.Writable.state c.other_rows.new.tx in
-    let three = g.W.Writable.state c.close_rows.new.tx in
-    let early : HasCleanDisk two = omega (arith, c.close_rows.ensures.survives.clean) in
-    sessions_closed c.args.person.id (Others c.args.kept) c.deref.result.now c.in_ok-rows.rows.items one two three c.deref.ensures.value (c.in_ok-rows.ensures.rows early) (c.in_ok-close_rows.ensures.made clean)
+pub returns : goal.returns
+returns g c =
+    and_then c.in_ok-rows.ensures c.in_ok-close_rows.ensures
+    (sessions_closed c.args.person.id (Others c.args.kept) c.deref.result.now c.in_ok-rows.rows.items _ _ _ c.deref.ensures.value)

@@ -1,18 +1,16 @@
-use Rattle.std.proofs.Common.{◌≡◌, [], ◌∷◌, refl, subst, ap, ◌∙◌}
+use Rattle.std.proofs.Common.{◌≡◌, [], ◌∷◌, refl, ap, ◌∙◌}
 use Rattle.sqlite_value.specs.declared.value.Value.TheVariants.{Text}
-use Rattle.sqlite_value.specs.Order.{Row}
 use Rattle.sqlite.specs.Values.{bound}
-use Rattle.sqlite.specs.State.{ExecutesInside}
 use Rattle.sqlite_keyed.specs.Keyed.{next_key}
 use Rattle.lab_store_tables.specs.Rows.{entry_id}
 use Rattle.lab_store_tables.specs.Ready.{tables_of}
-use Rattle.lab_store_write.proofs.Inside.{made_exactly}
+use Rattle.lab_store_write.proofs.Writers.{wrote}
 use Rattle.lab_store_write_records.specs.EntriesAdded.{entry_at, with_entry}
 use Rattle.lab_store_write_records.proofs.EntryWrites.{add_entry_text, entry_values, adds_entry}
 use Rattle.lab_store_write_records.proofs.entries.insert_entry.Goals as goal
 
-pub returns-clause-made : goal.returns-clause-made
-returns-clause-made g c clean =
+pub returns : goal.returns
+returns g c =
     let old = g.W.Writable.state c.args.tx.now in
     let new = g.W.Writable.state c.run.new.tx in
     let row = entry_at c.args.version.id (next_key entry_id (tables_of old).entries) c.args.place c.args.person.id c.args.entry.now in
@@ -21,6 +19,5 @@ returns-clause-made g c clean =
     ∷ (c.text_value.ensures ∙ ap Text c.as_str-key.ensures.value) i ∷ (c.text_value-2.ensures ∙ ap Text c.as_str-value.ensures.value) i
     ∷ (c.text_value-3.ensures ∙ ap Text c.as_str-unit.ensures.value) i ∷ c.id_value-2.ensures i ∷ c.moment_value.ensures i ∷ c.note_or_null.ensures i
     ∷ [] in
-    made_exactly add_entry_text (entry_values row) old new (with_entry c.args.version.id c.args.place c.args.person.id c.args.entry.now) c.run.result
-    (subst (λ (row : Row). ExecutesInside 0 add_entry_text row old new c.run.result) given (c.run.ensures.runs clean))
+    wrote add_entry_text (entry_values row) (with_entry c.args.version.id c.args.place c.args.person.id c.args.entry.now) c.run.ensures.stays given c.run.ensures.runs
     (λ count typed did. adds_entry row old new count typed refl did)

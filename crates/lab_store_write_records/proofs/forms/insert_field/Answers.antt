@@ -1,19 +1,16 @@
-use Rattle.std.proofs.Common.{◌≡◌, [], ◌∷◌, Ok, refl, subst, ap, ◌∙◌}
+use Rattle.std.proofs.Common.{◌≡◌, [], ◌∷◌, refl, ap, ◌∙◌}
 use Rattle.sqlite_value.specs.declared.value.Value.TheVariants.{Text}
-use Rattle.sqlite_value.specs.Order.{Row}
 use Rattle.sqlite.specs.Values.{bound}
-use Rattle.sqlite.specs.State.{ExecutesInside}
 use Rattle.sqlite_keyed.specs.Keyed.{next_key}
-use Rattle.lab_store_columns.proofs.Queries.{if_then}
 use Rattle.lab_store_tables.specs.Ready.{tables_of}
-use Rattle.lab_store_write.proofs.Placed.{placed_exactly}
+use Rattle.lab_store_write.proofs.Placed.{placed}
 use Rattle.lab_store_tables.specs.Rows.{Tables, field_id}
 use Rattle.lab_store_write_records.specs.FormsAdded.{field_at, with_field}
 use Rattle.lab_store_write_records.proofs.FormWrites.{add_field_text, field_values, adds_field, ids_field}
 use Rattle.lab_store_write_records.proofs.forms.insert_field.Goals as goal
 
-pub returns-clause-placed : goal.returns-clause-placed
-returns-clause-placed g c clean =
+pub returns : goal.returns
+returns g c =
     let old = g.W.Writable.state c.args.tx.now in
     let new = g.W.Writable.state c.insert.new.tx in
     let field = c.args.field.now in
@@ -24,7 +21,5 @@ returns-clause-placed g c clean =
     ∷ (c.text_value-2.ensures ∙ ap Text c.as_str-label.ensures.value) i ∷ c.flag_value.ensures i
     ∷ (c.text_value-3.ensures ∙ ap Text c.kind_word-word.ensures) i ∷ c.unit_or_null.ensures i ∷ c.decimals_or_null.ensures i ∷ c.low_or_null.ensures i
     ∷ c.high_or_null.ensures i ∷ c.size_or_null.ensures i ∷ [] in
-    if_then c.insert.result (λ one ran. placed_exactly add_field_text (field_values row) old new (with_field c.args.form.id c.args.place field)
-    (λ (t : Tables). next_key field_id t.fields) one.id ran.0
-    (subst (λ (row : Row). ExecutesInside 0 add_field_text row old new (Ok ran.0)) given ran.1) ran.2
-    (λ typed did. (adds_field row old new ran.0 typed refl did, ids_field row old new ran.0 typed did))) (c.insert.ensures.ran clean)
+    placed add_field_text (field_values row) (with_field c.args.form.id c.args.place field) (λ (t : Tables). next_key field_id t.fields)
+    c.insert.ensures.stays given c.insert.ensures.ran (λ count typed did. (adds_field row old new count typed refl did, ids_field row old new count typed did))

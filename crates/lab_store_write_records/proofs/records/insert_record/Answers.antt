@@ -1,12 +1,9 @@
-use Rattle.std.proofs.Common.{◌≡◌, List, [], ◌∷◌, length, Ok, refl, subst, ap, ◌∙◌}
+use Rattle.std.proofs.Common.{◌≡◌, List, [], ◌∷◌, length, refl, ap, ◌∙◌}
 use Rattle.sqlite_value.specs.declared.value.Value.TheVariants.{Text}
-use Rattle.sqlite_value.specs.Order.{Row}
 use Rattle.sqlite.specs.Values.{bound}
-use Rattle.sqlite.specs.State.{ExecutesInside}
 use Rattle.sqlite_keyed.specs.Keyed.{next_key}
-use Rattle.lab_store_columns.proofs.Queries.{if_then}
 use Rattle.lab_store_tables.specs.Ready.{tables_of}
-use Rattle.lab_store_write.proofs.Placed.{placed_exactly}
+use Rattle.lab_store_write.proofs.Placed.{placed}
 use Rattle.lab_store_tables.specs.Rows.{Tables, number, record_id}
 use Rattle.lab_records_kept.specs.declared.records.Version.{Version}
 use Rattle.lab_store_tables.specs.Changes.{record_row_of}
@@ -14,8 +11,8 @@ use Rattle.lab_store_write_records.specs.RecordsAdded.{with_record}
 use Rattle.lab_store_write_records.proofs.RecordWrites.{add_record_text, record_values, adds_record, ids_record}
 use Rattle.lab_store_write_records.proofs.records.insert_record.Goals as goal
 
-pub returns-clause-placed : goal.returns-clause-placed
-returns-clause-placed g c clean =
+pub returns : goal.returns
+returns g c =
     let old = g.W.Writable.state c.args.tx.now in
     let new = g.W.Writable.state c.insert.new.tx in
     let kept = c.args.kept.now in
@@ -24,7 +21,5 @@ returns-clause-placed g c clean =
     ∷ c.in_ok-current.current ∷ []) ≡ record_values row = λ i. c.id_value.ensures i ∷ c.ordinal_value.ensures i ∷ c.id_value-2.ensures i
     ∷ (c.text_value.ensures ∙ ap Text c.as_str-code.ensures.value) i ∷ (c.text_value-2.ensures ∙ ap Text c.as_str-sample.ensures.value) i
     ∷ (c.in_ok-current.ensures ∙ ap (λ (versions : List Version). number (length versions)) c.as_slice-versions.ensures) i ∷ [] in
-    if_then c.insert.result (λ one ran. placed_exactly add_record_text (record_values row) old new (with_record c.args.lab.id c.args.form.id kept)
-    (λ (t : Tables). next_key record_id t.records) one.id ran.0
-    (subst (λ (row : Row). ExecutesInside 0 add_record_text row old new (Ok ran.0)) given ran.1) ran.2
-    (λ typed did. (adds_record row old new ran.0 typed refl did, ids_record row old new ran.0 typed did))) (c.insert.ensures.ran clean)
+    placed add_record_text (record_values row) (with_record c.args.lab.id c.args.form.id kept) (λ (t : Tables). next_key record_id t.records)
+    c.insert.ensures.stays given c.insert.ensures.ran (λ count typed did. (adds_record row old new count typed refl did, ids_record row old new count typed did))

@@ -1,15 +1,8 @@
-use Rattle.std.proofs.Common.{arith}
-use Rattle.sqlite.specs.State.{HasCleanDisk}
+use Rattle.lab_store_write.proofs.Writers.{and_two}
 use Rattle.lab_store_write_records.proofs.Added.{signature_added}
 use Rattle.lab_store_write_records.proofs.signatures.add_signature.Goals as goal
 
-pub returns-clause-made : goal.returns-clause-made
-returns-clause-made g c clean =
-    let one = g.W.Writable.state c.args.tx.now in
-    let two = g.W.Writable.state c.person_id_at.new.tx in
-    let three = g.W.Writable.state c.signature_place.new.tx in
-    let four = g.W.Writable.state c.insert_signature.new.tx in
-    let late : HasCleanDisk three = omega (arith, c.insert_signature.ensures.survives.clean) in
-    let early : HasCleanDisk two = omega (arith, c.signature_place.ensures.survives.clean) in
-    signature_added c.args.lab.id c.args.version.id c.args.signature.now c.in_ok-person.person.id c.in_ok-place.place one two three four
-    (c.in_ok-person.ensures.found early) (c.in_ok-place.ensures.found late) (c.in_ok-insert_signature.ensures.made clean)
+pub returns : goal.returns
+returns g c =
+    and_two c.in_ok-person.ensures c.in_ok-place.ensures c.in_ok-insert_signature.ensures
+    (signature_added c.args.lab.id c.args.version.id c.args.signature.now c.in_ok-person.person.id c.in_ok-place.place _ _ _ _)

@@ -1,18 +1,16 @@
-use Rattle.std.proofs.Common.{◌≡◌, [], ◌∷◌, refl, subst, ap, ◌∙◌}
+use Rattle.std.proofs.Common.{◌≡◌, [], ◌∷◌, refl, ap, ◌∙◌}
 use Rattle.sqlite_value.specs.declared.value.Value.TheVariants.{Text, Blob}
-use Rattle.sqlite_value.specs.Order.{Row}
 use Rattle.sqlite.specs.Values.{bound}
-use Rattle.sqlite.specs.State.{ExecutesInside}
 use Rattle.sqlite_keyed.specs.Keyed.{next_key}
 use Rattle.lab_store_tables.specs.Rows.{signature_id}
 use Rattle.lab_store_tables.specs.Ready.{tables_of}
-use Rattle.lab_store_write.proofs.Inside.{made_exactly}
+use Rattle.lab_store_write.proofs.Writers.{wrote}
 use Rattle.lab_store_write_records.specs.EntriesAdded.{signature_at, with_signature}
 use Rattle.lab_store_write_records.proofs.EntryWrites.{add_signature_text, signature_values, adds_signature}
 use Rattle.lab_store_write_records.proofs.signatures.insert_signature.Goals as goal
 
-pub returns-clause-made : goal.returns-clause-made
-returns-clause-made g c clean =
+pub returns : goal.returns
+returns g c =
     let old = g.W.Writable.state c.args.tx.now in
     let new = g.W.Writable.state c.run.new.tx in
     let row = signature_at c.args.version.id (next_key signature_id (tables_of old).signatures) c.args.place c.args.person.id c.args.signature.now in
@@ -21,7 +19,5 @@ returns-clause-made g c clean =
     ∷ c.in_ok-at.ensures i ∷ c.id_value-2.ensures i ∷ (c.text_value.ensures ∙ ap Text c.as_str-name.ensures.value) i
     ∷ (c.text_value-2.ensures ∙ ap Text c.word-meaning.ensures) i ∷ c.moment_value.ensures i ∷ c.reason_or_null.ensures i
     ∷ (c.blob_value.ensures ∙ ap Blob c.bytes-digest.ensures) i ∷ (c.blob_value-2.ensures ∙ ap Blob c.bytes-seal.ensures) i ∷ [] in
-    made_exactly add_signature_text (signature_values row) old new
-    (with_signature c.args.version.id c.args.place c.args.person.id c.args.signature.now) c.run.result
-    (subst (λ (row : Row). ExecutesInside 0 add_signature_text row old new c.run.result) given (c.run.ensures.runs clean))
-    (λ count typed did. adds_signature row old new count typed refl did)
+    wrote add_signature_text (signature_values row) (with_signature c.args.version.id c.args.place c.args.person.id c.args.signature.now)
+    c.run.ensures.stays given c.run.ensures.runs (λ count typed did. adds_signature row old new count typed refl did)

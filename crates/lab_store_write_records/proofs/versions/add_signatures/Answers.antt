@@ -1,23 +1,15 @@
-use Rattle.std.proofs.Common.{◌<◌, length, arith, rules, subst}
-use Rattle.sqlite.specs.State.{HasCleanDisk}
+use Rattle.std.proofs.Common.{arith}
 use Rattle.lab_store_tables.specs.Changes.{AddsSignature}
-use Rattle.lab_store_write.specs.Calls.{Steps}
-use Rattle.lab_store_write.proofs.Inside.{none_then, keeps_then, turns_more}
+use Rattle.lab_store_write.proofs.Writers.{turns_begun, turns_on, turns_ended}
 use Rattle.lab_store_write_records.proofs.versions.add_signatures.Goals as goal
+
+pub loop-one-init : goal.loop-one-init
+loop-one-init g c = turns_begun (AddsSignature c.args.lab.id c.args.version.id) c.args.tx.now tt
 
 pub loop-one-preserved : goal.loop-one-preserved
 loop-one-preserved g c =
-    let old = g.W.Writable.state c.args.tx.now in
-    let mid = g.W.Writable.state c.loop-one.tx in
-    let new = g.W.Writable.state c.add_signature.new.tx in
-    let inv = c.loop-one.invariant in
-    let early : HasCleanDisk new → HasCleanDisk mid = λ clean. omega (arith, c.add_signature.ensures.survives.clean) in
-    let xs = c.args.signatures.now in
-    let i = c.loop-one.one-index in
-    let within : i < length xs = omega (arith, c.loop-one-test.true) in (
-      search rules,
-      none_then old mid new inv.1 c.add_signature.ensures.survives,
-      λ clean. keeps_then old mid new (inv.2 (early clean)) (c.add_signature.ensures.kept clean),
-      λ clean. turns_more (AddsSignature c.args.lab.id c.args.version.id) xs i c.one-item.result within old mid new (inv.3 (early clean))
-          (subst (λ one. Steps (AddsSignature c.args.lab.id c.args.version.id one) mid new) c.one-item.is (c.in_ok-add_signature.ensures.made clean)),
-    )
+    turns_on (AddsSignature c.args.lab.id c.args.version.id) c.args.signatures.now c.loop-one.one-index c.loop-one.invariant c.one-item.result c.one-item.is (omega (arith, c.loop-one-test.true))
+    c.in_ok-add_signature.ensures
+
+pub returns : goal.returns
+returns g c = turns_ended (AddsSignature c.args.lab.id c.args.version.id) c.args.signatures.now c.loop-one.one-index c.loop-one.invariant (omega (arith, c.loop-one-test.false))

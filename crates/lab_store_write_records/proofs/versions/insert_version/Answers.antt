@@ -1,12 +1,9 @@
-use Rattle.std.proofs.Common.{◌≡◌, [], ◌∷◌, Option, option_map, Ok, refl, subst, ap, ◌∙◌}
+use Rattle.std.proofs.Common.{◌≡◌, [], ◌∷◌, Option, option_map, refl, ap, ◌∙◌}
 use Rattle.sqlite_value.specs.declared.value.Value.TheVariants.{Text}
-use Rattle.sqlite_value.specs.Order.{Row}
 use Rattle.sqlite.specs.Values.{bound}
-use Rattle.sqlite.specs.State.{ExecutesInside}
 use Rattle.sqlite_keyed.specs.Keyed.{next_key}
 use Rattle.lab_store_tables.specs.Ready.{tables_of}
-use Rattle.lab_store_write.proofs.Placed.{placed_exactly}
-use Rattle.lab_store_columns.proofs.Queries.{if_then}
+use Rattle.lab_store_write.proofs.Placed.{placed}
 use Rattle.lab_seal_versions.specs.declared.origins.Amendment.{Amendment}
 use Rattle.lab_store_tables.specs.Rows.{Tables, number, optional, version_id}
 use Rattle.lab_store_tables.specs.Changes.{version_row_of}
@@ -15,8 +12,8 @@ use Rattle.lab_store_write_records.specs.RecordsAdded.{with_version}
 use Rattle.lab_store_write_records.proofs.RecordWrites.{add_version_text, version_values, adds_version, ids_version}
 use Rattle.lab_store_write_records.proofs.versions.insert_version.Goals as goal
 
-pub returns-clause-placed : goal.returns-clause-placed
-returns-clause-placed g c clean =
+pub returns : goal.returns
+returns g c =
     let old = g.W.Writable.state c.args.tx.now in
     let new = g.W.Writable.state c.insert.new.tx in
     let version = c.args.version.now in
@@ -26,7 +23,5 @@ returns-clause-placed g c clean =
     ∷ c.cause_or_null.result ∷ []) ≡ version_values row = λ i. c.id_value.ensures i ∷ (c.ordinal_value.ensures ∙ ap number c.number-number.ensures) i
     ∷ (c.small_value.ensures ∙ ap number c.format_number-format.ensures) i ∷ c.id_value-2.ensures i ∷ c.moment_value.ensures i
     ∷ (c.cause_or_null.ensures ∙ ap cause c.amendment.ensures.value) i ∷ [] in
-    if_then c.insert.result (λ one ran. placed_exactly add_version_text (version_values row) old new (with_version c.args.kept.id c.args.opener.id version)
-    (λ (t : Tables). next_key version_id t.versions) one.id ran.0
-    (subst (λ (row : Row). ExecutesInside 0 add_version_text row old new (Ok ran.0)) given ran.1) ran.2
-    (λ typed did. (adds_version row old new ran.0 typed refl did, ids_version row old new ran.0 typed did))) (c.insert.ensures.ran clean)
+    placed add_version_text (version_values row) (with_version c.args.kept.id c.args.opener.id version) (λ (t : Tables). next_key version_id t.versions)
+    c.insert.ensures.stays given c.insert.ensures.ran (λ count typed did. (adds_version row old new count typed refl did, ids_version row old new count typed did))

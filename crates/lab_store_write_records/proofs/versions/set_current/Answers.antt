@@ -1,20 +1,17 @@
-use Rattle.std.proofs.Common.{◌≡◌, [], ◌∷◌, subst}
+use Rattle.std.proofs.Common.{◌≡◌, [], ◌∷◌}
 use Rattle.sqlite_value.specs.declared.value.Value.TheVariants.{Int}
-use Rattle.sqlite_value.specs.Order.{Row}
 use Rattle.sqlite.specs.Values.{bound}
-use Rattle.sqlite.specs.State.{ExecutesInside}
 use Rattle.lab_store_tables.specs.Rows.{number}
 use Rattle.lab_store_tables.specs.Changes.{set_current}
-use Rattle.lab_store_write.proofs.Inside.{made_exactly}
+use Rattle.lab_store_write.proofs.Writers.{wrote}
 use Rattle.lab_store_write_records.proofs.RecordWrites.{current_text, sets_current}
 use Rattle.lab_store_write_records.proofs.versions.set_current.Goals as goal
 
-pub returns-clause-made : goal.returns-clause-made
-returns-clause-made g c clean =
+pub returns : goal.returns
+returns g c =
     let old = g.W.Writable.state c.args.tx.now in
     let new = g.W.Writable.state c.run.new.tx in
     let given : bound (c.id_value.result ∷ c.ordinal_value.result ∷ []) ≡ Int c.args.kept.id ∷ number c.args.version ∷ [] = λ i. c.id_value.ensures i
     ∷ c.ordinal_value.ensures i ∷ [] in
-    made_exactly current_text (Int c.args.kept.id ∷ number c.args.version ∷ []) old new (set_current c.args.kept.id c.args.version) c.run.result
-    (subst (λ (row : Row). ExecutesInside 0 current_text row old new c.run.result) given (c.run.ensures.runs clean))
+    wrote current_text (Int c.args.kept.id ∷ number c.args.version ∷ []) (set_current c.args.kept.id c.args.version) c.run.ensures.stays given c.run.ensures.runs
     (λ count. sets_current c.args.kept.id c.args.version old new count)

@@ -1,5 +1,5 @@
 use Rattle.lab_wire_heads.specs.Requests.{parts_shown}
-use Rattle.lab_wire.specs.declared.route_refusals.RouteFault.TheVariants.{Refused, Memory}
+use Rattle.lab_forms_texts.specs.declared.refusals.Fault.TheVariants.{Refused, Memory}
 use Rattle.lab_wire.proofs.AskLemmas.{asks_of_request, fault_of_route, fault_of_head}
 use Rattle.lab_wire.proofs.asked.ask.Goals as goal
 

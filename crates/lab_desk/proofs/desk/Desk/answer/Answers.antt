@@ -25,3 +25,9 @@ returns-in-Call-clause-answered g c = λ within honest reached. (
   sent_as _ _ _ _ c.write_reply-in-Call.ensures.whole c.write_reply-in-Call.ensures.cut
       c.write_reply-in-Call.ensures.short,
 )
+
+pub returns-in-Call-clause-stays : goal.returns-in-Call-clause-stays
+returns-in-Call-clause-stays g c = c.handle.ensures.stays
+
+pub returns-in-Call-clause-passes : goal.returns-in-Call-clause-passes
+returns-in-Call-clause-passes g c = c.handle.ensures.passes

@@ -1,7 +1,8 @@
 -- What was founded from the newborn was founded from its body, and is right as it is born.
 use Rattle.lab_records_kept.specs.Births.{newborn_lab}
 use Rattle.lab_desk_foundings.proofs.Bearing.{founds_as}
-use Rattle.lab_desk_runs.proofs.Keeping.{left_keeps, placed_keeps, still_keeps}
+use Rattle.lab_desk_runs.proofs.Keeping.{placed_keeps}
+use Rattle.lab_desk_runs.proofs.Lasting.{left_stays, still_stays}
 use Rattle.lab_desk_runs.proofs.Staying.{placed_within, placed_releasing}
 use Rattle.lab_desk.proofs.desk.Desk.found.Goals as goal
 
@@ -12,30 +13,30 @@ returns-clause-founded g c = rw (← c.self.view_is) (λ honest reached.
     (newborn_lab c.in_ok-newborn.newborn) c.in_ok-newborn.ensures.born
     (c.in_ok-found.ensures.founded honest reached) (c.in_ok-found.ensures.rows honest reached))
 
-pub returns-clause-within : goal.returns-clause-within
-returns-clause-within g c = rw (← c.self.view_is) (λ within honest reached.
+pub returns-clause-stays : goal.returns-clause-stays
+returns-clause-stays g c = rw (← c.self.view_is) (λ honest reached.
+    let old = g.S.Keeper.world c.self.inside.keeper in
+    let new = g.S.Keeper.world c.found.new.self in
+    let lab = newborn_lab c.in_ok-newborn.newborn in
     let newly = c.in_ok-newborn.ensures.born in
-    placed_within (g.S.Keeper.world c.self.inside.keeper) (g.S.Keeper.world c.found.new.self)
-    c.args.lab.now c.args.tick.now newly.founding (newborn_lab c.in_ok-newborn.newborn) newly.bears
-    (c.found.ensures.passes.live honest) (c.in_ok-found.ensures.founded honest reached) within)
+    let back = c.found.ensures.passes.live honest in
+    let placed = c.in_ok-found.ensures.founded honest reached in
+    record {
+      within = placed_within old new c.args.lab.now c.args.tick.now newly.founding lab newly.bears
+          back placed;
+      releasing = placed_releasing old new c.args.lab.now c.args.tick.now newly.founding lab
+          newly.bears back placed;
+      keeps = placed_keeps old new lab placed;
+      reached = c.found.ensures.reached honest reached;
+      safe = c.found.ensures.safe honest reached;
+    })
 
-pub returns-clause-releasing : goal.returns-clause-releasing
-returns-clause-releasing g c = rw (← c.self.view_is) (λ releasing honest reached.
-    let newly = c.in_ok-newborn.ensures.born in
-    placed_releasing (g.S.Keeper.world c.self.inside.keeper) (g.S.Keeper.world c.found.new.self)
-    c.args.lab.now c.args.tick.now newly.founding (newborn_lab c.in_ok-newborn.newborn) newly.bears
-    (c.found.ensures.passes.live honest) (c.in_ok-found.ensures.founded honest reached) releasing)
+pub returns-in_err-found-clause-stays : goal.returns-in_err-found-clause-stays
+returns-in_err-found-clause-stays g c = rw (← c.self.view_is) (λ honest reached.
+    left_stays (g.S.Keeper.world c.self.inside.keeper) (g.S.Keeper.world c.found.new.self)
+    (c.found.ensures.passes.live honest) (c.in_err-found.ensures.err honest reached)
+    (c.found.ensures.reached honest reached) (c.found.ensures.safe honest reached))
 
-pub returns-clause-keeps : goal.returns-clause-keeps
-returns-clause-keeps g c = rw (← c.self.view_is) (λ honest reached.
-    placed_keeps (g.S.Keeper.world c.self.inside.keeper) (g.S.Keeper.world c.found.new.self)
-    (newborn_lab c.in_ok-newborn.newborn) (c.in_ok-found.ensures.founded honest reached))
-
-pub returns-in_err-found-clause-keeps : goal.returns-in_err-found-clause-keeps
-returns-in_err-found-clause-keeps g c = rw (← c.self.view_is) (λ honest reached.
-    left_keeps (g.S.Keeper.world c.self.inside.keeper) (g.S.Keeper.world c.found.new.self)
-    (c.in_err-found.ensures.err honest reached))
-
-pub returns-in_err-newborn-clause-keeps : goal.returns-in_err-newborn-clause-keeps
-returns-in_err-newborn-clause-keeps g c = λ honest reached.
-    still_keeps (g.S.Keeper.world c.args.self.now.keeper)
+pub returns-in_err-newborn-clause-stays : goal.returns-in_err-newborn-clause-stays
+returns-in_err-newborn-clause-stays g c = λ honest reached.
+    still_stays (g.S.Keeper.world c.args.self.now.keeper) reached

@@ -19,13 +19,9 @@ loop-event-init g c = record {
       (g.W.Write.contents c.args.writer.now));
 }
 
-pub returns-in_default-clause-retains : goal.returns-in_default-clause-retains
-returns-in_default-clause-retains g c = λ within honest reached.
-    (stays_first (g.S.Keeper.world c.args.self.now.keeper) within reached).retains
-
-pub returns-in_default-clause-released : goal.returns-in_default-clause-released
-returns-in_default-clause-released g c = λ within releasing honest reached.
-    (stays_first (g.S.Keeper.world c.args.self.now.keeper) within reached).released releasing
+pub returns-in_default-clause-stays : goal.returns-in_default-clause-stays
+returns-in_default-clause-stays g c = λ within honest reached.
+    stays_first (g.S.Keeper.world c.args.self.now.keeper) within reached
 
 pub loop-event-preserved : goal.loop-event-preserved
 loop-event-preserved g c = record {
@@ -81,40 +77,12 @@ returns-in-Err-clause-cut g c = λ within honest reached.
       within = c.loop-event-test.true;
     }) pushed counted (rw c.in-Err.is at here.2)
 
-pub returns-in-Err-clause-within : goal.returns-in-Err-clause-within
-returns-in-Err-clause-within g c = λ within honest reached.
-    (stays_after (g.S.Keeper.world c.args.self.now.keeper)
+pub returns-in-Err-clause-stays : goal.returns-in-Err-clause-stays
+returns-in-Err-clause-stays g c =
+    stays_after (g.S.Keeper.world c.args.self.now.keeper)
     (g.S.Keeper.world c.loop-event.self.keeper)
     (g.S.Keeper.world c.answer-answered.new.self.keeper) c.answer-answered.ensures.passes
-    c.loop-event.invariant.stays c.answer-answered.ensures.stays within honest reached).within
-
-pub returns-in-Err-clause-releasing : goal.returns-in-Err-clause-releasing
-returns-in-Err-clause-releasing g c = λ within releasing honest reached.
-    (stays_after (g.S.Keeper.world c.args.self.now.keeper)
-    (g.S.Keeper.world c.loop-event.self.keeper)
-    (g.S.Keeper.world c.answer-answered.new.self.keeper) c.answer-answered.ensures.passes
-    c.loop-event.invariant.stays c.answer-answered.ensures.stays within honest reached).releasing releasing
-
-pub returns-in-Err-clause-retains : goal.returns-in-Err-clause-retains
-returns-in-Err-clause-retains g c = λ within honest reached.
-    (stays_after (g.S.Keeper.world c.args.self.now.keeper)
-    (g.S.Keeper.world c.loop-event.self.keeper)
-    (g.S.Keeper.world c.answer-answered.new.self.keeper) c.answer-answered.ensures.passes
-    c.loop-event.invariant.stays c.answer-answered.ensures.stays within honest reached).retains
-
-pub returns-in-Err-clause-released : goal.returns-in-Err-clause-released
-returns-in-Err-clause-released g c = λ within releasing honest reached.
-    (stays_after (g.S.Keeper.world c.args.self.now.keeper)
-    (g.S.Keeper.world c.loop-event.self.keeper)
-    (g.S.Keeper.world c.answer-answered.new.self.keeper) c.answer-answered.ensures.passes
-    c.loop-event.invariant.stays c.answer-answered.ensures.stays within honest reached).released releasing
-
-pub returns-in-Err-clause-reached : goal.returns-in-Err-clause-reached
-returns-in-Err-clause-reached g c = λ within honest reached.
-    (stays_after (g.S.Keeper.world c.args.self.now.keeper)
-    (g.S.Keeper.world c.loop-event.self.keeper)
-    (g.S.Keeper.world c.answer-answered.new.self.keeper) c.answer-answered.ensures.passes
-    c.loop-event.invariant.stays c.answer-answered.ensures.stays within honest reached).reached
+    c.loop-event.invariant.stays c.answer-answered.ensures.stays
 
 pub returns-clause-alone : goal.returns-clause-alone
 returns-clause-alone g c = λ within honest reached.

@@ -1,6 +1,6 @@
 use Rattle.std.proofs.Common.{◌≡◌, ◌≤◌, take, length, vec_capacity}
-use Rattle.lab_records_kept.specs.Worlds.{Passes, Given}
-use Rattle.lab_desk_runs.specs.Keeping.{AreWithin, StaysOn}
+use Rattle.lab_records_kept.specs.Worlds.{Passes}
+use Rattle.lab_desk_runs.specs.Keeping.{GivenWithin, StaysOn}
 use Rattle.lab_desk_runs.specs.Runs.{Runs}
 use Rattle.lab_desk.proofs.desk.Desk.run.Given as goal
 
@@ -8,13 +8,11 @@ use Rattle.lab_desk.proofs.desk.Desk.run.Given as goal
 abbrev pub invariant-loop-event : goal.invariant-loop-event
 invariant-loop-event g l = record {
   passes : Passes (g.S.Keeper.world l.fn.self.keeper) (g.S.Keeper.world l.self.keeper);
-  stays : AreWithin (g.S.Keeper.world l.fn.self.keeper) →
-      Given (g.S.Keeper.world l.fn.self.keeper) (g.S.Keeper.world l.self.keeper)
+  stays : GivenWithin (g.S.Keeper.world l.fn.self.keeper) (g.S.Keeper.world l.self.keeper)
       (StaysOn (g.S.Keeper.world l.fn.self.keeper) (g.S.Keeper.world l.self.keeper));
   counted : length l.taken.items ≡ l.event-index;
   room : length l.events ≤ vec_capacity l.taken;
-  run : AreWithin (g.S.Keeper.world l.fn.self.keeper) →
-      Given (g.S.Keeper.world l.fn.self.keeper) (g.S.Keeper.world l.self.keeper)
+  run : GivenWithin (g.S.Keeper.world l.fn.self.keeper) (g.S.Keeper.world l.self.keeper)
       (Runs (g.S.Keeper.world l.fn.self.keeper) (g.S.Keeper.world l.self.keeper)
       (take l.event-index l.events) l.taken.items
       (g.W.Write.contents l.fn.writer) (g.W.Write.contents l.writer));

@@ -1,0 +1,107 @@
+//! A fault is a refusal or want of memory. One type says so for every kind of refusals.
+ghost use Rattle.std.specs.Prelude.{◌≡◌, Some};
+ghost use Rattle.lab_forms_texts.specs.Faults.{Entry, fault_entry};
+
+use crate::OutOfMemory;
+use std::alloc::{AllocError, AllocFailed};
+use std::error::Error;
+use std::fmt;
+
+/// A kind of refusals. Each has a number and a word, by which the interface names it.
+pub trait RefusalKind {
+    /// The refusal's row in the table of refusals.
+    ghost listed: { Self → Entry };
+
+    /// The number and the word.
+    fn entry(&self) -> (u32, &'static str)
+        ensures number { result.0 ≡ (listed self.now).number }
+        ensures word { result.1.now ≡ (listed self.now).word };
+
+    /// The number.
+    fn number(&self) -> Option<u32>
+        ensures { result ≡ Some (listed self.now).number }
+    {
+        Some(self.entry().0)
+    }
+
+    /// The word.
+    fn word(&self) -> &'static str
+        ensures { result.now ≡ (listed self.now).word }
+    {
+        self.entry().1
+    }
+}
+
+/// Why nothing was made. Its text is its word.
+#[derive(Clone, Copy, Debug, PartialEq, Eq, Drop)]
+pub enum Fault<R> {
+    /// It is refused.
+    Refused(R),
+    /// Memory ran out.
+    Memory,
+}
+
+impl<R: RefusalKind> Fault<R> {
+    /// The number: the refusal's, or that of want of memory.
+    pub fn number(&self) -> Option<u32>
+        ensures { result ≡ Some (fault_entry R.listed self.now).number }
+    {
+        match self {
+            Fault::Refused(refusal) => refusal.number(),
+            Fault::Memory => OutOfMemory.number(),
+        }
+    }
+
+    /// The word: the refusal's, or that of want of memory.
+    pub fn word(&self) -> &'static str
+        ensures { result.now ≡ (fault_entry R.listed self.now).word }
+    {
+        match self {
+            Fault::Refused(refusal) => refusal.word(),
+            Fault::Memory => OutOfMemory.word(),
+        }
+    }
+}
+
+impl<R: RefusalKind> fmt::Display for Fault<R> {
+    ghost use Rattle.std.specs.Prelude.{Some};
+    ghost use Rattle.lab_forms_texts.specs.Faults.{fault_entry};
+
+    ghost output = { λ fault. Some (fault_entry R.listed fault).word };
+
+    fn fmt<W: fmt::Write>(&self, f: &mut fmt::Formatter<W>) -> fmt::Result {
+        f.write_str(self.word())
+    }
+}
+
+impl<R: RefusalKind + fmt::Debug + Drop> Error for Fault<R> {}
+
+impl<R> From<OutOfMemory> for Fault<R> {
+    ghost use Rattle.lab_forms_texts.specs.declared.refusals.Fault.TheVariants.{Memory};
+
+    ghost from_gives = { λ _ fault. fault ≡ Memory };
+
+    fn from(_error: OutOfMemory) -> Fault<R> {
+        Fault::Memory
+    }
+}
+
+impl<R> From<AllocError> for Fault<R> {
+    ghost use Rattle.lab_forms_texts.specs.declared.refusals.Fault.TheVariants.{Memory};
+
+    ghost from_gives = { λ _ fault. fault ≡ Memory };
+
+    fn from(_error: AllocError) -> Fault<R> {
+        Fault::Memory
+    }
+}
+
+impl<R, T: Drop> From<AllocFailed<T>> for Fault<R> {
+    ghost use Rattle.lab_forms_texts.specs.declared.refusals.Fault.TheVariants.{Memory};
+
+    ghost from_gives = { λ _ fault. fault ≡ Memory };
+
+    fn from(_error: AllocFailed<T>) -> Fault<R> {
+        Fault::Memory
+    }
+}

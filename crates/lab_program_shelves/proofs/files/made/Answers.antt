@@ -1,0 +1,11 @@
+-- What is handed out had none of the tables when they were made.
+use Rattle.lab_program_shelves.proofs.FileLemmas.{untaken}
+use Rattle.lab_program_shelves.proofs.files.made.Goals as goal
+
+pub returns-in-Ok-clause-made : goal.returns-in-Ok-clause-made
+returns-in-Ok-clause-made g c = (
+  c.args.conn,
+  untaken _ _ _ c.in-Ok.ensures.taken,
+  c.in-Ok.ensures.made,
+  c.in-Ok.ensures.ends,
+)

@@ -1,0 +1,179 @@
+//! The rows that the trail is given, where it has so many, and what a failed password changes.
+ghost use Rattle.std.specs.Prelude.{◌≡◌, ◌+◌, ◌++◌, ◌∷◌, Some, true, false, nat_le, IfOk, OnOk, OnErr, MatchOption};
+ghost use Rattle.lab_records_kept.specs.Limits.{count_limit};
+ghost use Rattle.lab_records_kept.specs.Trails.{row_of};
+ghost use Rattle.lab_records_machine.specs.Cases.{more_strays};
+ghost use Rattle.lab_records_outcomes.specs.Deciding.{IsFailureWritten, trail_row_if_room, trail_rows_if_room, failing};
+
+use lab_forms_texts::{Moment, Ordinal, OutOfMemory, PersonCode, Series};
+use lab_people_access::{Closing, Failure, Person};
+use lab_records_kept::{COUNT_LIMIT, Change, Deed, Occasion, TrailRow};
+use std::alloc::Global;
+
+/// The count at which passwords that were given for nobody's account are counted no further.
+const STRAYS_LIMIT: u64 = 9_223_372_036_854_775_807;
+
+/// The number of the row behind so many, where the trail has room for it.
+pub fn next_number(rows: u64) -> Option<Ordinal>
+    ensures { MatchOption result (nat_le count_limit rows ≡ true)
+        (λ number. (nat_le count_limit rows ≡ false) × (number ≡ rows + 1)) }
+{
+    if rows >= COUNT_LIMIT {
+        return None;
+    }
+    Ordinal::after(rows as u32)
+}
+
+/// The row of the number that tells of the deed. The only error is out of memory: the code is copied in any case.
+///
+/// # Errors
+/// Memory ran out.
+pub fn row_of(
+    alloc: Global,
+    number: Ordinal,
+    moment: Moment,
+    person: &PersonCode,
+    deed: &Deed,
+) -> Result<TrailRow, OutOfMemory>
+    ensures { IfOk result (λ row. row ≡ row_of number moment (Some person.now) deed.now) }
+{
+    let person = person.copy()?;
+    let subject = deed.subject(alloc)?;
+    Ok(TrailRow {
+        number,
+        moment,
+        person: Some(person),
+        action: deed.action(),
+        subject,
+    })
+}
+
+// The row that tells of the deed, where the trail has room for it. The only error is out of memory, where it has.
+fn add_row_if_room(
+    alloc: Global,
+    changes: &mut Series<Change>,
+    rows: u64,
+    moment: Moment,
+    person: &PersonCode,
+    deed: &Deed,
+) -> Result<(), OutOfMemory>
+    ensures added { OnOk result
+        (changes.new ≡ changes.old ++ trail_row_if_room rows moment person.now deed.now) }
+    ensures memory { OnErr result (nat_le count_limit rows ≡ false) }
+{
+    let Some(number) = next_number(rows) else {
+        return Ok(());
+    };
+    let row = row_of(alloc, number, moment, person, deed)?;
+    changes.push(Change::TrailAdded(row))?;
+    Ok(())
+}
+
+// The rows that tell of two deeds, where the trail has room for them. The only error is out of memory, where it has room for one.
+fn add_rows_if_room(
+    alloc: Global,
+    changes: &mut Series<Change>,
+    rows: u64,
+    moment: Moment,
+    person: &PersonCode,
+    first: &Deed,
+    second: &Deed,
+) -> Result<(), OutOfMemory>
+    ensures added { OnOk result
+        (changes.new ≡ changes.old ++ trail_rows_if_room rows moment person.now first.now second.now) }
+    ensures memory { OnErr result (nat_le count_limit rows ≡ false) }
+{
+    let Some(number) = next_number(rows) else {
+        return Ok(());
+    };
+    let row = row_of(alloc, number, moment, person, first)?;
+    changes.push(Change::TrailAdded(row))?;
+    let told = u64::from(number.get());
+    add_row_if_room(alloc, changes, told, moment, person, second)
+}
+
+/// What a failed password changes. The only error is out of memory, where it changes something.
+///
+/// # Errors
+/// Memory ran out.
+pub fn fail(
+    alloc: Global,
+    changes: &mut Series<Change>,
+    rows: u64,
+    strays: u64,
+    moment: Moment,
+    occasion: Occasion,
+    failure: Failure,
+) -> Result<(), OutOfMemory>
+    ensures changed { OnOk result
+        (changes.new ≡ changes.old ++ failing rows strays moment occasion failure) }
+    ensures memory { OnErr result (IsFailureWritten rows failure) }
+{
+    match failure {
+        Failure::Counted(person) => fail_counted(alloc, changes, rows, moment, occasion, person),
+        Failure::Locking(person) => fail_locking(alloc, changes, rows, moment, occasion, person),
+        Failure::AlreadyLocked(person) => {
+            let refused = Deed::Refuse { occasion };
+            add_row_if_room(alloc, changes, rows, moment, &person.code, &refused)
+        }
+        Failure::Stray => {
+            changes.push(Change::Strays(more_strays(strays)))?;
+            Ok(())
+        }
+    }
+}
+
+// What a failed password changes that is counted: the person, in any case.
+fn fail_counted(
+    alloc: Global,
+    changes: &mut Series<Change>,
+    rows: u64,
+    moment: Moment,
+    occasion: Occasion,
+    person: Person,
+) -> Result<(), OutOfMemory>
+    ensures { OnOk result (changes.new ≡ changes.old
+        ++ Change.PersonSet person ∷ trail_row_if_room rows moment person.code (Deed.Refuse occasion)) }
+{
+    let code = person.code.copy()?;
+    changes.push(Change::PersonSet(person))?;
+    let refused = Deed::Refuse { occasion };
+    add_row_if_room(alloc, changes, rows, moment, &code, &refused)
+}
+
+// What a failed password changes that locks: the person, in any case.
+fn fail_locking(
+    alloc: Global,
+    changes: &mut Series<Change>,
+    rows: u64,
+    moment: Moment,
+    occasion: Occasion,
+    person: Person,
+) -> Result<(), OutOfMemory>
+    ensures { OnOk result (changes.new ≡ changes.old ++ Change.PersonSet person
+        ∷ Change.SessionsClosed person.code Closing.All
+        ∷ trail_rows_if_room rows moment person.code (Deed.Refuse occasion) (Deed.Lock person.code)) }
+{
+    let code = person.code.copy()?;
+    let closed = person.code.copy()?;
+    let locked = person.code.copy()?;
+    changes.push(Change::PersonSet(person))?;
+    changes.push(Change::SessionsClosed {
+        person: closed,
+        closing: Closing::All,
+    })?;
+    let refused = Deed::Refuse { occasion };
+    let lock = Deed::Lock { person: locked };
+    add_rows_if_room(alloc, changes, rows, moment, &code, &refused, &lock)
+}
+
+// One password more that was given for nobody's account.
+fn more_strays(strays: u64) -> u64
+    ensures { result ≡ more_strays strays }
+{
+    if strays >= STRAYS_LIMIT {
+        strays
+    } else {
+        strays + 1
+    }
+}

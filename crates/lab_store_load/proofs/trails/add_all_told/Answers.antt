@@ -1,0 +1,31 @@
+use Rattle.std.proofs.Common.{◌≡◌, ◌∷◌, length, sym, ap, ◌∙◌, arith, rules}
+use Rattle.std.specs.Vec.Iter.{into_iter_items}
+use Rattle.lab_store_columns.proofs.Loops.{none_left, none_put, one_put, all_put, put_fails}
+use Rattle.lab_store_load.specs.Trails.{told_by}
+use Rattle.lab_store_load.proofs.trails.add_all_told.Goals as goal
+
+pub loop-head-init : goal.loop-head-init
+loop-head-init g c =
+    let all : into_iter_items c.into_iter-head-iterator.result ≡ c.args.heads.items = search rules in
+    record {
+      put = none_put told_by c.args.made.now.items c.args.heads.items _ (g.D.Readable.state c.args.conn.now) all;
+      counted = search rules;
+    }
+
+pub loop-head-preserved : goal.loop-head-preserved
+loop-head-preserved g c =
+    let steps : into_iter_items c.loop-head.head-iterator ≡ c.in-Some.head ∷ into_iter_items c.next.new.self = c.in-Some.ensures.steps.0 in
+    record {
+      put = one_put c.loop-head.invariant.put steps c.in_ok-add_told.ensures;
+      counted =
+          let was = c.loop-head.invariant.counted in
+          let less = c.in-Some.ensures.steps.1 in
+          let short = ap length steps in
+          omega arith;
+    }
+
+pub returns-in_err-add_told : goal.returns-in_err-add_told
+returns-in_err-add_told g c = put_fails c.loop-head.invariant.put c.in_err-add_told.ensures c.from_residual.result _ c.from_residual.ensures.1
+
+pub returns : goal.returns
+returns g c = all_put c.loop-head.invariant.put (none_left _ (sym c.loop-head.invariant.counted ∙ c.in-None.ensures.steps.0))

@@ -1,0 +1,18 @@
+use Rattle.std.proofs.Common.{Some, option_map, sym, ap, ◌∙◌}
+use Rattle.lab_store_tables.specs.Ready.{tables_of}
+use Rattle.lab_store_columns.proofs.Readers.{none_read, may_read, may_end, may_and}
+use Rattle.lab_store_read_forms.specs.Forms.{form_by}
+use Rattle.lab_store_read_forms.proofs.forms_by_code.form_if.Goals as goal
+
+pub returns-in_err-form-in-Some : goal.returns-in_err-form-in-Some
+returns-in_err-form-in-Some g c = may_end (may_read c.in_err-form-in-Some.ensures) c.from_residual.result _ c.from_residual.ensures.1
+
+pub returns-in_ok-form-in-Some : goal.returns-in_ok-form-in-Some
+returns-in_ok-form-in-Some g c =
+    let t = tables_of (g.D.Readable.state c.args.conn.now) in
+    may_and (may_read c.in_ok-form-in-Some.ensures) (λ is. ap Some is ∙ sym (ap (option_map (form_by t)) c.in-Some.is))
+
+pub returns-in-None : goal.returns-in-None
+returns-in-None g c =
+    let t = tables_of (g.D.Readable.state c.args.conn.now) in
+    none_read (sym (ap (option_map (form_by t)) c.in-None.is))

@@ -1,0 +1,15 @@
+use Rattle.std.proofs.Common.{[], ◌∷◌, filter, length}
+use Rattle.std.proofs.lemmas.List.{length-map}
+use Rattle.sqlite_value.specs.declared.value.Value.TheVariants.{Int}
+use Rattle.lab_store_tables.specs.Rows.{ChoiceRow, Tables}
+use Rattle.lab_store_write.proofs.Writers.{place_found}
+use Rattle.lab_store_write_records.specs.FieldsShown.{is_choice_of, choices_shown}
+use Rattle.lab_store_write_records.proofs.FormKeyLemmas.{choices_means, choices_read}
+use Rattle.lab_store_write_records.proofs.places.choice_place.Goals as goal
+
+pub returns : goal.returns
+returns g c =
+    let parent = c.args.parent.id in
+    let rows = λ (t : Tables). filter (is_choice_of parent) t.choices in
+    place_found choices_means.read (choices_shown parent) (λ t. length (rows t)) c.place_below.ensures (λ found. choices_read _ _ parent found)
+    (λ t. length-map (rows t) (λ (one : ChoiceRow). Int one.id ∷ []))

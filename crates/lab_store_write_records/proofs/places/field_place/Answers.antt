@@ -1,0 +1,15 @@
+use Rattle.std.proofs.Common.{[], ◌∷◌, filter, length}
+use Rattle.std.proofs.lemmas.List.{length-map}
+use Rattle.sqlite_value.specs.declared.value.Value.TheVariants.{Int}
+use Rattle.lab_store_tables.specs.Rows.{FieldRow, Tables}
+use Rattle.lab_store_write.proofs.Writers.{place_found}
+use Rattle.lab_store_write_records.specs.FieldsShown.{is_field_of, fields_shown}
+use Rattle.lab_store_write_records.proofs.FormKeyLemmas.{fields_means, fields_read}
+use Rattle.lab_store_write_records.proofs.places.field_place.Goals as goal
+
+pub returns : goal.returns
+returns g c =
+    let parent = c.args.parent.id in
+    let rows = λ (t : Tables). filter (is_field_of parent) t.fields in
+    place_found fields_means.read (fields_shown parent) (λ t. length (rows t)) c.place_below.ensures (λ found. fields_read _ _ parent found)
+    (λ t. length-map (rows t) (λ (one : FieldRow). Int one.id ∷ []))

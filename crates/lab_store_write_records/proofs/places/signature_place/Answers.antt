@@ -1,0 +1,15 @@
+use Rattle.std.proofs.Common.{[], ◌∷◌, filter, length}
+use Rattle.std.proofs.lemmas.List.{length-map}
+use Rattle.sqlite_value.specs.declared.value.Value.TheVariants.{Int}
+use Rattle.lab_store_tables.specs.Rows.{SignatureRow, Tables}
+use Rattle.lab_store_write.proofs.Writers.{place_found}
+use Rattle.lab_store_write_records.specs.VersionsShown.{is_signature_of, signatures_shown}
+use Rattle.lab_store_write_records.proofs.EntryKeyLemmas.{signatures_means, signatures_read}
+use Rattle.lab_store_write_records.proofs.places.signature_place.Goals as goal
+
+pub returns : goal.returns
+returns g c =
+    let parent = c.args.parent.id in
+    let rows = λ (t : Tables). filter (is_signature_of parent) t.signatures in
+    place_found signatures_means.read (signatures_shown parent) (λ t. length (rows t)) c.place_below.ensures (λ found. signatures_read _ _ parent found)
+    (λ t. length-map (rows t) (λ (one : SignatureRow). Int one.id ∷ []))

@@ -1,0 +1,73 @@
+//! The place behind the rows that a parent has.
+
+ghost use Rattle.std.specs.Prelude.{◌≡◌, ◌+◌, filter, length};
+ghost use Rattle.lab_store_write.specs.Calls.{Answers, Finds};
+ghost use Rattle.lab_store_write_records.specs.FieldsShown.{is_field_of, is_choice_of};
+ghost use Rattle.lab_store_write_records.specs.VersionsShown.{is_entry_of, is_signature_of};
+
+use lab_store_write::{RowId, Writable, place_below};
+use sqlite::Error;
+
+/// The place behind the fields of the form.
+///
+/// # Errors
+/// The store refused, or memory ran out.
+pub(crate) fn field_place<W: Writable>(tx: &mut W, parent: RowId) -> Result<u64, Error>
+    ensures { Answers W.lender W.state
+        (λ place. Finds (λ t. place ≡ length (filter (is_field_of parent.id) t.fields) + 1))
+        tx.old tx.new result }
+{
+    place_below(
+        tx,
+        "SELECT id FROM fields WHERE form = ?1 ORDER BY id",
+        parent,
+    )
+}
+
+/// The place behind the choices of the field.
+///
+/// # Errors
+/// The store refused, or memory ran out.
+pub(crate) fn choice_place<W: Writable>(tx: &mut W, parent: RowId) -> Result<u64, Error>
+    ensures { Answers W.lender W.state
+        (λ place. Finds (λ t. place ≡ length (filter (is_choice_of parent.id) t.choices) + 1))
+        tx.old tx.new result }
+{
+    place_below(
+        tx,
+        "SELECT id FROM choices WHERE field = ?1 ORDER BY id",
+        parent,
+    )
+}
+
+/// The place behind the entries of the version.
+///
+/// # Errors
+/// The store refused, or memory ran out.
+pub(crate) fn entry_place<W: Writable>(tx: &mut W, parent: RowId) -> Result<u64, Error>
+    ensures { Answers W.lender W.state
+        (λ place. Finds (λ t. place ≡ length (filter (is_entry_of parent.id) t.entries) + 1))
+        tx.old tx.new result }
+{
+    place_below(
+        tx,
+        "SELECT id FROM entries WHERE version = ?1 ORDER BY id",
+        parent,
+    )
+}
+
+/// The place behind the signatures of the version.
+///
+/// # Errors
+/// The store refused, or memory ran out.
+pub(crate) fn signature_place<W: Writable>(tx: &mut W, parent: RowId) -> Result<u64, Error>
+    ensures { Answers W.lender W.state
+        (λ place. Finds (λ t. place ≡ length (filter (is_signature_of parent.id) t.signatures) + 1))
+        tx.old tx.new result }
+{
+    place_below(
+        tx,
+        "SELECT id FROM signatures WHERE version = ?1 ORDER BY id",
+        parent,
+    )
+}
