@@ -75,7 +75,7 @@ OTHERS = [
         (9223372036854775807, "schema_new 9223372036854775807"), (0, "not_a_desk_file"), (-1, "not_a_desk_file"))),
 ]
 # An arrow that leads nowhere, of a file with rows: every one is looked at when the file is opened (docs/PERFORMANCE.md).
-ARROWS = [("UPDATE records SET form = 4 WHERE number = 2", "not_a_desk_file"), ("UPDATE entries SET person = 4 WHERE place = 1", "not_a_desk_file")]
+ARROWS = [("UPDATE records SET form = 4 WHERE number = 2", "storage"), ("UPDATE entries SET person = 4 WHERE place = 1", "storage")]
 # What is taken from a file that is whole, or put in its place.
 LOSSES = [
     *((f"DROP TABLE {one}", "not_a_desk_file") for one in ("trail", "choices", "entries", "signatures", "sessions")),
