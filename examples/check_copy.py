@@ -1,7 +1,13 @@
 #!/usr/bin/env python3
-"""Checks an inspection copy from standard input, by docs/COPIES.md, docs/VERSIONS.md and docs/NAMES.md alone: order, digests,
-seals, and that different persons signed. Prints 'good' and how many record, version, entry and signature rows it has, or 'bad',
-the first flaw and its row, with status 1. The file is read byte by byte, as Latin-1, so that lengths are those of bytes."""
+"""Checks an inspection copy, by docs/COPIES.md, docs/VERSIONS.md and docs/NAMES.md alone: order, digests, seals, and that
+different persons signed.
+
+    check_copy.py COPY     checks the file COPY
+    check_copy.py < COPY   checks what comes from standard input
+
+It prints 'good' and how many record, version, entry and signature rows the copy has, with status 0; or 'bad', the first flaw and its
+row, with status 1. Where the copy can't be read it says why, with status 2. The file is read byte by byte, as Latin-1, so that
+lengths are those of bytes."""
 import csv
 import datetime
 import hashlib
@@ -159,9 +165,22 @@ def check(file):
     return copy.counts.values()
 
 
-csv.field_size_limit(2**31 - 1)
-try:
-    print("good", *check(sys.stdin.buffer))
-except Bad as flaw:
-    print("bad", *flaw.args)
-    sys.exit(1)
+def main(words):
+    if len(words) > 1 or words[:1] in (["-h"], ["--help"]):
+        print(__doc__, file=sys.stderr)
+        return 2
+    csv.field_size_limit(2**31 - 1)
+    try:
+        with open(words[0], "rb") if words else sys.stdin.buffer as file:
+            print("good", *check(file))
+    except Bad as flaw:
+        print("bad", *flaw.args)
+        return 1
+    except OSError as fault:
+        print(f"check_copy.py: {fault}", file=sys.stderr)
+        return 2
+    return 0
+
+
+if __name__ == "__main__":
+    sys.exit(main(sys.argv[1:]))

@@ -1,7 +1,7 @@
 #!/usr/bin/env python3
 """Writes what `examples/look.sh` runs and shows: a short day of one laboratory.
 
-    examples/look.py           writes examples/look/ and examples/look.txt
+    examples/look.py           writes examples/look/, examples/look.txt and docs/look.svg
     examples/look.py --check   says whether they are as they would be written
 
 examples/look/ is a folder for `rt try --cases`. It has three runs of the program, each with its input, the word of its command
@@ -11,12 +11,13 @@ line (.args) and what it must print (.stdout):
     copy      the inspection copy with which the last event is answered, for `labdesk check`
     altered   the same copy with one figure changed, for `labdesk check`
 
-examples/look.txt shows the day for people. What the program must print is worked out by the laboratory of tests/model/laboratory.py and by
-examples/check_copy.py. Neither is part of the program.
+examples/look.txt shows the day for people, and docs/look.svg is a picture of its second half. What the program must print is worked out
+by the laboratory of tests/model/laboratory.py and by examples/check_copy.py. Neither is part of the program.
 
 In a program that is built to be tried, each password costs seconds. So the day has as few as two signatures need: the three of
 the founding, and five that are tried.
 """
+import html
 import os
 import re
 import subprocess
@@ -94,6 +95,30 @@ def signing(day):
     return day.ask("08:11", "aqua", "fay", "copy", 1, 100).encode()
 
 
+# ---- the picture
+
+PICTURE = "../docs/look.svg"
+FIRST = "Dan signs as the author."
+COLOURS = [(r"  \w+ +(GET|POST) .* 200  |  labdesk check: good ", "#0a5d2a"), (r"  \w+ +(GET|POST) .* [45]\d\d  |  labdesk check: bad ", "#a31515"),
+           (r"  ", "#333")]
+
+
+def drawn(line, at):
+    """A line of text: what is said in bold, what is answered in the colour of its status."""
+    style = next((f'fill="{colour}"' for pattern, colour in COLOURS if re.match(pattern, line)), 'font-weight="bold"')
+    return f'<text x="16" y="{at}" xml:space="preserve" {style}>{html.escape(line)}</text>\n'
+
+
+def picture(lines):
+    """A picture of the lines from FIRST on, as SVG."""
+    shown = [one for line in lines for one in line.split("\n")]
+    shown = shown[next(at for at, line in enumerate(shown) if line.startswith(FIRST)):]
+    height, width = 18 * len(shown) + 24, 8 * max(map(len, shown)) + 32
+    return (f'<svg xmlns="http://www.w3.org/2000/svg" viewBox="0 0 {width} {height}" width="{width}" height="{height}" font-family="monospace" '
+            f'font-size="13">\n<title>What examples/look.sh prints, in its second half</title>\n<rect width="100%" height="100%" fill="#fdfdfb" '
+            f'stroke="#999"/>\n{"".join(drawn(line, 18 * at + 26) for at, line in enumerate(shown))}</svg>\n')
+
+
 def whole():
     """Each file, and what it has."""
     day = Look()
@@ -107,18 +132,19 @@ def whole():
     day.lines += [f"  labdesk check: {line.decode().strip()}" for line in (good, bad)]
     runs = {**run_of("day", "replay", b"".join(day.events), b"".join(day.answers)),
             **run_of("copy", "check", copy, good), **run_of("altered", "check", altered, bad)}
-    return {"look.txt": ("\n".join(day.lines) + "\n").encode(), **{f"look/{name}": text for name, text in runs.items()}}, day
+    told = {"look.txt": ("\n".join(day.lines) + "\n").encode(), PICTURE: picture(day.lines).encode()}
+    return {**told, **{f"look/{name}": text for name, text in runs.items()}}, day
 
 
 def main(words):
     files, day = whole()
     if words == ["--check"]:
-        kept = {"look.txt": None, **{f"look/{name}": None for name in os.listdir(f"{HERE}/look")}}
+        kept = {"look.txt": None, PICTURE: None, **{f"look/{name}": None for name in os.listdir(f"{HERE}/look")}}
         for name in kept:
             with open(f"{HERE}/{name}", "rb") as file:
                 kept[name] = file.read()
         if kept != files:
-            sys.exit("examples/look/ and examples/look.txt aren't as examples/look.py writes them")
+            sys.exit("examples/look/, examples/look.txt and docs/look.svg aren't as examples/look.py writes them")
         print(f"{len(day.events)} events")
     elif not words:
         os.makedirs(f"{HERE}/look", exist_ok=True)

@@ -41,11 +41,11 @@ def played():
     s.sign(1310, "dan", 3, 1, "authorship")
     s.sign(1320, "eve", 3, 1, "review")
     opened(1330, "S4", 4)
-    return s.labs["aqua"]
+    return s
 
 
 def main(words):
-    lab, out = played(), csv.writer(sys.stdout, lineterminator="\n")
+    lab, out = played().labs["aqua"], csv.writer(sys.stdout, lineterminator="\n")
     if len(words) == 2:
         out.writerows(copy_rows(lab, int(words[0]), int(words[1]), None, 6000))
     else:
