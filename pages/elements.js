@@ -1,0 +1,225 @@
+// Small helpers over the document. Texts become text nodes and attributes, never HTML.
+
+import { texts } from './texts.js';
+import { marked, pieces_of } from './unseen.js';
+
+let last_id = 0;
+
+export function fresh_id(word) {
+  last_id += 1;
+  return `${word}-${last_id}`;
+}
+
+// An element. An attribute that is a function listens to the event of its name; true is an empty attribute, and false, null and
+// undefined are none. Children are nodes and texts, in lists too; what is empty is left out.
+export function element(name, attributes, ...children) {
+  const made = document.createElement(name);
+  for (const [key, value] of Object.entries(attributes ?? {})) set_attribute(made, key, value);
+  made.append(...children.flat(Infinity).filter((child) => child || child === 0));
+  return made;
+}
+
+function set_attribute(made, key, value) {
+  if (typeof value === 'function') made.addEventListener(key, value);
+  else if (value === true) made.setAttribute(key, '');
+  else if (value !== false && value !== null && value !== undefined) made.setAttribute(key, value);
+}
+
+export function paragraph(...children) {
+  return element('p', null, children);
+}
+
+export function buttons(...children) {
+  return element('p', { class: 'buttons' }, children.flatMap((child) => [child, ' ']));
+}
+
+export function actions(...children) {
+  return element('div', { class: 'actions' }, children.flatMap((child) => [child, ' ']));
+}
+
+// A piece of a line, by the name by which it is found.
+export function named(name, ...children) {
+  return element('span', { 'data-part': name }, children);
+}
+
+// A text that the laboratory gave: kept apart from the direction of the text around it, and with marks beside what isn't seen, so
+// that who signs it sees that it is there. Its characters stay as they are.
+export function given(text, part) {
+  const pieces = pieces_of(text).map(({ seen, unseen, code }) =>
+    seen ?? element('span', { class: 'unseen', 'data-code': code }, unseen));
+  return element('bdi', { class: 'given', 'data-part': part }, pieces);
+}
+
+export function moment(text, part = 'moment') {
+  const utc = `${text.slice(0, 10)} ${text.slice(11, 19)} ${texts.moments.utc}`;
+  return element('span', { class: 'moment' },
+    element('time', { datetime: text, 'data-part': part }, utc),
+    element('span', { class: 'local' }, ' ', texts.moments.local(local_time(new Date(text)))));
+}
+
+function local_time(date) {
+  const two = (number) => String(number).padStart(2, '0');
+  const day = [String(date.getFullYear()).padStart(4, '0'), two(date.getMonth() + 1), two(date.getDate())].join('-');
+  return `${day} ${two(date.getHours())}:${two(date.getMinutes())}`;
+}
+
+// What stands in a view until it is read.
+export function reading() {
+  return element('p', { class: 'reading' }, texts.reading);
+}
+
+// The heading of a view, which takes the focus once the view is shown.
+export function heading(text) {
+  document.title = texts.title(text);
+  return element('h1', { tabindex: '-1' }, text);
+}
+
+export function section(title, attributes, ...children) {
+  const id = fresh_id('title');
+  return element('section', { 'aria-labelledby': id, ...attributes }, element('h2', { id }, title), children);
+}
+
+export function link(hash, text, attributes) {
+  return element('a', { href: hash, ...attributes }, text);
+}
+
+// A link to what this person may do here.
+export function action(hash, text, name) {
+  return link(hash, text, { class: 'action', 'data-do': name });
+}
+
+// Links of which one is to the page that is shown: each { place, text, is_shown, behind }.
+export function link_row(label, links) {
+  const items = links.map(({ place, text, is_shown, behind }) =>
+    element('li', null, link(place, text, { 'aria-current': is_shown ? 'page' : null }), ' ', behind));
+  return element('nav', { 'aria-label': label, class: 'versions' }, element('ol', null, items));
+}
+
+// A button. While what it does isn't done, another click does nothing.
+export function button(command, text, click, attributes) {
+  const made = element('button', { type: 'button', 'data-do': command, ...attributes }, text);
+  made.addEventListener('click', async (event) => {
+    if (made.getAttribute('aria-busy')) return;
+    made.setAttribute('aria-busy', 'true');
+    try {
+      await click(event);
+    } finally {
+      made.removeAttribute('aria-busy');
+    }
+  });
+  return made;
+}
+
+// What is known, as pairs: label, content, and the name by which the content is found.
+export function facts(pairs) {
+  const kept = pairs.filter((pair) => pair);
+  return element('dl', { class: 'facts' }, kept.map(([label, content, part]) =>
+    element('div', null, element('dt', null, label), element('dd', { 'data-part': part }, content))));
+}
+
+// A table. A row is { attributes, cells }. Roles are named, since narrow pages lay tables out as lists.
+export function table(caption, columns, rows) {
+  const head = columns.map((text) => element('th', { scope: 'col', role: 'columnheader' }, text));
+  return element('table', { role: 'table' },
+    element('caption', null, caption),
+    element('thead', { role: 'rowgroup' }, element('tr', { role: 'row' }, head)),
+    element('tbody', { role: 'rowgroup' }, rows.map((row) => table_row(columns, row))));
+}
+
+function table_row(columns, { attributes, cells }) {
+  return element('tr', { role: 'row', ...attributes },
+    cells.map((cell, at) => element('td', { role: 'cell', 'data-label': columns[at] }, element('div', null, cell))));
+}
+
+export function input(name, attributes) {
+  return element('input', { name, type: 'text', autocomplete: 'off', autocapitalize: 'off', spellcheck: 'false', ...attributes });
+}
+
+export function area(name, attributes) {
+  return element('textarea', { name, rows: 2, ...attributes });
+}
+
+// A list to choose from: options are pairs of value and text.
+export function choice(name, options, chosen, attributes) {
+  return element('select', { name, ...attributes }, options.map(([value, text]) =>
+    element('option', { value, selected: value === chosen, dir: 'auto' }, marked(text))));
+}
+
+// A control with its label and hint.
+export function field(label, control, hint, behind) {
+  control.id ||= fresh_id(control.name);
+  const about = hint ? element('p', { class: 'hint', id: fresh_id('hint') }, hint) : null;
+  if (about) control.setAttribute('aria-describedby', about.id);
+  return element('div', { class: 'field', 'data-field': control.name },
+    element('label', { for: control.id }, label), about,
+    behind ? element('span', { class: 'beside' }, control, behind) : control);
+}
+
+// Controls that filter a list among what is loaded, and ask no server.
+export function filter_form(...fields) {
+  return element('form', { class: 'filter', 'data-form': 'filter', 'aria-label': texts.filter,
+    submit: (event) => event.preventDefault() }, fields);
+}
+
+// A control of a filter: a list to choose from, and any of it at first.
+export function filter_choice(name, options, filter, changed) {
+  return choice(name, [['', texts.any], ...options], filter[name], {
+    change: ({ target }) => {
+      filter[name] = target.value;
+      changed();
+    },
+  });
+}
+
+export function checkbox(name, label, attributes) {
+  const control = element('input', { type: 'checkbox', name, id: fresh_id(name || 'box'), ...attributes });
+  return element('div', { class: 'check', 'data-field': name }, control, element('label', { for: control.id }, label));
+}
+
+// A password, which its owner may look at while it is typed.
+export function password_field(name, label, hint, autocomplete = 'off') {
+  const control = input(name, { type: 'password', autocomplete });
+  const shown = checkbox('', texts.passwords.show, {
+    change: (event) => { control.type = event.target.checked ? 'text' : 'password'; },
+  });
+  const made = field(label, control, hint);
+  made.append(shown);
+  return made;
+}
+
+// A short message in the line that screen readers read out. It stays until the next one, or until the person does something that
+// sends a command or shows another view.
+let said_at = 0;
+let acted_at = 0;
+
+export function say(...children) {
+  replace(document.getElementById('said'), children);
+  said_at = performance.now();
+}
+
+export function forget_said() {
+  if (said_at < acted_at) say();
+}
+
+for (const event of ['keydown', 'pointerdown', 'click']) {
+  addEventListener(event, () => { acted_at = performance.now(); }, { capture: true });
+}
+
+export function replace(place, ...children) {
+  place.replaceChildren(...children.flat(Infinity).filter((child) => child));
+}
+
+// The focus of a view that is shown: where a person types first, or else its heading.
+export function focus_view(place) {
+  (place.querySelector('[data-first]') ?? place.querySelector('h1'))?.focus();
+}
+
+// Bytes as a file that the browser saves.
+export function save_file(name, bytes, type) {
+  const address = URL.createObjectURL(bytes instanceof Blob ? bytes : new Blob([bytes], { type }));
+  const anchor = element('a', { href: address, download: name, hidden: true });
+  document.body.append(anchor);
+  anchor.click();
+  anchor.remove();
+  setTimeout(() => URL.revokeObjectURL(address), 60_000);
+}

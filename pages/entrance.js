@@ -1,0 +1,189 @@
+// Signing in, signing in again over a page that stays as it is, and changing the password.
+
+import { change_the_password } from './api.js';
+import { button, element, facts, field, given, heading, input, paragraph, password_field, replace, say } from './elements.js';
+import { password_place } from './places.js';
+import { bytes_of } from './rules.js';
+import { clear_refusals, refuse, sending_form, show_refusal } from './sending.js';
+import { ask, ask_once, card_of, password_changed, sign_in, sign_out, who } from './session.js';
+import { texts } from './texts.js';
+
+const words = texts.entrance;
+const ABOUT_OPENING = {
+  no_lab_code: 'lab', no_route: 'lab', no_such_lab: 'lab', bad_name: 'code', no_code: 'code', credentials: 'password',
+  no_password: 'password',
+};
+const ABOUT_CHANGE = { credentials: 'old', bad_password: 'new', same_password: 'new', again_differs: 'again' };
+
+// A password that is due is changed in one go with the opening: the one just typed is kept for that alone.
+let typed = null;
+// The laboratory of the last session on this page; at first the one that the address names, as ?lab=aqua.
+let last_lab = new URLSearchParams(location.search).get('lab') ?? '';
+
+export function entrance_view(place) {
+  const named = element('output', { 'data-part': 'lab_name', 'aria-live': 'polite' });
+  const lab = input('lab', { value: last_lab, 'data-first': !last_lab });
+  const code = input('code', { autocomplete: 'username', 'data-first': Boolean(last_lab) });
+  const made = sending_form({
+    command: 'open_a_session', submit: words.sign_in, about: ABOUT_OPENING, send: (values) => enter(values),
+  },
+  field(words.lab, lab, words.lab_hint), element('p', { class: 'named' }, named),
+  field(words.code, code, words.code_hint),
+  password_field('password', words.password, words.password_hint, 'current-password'));
+  lab.addEventListener('change', () => show_card(made, lab, named));
+  replace(place, heading(words.title), paragraph(words.intro), made);
+  if (lab.value) show_card(made, lab, named);
+}
+
+async function show_card(made, lab, named) {
+  clear_refusals(made);
+  named.replaceChildren();
+  const asked = lab.value.trim();
+  if (!asked) return;
+  try {
+    const card = await card_of(asked);
+    if (lab.value.trim() === asked) named.replaceChildren(given(card.name));
+  } catch (refusal) {
+    if (lab.value.trim() === asked) show_refusal_there(made, refusal);
+  }
+}
+
+// A card that is refused is said beside the laboratory, but the focus stays where the person is by now.
+function show_refusal_there(made, refusal) {
+  const there = document.activeElement;
+  show_refusal(made, refusal, ABOUT_OPENING);
+  if (there && made.contains(there)) there.focus();
+}
+
+async function enter({ lab, code, password }) {
+  if (!lab.trim()) refuse('no_lab_code');
+  if (!code.trim()) refuse('no_code');
+  if (!password) refuse('no_password');
+  typed = password;
+  try {
+    await sign_in(lab.trim(), code.trim(), password);
+    last_lab = lab.trim();
+  } finally {
+    if (!who()?.due) typed = null;
+  }
+  say(who().due ? words.said_due : words.said_signed_in(who().code));
+}
+
+export function password_view(place) {
+  const due = who().due;
+  replace(place, heading(due ? words.title_due : words.title_change),
+    paragraph(due ? words.intro_due : words.intro_change), change_form(() => {
+      say(words.said_changed);
+      if (location.hash === password_place()) location.hash = '';
+    }));
+}
+
+// The form that changes the password. `change` asks the command.
+function change_form(done, change = ask) {
+  const old = typed;
+  typed = null;
+  return sending_form({
+    command: 'change_the_password', submit: words.change, about: ABOUT_CHANGE, send: async (values) => {
+      if (values.again !== values.new) refuse('again_differs');
+      await change(change_the_password, { old: values.old ?? old, new: values.new });
+      await password_changed();
+      done();
+    },
+  },
+  known_code(),
+  old === null ? password_field('old', words.old, words.old_hint, 'current-password') : paragraph(words.old_typed),
+  new_password_field(), password_field('again', words.again, words.again_hint, 'new-password'));
+}
+
+// The new password with how long it is by now, in bytes.
+function new_password_field() {
+  const made = password_field('new', words.new, words.new_hint, 'new-password');
+  const length = element('p', { class: 'advice', 'data-part': 'length' });
+  made.append(length);
+  made.querySelector('[name="new"]').addEventListener('input', (event) => {
+    const bytes = bytes_of(event.target.value);
+    length.textContent = bytes < 12 || bytes > 128 ? words.length(bytes) : '';
+  });
+  return made;
+}
+
+// The session has ended, or its password is due: a dialog over the page, which stays as it is behind it. It resolves to whether
+// the person is back; who signs out instead leaves the page.
+export function again_dialog(is_due) {
+  const dialog = document.getElementById('again');
+  const first_focus = document.activeElement;
+  return new Promise((resolve) => {
+    const end = (is_back) => {
+      dialog.onclose = null;
+      dialog.close();
+      dialog.removeAttribute('aria-labelledby');
+      dialog.replaceChildren();
+      if (is_back && first_focus?.isConnected) first_focus.focus();
+      resolve(is_back);
+    };
+    dialog.oncancel = (event) => event.preventDefault();
+    dialog.onclose = () => dialog.showModal();
+    if (is_due) show_change(dialog, end);
+    else show_opening(dialog, end);
+    dialog.setAttribute('aria-labelledby', 'again-title');
+    if (!dialog.open) dialog.showModal();
+    focus_first(dialog);
+  });
+}
+
+const focus_first = (dialog) => dialog.querySelector('input:not([hidden])').focus();
+
+function show_opening(dialog, end) {
+  const { lab, lab_name, code } = who();
+  const made = sending_form({
+    command: 'open_a_session_again', submit: words.sign_in_again, about: { credentials: 'password', no_password: 'password' },
+    send: async ({ password }) => {
+      if (!password) refuse('no_password');
+      typed = password;
+      await sign_in(lab, code, password);
+      if (who().due) {
+        show_change(dialog, end);
+        return;
+      }
+      typed = null;
+      say(words.said_back);
+      end(true);
+    },
+  }, known_code(), password_field('password', words.password, words.password_hint, 'current-password'));
+  replace(dialog, again_title(words.again_title), paragraph(words.again_intro),
+    facts([[words.lab, [given(lab_name), ` (${lab})`]], [words.code, code]]), made, leave_line(end));
+  focus_first(dialog);
+}
+
+// Where the session ends before the password is changed, it is opened first.
+function show_change(dialog, end) {
+  const change = async (command, body) => {
+    try {
+      return await ask_once(command, body);
+    } catch (refusal) {
+      if (refusal.word === 'no_session') show_opening(dialog, end);
+      throw refusal;
+    }
+  };
+  replace(dialog, again_title(words.title_due), paragraph(words.intro_due), change_form(() => {
+    say(words.said_changed);
+    end(true);
+  }, change), leave_line(end));
+  focus_first(dialog);
+}
+
+// The code, for programs that keep passwords; it isn't shown.
+function known_code() {
+  return element('input', { type: 'text', autocomplete: 'username', value: who().code, hidden: true });
+}
+
+function again_title(text) {
+  return element('h2', { id: 'again-title' }, text);
+}
+
+function leave_line(end) {
+  return element('p', { class: 'leave' }, words.leave_intro, ' ', button('sign_out', words.leave, async () => {
+    end(false);
+    await sign_out().then(() => say(texts.said_signed_out), () => say(texts.said_not_closed));
+  }));
+}

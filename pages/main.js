@@ -1,0 +1,214 @@
+// The start of the pages: the head with its links and the countdown, and the view that the place in the address names.
+
+import { amending_view } from './entering.js';
+import {
+  button, buttons, element, focus_view, forget_said, given, heading, link, named, paragraph, replace, say,
+} from './elements.js';
+import { again_dialog, entrance_view, password_view } from './entrance.js';
+import { keep_what_is_typed } from './leaving.js';
+import { checking_view, copies_view } from './copies.js';
+import { form_view, forms_view, making_view } from './forms.js';
+import { enrolling_view, person_view, persons_view } from './persons.js';
+import {
+  PATTERNS, checking_place, copies_place, enrolling_place, first_place, forms_place, making_place, opening_place, password_place,
+  persons_place, records_place, trail_place, waiting_place,
+} from './places.js';
+import { opening_view, records_view, waiting_view } from './records.js';
+import { show_refusal } from './sending.js';
+import {
+  back_again, go_on, has, is_opening_again, may_copy, may_read, may_see_persons, on_session, on_session_ended, seconds_left,
+  sign_out, who,
+} from './session.js';
+import { signing_view } from './signing.js';
+import { texts } from './texts.js';
+import { trail_view } from './trail.js';
+import { paper_view, version_view } from './versions.js';
+
+const WARNING_SECONDS = 120;
+const VIEWS = {
+  records: records_view, waiting: waiting_view, opening: opening_view, record: version_view, version: version_view,
+  signing: signing_view, amending: amending_view, paper: paper_view, forms: forms_view, form: form_view, making: making_view,
+  persons: persons_view, person: person_view, enrolling: enrolling_view, trail: trail_view, copies: copies_view,
+  checking: checking_view, password: password_view,
+};
+const main = document.getElementById('main');
+const head = document.getElementById('head');
+const ending = document.getElementById('ending');
+let shown_for = null;
+
+// The links of the head: place, text, and who has use for it. Who isn't signed in has use for two.
+const LINKS_OUTSIDE = [[first_place(), texts.links.sign_in], [checking_place(), texts.links.checking]];
+const LINKS = [
+  [waiting_place(), texts.links.waiting, () => has('reviewer', 'manager')],
+  [records_place(), texts.links.records, may_read],
+  [forms_place(), texts.links.forms, may_read],
+  [persons_place(), texts.links.persons, may_see_persons],
+  [trail_place(), texts.links.trail, may_see_persons],
+  [copies_place(), texts.links.copies, may_copy],
+  [checking_place(), texts.links.checking, () => true],
+  [password_place(), texts.links.password, () => true],
+];
+
+function home() {
+  if (has('reviewer', 'manager') && !has('analyst')) return waiting_place();
+  if (may_read()) return records_place();
+  return may_see_persons() ? persons_place() : password_place();
+}
+
+// The view of the place in the address: its name, the view, and what it is about.
+function view_of_place() {
+  const person = who();
+  for (const [name, pattern] of Object.entries(PATTERNS)) {
+    const found = pattern.exec(location.hash);
+    if (!found) continue;
+    if (name === 'checking') return [name, checking_view, []];
+    if (person && !person.due) return [name, VIEWS[name], found.slice(1).map(number_or_text)];
+  }
+  if (!person) return ['entrance', entrance_view, []];
+  return person.due ? ['password', password_view, []] : ['unknown', unknown_view, []];
+}
+
+function number_or_text(group) {
+  return /^[0-9]+$/.test(group) ? Number(group) : group;
+}
+
+function unknown_view(place) {
+  replace(place, heading(texts.unknown_place), paragraph(link(home(), texts.go_home)));
+}
+
+async function show() {
+  if (who() && !who().due && ['', first_place()].includes(location.hash)) {
+    location.replace(home());
+    return;
+  }
+  const [name, view, about] = view_of_place();
+  const place = element('div', { 'data-page': name });
+  replace(main, place);
+  main.setAttribute('aria-busy', 'true');
+  draw_links();
+  forget_said();
+  scrollTo(0, 0);
+  try {
+    const shown = view(place, ...about);
+    focus_view(place);
+    await shown;
+  } catch (refusal) {
+    for (const unread of place.querySelectorAll('.reading')) unread.remove();
+    show_refusal(place, refusal);
+    place.append(buttons(button('read_again', texts.read_again, show)));
+  }
+  if (!place.isConnected) return;
+  main.removeAttribute('aria-busy');
+  if (document.activeElement === document.body) focus_view(place);
+}
+
+function draw_head() {
+  const person = who();
+  replace(head,
+    paragraph(element('span', { class: 'program' }, texts.program),
+      person && [' ', named('lab', given(person.lab_name), ` (${person.lab})`)]),
+    person && person_part(person),
+    element('nav', { 'aria-label': texts.pages, id: 'links' }));
+  draw_links();
+  count_down();
+}
+
+function person_part({ name, code, roles, due }) {
+  const roles_text = [...roles].map((role) => texts.roles[role]).join(', ') || texts.no_roles;
+  return element('div', { class: 'person' },
+    named('person', texts.signed_in_as, ' ', name ? [given(name), ` (${code})`] : code),
+    named('roles', !due && roles_text),
+    element('span', { class: 'left' }, texts.left, ' ', element('span', { id: 'left', role: 'timer' })),
+    button('close_the_session', texts.sign_out, leave));
+}
+
+function draw_links() {
+  const links = document.getElementById('links');
+  if (!links) return;
+  const person = who();
+  const useful = person ? LINKS.filter(([, , has_use]) => !person.due && has_use()) : LINKS_OUTSIDE;
+  replace(links, useful.length > 0 && element('ul', null, useful.map(([place, text]) =>
+    element('li', null, link(place, text, { 'aria-current': is_within(place) ? 'page' : null, click: read_again })))));
+}
+
+// A link to the page that is shown reads it again.
+function read_again(event) {
+  if (event.currentTarget.hash === location.hash) show();
+}
+
+// Whether the view is one of a link's, by its place.
+function is_within(place) {
+  if (place === first_place()) return location.hash !== checking_place();
+  const others = { [records_place()]: opening_place(), [forms_place()]: making_place(), [persons_place()]: enrolling_place() };
+  return [place, others[place]].some((start) => start && location.hash.startsWith(start));
+}
+
+async function leave() {
+  try {
+    await sign_out();
+    say(texts.said_signed_out);
+  } catch {
+    say(texts.said_not_closed);
+  }
+}
+
+// Each second: how long the session lives, a warning two minutes before its end, and the dialog at its end.
+function count_down() {
+  const left = document.getElementById('left');
+  if (!left || !who()) {
+    ending.hidden = true;
+    return;
+  }
+  const { seconds, can_go_on } = seconds_left();
+  left.textContent = texts.minutes(seconds);
+  if (is_opening_again()) return;
+  warn(seconds, can_go_on);
+  if (seconds === 0) back_again();
+}
+
+// The warning is written once, so that it is read out once; its seconds are those of the head.
+function warn(seconds, can_go_on) {
+  const is_due = seconds > 0 && seconds <= WARNING_SECONDS;
+  if (is_due === !ending.hidden) return;
+  ending.hidden = !is_due;
+  replace(ending, is_due && paragraph(can_go_on ? texts.ends_soon : texts.ends_for_good, ' ',
+    can_go_on && button('go_on', texts.go_on, prolong)));
+}
+
+async function prolong() {
+  try {
+    await go_on();
+    count_down();
+    focus_view(main);
+  } catch (refusal) {
+    show_refusal(ending, refusal);
+  }
+}
+
+function state_of_session(person) {
+  return person ? `${person.lab} ${person.code} ${person.due}` : '';
+}
+
+on_session_ended(again_dialog);
+on_session((person) => {
+  draw_head();
+  if (is_opening_again() && person) return;
+  const state = state_of_session(person);
+  if (state === shown_for) return;
+  shown_for = state;
+  if (!person) history.replaceState(null, '', location.pathname + location.search);
+  show();
+});
+
+addEventListener('hashchange', show);
+keep_what_is_typed(main);
+const skip = document.getElementById('skip');
+skip.textContent = texts.skip;
+skip.addEventListener('click', (event) => {
+  event.preventDefault();
+  main.focus();
+});
+setInterval(count_down, 1000);
+shown_for = state_of_session(null);
+draw_head();
+show();

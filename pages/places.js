@@ -1,0 +1,46 @@
+// The places of the pages, behind the # of the address. No place has a token, a password or a name of a sample.
+
+const NUMBER = '([1-9][0-9]{0,9})';
+const KEY = '([a-z][a-z0-9_]{0,23})';
+
+export const first_place = () => '#/';
+export const records_place = () => '#/records';
+export const waiting_place = () => '#/waiting';
+export const opening_place = () => '#/opening';
+export const record_place = (record) => `#/records/${record}`;
+export const version_place = (record, version) => `#/records/${record}/versions/${version}`;
+export const signing_place = (record, version, meaning) => `#/records/${record}/versions/${version}/${meaning}`;
+export const amending_place = (record) => `#/records/${record}/amending`;
+export const paper_place = (record) => `#/records/${record}/paper`;
+export const forms_place = () => '#/forms';
+export const form_place = (form, version) => `#/forms/${form}/${version}`;
+export const making_place = (form, version) => (form ? `#/making/${form}/${version}` : '#/making');
+export const persons_place = () => '#/persons';
+export const person_place = (code) => `#/persons/${code}`;
+export const enrolling_place = () => '#/enrolling';
+export const trail_place = () => '#/trail';
+export const copies_place = () => '#/copies';
+export const checking_place = () => '#/checking';
+export const password_place = () => '#/password';
+
+// The views by their places, each with a name and a pattern whose groups are what the view is about.
+export const PATTERNS = {
+  records: /^#\/records$/,
+  waiting: /^#\/waiting$/,
+  opening: /^#\/opening$/,
+  record: new RegExp(`^#/records/${NUMBER}$`),
+  version: new RegExp(`^#/records/${NUMBER}/versions/${NUMBER}$`),
+  signing: new RegExp(`^#/records/${NUMBER}/versions/${NUMBER}/(authorship|review|approval|rejection)$`),
+  amending: new RegExp(`^#/records/${NUMBER}/amending$`),
+  paper: new RegExp(`^#/records/${NUMBER}/paper$`),
+  forms: /^#\/forms$/,
+  form: new RegExp(`^#/forms/${KEY}/${NUMBER}$`),
+  making: new RegExp(`^#/making(?:/${KEY}/${NUMBER})?$`),
+  persons: /^#\/persons$/,
+  person: /^#\/persons\/([a-z][a-z0-9-]{1,15})$/,
+  enrolling: /^#\/enrolling$/,
+  trail: /^#\/trail$/,
+  copies: /^#\/copies$/,
+  checking: /^#\/checking$/,
+  password: /^#\/password$/,
+};

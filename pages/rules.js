@@ -1,0 +1,83 @@
+// What docs/NAMES.md and docs/FORMS.md admit, so that a person is advised before a text is sent. The server decides; these don't.
+
+const BYTES = new TextEncoder();
+const AMOUNT = /^[<>]?([+-]?)([0-9]{1,15})(?:\.([0-9]{1,6}))?$/;
+
+export function bytes_of(text) {
+  return BYTES.encode(text).length;
+}
+
+export const is_lab_code = (text) => /^[a-z][a-z0-9-]{0,11}$/.test(text);
+export const is_person_code = (text) => /^[a-z][a-z0-9-]{1,15}$/.test(text);
+export const is_key = (text) => /^[a-z][a-z0-9_]{0,23}$/.test(text);
+export const is_name = (text, most = 120) => /^(?! )[^\x00-\x1f\x7f]+(?<! )$/.test(text) && bytes_of(text) <= most;
+const is_note = (text, most = 1000) => /^[^\x00-\x09\x0b-\x1f\x7f]+$/.test(text) && bytes_of(text) <= most;
+const is_unit = (text) => text === '' || is_name(text, 20);
+
+// A number's amount in whole millionths, without < and >; null where the text is none with so many decimals.
+function amount_of(text, decimals = 6) {
+  const [, sign, whole, behind = ''] = AMOUNT.exec(text) ?? [];
+  if (whole === undefined || behind.length > decimals) return null;
+  const amount = BigInt(whole + behind.padEnd(6, '0'));
+  return sign === '-' ? -amount : amount;
+}
+
+export function is_day(text) {
+  const [, year, month, day] = /^([0-9]{4})-([0-9]{2})-([0-9]{2})$/.exec(text) ?? [];
+  if (!year || year === '0000') return false;
+  const made = new Date(`${text}T00:00:00Z`);
+  return !Number.isNaN(made.getTime()) && made.getUTCMonth() + 1 === Number(month) && made.getUTCDate() === Number(day);
+}
+
+// The word of the refusal that a value of a field would meet, or null.
+export function flaw_of_value(field, value) {
+  if (field.kind === 'number') return flaw_of_number(field, value);
+  const reads = {
+    text: () => is_note(value, field.size),
+    choice: () => field.choices.includes(value),
+    date: () => is_day(value),
+    yesno: () => value === 'yes' || value === 'no',
+  };
+  return reads[field.kind]() ? null : 'bad_value';
+}
+
+function flaw_of_number({ decimals, min, max }, value) {
+  const amount = amount_of(value, decimals);
+  if (amount === null) return 'bad_value';
+  const below = min !== undefined && amount < amount_of(min);
+  const above = max !== undefined && amount > amount_of(max);
+  return below || above ? 'out_of_range' : null;
+}
+
+// Of the fields of a form that is to be made, the first thing that the server would refuse as that word: { at, name }.
+export function suspect_field(fields, word) {
+  for (const [at, field] of fields.entries()) {
+    const name = word === 'bad_name' ? bad_name_in(field) : word === 'bad_field' ? bad_rule_in(field) : null;
+    if (name) return { at, name };
+    if (word === 'key_twice' && fields.findIndex(({ key }) => key === field.key) < at) return { at, name: 'key' };
+  }
+  return null;
+}
+
+function bad_name_in({ key, label, unit, choices }) {
+  if (!is_key(key)) return 'key';
+  if (!is_name(label)) return 'label';
+  if (unit !== undefined && !is_unit(unit)) return 'unit';
+  return choices?.every((text) => is_name(text)) ?? true ? null : 'choices';
+}
+
+function bad_rule_in({ kind, decimals, min, max, size, choices }) {
+  if (kind === 'number') return bad_bound_in(decimals, min, max);
+  if (kind === 'text') return size >= 1 && size <= 1000 ? null : 'size';
+  if (kind !== 'choice') return null;
+  const are_different = new Set(choices).size === choices.length;
+  return are_different && choices.length >= 1 && choices.length <= 20 ? null : 'choices';
+}
+
+function bad_bound_in(decimals, min, max) {
+  if (decimals > 6) return 'decimals';
+  const reads = (bound) => bound === undefined || (!/[<>]/.test(bound) && amount_of(bound, decimals) !== null);
+  if (!reads(min)) return 'min';
+  if (!reads(max)) return 'max';
+  return min !== undefined && max !== undefined && amount_of(min) > amount_of(max) ? 'min' : null;
+}

@@ -1,0 +1,247 @@
+// A version of a record as it stands: what is known of it, its values beside those of the version before, every entry, and the
+// signatures. The same is shown on the screen, before a signature, and on paper.
+
+import { read_a_record, read_a_version } from './api.js';
+import {
+  action, actions, button, buttons, element, facts, given, heading, link, link_row, moment, named, paragraph, reading, replace,
+  section, table,
+} from './elements.js';
+import { entering_part } from './entering.js';
+import { form_of } from './forms.js';
+import { amending_place, form_place, paper_place, record_place, signing_place, version_place } from './places.js';
+import { state_of } from './records.js';
+import { show_refusal } from './sending.js';
+import { ask, has, keep, kept_as, who } from './session.js';
+import { texts } from './texts.js';
+
+const words = texts.versions;
+
+// A record up to one of its versions, or to its last: { record, versions, form }; each version is as the server gave it. All
+// versions before a last one are settled and never change, so each is read once.
+export async function history_of(number, version) {
+  const record = await ask(read_a_record, number);
+  const last = version ?? record.current;
+  const versions = [];
+  for (let at = 1; at < Math.min(last, record.current); at += 1) versions.push(await settled_version(number, at));
+  versions.push(await ask(read_a_version, number, last));
+  return { record, versions, form: await form_of(record.form, record.form_version) };
+}
+
+async function settled_version(number, version) {
+  const name = `version ${number} ${version}`;
+  return kept_as(name) ?? keep(name, await ask(read_a_version, number, version));
+}
+
+export async function version_view(place, number, version) {
+  const body = element('div', null, reading());
+  replace(place, heading(texts.record(number)), body);
+  const [doing, article, read] = [element('div'), element('div'), element('div')];
+  let entering = null;
+  const read_again = async () => {
+    const history = await history_of(number, version);
+    replace(article, article_of(history));
+    replace(doing, doing_of(history));
+    replace(read, read_line());
+    entering?.update(history);
+    return history;
+  };
+  const history = await read_again();
+  if (may_enter(history)) entering = entering_part(history, read_again);
+  const again = button('read_again', words.read_again, () => read_again().catch((refusal) => show_refusal(body, refusal)));
+  replace(body, versions_line(history), doing, entering?.part, article, read, buttons(again));
+}
+
+const shown_of = ({ versions }) => versions.at(-1);
+const is_last = (history) => history.record.current === shown_of(history).version;
+const may_enter = (history) => has('analyst') && is_last(history) && shown_of(history).state === 'open';
+
+// The versions of the record, each a link, with its state.
+function versions_line(history) {
+  const { record, versions } = history.record;
+  return link_row(words.versions, versions.map(({ version, state }) => ({
+    place: version_place(record, version), text: texts.version(version), is_shown: version === shown_of(history).version,
+    behind: state_of(state),
+  })));
+}
+
+// What this person may do with the version now, and what comes next. The server decides in the end, and says why not.
+function doing_of(history) {
+  const { record, rows, signatures } = shown_of(history);
+  const is_own = [...rows, ...signatures].some(({ person }) => person === who().code);
+  return [
+    actions(...acts_of(history, is_own), button('print', words.print, () => print()),
+      link(paper_place(record), words.paper, { 'data-do': 'paper' })),
+    element('p', { class: 'note', 'data-part': 'note' }, note_of(history, is_own)),
+  ];
+}
+
+function acts_of(history, is_own) {
+  const { record, state, version, approval } = shown_of(history);
+  const is_pending = ['signed', 'reviewed'].includes(state);
+  const may = {
+    authorship: state === 'open' && has('analyst') && is_own,
+    review: state === 'signed' && has('reviewer') && !is_own,
+    approval: state === 'reviewed' && approval && has('manager') && !is_own,
+    rejection: is_pending && has('reviewer', 'manager') && !is_own,
+  };
+  const signing = Object.keys(may).filter((meaning) => may[meaning]);
+  const may_amend = is_last(history) && ['released', 'rejected'].includes(state) && has('analyst');
+  return [
+    ...signing.map((meaning) => action(signing_place(record, version, meaning), texts.meanings[meaning].act, meaning)),
+    may_amend && action(amending_place(record), words.amend, 'amend'),
+  ];
+}
+
+// What comes next with the version, and why this person can't do it, if so.
+function note_of(history, is_own) {
+  const { record, state } = shown_of(history);
+  if (!is_last(history)) return [words.not_last, ' ', link(record_place(record), words.go_to_last)];
+  if (state === 'open') {
+    return [has('analyst') && !is_own ? words.sign_once_entered : words.next.open, ' ', missing_in(history)];
+  }
+  if (is_own && ['signed', 'reviewed'].includes(state) && has('reviewer', 'manager')) return words.own_work;
+  return words.next[state];
+}
+
+// The required fields that have no value yet.
+function missing_in({ versions, form }) {
+  const missing = form.fields.filter(({ key, required }) => required && !value_in(versions.at(-1), key));
+  const labels = missing.flatMap(({ label }, at) => [at > 0 && ', ', given(label)]);
+  return missing.length > 0 && named('missing', words.missing, ' ', labels, '.');
+}
+
+// A version, for the screen, above a signature and on paper.
+export function article_of({ record, versions, form }) {
+  const shown = shown_of({ versions });
+  const about = { 'data-version': shown.version, 'data-record': shown.record, 'aria-label': texts.version(shown.version) };
+  const article = element('article', about,
+    section(texts.version(shown.version), null, facts_of(shown, record)),
+    section(words.values, null, values_table(versions, form)),
+    section(words.entries, null, shown.rows.length ? entries_table(shown, form) : paragraph(words.no_entries)),
+    section(words.signatures, null, signatures_of(shown)));
+  if (article.querySelector('.unseen')) article.append(element('p', { 'data-part': 'unseen' }, words.unseen));
+  return article;
+}
+
+export function facts_of(shown, record) {
+  const lab = who();
+  const form = words.form_and_version(shown.form, shown.form_version);
+  return facts([
+    [words.lab, [given(lab.lab_name), ` (${lab.lab})`], 'lab'],
+    [texts.records.record, shown.record, 'record'],
+    [texts.records.sample, given(shown.sample), 'sample'],
+    [texts.records.form, link(form_place(shown.form, shown.form_version), form), 'form'],
+    [texts.records.version, words.version_of(shown.version, record.current), 'version'],
+    [texts.records.state, state_of(shown.state)],
+    [words.opener, [shown.opener, ', ', moment(shown.moment, 'opened')], 'opener'],
+    shown.reason && [words.reason, given(shown.reason), 'reason'],
+    [words.approval, shown.approval ? words.with_approval : words.without_approval, 'approval'],
+    [words.digest, element('code', { class: 'digest' }, shown.digest), 'digest'],
+  ]);
+}
+
+// The standing values, each with who entered it, and from the second version on beside the value of the version before.
+function values_table(versions, form) {
+  const before = versions.at(-2);
+  const columns = [words.field, before && words.value_before(before.version), words.value, words.entered].filter(Boolean);
+  return table(words.values_caption, columns, form.fields.map((field) => values_row(versions, field)));
+}
+
+function values_row(versions, field) {
+  const [before, shown] = [versions.at(-2), versions.at(-1)];
+  const is_altered = Boolean(before) && shown.altered.includes(field.key);
+  const entries = entries_of(versions, field.key);
+  const mark = is_altered && [' ', element('strong', { class: 'altered' }, words.altered)];
+  const value = [value_of(value_in(shown, field.key)), mark, overwritten_list(entries.slice(0, -1), shown)];
+  const entered = entries.length > 0 && entered_by(entries.at(-1), shown);
+  return {
+    attributes: { 'data-key': field.key, class: is_altered ? 'altered-row' : null },
+    cells: [label_of(field), ...before ? [value_before(before, field, is_altered)] : [], value, entered],
+  };
+}
+
+function value_before(before, { key }, is_altered) {
+  const value = value_in(before, key);
+  return is_altered && value ? element('s', { 'data-part': 'value_before' }, value_text(value)) : value_of(value, 'value_before');
+}
+
+export function value_in({ values }, key) {
+  return values.find((value) => value.key === key);
+}
+
+export function value_of(value, name = 'value') {
+  if (!value) return element('span', { class: 'none' }, words.no_value);
+  return element('span', { class: 'value', 'data-part': name }, value_text(value));
+}
+
+function value_text({ value, unit }) {
+  return [given(value), unit && [' ', given(unit)]];
+}
+
+export function label_of({ label, key, required }) {
+  return [given(label, 'label'), ' ', element('span', { class: 'key' }, key),
+    required && [' ', element('span', { class: 'required' }, texts.required)]];
+}
+
+// Every entry of a key in these versions, in order, each with its version.
+function entries_of(versions, key) {
+  return versions.flatMap(({ rows, version }) => rows.filter((row) => row.key === key).map((row) => ({ ...row, version })));
+}
+
+function entered_by({ person, moment: at, reason, version }, shown) {
+  return [named('person', person), ', ', moment(at), version !== shown.version && `, ${words.in_version(version)}`,
+    reason && element('span', { class: 'reason' }, words.reason, ': ', given(reason, 'reason'))];
+}
+
+function overwritten_list(entries, shown) {
+  if (!entries.length) return null;
+  return element('ul', { class: 'overwritten', 'aria-label': words.overwritten }, entries.map((entry) =>
+    element('li', null, element('span', { class: 'mark' }, words.overwritten), ' ',
+      element('s', { 'data-part': 'overwritten' }, value_text(entry)), ' ', entered_by(entry, shown))));
+}
+
+// The entries of this version in their order; one that a later one replaced is struck through.
+function entries_table({ rows, version }, form) {
+  const columns = [words.number, words.field, words.value, words.by, words.at, words.reason];
+  return table(words.entries_caption(version), columns, rows.map((row, at) => {
+    const is_replaced = rows.slice(at + 1).some(({ key }) => key === row.key);
+    const field = form.fields.find(({ key }) => key === row.key);
+    return {
+      attributes: { 'data-entry': at + 1 },
+      cells: [at + 1, field ? given(field.label) : row.key, is_replaced ? replaced_value(row) : value_of(row),
+        named('person', row.person), moment(row.moment), given(row.reason, 'reason')],
+    };
+  }));
+}
+
+function replaced_value(row) {
+  return [element('s', { 'data-part': 'value' }, value_text(row)), ' ', element('span', { class: 'mark' }, words.replaced)];
+}
+
+// The signatures in order, each with the printed name, the moment and the meaning.
+function signatures_of({ signatures }) {
+  if (!signatures.length) return paragraph(words.no_signatures);
+  return element('ol', { class: 'signatures' }, signatures.map(({ meaning, moment: at, name, person, reason, seal }) =>
+    element('li', { 'data-signature': meaning }, facts([
+      [words.signed_by, [given(name, 'name'), ' (', named('person', person), ')']],
+      [words.at, moment(at)],
+      [words.meaning, [named('meaning', texts.meanings[meaning].word), ': ', texts.meanings[meaning].statement]],
+      reason && [words.reason, given(reason, 'reason')],
+      [words.seal, element('code', { class: 'digest', 'data-part': 'seal' }, seal)],
+    ]))));
+}
+
+// Who read what stands on the page, and when.
+function read_line() {
+  const now = new Date().toISOString().replace(/\.[0-9]+Z$/, 'Z');
+  return paragraph(words.read_by(who().code), ' ', moment(now, 'read'), ', ', words.by_this_clock);
+}
+
+// All versions of a record, one below the other, for paper.
+export async function paper_view(place, number) {
+  replace(place, heading(texts.record(number)), reading());
+  const history = await history_of(number);
+  const articles = history.versions.map((_, at) => article_of({ ...history, versions: history.versions.slice(0, at + 1) }));
+  const print_it = button('print', words.print, () => print());
+  replace(place, heading(texts.record(number)), actions(print_it, link(record_place(number), words.back)), read_line(), articles);
+}

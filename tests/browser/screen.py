@@ -1,0 +1,263 @@
+"""A browser at the pages: what a person clicks, types and sees. Elements are found as pages/README.md names them."""
+import base64
+import contextlib
+import json
+import os
+import pathlib
+import shutil
+import time
+
+from room import PATIENCE, Stop, say
+from selenium import webdriver
+from selenium.common.exceptions import StaleElementReferenceException, WebDriverException
+from selenium.webdriver.chrome.service import Service
+from selenium.webdriver.common.keys import Keys
+from selenium.webdriver.support.ui import Select
+
+WIDE, NARROW = (1280, 900), (360, 740)
+# In seconds: how long somebody waits whom nginx lets in no more, and how long between two tries (12 openings a minute).
+MOST_WAITING, PAUSE = 120, 5.5
+ZONE, HOURS_AHEAD = "Asia/Tokyo", 9
+SETTINGS = ("--headless=new", "--disable-gpu", "--disable-dev-shm-usage", "--no-first-run", "--no-proxy-server", "--disable-component-update",
+            "--disable-background-networking", "--disable-sync", "--hide-scrollbars", "--lang=en-GB", "--force-color-profile=srgb")
+# Runs in each document before its own scripts: notes what the content policy stops, and what must never run.
+WATCH = """
+window.stopped_by_policy = [];
+document.addEventListener("securitypolicyviolation", (event) =>
+    window.stopped_by_policy.push(`${event.violatedDirective} ${event.blockedURI} ${event.sourceFile}:${event.lineNumber} ${event.sample}`));
+window.hacked = [];
+window.alert = window.confirm = window.prompt = (text) => { window.hacked.push(String(text)); return false; };
+"""
+SEEN = """
+const [selector, within] = arguments;
+return [...(within ?? document).querySelectorAll(selector)]
+    .filter((one) => one.checkVisibility({ visibilityProperty: true }) && one.getClientRects().length > 0);
+"""
+
+
+class Screen:
+    keys = Keys
+
+    def __init__(self, address, room):
+        self.address, self.room = address, pathlib.Path(room)
+        self.violations, self.faults = [], []
+        options = webdriver.ChromeOptions()
+        options.binary_location = shutil.which("chromium")
+        for setting in SETTINGS + (("--no-sandbox",) if os.getuid() == 0 else ()):
+            options.add_argument(setting)
+        options.add_argument(f"--user-data-dir={room}/profile")
+        options.add_experimental_option("prefs", {"download.default_directory": f"{room}/downloads", "download.prompt_for_download": False,
+                                                  "profile.default_content_setting_values.automatic_downloads": 1,
+                                                  "credentials_enable_service": False})
+        options.set_capability("acceptInsecureCerts", True)
+        options.set_capability("goog:loggingPrefs", {"browser": "ALL"})
+        (self.room / "downloads").mkdir(exist_ok=True)
+        self.driver = webdriver.Chrome(service=Service(shutil.which("chromedriver")), options=options)
+        self.driver.set_script_timeout(PATIENCE)
+        self.driver.set_page_load_timeout(PATIENCE)
+        self.driver.execute_cdp_cmd("Page.addScriptToEvaluateOnNewDocument", {"source": WATCH})
+        self.driver.execute_cdp_cmd("Emulation.setTimezoneOverride", {"timezoneId": ZONE})
+        self.size(*WIDE)
+
+    def close(self):
+        self.driver.quit()
+
+    # ---- the window
+
+    def size(self, width, height):
+        """A window of just this size, as on a telephone where it is narrow."""
+        self.driver.execute_cdp_cmd("Emulation.setDeviceMetricsOverride",
+                                    {"width": width, "height": height, "deviceScaleFactor": 1, "mobile": False})
+
+    def load(self):
+        """Loads the pages anew: whoever was signed in is forgotten."""
+        self.note()
+        self.driver.get("about:blank")
+        self.driver.get(self.address)
+        self.settle()
+
+    def settle(self):
+        """Waits until the view of the place is shown, and nothing is asked of the server any more."""
+        self.driver.execute_async_script("setTimeout(() => requestAnimationFrame(() => setTimeout(arguments[0])))")
+        self.wait(lambda: self.run("return document.querySelector('main h1') !== null && document.querySelector('[aria-busy]') === null"),
+                  "the page is there, and waits for nothing")
+
+    def run(self, script, *words):
+        return self.driver.execute_script(script, *words)
+
+    def note(self):
+        """Notes what the content policy stopped and what the console says since the last look."""
+        with contextlib.suppress(WebDriverException):
+            self.violations += self.run("return (window.stopped_by_policy ?? []).splice(0)")
+            self.violations += [f"ran: {text}" for text in self.run("return (window.hacked ?? []).splice(0)")]
+        for line in self.driver.get_log("browser"):
+            text = line["message"]
+            if "Content Security Policy" in text or "Trusted" in text:
+                self.violations.append(text)
+            elif line["level"] == "SEVERE" and "the server responded with a status of" not in text:
+                self.faults.append(text)
+
+    # ---- looking
+
+    def all(self, selector, within=None):
+        """The elements of a selector that are seen."""
+        with contextlib.suppress(StaleElementReferenceException):
+            return self.run(SEEN, selector, within)
+        return []
+
+    def one(self, selector, within=None):
+        """The one element of a selector that is seen, which is waited for."""
+        found = []
+
+        def there():
+            found[:] = self.all(selector, within)
+            return bool(found)
+
+        self.wait(there, f"{selector} is seen")
+        return found[0]
+
+    def wait(self, condition, what, patience=PATIENCE):
+        until = time.monotonic() + patience
+        while True:
+            with contextlib.suppress(StaleElementReferenceException):
+                if condition():
+                    return
+            if time.monotonic() > until:
+                raise Stop(f"it isn't so that {what}; on the screen is {self.text()[:700]!r}")
+            time.sleep(0.02)
+
+    def place(self):
+        """The place in the address, behind the #."""
+        return self.run("return location.hash")
+
+    def text(self):
+        return self.run("return document.body.innerText")
+
+    def part(self, name, within=None):
+        """The text of a part that is seen."""
+        return self.one(f'[data-part="{name}"]', within).text
+
+    def parts(self, name, within=None):
+        return [one.text for one in self.all(f'[data-part="{name}"]', within)]
+
+    def refusal(self):
+        """The word of the refusal that is seen, or None."""
+        shown = self.all('[role="alert"][data-refusal]')
+        return shown[0].get_attribute("data-refusal") if shown else None
+
+    def overflow(self):
+        """By how many pixels the page is wider than its window."""
+        return self.run("return document.documentElement.scrollWidth - document.documentElement.clientWidth")
+
+    # ---- doing
+
+    def do(self, word, within=None):
+        """Clicks what does something, and waits until it is done."""
+        self.click(self.one(f'[data-do="{word}"]', within))
+        self.settle()
+
+    def open_session(self, **values):
+        """Signs in. Many sessions are opened here from one address: where nginx lets nobody in for a while, it waits."""
+        until = time.monotonic() + MOST_WAITING
+        while True:
+            self.fill(**values)
+            self.do("open_a_session")
+            if self.refusal() != "too_often" or time.monotonic() > until:
+                return
+            time.sleep(PAUSE)
+
+    def click(self, one):
+        """Clicks; of a link, waits until its place is there."""
+        leads = self.run("arguments[0].scrollIntoView({ block: 'center' }); return arguments[0].tagName === 'A' ? arguments[0].hash : ''", one)
+        one.click()
+        if leads:
+            self.wait(lambda: self.place() == leads, f"the place is {leads}")
+
+    def go(self, place):
+        """Follows a link that is seen, to a place."""
+        self.click(self.one(f'a[href="{place}"]'))
+        self.settle()
+
+    def fill(self, within=None, **values):
+        """Types into fields, and chooses, by their names."""
+        for name, value in values.items():
+            self.put(self.one(f'[name="{name}"]', within), value)
+
+    def put(self, field, value):
+        kind, is_chosen, there = self.run("const [one] = arguments; return [one.type, Boolean(one.checked), one.value]", field)
+        if kind == "select-one":
+            Select(field).select_by_value(value)
+        elif kind in ("checkbox", "radio"):
+            if is_chosen != bool(value):
+                field.click()
+        elif kind == "file":
+            field.send_keys(str(value))
+        elif all(ord(one) < 0x10000 for one in value):
+            emptied = (Keys.CONTROL, "a", Keys.NULL, Keys.DELETE) if there else ()
+            field.send_keys(*emptied, value)
+        else:
+            # (chromedriver types no character beyond the first plane)
+            self.run("arguments[0].value = arguments[1]; arguments[0].dispatchEvent(new Event('input', {bubbles: true}));"
+                     "arguments[0].dispatchEvent(new Event('change', {bubbles: true}));", field, value)
+
+    def press(self, *keys):
+        """Types without a mouse, into what has the focus."""
+        for key in keys:
+            self.driver.switch_to.active_element.send_keys(key)
+
+    def tab_to(self, selector, most=80):
+        """Comes to an element by the tabulator alone."""
+        for _ in range(most):
+            if self.run("return document.activeElement.matches(arguments[0])", selector):
+                return
+            self.press(Keys.TAB)
+        raise Stop(f"the tabulator doesn't come to {selector}")
+
+    def downloaded(self, count=1):
+        """The files that the browser saved, once there are so many; they are taken away from the folder of what was saved."""
+        folder = self.room / "downloads"
+        # (what isn't whole yet has another name)
+        self.wait(lambda: len([one for one in folder.iterdir() if one.suffix == ".csv"]) >= count, f"{count} files are saved")
+        files = sorted(folder.iterdir())
+        read = {one.name: one.read_bytes() for one in files}
+        for one in files:
+            one.unlink()
+        return read
+
+    # ---- paper and pictures
+
+    def printed(self, width, height):
+        """The PDF that the browser prints on paper of this size, in centimetres."""
+        paper = {"paperWidth": width / 2.54, "paperHeight": height / 2.54, "printBackground": False}
+        reply = self.driver.execute_cdp_cmd("Page.printToPDF", paper)
+        return base64.b64decode(reply["data"])
+
+    @contextlib.contextmanager
+    def on_paper(self):
+        """What is read meanwhile is what paper shows."""
+        self.driver.execute_cdp_cmd("Emulation.setEmulatedMedia", {"media": "print"})
+        try:
+            yield
+        finally:
+            self.driver.execute_cdp_cmd("Emulation.setEmulatedMedia", {"media": ""})
+
+    def picture(self, width, tallest):
+        """A picture of the page from its top on, as PNG, in a window as high as the page."""
+        self.size(width, 600)
+        self.size(width, min(max(self.run("return document.documentElement.scrollHeight"), 600), tallest))
+        self.run("scrollTo(0, 0)")
+        return base64.b64decode(self.driver.execute_cdp_cmd("Page.captureScreenshot", {"format": "png"})["data"])
+
+    def controls(self):
+        """Role and name of each node that a screen reader comes to."""
+        nodes = self.driver.execute_cdp_cmd("Accessibility.getFullAXTree", {})["nodes"]
+        return [(node["role"]["value"], node.get("name", {}).get("value", "").strip()) for node in nodes if not node["ignored"] and "role" in node]
+
+
+def looked_over(screen, what):
+    """Says that nothing ran and nothing was stopped until now."""
+    screen.note()
+    lines = json.dumps(screen.violations[:3]) if screen.violations else ""
+    say(not screen.violations, f"{what}: the content policy stops nothing, and nothing runs that came as a text {lines}".rstrip())
+    say(not screen.faults, f"{what}: no fault in the console{''.join(' ' + one for one in screen.faults[:3])}")
+    screen.violations, screen.faults = [], []
