@@ -8,8 +8,7 @@ use Rattle.lab_forms_texts.specs.Calendar.{span_of, place_of, place_in_year, yea
 use Rattle.lab_forms_texts.specs.Moment.{moment_text}
 use Rattle.lab_copy_rows.specs.declared.lines.CopyLine.{CopyLine}
 use Rattle.lab_copy_rows.specs.declared.lines.Edition.TheVariants as edition
-use Rattle.lab_copy_rows.specs.declared.faults.CopyOutFault.TheVariants.{Write}
-use Rattle.lab_copy_rows.specs.Outs.{counted, fault_number, fault_word, no_counts, one_more, start_text}
+use Rattle.lab_copy_rows.specs.Outs.{counted, no_counts, one_more, start_text}
 
 -- the records from 3 to 5 of a laboratory whose name has a comma and quotes
 abbrev asked : CopyLine
@@ -39,7 +38,3 @@ known_counts = (refl, refl, refl, refl, refl)
 -- no number of 64 bits is more than the last
 pub known_last_count : (one_more 9 ≡ 10) × (one_more 18446744073709551615 ≡ 18446744073709551615)
 known_last_count = (refl, refl)
-
--- no reply tells of a write fault, so it has no number
-pub known_faults : (fault_word Write ≡ codes "write_fault") × (fault_number Write ≡ None)
-known_faults = (refl, refl)

@@ -3,22 +3,10 @@
 use Rattle.std.specs.Prelude.{◌≡◌, ℕ, ◌+◌, ◌-◌, ◌^◌, min, Bool, if◌then◌else◌, List, [], ◌∷◌, ◌++◌, codes, Option, Some, None, Result, Ok, Err}
 use Rattle.std.specs.Str.{bytes_eq}
 use Rattle.std.specs.Io.KnownBytes.{Appends}
-use Rattle.lab_forms_texts.specs.Faults.{memory_entry}
 use Rattle.lab_copy_rows.specs.Csv.{csv_text}
 use Rattle.lab_copy_rows.specs.Rows.{fields_in, kind_in, header_row, copy_row}
 use Rattle.lab_copy_rows.specs.declared.lines.CopyLine.{CopyLine}
 use Rattle.lab_copy_rows.specs.declared.lines.Counts.{Counts}
-use Rattle.lab_copy_rows.specs.declared.faults.CopyOutFault.{CopyOutFault}
-use Rattle.lab_copy_rows.specs.declared.faults.CopyOutFault.TheVariants.{Write, Memory}
-
--- the word of a fault (docs/REFUSALS.md); a write fault has no number, since no reply tells of it
-abbrev pub fault_word : CopyOutFault → List ℕ
-fault_word Write = codes "write_fault"
-fault_word (Memory _) = memory_entry.word
-
-abbrev pub fault_number : CopyOutFault → Option ℕ
-fault_number Write = None
-fault_number (Memory _) = Some memory_entry.number
 
 -- some front of these bytes went out, and nothing else
 pub record AppendsFront (old new : Option (List ℕ)) (bytes : List ℕ) : Type 0 where

@@ -5,7 +5,7 @@ ghost use Rattle.csv.specs.Records.{fields_of};
 ghost use Rattle.lab_copy_rows.specs.Csv.{csv_row};
 ghost use Rattle.lab_copy_rows.specs.Outs.{Sends};
 
-use crate::{CopyOutFault, CopyRow, OutOfMemory};
+use crate::{CopyOutFault, CopyRow, OutOfMemory, WriteFailure};
 use csv::{Error, StringRecord, WriterBuilder};
 use std::alloc::Global;
 use std::io::Write;
@@ -24,10 +24,10 @@ pub(crate) fn send_row<W: Write>(
 {
     let fields = record_of(alloc, row)?;
     let Ok(bytes) = row_bytes(alloc, &fields) else {
-        return Err(CopyOutFault::Memory(OutOfMemory));
+        return Err(CopyOutFault::Memory);
     };
     if send(writer, &bytes) < bytes.len() {
-        return Err(CopyOutFault::Write);
+        return Err(CopyOutFault::Refused(WriteFailure));
     }
     Ok(())
 }

@@ -1,7 +1,7 @@
 -- Two keepers agree still on a laboratory after a request that both took or both refused, and on
 -- every other one whatever became of it.
 use Rattle.std.proofs.Common.{◌≡◌, ◌≢◌, ℕ, Bool, true, false, List, Option, Ok, Err, refl, sym, ◌∙◌, ap, subst, inl, inr}
-use Rattle.std.specs.Prelude.{bytes_eq, ◌⊎◌}
+use Rattle.std.specs.Prelude.{bytes_eq, ◌⊎◌, IsOk}
 use Rattle.std.proofs.lemmas.Bool.{false≢true}
 use Rattle.std.proofs.lemmas.Slice.Eq.{bytes_eq-Decides}
 use Rattle.lab_forms_texts.specs.declared.tick.Tick.{Tick}
@@ -9,9 +9,10 @@ use Rattle.lab_records_kept.specs.declared.labs.Lab.{Lab}
 use Rattle.lab_records_kept.specs.Worlds.{World, Meaning}
 use Rattle.lab_records_machine.specs.Machine.{step}
 use Rattle.lab_wire.specs.declared.commands.Asked.{Asked}
-use Rattle.lab_wire.specs.Replies.{memory_text}
-use Rattle.lab_desk_runs.specs.Requests.{Asks, Steps, TakesRequest, RefusesRequest}
-use Rattle.lab_desk.specs.Twins.{Agree, IsElsewhere, SameButForMemory}
+use Rattle.lab_wire.specs.declared.replies.Answer.TheVariants.{Replied}
+use Rattle.lab_wire.specs.Replies.{memory_text, reply_text}
+use Rattle.lab_desk_runs.specs.Requests.{Asks, Steps, TakesRequest, RefusesRequest, answer_to}
+use Rattle.lab_desk.specs.Twins.{Agree, AgreeOnAsked, IsElsewhere, SameButForMemory, both}
 
 -- ---- one keeper
 
@@ -85,3 +86,23 @@ pub same_but_for_memory : (one other text : List ℕ) →
 same_but_for_memory one other text (inl is) (inl other_is) = inl (is ∙ sym other_is)
 same_but_for_memory one other text (inr memory) other_reply = inr (inl memory)
 same_but_for_memory one other text (inl is) (inr memory) = inr (inr memory)
+
+-- the answer to what bytes ask is one, where the laboratory that they name is
+same_answer : (one other : World) (tick : Tick) (asks : Asks) → (IsOk asks → one.is_live) →
+    (IsOk asks → other.is_live) → AgreeOnAsked (both one other) asks →
+    answer_to one.meaning tick asks ≡ answer_to other.meaning tick asks
+same_answer one other tick (Err refusal) live other_live agree = refl
+same_answer one other tick (Ok asked) live other_live agree =
+    ap (λ (lab : Option Lab). Replied (step lab tick asked.instruction).reply)
+    (agree (live refl) (other_live refl))
+
+-- and so is the reply, where both took the request
+pub same_reply : (old new other_old other_new : World) (tick : Tick) (asks : Asks)
+    (reply other_reply : List ℕ) → TakesRequest old new tick asks reply →
+    TakesRequest other_old other_new tick asks other_reply →
+    AgreeOnAsked (both old other_old) asks → reply ≡ other_reply
+same_reply old new other_old other_new tick asks reply other_reply takes other_takes agree =
+    takes.replied
+    ∙ ap (reply_text tick) (same_answer old other_old tick asks (λ ok. (takes.lives ok).0)
+    (λ ok. (other_takes.lives ok).0) agree)
+    ∙ sym other_takes.replied

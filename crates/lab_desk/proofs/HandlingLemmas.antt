@@ -1,23 +1,28 @@
 -- How a request was handled: by the laboratory that it asks, by the refusal of its bytes, or by the
 -- reply for lack of memory.
 use Rattle.std.proofs.Common.{◌≡◌, ◌∙◌, inl, inr, ℕ, Bool, true, false, List, Result, Ok, Err, refl, sym, ap}
-use Rattle.std.specs.Prelude.{IfOk, IfErr, IsOk, IsTrue}
+use Rattle.std.specs.Prelude.{All, IfOk, IfErr, IsOk, IsTrue, OnOk}
 use Rattle.std.proofs.lemmas.Bool.{false≢true}
 use Rattle.lab_forms_texts.specs.declared.tick.Tick.{Tick}
-use Rattle.lab_records_kept.specs.declared.faults.KeeperFault.{KeeperFault}
-use Rattle.lab_records_kept.specs.declared.faults.KeeperFault.TheVariants.{Storage, Memory}
+use Rattle.lab_forms_texts.specs.declared.refusals.Fault.{Fault}
+use Rattle.lab_records_kept.specs.declared.faults.BadStore.{BadStore}
+use Rattle.lab_forms_texts.specs.declared.refusals.Fault.TheVariants.{Refused as StoreRefused, Memory}
 use Rattle.lab_records_kept.specs.declared.keeper.Keeper.{Ghosts}
 use Rattle.lab_records_kept.specs.Worlds.{World, Given, KeeperFaultFits, Passes, Quiet}
+use Rattle.lab_records_laws.specs.Asking.{IsCommandFormed}
 use Rattle.lab_wire.specs.declared.commands.Asked.{Asked}
 use Rattle.lab_wire.specs.declared.refusals.RequestRefusal.{RequestRefusal}
 use Rattle.lab_wire.specs.declared.replies.Answer.TheVariants.{Refused}
 use Rattle.lab_wire.specs.Replies.{reply_text, memory_text}
 use Rattle.lab_desk_requests.specs.Calls.{Ends}
+use Rattle.lab_records_walks.specs.Legible.{IsLegibleChange}
+use Rattle.lab_desk_runs.specs.Copies.{IsAskedLegibly}
 use Rattle.lab_desk_runs.specs.Keeping.{AreWithin, GivenWithin, Stays}
-use Rattle.lab_desk_runs.specs.Requests.{Asks, DoesStep, IsRefusedReply, TellsFault, answer_to, is_idle}
+use Rattle.lab_desk_runs.specs.Requests.{Asks, DoesStep, IsRefusedReply, TellsFault, answer_to, changes_for, is_idle}
+use Rattle.lab_desk_runs.proofs.Copying.{asked_legible, sound_answer}
 use Rattle.lab_desk_runs.proofs.Keeping.{asked_keeps}
 use Rattle.lab_desk_runs.proofs.Lasting.{still_stays}
-use Rattle.lab_desk_runs.proofs.Staying.{asked_releasing}
+use Rattle.lab_desk_runs.proofs.Staying.{asked_releasing, asked_leaves_within, asked_leaves_releasing}
 use Rattle.lab_desk.specs.Handling.{Handles, IsNobodysReply}
 
 -- it isn't both taken and refused
@@ -67,6 +72,7 @@ module _ {S : Type 0} (keeper : Ghosts S) (kept : S) (tick : Tick) (is_taken : B
     durable = λ within honest reached busy. absurd (false≢true (sym busy));
     stays = λ within honest reached. still_stays (keeper.world kept) reached;
     passes = still_passes (keeper.world kept);
+    sound = λ within honest reached releasing legible taken. tt;
   }
 
   -- whatever was asked: there was no memory for it
@@ -86,23 +92,25 @@ module _ {S : Type 0} (keeper : Ghosts S) (kept : S) (tick : Tick) (is_taken : B
     durable = λ within honest reached busy taken. both_not is_taken taken not;
     stays = λ within honest reached. still_stays (keeper.world kept) reached;
     passes = still_passes (keeper.world kept);
+    sound = λ within honest reached releasing legible taken. both_not is_taken taken not;
   }
 
 -- ---- bytes that ask a laboratory something
 
 -- the reply that tells a keeper's fault
 refused_reply : (may_refuse : Type 0) (asks : Asks) (tick : Tick) (reply : List ℕ)
-    (fault : KeeperFault) → KeeperFaultFits may_refuse fault → IsOk asks →
+    (fault : Fault BadStore) → KeeperFaultFits may_refuse fault → IsOk asks →
     TellsFault tick reply fault → IsRefusedReply (may_refuse × IsOk asks) tick reply
 refused_reply may_refuse asks tick reply Memory fits asked told = inl told
-refused_reply may_refuse asks tick reply Storage fits asked (inl memory) = inl memory
-refused_reply may_refuse asks tick reply Storage fits asked (inr storage) =
+refused_reply may_refuse asks tick reply (StoreRefused _) fits asked (inl memory) = inl memory
+refused_reply may_refuse asks tick reply (StoreRefused _) fits asked (inr storage) =
     inr ((fits, asked), storage)
 
 -- what the desk knows once the laboratory was asked, and its reply or the fault kept
 pub record IsKept {S A : Type 0} (keeper : Ghosts S) (old new : S) (tick : Tick) (asked : Asked)
-    (answered : Result A KeeperFault) (items : A → List ℕ) (is_taken : Bool) (reply : List ℕ)
+    (answered : Result A (Fault BadStore)) (items : A → List ℕ) (is_taken : Bool) (reply : List ℕ)
     : Type 0 where
+  pub formed : IsCommandFormed asked.instruction.command
   pub within : GivenWithin (keeper.world old) (keeper.world new) (AreWithin (keeper.world new))
   pub told : Given (keeper.world old) (keeper.world new) (IfOk answered (λ answer.
       items answer ≡ reply_text tick (answer_to (keeper.world old).meaning tick (Ok asked))))
@@ -113,9 +121,12 @@ pub record IsKept {S A : Type 0} (keeper : Ghosts S) (old new : S) (tick : Tick)
       (DoesStep (keeper.world old) (keeper.world new) tick asked (keeper.moves old new) answered)
   pub replied : IfOk answered (λ answer. (is_taken ≡ true) × (reply ≡ items answer))
   pub failed : IfErr answered (λ fault. (is_taken ≡ false) × TellsFault tick reply fault)
+  pub named : IsAskedLegibly tick.moment asked.instruction.command
+  pub brings : Given (keeper.world old) (keeper.world new) (OnOk answered (All IsLegibleChange
+      (changes_for ((keeper.world old).meaning asked.lab) tick asked.instruction)))
 
 module _ {S A : Type 0} (keeper : Ghosts S) (old new : S) (tick : Tick) (asked : Asked) where
-  asked_stays : (answered : Result A KeeperFault) (items : A → List ℕ) (is_taken : Bool)
+  asked_stays : (answered : Result A (Fault BadStore)) (items : A → List ℕ) (is_taken : Bool)
       (reply : List ℕ) → IsKept keeper old new tick asked answered items is_taken reply →
       GivenWithin (keeper.world old) (keeper.world new)
       (Stays (keeper.world old) (keeper.world new))
@@ -131,9 +142,15 @@ module _ {S A : Type 0} (keeper : Ghosts S) (old new : S) (tick : Tick) (asked :
             back did.after left within;
         reached = did.reached;
         safe = did.safe;
+        legible = asked_legible (keeper.world old) (keeper.world new) tick asked answered back
+            did.after left (kept.brings honest reached);
+        left_within = asked_leaves_within (keeper.world old) (keeper.world new) tick asked
+            kept.formed did.crash;
+        left_releasing = asked_leaves_releasing (keeper.world old) (keeper.world new) tick asked
+            did.crash;
       }
 
-  pub asked_so : (answered : Result A KeeperFault) (items : A → List ℕ) (is_taken : Bool)
+  pub asked_so : (answered : Result A (Fault BadStore)) (items : A → List ℕ) (is_taken : Bool)
       (reply : List ℕ) → IsKept keeper old new tick asked answered items is_taken reply →
       Handles keeper old new
       (record { tick = tick; asks = Ok asked; is_taken = is_taken; reply = reply })
@@ -153,6 +170,10 @@ module _ {S A : Type 0} (keeper : Ghosts S) (old new : S) (tick : Tick) (asked :
     durable = λ within honest reached busy taken. (kept.does within honest reached).durable busy;
     stays = asked_stays (Ok answer) items is_taken reply kept;
     passes = kept.ends.passes;
+    sound = λ within honest reached releasing legible taken.
+        let live = (kept.ends.lives honest reached).0 in
+        sound_answer (keeper.world old).meaning tick asked (within live asked.lab)
+        (releasing live asked.lab) (legible live asked.lab) kept.named;
   }
   asked_so (Err fault) items is_taken reply kept = record {
     taken = λ within honest reached taken. both_not is_taken taken kept.failed.0;
@@ -170,4 +191,6 @@ module _ {S A : Type 0} (keeper : Ghosts S) (old new : S) (tick : Tick) (asked :
     durable = λ within honest reached busy taken. both_not is_taken taken kept.failed.0;
     stays = asked_stays (Err fault) items is_taken reply kept;
     passes = kept.ends.passes;
+    sound = λ within honest reached releasing legible taken.
+        both_not is_taken taken kept.failed.0;
   }

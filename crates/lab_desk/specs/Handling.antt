@@ -1,14 +1,15 @@
 -- What a request leaves of a keeper's laboratories, and what is replied: the contract of
 -- `Desk::handle`. Serving a request, and two desks beside one another, say it by the same record.
-use Rattle.std.specs.Prelude.{◌≡◌, ◌⊎◌, Bool, true, false, ℕ, List, Err, IsTrue, IsFalse}
+use Rattle.std.specs.Prelude.{◌≡◌, ◌⊎◌, Bool, true, false, ℕ, List, Ok, Err, IsTrue, IsFalse}
 use Rattle.lab_forms_texts.specs.declared.tick.Tick.{Tick}
 use Rattle.lab_records_kept.specs.declared.keeper.Keeper.{Ghosts}
 use Rattle.lab_records_kept.specs.Worlds.{World, CommitsAs, Given, IsDurable, Passes, Quiet}
 use Rattle.lab_wire.specs.declared.refusals.RequestRefusal.{RequestRefusal}
 use Rattle.lab_wire.specs.declared.replies.Answer.TheVariants.{Refused}
 use Rattle.lab_wire.specs.Replies.{reply_text, memory_text}
-use Rattle.lab_desk_runs.specs.Keeping.{GivenWithin, Stays}
-use Rattle.lab_desk_runs.specs.Requests.{Asks, MovesFor, RefusesRequest, Steps, TakesRequest, is_idle_request}
+use Rattle.lab_desk_runs.specs.Copies.{IsSoundAnswer}
+use Rattle.lab_desk_runs.specs.Keeping.{AreLegible, AreReleasing, GivenWithin, Stays}
+use Rattle.lab_desk_runs.specs.Requests.{Asks, MovesBy, RefusesRequest, Steps, TakesRequest, is_idle_request}
 
 -- a request, and how it was handled
 pub record Handling : Type 0 where
@@ -26,6 +27,12 @@ abbrev pub IsNobodysReply : Tick → Asks → List ℕ → Type 0
 IsNobodysReply tick asks reply =
     (refusal : RequestRefusal) → asks ≡ Err refusal →
     (reply ≡ reply_text tick (Refused refusal)) ⊎ (reply ≡ memory_text)
+
+-- the rows after what bytes ask: at rest where they ask nothing, and else moved by the step
+abbrev pub RowsMove : {S : Type 0} → Ghosts S → S → S → Tick → Asks → Type 0
+RowsMove keeper old new tick (Err refusal) = keeper.rests old new
+RowsMove keeper old new tick (Ok asked) =
+    MovesBy (keeper.world old).meaning tick asked (keeper.moves old new)
 
 module _ {S : Type 0} (keeper : Ghosts S) (old new : S) (request : Handling) where
   -- what is known of the keeper before the request, and after it
@@ -46,8 +53,7 @@ module _ {S : Type 0} (keeper : Ghosts S) (old new : S) (request : Handling) whe
     pub taken : GivenWithin before after (request.is_taken ≡ true →
         TakesRequest before after request.tick request.asks request.reply)
     pub rows : GivenWithin before after (request.is_taken ≡ true →
-        MovesFor (keeper.world old).meaning request.tick request.asks
-        (keeper.rests old new) (keeper.moves old new))
+        RowsMove keeper old new request.tick request.asks)
     -- one that was refused, for memory or by the store: the reply says so, every laboratory means
     -- what it meant, and the rows are as they were
     pub refused : Given before after (request.is_taken ≡ false →
@@ -65,8 +71,13 @@ module _ {S : Type 0} (keeper : Ghosts S) (old new : S) (request : Handling) whe
     pub quiet : IsTrue is_idle → Given before after (Quiet before after)
     pub durable : GivenWithin before after (IsFalse is_idle → request.is_taken ≡ true →
         IsDurable after)
-    -- what stays true: each laboratory is within its limits, is releasing where it was, and keeps
-    -- what was; the tables are well kept, and those that a crash leaves, where they were (`within`,
-    -- `releasing`, `keeps`, `reached`, `safe`)
+    -- what stays true: each laboratory is within its limits, is releasing and legible where it was,
+    -- and keeps what was; the tables are well kept, and those that a crash leaves, where they were
+    -- (`within`, `releasing`, `legible`, `keeps`, `reached`, `safe`); so are the laboratories in
+    -- these (`left_within`, `left_releasing`)
     pub stays : GivenWithin before after (Stays before after)
     pub passes : Passes before after
+    -- a copy that was replied is sound, where every laboratory was releasing and legible
+    pub sound : GivenWithin before after (AreReleasing before → AreLegible before →
+        request.is_taken ≡ true →
+        IsSoundAnswer (keeper.world old).meaning request.tick request.asks)

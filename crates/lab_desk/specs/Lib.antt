@@ -1,3 +1,4 @@
+pub mod Answering
 pub mod Desk
 pub mod Handling
 pub mod Serving

@@ -7,15 +7,18 @@ ghost use Rattle.lab_wire.specs.Asked.{asked};
 ghost use Rattle.lab_wire.specs.Replies.{reply_text, memory_text};
 ghost use Rattle.lab_desk_runs.specs.Requests.{TellsFault};
 ghost use Rattle.lab_desk_runs.specs.Keeping.{Stays};
+ghost use Rattle.lab_desk_runs.specs.Leaving.{Settles};
 ghost use Rattle.lab_desk_foundings.specs.Foundings.{founding_in, Founds, Births, TakesFounding, RefusesFounding, shown};
 ghost use Rattle.lab_desk_foundings.specs.Faults.{FoundFaultFits, OnBody, OnKept, OnUncommitted};
+ghost use Rattle.lab_desk.specs.Answering.{Answers};
 ghost use Rattle.lab_desk.specs.Handling.{Handles};
 
 use lab_desk_foundings::{FoundFault, Line, founded, newborn_of, unfounded};
 use lab_desk_requests::answer_asked;
 use lab_desk_runs::Event;
 use lab_forms_texts::{LabCode, OutOfMemory, Tick};
-use lab_records_kept::{Keeper, KeeperFault};
+use lab_records_kept::{Keeper, KeeperFault, Need};
+use lab_records_walks::newborn_is_legible;
 use lab_wire::{Answer, RequestFault, RequestRefusal, Routes, ask, memory_reply, reply_bytes};
 use std::alloc::Global;
 use std::marker::Model;
@@ -79,13 +82,16 @@ impl<S: Keeper + Drop> Desk<S> {
 
     /// Handles a request: `reply` has its reply, and the keeper what became of its laboratory.
     /// Answers whether the request was taken: it was, unless memory ran out or the store refused;
-    /// then the reply says so and nothing is changed. Every laboratory keeps what was.
+    /// then the reply says so, and the rows are as before. Where a fault of the store shut the
+    /// keeper during the commit, they are as before or as after it once the keeper is opened anew
+    /// (`crash`), so that a client reads before it asks again. Every laboratory keeps what was.
     ///
     /// Each fact has a name, as a field of `Handles` (`specs/Handling.antt`): of a request that was
     /// taken `taken` and `rows`, of one that was refused `refused` and `rows_refused`; of bytes that
     /// ask nothing `untouched` and `nobodys`; of what a crash may leave `crash`, `quiet` and
-    /// `durable`; and `stays` and `passes`, what stays true (`stays` has `within`, `releasing`,
-    /// `keeps`, `reached` and `safe`).
+    /// `durable`; `stays` and `passes`, what stays true (`stays` has `within`, `releasing`,
+    /// `legible`, `keeps`, `reached`, `safe`, `left_within` and `left_releasing`); and `sound`: a
+    /// copy that was replied is sound.
     pub fn handle(&mut self, tick: &Tick, bytes: &[u8]) -> bool
         ensures { Handles S.Keeper self.old.keeper self.new.keeper (record {
           tick = tick.now;
@@ -139,7 +145,7 @@ impl<S: Keeper + Drop> Desk<S> {
                 self.last = Some(reply);
                 true
             }
-            Err(KeeperFault::Storage) => {
+            Err(KeeperFault::Refused(_)) => {
                 self.last = reply_bytes(self.alloc, tick, &Answer::Storage).ok();
                 false
             }
@@ -196,6 +202,7 @@ impl<S: Keeper + Drop> Desk<S> {
         ensures passes { Passes (S.world self.old.keeper) (S.world self.new.keeper) }
     {
         let newborn = newborn_of(self.alloc, lab, tick, body)?;
+        newborn_is_legible(&newborn);
         self.keeper.found(newborn)?;
         Ok(())
     }
@@ -210,6 +217,12 @@ impl<S: Keeper + Drop> Desk<S> {
             (result.taken ≡ false →
             RefusesFounding (S.world self.old.keeper) (S.world self.new.keeper) lab.now tick.now
             (founding_in body.now) (shown (option_map (λ line. line.items) result.text))) }
+        ensures crash { Given (S.world self.old.keeper) (S.world self.new.keeper)
+            (CommitsAs (Births lab.now tick.now (founding_in body.now))
+            (S.world self.old.keeper) (S.world self.new.keeper)) }
+        ensures settles { Given (S.world self.old.keeper) (S.world self.new.keeper)
+            (result.taken ≡ true →
+            Settles (S.world self.old.keeper) (S.world self.new.keeper)) }
         ensures stays { Given (S.world self.old.keeper) (S.world self.new.keeper)
             (Stays (S.world self.old.keeper) (S.world self.new.keeper)) }
         ensures passes { Passes (S.world self.old.keeper) (S.world self.new.keeper) }
@@ -240,6 +253,36 @@ impl<S: Keeper + Drop> Desk<S> {
         ensures room { IfOk result (λ taken. length events.now ≤ vec_capacity taken) }
     {
         Ok(Vec::with_capacity(self.alloc, events.len())?)
+    }
+
+    /// Asks the keeper for the head of a laboratory, which may be none of its own: one that answers
+    /// is live. Nothing is changed.
+    ///
+    /// # Errors
+    /// The keeper's.
+    pub fn answers(&mut self, lab: &LabCode) -> Result<(), KeeperFault>
+        ensures asked { Answers S.Keeper self.old.keeper self.new.keeper result }
+        ensures reply { self.new.reply ≡ self.old.reply }
+    {
+        let need = Need {
+            token: None,
+            person: None,
+            form: None,
+            filed: None,
+            list: None,
+        };
+        match self.keeper.load(lab, &need) {
+            Ok(_) => Ok(()),
+            Err(fault) => Err(fault),
+        }
+    }
+
+    /// Goes on over another keeper.
+    pub fn set_keeper(&mut self, keeper: S)
+        ensures keeper { self.new.keeper ≡ keeper }
+        ensures reply { self.new.reply ≡ self.old.reply }
+    {
+        self.keeper = keeper;
     }
 
     /// The keeper, given up.

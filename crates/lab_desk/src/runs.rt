@@ -1,10 +1,11 @@
 //! A whole run of an installation. Each laboratory's answers and rows are those of its own small
 //! machine, run over its own events alone.
 
-ghost use Rattle.std.specs.Prelude.{◌≡◌, ℕ, List, [], ◌∷◌, IfOk, IfErr};
+ghost use Rattle.std.specs.Prelude.{◌≡◌, ℕ, List, [], ◌∷◌, IfOk, IfErr, length, take};
 ghost use Rattle.std.specs.Io.KnownBytes.{Keeps};
 ghost use Rattle.lab_records_kept.specs.Worlds.{Passes};
 ghost use Rattle.lab_desk_runs.specs.Keeping.{GivenWithin, Stays, StaysOn};
+ghost use Rattle.lab_desk_runs.specs.Leaving.{LeavesByOne, LeavesRun};
 ghost use Rattle.lab_desk_runs.specs.Runs.{IsRun, Runs, RunsCut, Sends};
 ghost use Rattle.lab_desk_foundings.specs.RunFaults.{IfWrite, IfMemory};
 
@@ -24,13 +25,17 @@ struct Answered {
 
 impl<S: Keeper + Drop> Desk<S> {
     /// Handles events in order, writes each answer in turn, and tells for each event whether it was
-    /// taken. An event is taken unless memory ran out or the store refused, which change nothing.
+    /// taken. An event is taken unless memory ran out or the store refused, which change nothing;
+    /// but where a fault shut the store during a commit, that event may be found done once the
+    /// store is opened anew, as `crash` of [`Desk::handle`] says.
     /// Each laboratory's answers, byte for byte, and what the keeper means by it in the end are
     /// those of its own small machine, run over its own taken events alone; every event has one
     /// answer, in order, and nothing else is written. The answers are so also where a fault shut
     /// the store. Each laboratory keeps what was at each event, and has in the end all that was
-    /// recorded at the start: `stays` has `within`, `releasing`, `retains`, `released`, `reached`
-    /// and `safe`.
+    /// recorded at the start: `stays` has `within`, `releasing`, `legible`, `retains`, `released`,
+    /// `reached`, `safe`, `left_within` and `left_releasing`. A crash at the end leaves what every
+    /// event that was taken made, and beside it at most one that the store refused, also where a
+    /// fault at the last event has shut it: `leaves`, and after a write fault `leaves_cut`.
     ///
     /// # Errors
     /// That memory ran out for the list that is told, made first: nothing is handled or written. A
@@ -45,6 +50,13 @@ impl<S: Keeper + Drop> Desk<S> {
             (IfErr result (IfWrite (λ taken sent.
             RunsCut (S.world self.old.keeper) (S.world self.new.keeper) events.now taken sent
             (W.contents writer.old) (W.contents writer.new)))) }
+        ensures leaves { GivenWithin (S.world self.old.keeper) (S.world self.new.keeper)
+            (IfOk result (λ taken.
+            LeavesRun S.Keeper self.old.keeper self.new.keeper events.now taken.items)) }
+        ensures leaves_cut { GivenWithin (S.world self.old.keeper) (S.world self.new.keeper)
+            (IfErr result (IfWrite (λ taken sent.
+            LeavesRun S.Keeper self.old.keeper self.new.keeper
+            (take (length taken) events.now) taken))) }
         ensures memory { IfErr result (IfMemory
             ((self.new ≡ self.old) × Keeps (W.contents writer.old) (W.contents writer.new))) }
         ensures stays { GivenWithin (S.world self.old.keeper) (S.world self.new.keeper)
@@ -74,6 +86,10 @@ impl<S: Keeper + Drop> Desk<S> {
             × IsRun (S.world self.old.keeper) (S.world self.new.keeper)
             (record { event = event.now; taken = result.taken; answer = answer } ∷ [])
             × Sends answer result.sent (W.contents writer.old) (W.contents writer.new)) }
+        ensures leaves { GivenWithin (S.world self.old.keeper) (S.world self.new.keeper)
+            ((S.world self.old.keeper).is_live →
+            LeavesByOne (S.world self.old.keeper) (S.world self.new.keeper) event.now
+            result.taken) }
         ensures stays { GivenWithin (S.world self.old.keeper) (S.world self.new.keeper)
             (Stays (S.world self.old.keeper) (S.world self.new.keeper)) }
         ensures passes { Passes (S.world self.old.keeper) (S.world self.new.keeper) }

@@ -1,7 +1,8 @@
 -- What is decided on the part of a laboratory is its step, and what is made of what was loaded is
 -- made of what was there.
 use Rattle.std.proofs.Common.{rules, ◌≡◌, ◌≢◌, ℕ, true, List, [], ◌∷◌, Option, Some, None, Result, Ok, Err, refl, sym, ◌∙◌, ap, subst, inl, inr}
-use Rattle.std.specs.Prelude.{◌⊎◌, IsTrue, IsFalse, OnOk}
+use Rattle.std.specs.Prelude.{◌⊎◌, All, IsTrue, IsFalse, IfOk, OnOk}
+use Rattle.std.proofs.lemmas.List.Elements.{All-nil}
 use Rattle.lab_forms_texts.specs.declared.tick.Tick.{Tick}
 use Rattle.lab_records_kept.specs.declared.labs.Lab.{Lab}
 use Rattle.lab_records_kept.specs.declared.needs.Slice.{Slice}
@@ -9,13 +10,15 @@ use Rattle.lab_records_kept.specs.declared.changes.Change.{Change}
 use Rattle.lab_records_kept.specs.Changes.{ChangesFit, changed_in}
 use Rattle.lab_records_kept.specs.Parts.{part, part_of}
 use Rattle.lab_records_kept.specs.Worlds.{World, Meaning, SameMeaning, SetsOne, Changes}
-use Rattle.lab_records_kept.specs.declared.faults.KeeperFault.{KeeperFault}
-use Rattle.lab_records_kept.specs.declared.faults.KeeperFault.TheVariants.{Storage, Memory}
+use Rattle.lab_forms_texts.specs.declared.refusals.Fault.{Fault}
+use Rattle.lab_records_kept.specs.declared.faults.BadStore.{BadStore}
+use Rattle.lab_forms_texts.specs.declared.refusals.Fault.TheVariants.{Refused, Memory}
 use Rattle.lab_records_machine.specs.declared.commands.Instruction.{Instruction}
 use Rattle.lab_records_machine.specs.Machine.{step}
 use Rattle.lab_records_machine.specs.Needs.{need_of}
 use Rattle.lab_records_laws.specs.Asking.{IsCommandFormed}
 use Rattle.lab_records_outcomes.specs.Deciding.{decided}
+use Rattle.lab_records_walks.specs.Legible.{IsLegibleChange}
 use Rattle.lab_records_laws.proofs.Passing.{decided_is}
 use Rattle.lab_wire.specs.declared.replies.Answer.TheVariants.{Replied}
 use Rattle.lab_wire.specs.Replies.{reply_text}
@@ -60,6 +63,25 @@ builds (Some lab) slice tick instruction is formed =
     (reply_text tick (Replied (decided one tick instruction.command).reply))
     (decided one tick instruction.command).changes) (sym same)
     (built_on lab tick instruction formed)
+
+-- what they bring is legible, where it is so of what was decided on the part
+pub brings : {A F : Type 0} (lab : Option Lab) (slice : Slice) (tick : Tick)
+    (instruction : Instruction) (result : Result A F) →
+    Some slice ≡ part_of (need_of tick instruction) lab →
+    IfOk result (λ _. All IsLegibleChange (decided slice tick instruction.command).changes) →
+    OnOk result (All IsLegibleChange (changes_for lab tick instruction))
+unfolding changes_for
+brings None slice tick instruction (Ok value) is legible = cc
+brings (Some lab) slice tick instruction (Ok value) is legible =
+    let same : slice ≡ part (need_of tick instruction) lab = cc in
+    subst (λ one. All IsLegibleChange (decided one tick instruction.command).changes) same legible
+brings lab slice tick instruction (Err fault) is legible = tt
+
+pub brings_none : (lab : Option Lab) (tick : Tick) (instruction : Instruction) → lab ≡ None →
+    All IsLegibleChange (changes_for lab tick instruction)
+unfolding changes_for
+brings_none None tick instruction none = All-nil IsLegibleChange
+brings_none (Some lab) tick instruction none = absurd (cc)
 
 -- where no part is, no laboratory is
 pub none_there : (lab : Option Lab) (tick : Tick) (instruction : Instruction) →
@@ -120,10 +142,10 @@ none_changed (Some lab) tick instruction none = absurd (cc)
 
 -- a call after one that changed nothing ends for both as it ends by itself
 pub ends_on : {A B : Type 0} (old mid new : World) (rests rested both : Type 0) (value : B)
-    (result : Result A KeeperFault) → Loads old mid rests (Ok value) →
+    (result : Result A (Fault BadStore)) → Loads old mid rests (Ok value) →
     Ends mid new rested result → (rests → rested → both) → Ends old new both result
 ends_on old mid new rests rested both value (Ok one) loads ends on = search rules
-ends_on old mid new rests rested both value (Err Storage) loads ends on = record {
+ends_on old mid new rests rested both value (Err (Refused _)) loads ends on = record {
   err = λ honest reached live code. ends.err honest
       (loads.reached (ends.passes.honest honest) reached) live code
       ∙ loads.same (ends.passes.honest honest) reached (ends.passes.live honest live) code;

@@ -2,9 +2,11 @@
 //! the part that was loaded, what the machine decides, built whole before the keeper makes the
 //! changes, which is the last thing.
 
-ghost use Rattle.std.specs.Prelude.{◌≡◌, IfOk, IfErr};
+ghost use Rattle.std.specs.Prelude.{◌≡◌, All, IfOk, IfErr};
+ghost use Rattle.lab_forms_texts.specs.declared.refusals.Fault.TheVariants.{Memory};
 ghost use Rattle.lab_desk_requests.specs.Calls.{Applies};
 ghost use Rattle.lab_records_outcomes.specs.Deciding.{decided};
+ghost use Rattle.lab_records_walks.specs.Legible.{IsLegibleChange};
 ghost use Rattle.lab_wire.specs.declared.replies.Answer.TheVariants.{Replied};
 ghost use Rattle.lab_wire.specs.Replies.{reply_text};
 
@@ -14,6 +16,7 @@ use lab_records_kept::{Change, Keeper, KeeperFault, Slice};
 use lab_records_machine::{Instruction, Reply};
 use lab_records_outcomes::Outcome;
 use lab_records_rules::Refusal;
+use lab_records_walks::changes_are_legible;
 use lab_wire::{Answer, Asked, reply_bytes};
 use std::alloc::Global;
 
@@ -24,7 +27,7 @@ use std::alloc::Global;
 pub fn no_such_lab(alloc: Global, tick: &Tick) -> Result<Vec<u8>, KeeperFault>
     ensures reply { IfOk result (λ reply. reply.items ≡ reply_text tick.now
         (Replied (Reply.Refused Refusal.NoSuchLab))) }
-    ensures fault { IfErr result (λ fault. fault ≡ KeeperFault.Memory) }
+    ensures fault { IfErr result (λ fault. fault ≡ Memory) }
 {
     let refused = Answer::Replied(Reply::Refused(Refusal::NoSuchLab));
     let reply = reply_bytes(alloc, tick, &refused);
@@ -49,10 +52,13 @@ pub fn answer_on<S: Keeper>(
     ensures applies { Applies asked.lab (decided slice tick.now asked.instruction.command).changes
         (S.world keeper.old) (S.world keeper.new) (S.rests keeper.old keeper.new)
         (S.moves keeper.old keeper.new) result }
+    ensures legible { IfOk result (λ _. All IsLegibleChange
+        (decided slice tick.now asked.instruction.command).changes) }
 {
     let Asked { lab, instruction } = asked;
     let built = build(alloc, slice, tick, instruction)?;
     let Built { reply, changes } = built;
+    changes_are_legible(&changes);
     keeper.apply(&lab, changes)?;
     Ok(reply)
 }
@@ -79,11 +85,11 @@ fn build(
     let Instruction { token, command } = instruction;
     drop(token);
     let outcome = decide(alloc, slice, tick, command)?;
-    told(alloc, tick, outcome)
+    built_outcome(alloc, tick, outcome)
 }
 
 // The reply of an outcome, whole in bytes, and its changes.
-fn told(alloc: Global, tick: &Tick, outcome: Outcome) -> Result<Built, OutOfMemory>
+fn built_outcome(alloc: Global, tick: &Tick, outcome: Outcome) -> Result<Built, OutOfMemory>
     ensures reply { IfOk result (λ built.
         built.reply.items ≡ reply_text tick.now (Replied outcome.reply)) }
     ensures changes { IfOk result (λ built. built.changes ≡ outcome.changes) }

@@ -1,21 +1,24 @@
 //! How a laboratory is asked over any keeper: its part is loaded, and it is answered by that, or
 //! where there is none, told so.
 
-ghost use Rattle.std.specs.Prelude.{◌≡◌, Ok, IsTrue, IfOk};
+ghost use Rattle.std.specs.Prelude.{◌≡◌, All, Ok, IsTrue, IfOk, OnOk};
 ghost use Rattle.lab_records_kept.specs.Worlds.{Given, Quiet};
 ghost use Rattle.lab_records_kept.specs.Parts.{part_of};
 ghost use Rattle.lab_records_laws.specs.Asking.{IsCommandFormed};
 ghost use Rattle.lab_records_machine.specs.Needs.{need_of};
 ghost use Rattle.lab_wire.specs.Replies.{reply_text};
 ghost use Rattle.lab_desk_requests.specs.Calls.{Ends, Loads};
+ghost use Rattle.lab_desk_runs.specs.Copies.{IsAskedLegibly};
 ghost use Rattle.lab_desk_runs.specs.Keeping.{AreWithin};
-ghost use Rattle.lab_desk_runs.specs.Requests.{answer_to, is_idle, DoesStep};
+ghost use Rattle.lab_desk_runs.specs.Requests.{answer_to, changes_for, is_idle, DoesStep};
+ghost use Rattle.lab_records_walks.specs.Legible.{IsLegibleChange};
 
 use crate::{answer_on, no_such_lab};
 use lab_forms_texts::Tick;
 use lab_records::formed;
 use lab_records_kept::{Keeper, KeeperFault, Slice};
-use lab_records_machine::needs;
+use lab_records_machine::{Command, ReadingCommand, SessionCommand, needs};
+use lab_records_walks::order_is_legible;
 use lab_wire::Asked;
 use std::alloc::Global;
 
@@ -38,6 +41,15 @@ fn load_needed<S: Keeper>(
     loaded
 }
 
+// What a copy is asked for, and when, are what their types admit. A law: the command is left as it is.
+fn asked_legibly(tick: &Tick, command: &Command)
+    ensures { IsAskedLegibly tick.now.moment command.now }
+{
+    if let Command::In(SessionCommand::Reading(ReadingCommand::TakeCopy { from, to })) = command {
+        order_is_legible(*from, *to, tick.moment);
+    }
+}
+
 /// Answers what a laboratory was asked. After an error every laboratory means what it meant.
 ///
 /// # Errors
@@ -49,6 +61,7 @@ pub fn answer_asked<S: Keeper>(
     asked: Asked,
 ) -> Result<Vec<u8>, KeeperFault>
     ensures formed { IsCommandFormed asked.instruction.command }
+    ensures asked { IsAskedLegibly tick.now.moment asked.instruction.command }
     ensures reply { Given (S.world keeper.old) (S.world keeper.new) (IfOk result (λ reply.
         reply.items ≡ reply_text tick.now
         (answer_to (S.world keeper.old).meaning tick.now (Ok asked)))) }
@@ -63,8 +76,12 @@ pub fn answer_asked<S: Keeper>(
         Given (S.world keeper.old) (S.world keeper.new)
         (DoesStep (S.world keeper.old) (S.world keeper.new) tick.now asked
         (S.moves keeper.old keeper.new) result) }
+    ensures legible { Given (S.world keeper.old) (S.world keeper.new)
+        (OnOk result (All IsLegibleChange
+        (changes_for ((S.world keeper.old).meaning asked.lab) tick.now asked.instruction))) }
 {
     formed(&asked.instruction.command);
+    asked_legibly(tick, &asked.instruction.command);
     match load_needed(keeper, tick, &asked) {
         Ok(Some(slice)) => answer_on(alloc, keeper, slice, tick, asked),
         Ok(None) => {

@@ -1,9 +1,10 @@
 -- What stays true where nothing was touched, where every laboratory means what it meant, and over
 -- one event more.
 use Rattle.lab_records_kept.specs.Limits.{IsWithin}
-use Rattle.lab_records_kept.specs.Worlds.{World, Leaves, Passes, StaysSafe}
+use Rattle.lab_records_kept.specs.Worlds.{World, Leaves, Passes, Quiet, StaysSafe}
+use Rattle.lab_records_walks.specs.Legible.{IsLegible}
 use Rattle.lab_records_laws.specs.Runs.{IsReleasing}
-use Rattle.lab_desk_runs.specs.Keeping.{AreWithin, GivenWithin, Stays, StaysOn}
+use Rattle.lab_desk_runs.specs.Keeping.{AreReleasing, AreWithin, GivenWithin, LeavesOnly, Stays, StaysOn}
 use Rattle.lab_desk_runs.proofs.Keeping.{left_keeps, still_keeps}
 use Rattle.lab_desk_runs.proofs.Releasing.{released_stay}
 use Rattle.lab_desk_runs.proofs.Retaining.{retained_on, still_retained}
@@ -17,18 +18,34 @@ still_stays world reached = record {
   keeps = still_keeps world;
   reached = reached;
   safe = λ live safe. safe;
+  legible = λ legible. legible;
+  left_within = λ live within left. left;
+  left_releasing = λ live releasing left. left;
 }
 
 -- every laboratory means what it meant
 pub left_stays : (old new : World) → (new.is_live → old.is_live) → Leaves old new →
-    new.is_reached → StaysSafe old new → Stays old new
-left_stays old new back left reached safe = record {
+    new.is_reached → StaysSafe old new →
+    (old.is_live → AreWithin old → LeavesOnly IsWithin old → LeavesOnly IsWithin new) →
+    (old.is_live → AreReleasing old → LeavesOnly IsReleasing old → LeavesOnly IsReleasing new) →
+    Stays old new
+left_stays old new back left reached safe left_within left_releasing = record {
   within = left_holds IsWithin old new back left;
   releasing = left_holds IsReleasing old new back left;
   keeps = left_keeps old new left;
   reached = reached;
   safe = safe;
+  legible = left_holds IsLegible old new back left;
+  left_within = left_within;
+  left_releasing = left_releasing;
 }
+
+-- so it is where a crash leaves no more than before
+pub quiet_stays : (old new : World) → (new.is_live → old.is_live) → Leaves old new →
+    new.is_reached → StaysSafe old new → Quiet old new → Stays old new
+quiet_stays old new back left reached safe quiet = left_stays old new back left reached safe
+    (λ live within before held may. before held (quiet live held may))
+    (λ live releasing before held may. before held (quiet live held may))
 
 -- before the first event
 pub stays_first : (world : World) → AreWithin world → world.is_reached → StaysOn world world
@@ -39,6 +56,9 @@ stays_first world within reached = record {
   released = λ releasing. released_stay world world (still_retained world) releasing;
   reached = reached;
   safe = λ live safe. safe;
+  legible = λ legible. legible;
+  left_within = λ live left. left;
+  left_releasing = λ live releasing left. left;
 }
 
 -- one event more
@@ -53,6 +73,12 @@ stays_more old mid new back so next =
           (next.releasing (so.releasing releasing));
       reached = next.reached;
       safe = λ live safe. next.safe (back live) (so.safe (back live) safe);
+      legible = λ legible. next.legible (so.legible legible);
+      left_within = λ live left.
+          next.left_within (back live) so.within (so.left_within (back live) left);
+      left_releasing = λ live releasing left.
+          next.left_releasing (back live) (so.releasing releasing)
+          (so.left_releasing (back live) releasing left);
     }
 
 -- so it is by what a call says of the event

@@ -3,5 +3,8 @@ pub mod Keeping
 pub mod Retaining
 pub mod Releasing
 pub mod Lasting
+pub mod Copying
 pub mod Running
+pub mod Leaving
+pub mod Starting
 mod KnownValues

@@ -58,7 +58,7 @@ owns_then : (code : List ℕ) (first next : List Handled) →
 owns_then code first next = filter_map-append (own_in code) first next
 
 -- what each laboratory is after two runs
-after_then : (start : Meaning) (first next : List Handled) (code : List ℕ) →
+pub after_then : (start : Meaning) (first next : List Handled) (code : List ℕ) →
     after_run start (first ++ next) code ≡ after_run (after_run start first) next code
 after_then start first next code =
     ap (λ (owns : List Own). alone_after code (start code) owns) (owns_then code first next)
@@ -79,7 +79,7 @@ alone_then start first next here there code =
 -- ---- what is kept at each event
 
 -- from laboratories that are the same
-along_same : (one other : Meaning) (handled : List Handled) → SameMeaning one other →
+pub along_same : (one other : Meaning) (handled : List Handled) → SameMeaning one other →
     KeepsAlong one handled → KeepsAlong other handled
 along_same one other [] same along = tt
 along_same one other (event ∷ events) same along = (
@@ -166,7 +166,7 @@ Told code lab None answer = Unit {0}
 Told code lab (Some own) answer = answer ≡ answer_own code lab own
 
 -- the laboratory after an event, which may be its own
-abbrev after_one : List ℕ → Option Lab → Option Own → Option Lab
+abbrev pub after_one : List ℕ → Option Lab → Option Own → Option Lab
 after_one code lab None = lab
 after_one code lab (Some own) = after_own code lab own
 
@@ -177,7 +177,7 @@ told_one : (code : List ℕ) (lab : Option Lab) (found : Option Own) (answer : L
 told_one code lab None answer told = refl
 told_one code lab (Some own) answer told = ap (λ (one : List ℕ). one ∷ []) told
 
-after_own_one : (code : List ℕ) (lab : Option Lab) (found : Option Own) →
+pub after_own_one : (code : List ℕ) (lab : Option Lab) (found : Option Own) →
     after_one code lab found ≡ alone_after code lab (cons_option found [])
 after_own_one code lab None = refl
 after_own_one code lab (Some own) = refl
@@ -207,7 +207,7 @@ one_run old new one is = record {
 }
 
 -- a laboratory of another code
-other_code : (named code : List ℕ) → bytes_eq named code ≡ false → code ≢ named
+pub other_code : (named code : List ℕ) → bytes_eq named code ≡ false → code ≢ named
 other_code named code differs same =
     false≢true (sym differs ∙ (bytes_eq-Decides named code).1 (sym same))
 
@@ -398,7 +398,7 @@ own_releasing code lab (Founds tick body) is = birth_releasing lab code tick (fo
 own_releasing code lab (Obeys tick instruction) is =
     step_there IsReleasing lab tick instruction (step_releasing tick instruction) is
 
-alone_releasing : (code : List ℕ) (lab : Option Lab) (owns : List Own) →
+pub alone_releasing : (code : List ℕ) (lab : Option Lab) (owns : List Own) →
     WhereThere IsReleasing lab → WhereThere IsReleasing (alone_after code lab owns)
 alone_releasing code lab [] is = is
 alone_releasing code lab (own ∷ owns) is =
@@ -434,7 +434,7 @@ runs_none world events contents = record {
 }
 
 -- one event more is told
-told_more : (events : List Event) (at : ℕ) (taken : List Bool) (handled : List Handled)
+pub told_more : (events : List Event) (at : ℕ) (taken : List Bool) (handled : List Handled)
     (one : Handled) → one.event ≡ get_or events at one.event → at < length events →
     IsTold (take at events) taken handled →
     IsTold (take (at + 1) events) (taken ++ one.taken ∷ []) (handled ++ one ∷ [])

@@ -1,6 +1,6 @@
 -- What a step and a birth leave true of a laboratory, a request and a founding leave true of every
 -- laboratory that is kept.
-use Rattle.std.proofs.Common.{◌≡◌, ◌≢◌, ℕ, Bool, true, false, List, Option, Some, None, Result, Ok, Err, refl, sym, ◌∙◌, subst}
+use Rattle.std.proofs.Common.{◌≡◌, ◌≢◌, ℕ, Bool, true, false, List, Option, Some, None, Result, Ok, Err, refl, sym, ◌∙◌, subst, inl, inr}
 use Rattle.std.specs.Prelude.{OnOk, OnErr, bytes_eq}
 use Rattle.std.proofs.lemmas.Bool.{false≢true}
 use Rattle.std.proofs.lemmas.Slice.Eq.{bytes_eq-Decides}
@@ -9,7 +9,7 @@ use Rattle.lab_records_kept.specs.declared.labs.Lab.{Lab}
 use Rattle.lab_records_kept.specs.Bound.{IsBound, IsBoundRecord}
 use Rattle.lab_records_kept.specs.Dual.{IsDual, IsDualRecord}
 use Rattle.lab_records_kept.specs.Limits.{IsWithin}
-use Rattle.lab_records_kept.specs.Worlds.{World, Meaning, SetsOne, Places, Leaves}
+use Rattle.lab_records_kept.specs.Worlds.{World, Meaning, CommitsAs, SetsOne, Places, Leaves}
 use Rattle.lab_records_kept.proofs.ReleaseLemmas.{all_released}
 use Rattle.lab_records_machine.specs.declared.births.BirthRefusal.{BirthRefusal}
 use Rattle.lab_records_machine.specs.declared.births.Founding.{Founding}
@@ -27,7 +27,7 @@ use Rattle.lab_records_laws.proofs.LimitSteps.{step_within}
 use Rattle.lab_records_laws.proofs.SigningStep.{step_keeps}
 use Rattle.lab_wire.specs.declared.commands.Asked.{Asked}
 use Rattle.lab_desk_foundings.specs.Foundings.{Body, after_birth, birth, born_of}
-use Rattle.lab_desk_runs.specs.Keeping.{OfAll, HoldsIn}
+use Rattle.lab_desk_runs.specs.Keeping.{OfAll, HoldsIn, LeavesOnly}
 use Rattle.lab_desk_runs.specs.Requests.{Steps}
 
 -- ---- a meaning of which one laboratory is set, or none
@@ -113,6 +113,33 @@ asked_releasing old new tick asked answered back steps left holds =
     asked_by IsReleasing old new tick asked answered (step_releasing tick asked.instruction) back
     steps left holds
 
+-- and whatever a crash leaves after what was asked, where it was so of what it could leave before
+asked_leaves : (Holds : Lab → Type 0) (old new : World) (tick : Tick) (asked : Asked) →
+    Stays Holds tick asked.instruction → CommitsAs (Steps tick (Ok asked)) old new →
+    old.is_live → HoldsIn Holds old → LeavesOnly Holds old → LeavesOnly Holds new
+asked_leaves Holds old new tick asked stays crash live holds before held left =
+    elim (crash live held left) as (λ _. OfAll Holds held) [
+      | inl so ↦ before held so
+      | inr steps ↦ set_holds Holds asked.lab _ old.meaning held steps
+          (step_there Holds (old.meaning asked.lab) tick asked.instruction stays
+          (holds live asked.lab)) (holds live)
+    ]
+
+pub asked_leaves_within : (old new : World) (tick : Tick) (asked : Asked) →
+    IsCommandFormed asked.instruction.command → CommitsAs (Steps tick (Ok asked)) old new →
+    old.is_live → HoldsIn IsWithin old → LeavesOnly IsWithin old → LeavesOnly IsWithin new
+asked_leaves_within old new tick asked formed =
+    asked_leaves IsWithin old new tick asked
+    (λ lab within. step_within lab tick asked.instruction within
+    (formed_is_right asked.instruction.command formed))
+
+pub asked_leaves_releasing : (old new : World) (tick : Tick) (asked : Asked) →
+    CommitsAs (Steps tick (Ok asked)) old new →
+    old.is_live → HoldsIn IsReleasing old → LeavesOnly IsReleasing old →
+    LeavesOnly IsReleasing new
+asked_leaves_releasing old new tick asked =
+    asked_leaves IsReleasing old new tick asked (step_releasing tick asked.instruction)
+
 -- ---- a founding
 
 placed_by : (Holds : Lab → Type 0) (old new : World) (lab : Lab) → (new.is_live → old.is_live) →
@@ -134,6 +161,31 @@ placed_releasing old new code tick founding lab birth back placed holds =
     let right = born_right code tick founding lab birth in
     placed_by IsReleasing old new lab back placed
     (releasing_of (Some lab) right.1 right.2) holds
+
+-- whatever a crash leaves after a laboratory was to be placed
+placed_leaves : (Holds : Lab → Type 0) (old new : World) (lab : Lab) → Holds lab →
+    CommitsAs (Places lab) old new → old.is_live → HoldsIn Holds old → LeavesOnly Holds old →
+    LeavesOnly Holds new
+placed_leaves Holds old new lab here crash live holds before held left =
+    elim (crash live held left) as (λ _. OfAll Holds held) [
+      | inl so ↦ before held so
+      | inr placed ↦ set_holds Holds lab.code (Some lab) old.meaning held placed.placed here
+          (holds live)
+    ]
+
+pub placed_leaves_within : (old new : World) (code : List ℕ) (tick : Tick) (founding : Founding)
+    (lab : Lab) → born None code tick founding ≡ Ok lab → CommitsAs (Places lab) old new →
+    old.is_live → HoldsIn IsWithin old → LeavesOnly IsWithin old → LeavesOnly IsWithin new
+placed_leaves_within old new code tick founding lab birth =
+    placed_leaves IsWithin old new lab (born_right code tick founding lab birth).0
+
+pub placed_leaves_releasing : (old new : World) (code : List ℕ) (tick : Tick) (founding : Founding)
+    (lab : Lab) → born None code tick founding ≡ Ok lab → CommitsAs (Places lab) old new →
+    old.is_live → HoldsIn IsReleasing old → LeavesOnly IsReleasing old →
+    LeavesOnly IsReleasing new
+placed_leaves_releasing old new code tick founding lab birth =
+    let right = born_right code tick founding lab birth in
+    placed_leaves IsReleasing old new lab (releasing_of (Some lab) right.1 right.2)
 
 born_releasing : (code : List ℕ) (tick : Tick) (founding : Founding)
     (result : Result Lab BirthRefusal) → born None code tick founding ≡ result →

@@ -1,4 +1,7 @@
 pub mod Requests
 pub mod Keeping
+pub mod Copies
 pub mod Alone
 pub mod Runs
+pub mod Leaving
+pub mod Starts

@@ -3,8 +3,9 @@ use Rattle.std.specs.Prelude.{◌≡◌, ◌⊎◌, ◌↔◌, Bool, true, false
 use Rattle.lab_forms_texts.specs.declared.tick.Tick.{Tick}
 use Rattle.lab_records_kept.specs.declared.changes.Change.{Change}
 use Rattle.lab_records_kept.specs.declared.labs.Lab.{Lab}
-use Rattle.lab_records_kept.specs.declared.faults.KeeperFault.{KeeperFault}
-use Rattle.lab_records_kept.specs.declared.faults.KeeperFault.TheVariants.{Storage as StoreRefused, Memory}
+use Rattle.lab_forms_texts.specs.declared.refusals.Fault.{Fault}
+use Rattle.lab_records_kept.specs.declared.faults.BadStore.{BadStore}
+use Rattle.lab_forms_texts.specs.declared.refusals.Fault.TheVariants.{Refused as StoreRefused, Memory}
 use Rattle.lab_records_kept.specs.Changes.{ChangesFit, changed_in}
 use Rattle.lab_records_kept.specs.Limits.{IsWithin}
 use Rattle.lab_records_kept.specs.Parts.{part}
@@ -76,7 +77,7 @@ pub record MovesBy (meaning : Meaning) (tick : Tick) (asked : Asked)
 -- moved by it; a crash leaves what was there or what the step makes, and once it is written, where
 -- there was anything to write, that alone
 pub record DoesStep {A : Type 0} (old new : World) (tick : Tick) (asked : Asked)
-    (moves : List ℕ → List Change → Type 0) (result : Result A KeeperFault) : Type 0 where
+    (moves : List ℕ → List Change → Type 0) (result : Result A (Fault BadStore)) : Type 0 where
   pub after : OnOk result (Steps tick (Ok asked) old.meaning new.meaning)
   pub rows : OnOk result (MovesBy old.meaning tick asked moves)
   pub crash : CommitsAs (Steps tick (Ok asked)) old new
@@ -84,11 +85,6 @@ pub record DoesStep {A : Type 0} (old new : World) (tick : Tick) (asked : Asked)
   pub durable : IsFalse (is_idle (old.meaning asked.lab) tick asked.instruction) →
       OnOk result (IsDurable new)
   pub reached : new.is_reached
-
--- the rows after what bytes ask: at rest where they ask nothing, and else moved by the step
-abbrev pub MovesFor : Meaning → Tick → Asks → Type 0 → (List ℕ → List Change → Type 0) → Type 0
-MovesFor meaning tick (Err refusal) rests moves = rests
-MovesFor meaning tick (Ok asked) rests moves = MovesBy meaning tick asked moves
 
 -- a request that was taken: its reply is that of the machine of the laboratory that it names, which
 -- took its step; and the keeper was there, where the bytes ask something
@@ -104,9 +100,9 @@ IsRefusedReply may_refuse tick reply =
     (reply ≡ memory_text) ⊎ (may_refuse × (reply ≡ reply_text tick Storage))
 
 -- a reply tells a keeper's fault; for lack of memory it may tell that in place of the store's
-abbrev pub TellsFault : Tick → List ℕ → KeeperFault → Type 0
+abbrev pub TellsFault : Tick → List ℕ → Fault BadStore → Type 0
 TellsFault tick reply Memory = reply ≡ memory_text
-TellsFault tick reply StoreRefused = (reply ≡ memory_text) ⊎ (reply ≡ reply_text tick Storage)
+TellsFault tick reply (StoreRefused _) = (reply ≡ memory_text) ⊎ (reply ≡ reply_text tick Storage)
 
 -- a request that was refused: for memory, or by a store that may refuse, which was asked something;
 -- every laboratory means what it meant

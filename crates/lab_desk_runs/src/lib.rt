@@ -5,5 +5,7 @@
 #![tactic(auto)]
 
 mod events;
+mod starts;
 
 pub use events::Event;
+pub use starts::a_stop_and_a_start_go_on;

@@ -5,11 +5,11 @@ use Rattle.lab_seal_hashes.specs.declared.verifiers.VerifierParts.{VerifierParts
 use Rattle.lab_people_access.specs.declared.roles.Role.TheVariants.{Analyst, Reviewer, Manager, Administrator, Inspector}
 use Rattle.lab_people_access.specs.declared.policy.Rule.TheVariants.{CloseSession, Enrol, SignReview, SignRejection, SignApproval}
 use Rattle.lab_people_access.specs.declared.sessions.Session.{Session}
-use Rattle.lab_people_access.specs.declared.passwords.Password.TheVariants.{Chosen, Unset}
+use Rattle.lab_people_access.specs.declared.passwords.Password.TheVariants.{Chosen, Unset, OneTime}
 use Rattle.lab_people_access.specs.declared.refusals.PeopleRefusal.TheVariants.{Credentials, NoSuchPerson}
 use Rattle.lab_people_access.specs.Roles.{no_roles, with_role, role_list}
 use Rattle.lab_people_access.specs.Policy.{is_open_to, rule_word}
-use Rattle.lab_people_access.specs.Passwords.{is_due, serves}
+use Rattle.lab_people_access.specs.Passwords.{new_rounds, are_rounds, is_by_rounds, is_due, serves}
 use Rattle.lab_people_access.specs.Persons.{is_locked}
 use Rattle.lab_people_access.specs.Sessions.{is_live}
 use Rattle.lab_people_access.specs.Refusals.{people_refusal_entry}
@@ -45,6 +45,18 @@ known_locks = (refl, refl, refl, refl)
 pub known_dues : (verifier : VerifierParts) → (is_due (Chosen verifier 86399) 7862399 ≡ false)
     × (is_due (Chosen verifier 86399) 7862400 ≡ true) × (is_due Unset 0 ≡ true)
 known_dues verifier = (refl, refl, refl)
+
+-- a verifier has 100,000 rounds or 10,000, and of a one-time word each half has its own
+pub known_rounds : (new_rounds ≡ 100000) × (are_rounds 100000 ≡ true) × (are_rounds 10000 ≡ true) × (are_rounds 9999 ≡ false)
+    × (are_rounds 10001 ≡ false) × (are_rounds 1 ≡ false) × (are_rounds 0 ≡ false)
+known_rounds = (refl, refl, refl, refl, refl, refl, refl)
+
+pub known_words : (one : VerifierParts)
+    → (is_by_rounds (OneTime (record one { rounds = 10000 }) (record one { rounds = 100000 }) 1000) ≡ true)
+    × (is_by_rounds (OneTime (record one { rounds = 10000 }) (record one { rounds = 10 }) 1000) ≡ false)
+    × (is_by_rounds (OneTime (record one { rounds = 10 }) (record one { rounds = 100000 }) 1000) ≡ false)
+    × (is_by_rounds (Chosen (record one { rounds = 4294967295 }) 1000) ≡ false) × (is_by_rounds Unset ≡ true)
+known_words one = (refl, refl, refl, refl, refl)
 
 -- a one-time word that was confirmed at 1000 serves for 604,800 seconds
 pub known_serving : (serves 1000 605800 ≡ true) × (serves 1000 605801 ≡ false)

@@ -1,7 +1,7 @@
 -- Passwords: which texts a person's password accepts, and until when (21 CFR 11.300(b),
 -- "periodically checked, recalled, or revised", and 11.300(d); the spans of time are this system's
 -- own).
-use Rattle.std.specs.Prelude.{ℕ, ◌-◌, ◌*◌, Bool, true, false, ◌&&◌, ◌==◌, nat_lt, nat_le, List, length, take, drop}
+use Rattle.std.specs.Prelude.{ℕ, ◌-◌, ◌*◌, Bool, true, false, ◌&&◌, ◌||◌, ◌==◌, nat_lt, nat_le, List, length, take, drop}
 use Rattle.lab_forms_texts.specs.Calendar.{day_of}
 use Rattle.lab_seal_hashes.specs.declared.verifiers.VerifierParts.{VerifierParts}
 use Rattle.lab_seal_hashes.specs.Verifiers.{verifier_of, is_verified}
@@ -19,9 +19,22 @@ password_most = 128
 abbrev pub is_password : List ℕ → Bool
 is_password text = nat_le password_least (length text) && nat_le (length text) password_most
 
--- the rounds by which every new verifier is made
+-- the rounds by which every new verifier is made, and those by which they were made before
 abbrev pub new_rounds : ℕ
-new_rounds = 10000
+new_rounds = 100000
+
+abbrev pub old_rounds : ℕ
+old_rounds = 10000
+
+-- a verifier has so many rounds, whenever it was made
+abbrev pub are_rounds : ℕ → Bool
+are_rounds rounds = (rounds == new_rounds) || (rounds == old_rounds)
+
+-- each verifier of a password has
+abbrev pub is_by_rounds : Password → Bool
+is_by_rounds Unset = true
+is_by_rounds (Chosen verifier changed) = are_rounds verifier.rounds
+is_by_rounds (OneTime first second confirmed) = are_rounds first.rounds && are_rounds second.rounds
 
 -- a password that is chosen at the moment, with the salt
 abbrev pub chosen_password : List ℕ → List ℕ → ℕ → Password

@@ -2,6 +2,7 @@
 ghost use Rattle.std.specs.Prelude.{◌≡◌, option_copied};
 ghost use Rattle.lab_people_access.specs.Attempts.{attempt_of, signing_attempt, is_own_code, attempt_by, failure_of};
 
+use crate::passwords::fails;
 use crate::persons::Person;
 use crate::refusals::Failure;
 use lab_forms_texts::{Moment, PersonCode};
@@ -19,7 +20,10 @@ pub fn attempt(person: Option<Person>, text: &str, moment: Moment) -> Result<Per
 {
     match person {
         Some(person) => try_password(person, true, text, moment),
-        None => Err(Failure::Stray),
+        None => {
+            fails(text.as_bytes(), 0);
+            Err(Failure::Stray)
+        }
     }
 }
 
@@ -55,9 +59,11 @@ fn try_password(person: Person, is_own: bool, text: &str, moment: Moment) -> Res
     ensures { result ≡ attempt_by person is_own text.now moment }
 {
     if person.retired || !person.password.is_set() {
+        fails(text.as_bytes(), 0);
         return Err(Failure::Stray);
     }
     if person.is_locked(moment) {
+        fails(text.as_bytes(), 0);
         return Err(Failure::AlreadyLocked(person));
     }
     if is_own && person.password.accepts(text, moment) {

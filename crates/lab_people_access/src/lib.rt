@@ -15,7 +15,7 @@ mod times;
 
 pub use attempts::{attempt, attempt_signing};
 pub use openings::{Opened, open_session};
-pub use passwords::{Password, ROUNDS};
+pub use passwords::{Password, ROUNDS, are_rounds};
 pub use persons::{Ask, Person};
 pub use policy::{Rule, allowed};
 pub use refusals::{Failure, PeopleFault, PeopleRefusal};

@@ -1,13 +1,16 @@
 //! What is kept of a person's password.
-ghost use Rattle.std.specs.Prelude.{◌≡◌};
-ghost use Rattle.lab_people_access.specs.Passwords.{is_password, chosen_password, are_verified, accepts, is_set, is_due};
+ghost use Rattle.std.specs.Prelude.{◌≡◌, ◌≤◌, true, false};
+ghost use Rattle.lab_people_access.specs.Passwords.{is_password, are_rounds, chosen_password, are_verified, accepts, is_set, is_due};
 
 use crate::times::{days_since, seconds_since};
 use lab_forms_texts::Moment;
 use lab_seal_hashes::Verifier;
 
-/// The rounds by which every new verifier is made.
-pub const ROUNDS: u32 = 10_000;
+/// The rounds of PBKDF2 by which every new verifier is made.
+pub const ROUNDS: u32 = 100_000;
+
+/// The rounds by which verifiers were made before. One that stands keeps them, and is tried with them.
+const OLD_ROUNDS: u32 = 10_000;
 
 /// The fewest bytes of a password that may be chosen.
 const PASSWORD_LEAST: usize = 12;
@@ -23,6 +26,14 @@ const SECONDS_OF_ONE_TIME_WORD: u64 = 604_800;
 
 /// The bytes of a half of a one-time word, as it is written.
 const HALF_LEN: usize = 32;
+
+/// Whether a verifier has so many rounds: those of a new one, or those by which they were made before.
+pub fn are_rounds(rounds: u32) -> bool
+    ensures value { result ≡ are_rounds rounds }
+    ensures some { result ≡ true → 1 ≤ rounds }
+{
+    rounds == ROUNDS || rounds == OLD_ROUNDS
+}
 
 /// What is kept of a person's password. It can't be printed.
 #[derive(Clone, Copy)]
@@ -67,21 +78,26 @@ impl Password {
         }
     }
 
-    /// Whether the text is the password, at the moment.
+    /// Whether the text is the password, at the moment. Where it isn't, as many rounds were run as a new verifier has.
     #[tactic(auto, unfolding(crate::specs::Passwords::accepts))]
     pub fn accepts(&self, text: &str, moment: Moment) -> bool
         ensures { result ≡ accepts self.now text.now moment }
     {
+        let text = text.as_bytes();
         match self {
-            Password::Unset => false,
-            Password::Chosen { verifier, .. } => verifier.accepts(text.as_bytes()),
+            Password::Unset => fails(text, 0),
+            Password::Chosen { verifier, .. } => {
+                verifier.accepts(text) || fails(text, verifier.parts().rounds)
+            }
             Password::OneTime {
                 first,
                 second,
                 confirmed,
             } => {
-                seconds_since(*confirmed, moment) <= SECONDS_OF_ONE_TIME_WORD
-                    && are_verified_by(first, second, text.as_bytes())
+                if seconds_since(*confirmed, moment) > SECONDS_OF_ONE_TIME_WORD {
+                    return fails(text, 0);
+                }
+                are_verified_by(first, second, text)
             }
         }
     }
@@ -109,8 +125,22 @@ fn are_verified_by(first: &Verifier, second: &Verifier, text: &[u8]) -> bool
     ensures { result ≡ are_verified first.now second.now text.now }
 {
     if text.len() != 2 * HALF_LEN {
-        return false;
+        return fails(text, 0);
     }
     let (first_half, second_half) = text.split_at(HALF_LEN);
-    first.accepts(first_half) && second.accepts(second_half)
+    if !first.accepts(first_half) {
+        return fails(text, first.parts().rounds);
+    }
+    second.accepts(second_half) || fails(text, second.parts().rounds)
+}
+
+/// No, after the rounds that a new verifier has, of which so many were run already. So the time of a refusal doesn't tell whose
+/// password is kept, nor how.
+pub(crate) fn fails(text: &[u8], run: u32) -> bool
+    ensures { result ≡ false }
+{
+    if run < ROUNDS {
+        Verifier::make(text, [0; 16], ROUNDS - run);
+    }
+    false
 }

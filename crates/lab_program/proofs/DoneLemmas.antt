@@ -33,10 +33,10 @@ use Rattle.lab_program_words.specs.Tasks.{Asked, founds, serves, copies, checks,
 -- ---- each task, not begun
 
 module _ (before after told_before told_after : Option (List ℕ)) (status : Result ℕ Untold) where
-  no_serving : {S : Type 0} (keeper : KeeperOf S) (count : ℕ) (opened : S → Type 0)
+  no_serving : {S : Type 0} (keeper : KeeperOf S) (opened : S → Type 0) (drawing : Drawing) (count : ℕ)
       → IsUnbegun before after told_before told_after status
-      → ServesFile keeper count opened (seen before after told_before told_after status)
-  no_serving keeper count opened told =
+      → ServesFile keeper opened drawing count (seen before after told_before told_after status)
+  no_serving keeper opened drawing count told =
       inr (unopened_fault, tt, told.0, declines_task before after told_before told_after status told)
 
   -- the input may have anything
@@ -105,7 +105,7 @@ module _ {S : Type 0} (disk : Ghosts S) (drawing : Drawing) (before after told_b
       (record { drawing = drawing; code = lab; body = body_in input }) (IsOpened disk))
       (is_lab_code lab) told
   never_done (serves file port count) input told =
-      no_serving before after told_before told_after status (file_keeper disk) count (IsOurs disk) told
+      no_serving before after told_before told_after status (file_keeper disk) (IsOurs disk) drawing count told
   never_done (copies file lab from to) input told = no_copy_if (record {
     moments = drawing.moments;
     later = drawing.later;

@@ -20,7 +20,7 @@ abbrev pub IsDone : {S : Type 0} → Ghosts S → Drawing → Asked → (input :
 IsDone disk drawing (founds file lab) input end =
     IsFounded disk (record { drawing = drawing; code = lab; body = body_in input }) end
 IsDone disk drawing (serves file port count) input end =
-    ServesFile (file_keeper disk) count (IsOurs disk) end
+    ServesFile (file_keeper disk) (IsOurs disk) drawing count end
 IsDone disk drawing (copies file lab from to) input end = IsCopiedIf disk (record {
   moments = drawing.moments;
   later = drawing.later;

@@ -1,8 +1,9 @@
 -- Serving the laboratories of a file.
-use Rattle.std.specs.Prelude.{◌⊎◌, ℕ}
+use Rattle.std.specs.Prelude.{◌⊎◌, ℕ, Some}
 use Rattle.std.specs.Io.KnownBytes.{Keeps}
 use Rattle.lab_records_kept.specs.declared.keeper.Keeper.{Ghosts}
-use Rattle.lab_desk_runs.specs.Keeping.{GivenWithin, StaysOn}
+use Rattle.lab_desk.specs.Desk.{Served}
+use Rattle.lab_program_outside.specs.Sources.{Drawing}
 use Rattle.lab_program_serve.specs.ServeTask.{IsServing}
 use Rattle.lab_program_outside.specs.TaskEnds.{TaskEnd}
 use Rattle.lab_program_outside.specs.declared.faults.ServerFault.TheVariants.{Read, Write, Memory}
@@ -20,13 +21,14 @@ IsUnprepared (Server Read) = Unit {0}
 IsUnprepared (Server Write) = ⊥
 IsUnprepared (Server Memory) = Unit {0}
 
-module _ {S : Type 0} (keeper : Ghosts S) (count : ℕ) (opened : S → Type 0) (end : TaskEnd) where
-  -- over the keeper of a file that was opened so many connections were served, unless a fault came,
-  -- which was told; each laboratory stays within its limits and has all that was recorded
+module _ {S : Type 0} (keeper : Ghosts S) (opened : S → Type 0) (drawing : Drawing) (count : ℕ)
+    (end : TaskEnd) where
+  -- from the keeper of a file that was opened on so many connections were served, unless a fault
+  -- came, which was told; over each keeper that was opened each laboratory stays within its limits
+  -- and has all that was recorded
   abbrev pub Serves : Type 0
-  Serves = (old : S) × (new : S) × opened old × IsServing keeper old new count end
-      × GivenWithin (keeper.world old) (keeper.world new)
-      (StaysOn (keeper.world old) (keeper.world new))
+  Serves = (first : Served S) × opened first.keeper
+      × IsServing keeper opened (Some first) drawing count end
 
   -- nothing was served, and why was told: the file wasn't opened, or no port listened at
   abbrev pub DeclinesToServe : Type 0

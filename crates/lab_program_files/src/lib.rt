@@ -5,6 +5,7 @@
 mod copying;
 mod founding;
 mod leaving;
+mod opening;
 mod serving;
 
 pub use copying::copy;

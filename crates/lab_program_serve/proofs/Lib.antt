@@ -2,4 +2,5 @@ pub mod KnownRehearsals
 pub mod KnownServing
 pub mod RehearsalLemmas
 pub mod TextLemmas
+pub mod TimeLemmas
 pub mod VisitLemmas

@@ -5,7 +5,7 @@ use Rattle.lab_records_kept.specs.declared.keeper.Keeper.{Ghosts}
 use Rattle.lab_desk_foundings.specs.declared.run_faults.ServeFault.TheVariants.{Read, Interim, Reply}
 use Rattle.lab_program_outside.specs.declared.faults.ConnectionFault.TheVariants.{Serving, Memory}
 use Rattle.lab_program_outside.specs.Sources.{Gives, drawing_of}
-use Rattle.lab_program_serve.specs.Visits.{AreGiven, AreVisits, Ending, IsVisit, OnUnserved, Sources, Visit}
+use Rattle.lab_program_serve.specs.Visits.{AreFirst, AreGiven, AreVisits, Ending, GoesOn, IsFront, IsVisit, OnUnserved, Sources, Visit}
 
 -- ---- what sources give
 
@@ -70,14 +70,14 @@ given_more visits visit coming left last moments later latest words further furt
           furthest given.words_are three;
     }
 
-pub visits_more : {S : Type 0} (keeper : Ghosts S) (old mid new : S) (visits : List Visit)
-    (visit : Visit) → AreVisits keeper old visits mid →
-    IsVisit keeper mid visit new →
+pub visits_more : {S : Type 0} (keeper : Ghosts S) (old mid start new : S) (visits : List Visit)
+    (visit : Visit) → AreVisits keeper old visits mid → GoesOn keeper mid start →
+    IsVisit keeper start visit new →
     AreVisits keeper old (visits ++ visit ∷ []) new
-visits_more keeper old mid new [] visit same one =
-    (new, subst (λ kept. IsVisit keeper kept visit new) same one, refl)
-visits_more keeper old mid new (first ∷ others) visit so one =
-    (so.0, so.1, visits_more keeper so.0 mid new others visit so.2 one)
+visits_more keeper old mid start new [] visit same on one =
+    (start, new, subst (λ kept. GoesOn keeper kept start) same on, one, refl)
+visits_more keeper old mid start new (first ∷ others) visit so on one =
+    (so.0, so.1, so.2, so.3, visits_more keeper so.1 mid start new others visit so.4 on one)
 
 -- a fact on a request that wasn't served, and what follows from it
 pub unserved : {P Q : Type 0} (ending : Ending) → (P → Q) → OnUnserved ending P →
@@ -88,39 +88,16 @@ unserved (Err (Serving (Interim sent))) follows fact = follows fact
 unserved (Err (Serving (Reply sent))) follows fact = tt
 unserved (Err Memory) follows fact = follows fact
 
--- so many connections were served so far, as the sources gave them
-pub record SoFar {S : Type 0} (keeper : Ghosts S) (served : ℕ) (old new : S)
-    (sources : Sources) : Type 0 where
-  pub visits : List Visit
-  pub are : AreVisits keeper old visits new
-  pub counted : length visits ≡ served
-  pub given : AreGiven visits sources
+-- the first of what was given
+front_of : {X : Type 0} (all left : Option (List X)) (given : List X) → Gives all left given →
+    IsFront given all
+front_of None left given it = tt
+front_of (Some all) left given it = (it.0, it.1)
 
-pub so_far_none : {S : Type 0} (keeper : Ghosts S) (old : S)
-    (coming : Option (List (Option (List ℕ)))) (moments : Option (List ℕ))
-    (words : Option (List (List ℕ))) →
-    SoFar keeper 0 old old (sources_of coming coming moments moments words words)
-so_far_none keeper old coming moments words = record {
-  visits = [];
-  are = refl;
-  counted = refl;
-  given = given_none coming moments words;
+pub first_of : (visits : List Visit) (sources : Sources) → AreGiven visits sources →
+    AreFirst visits sources
+first_of visits sources it = record {
+  readers_are = front_of sources.coming sources.left _ it.readers_are;
+  moments_are = front_of sources.drawing.moments sources.drawing.later _ it.moments_are;
+  words_are = front_of sources.drawing.words sources.drawing.further _ it.words_are;
 }
-
-pub so_far_more : {S : Type 0} (keeper : Ghosts S) (served : ℕ) (old mid new : S)
-    (coming left last : Option (List (Option (List ℕ))))
-    (moments later latest : Option (List ℕ)) (words further furthest : Option (List (List ℕ)))
-    (visit : Visit) →
-    SoFar keeper served old mid (sources_of coming left moments later words further) →
-    IsVisit keeper mid visit new → Gives left last (visit.exchange.known ∷ []) →
-    Gives later latest (visit.exchange.tick.moment ∷ []) →
-    Gives further furthest (visit.exchange.tick.words ∷ []) →
-    SoFar keeper (served + 1) old new (sources_of coming last moments latest words furthest)
-so_far_more keeper served old mid new coming left last moments later latest words further furthest
-    visit so one first second third = record {
-      visits = so.visits ++ visit ∷ [];
-      are = visits_more keeper old mid new so.visits visit so.are one;
-      counted = length-append so.visits (visit ∷ []) ∙ ap (λ count. count + 1) so.counted;
-      given = given_more so.visits visit coming left last moments later latest words further
-          furthest so.given first second third;
-    }

@@ -1,5 +1,7 @@
 pub mod Rehearsals
 pub mod RehearseTask
 pub mod ServeTask
+pub mod Shut
 pub mod Texts
+pub mod Times
 pub mod Visits

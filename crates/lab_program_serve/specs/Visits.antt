@@ -1,9 +1,11 @@
 -- What connections make of a desk: each is handled in its turn, over the keeper as the one before
 -- it left it, and nothing else is done.
-use Rattle.std.specs.Prelude.{◌≡◌, ◌≤◌, ℕ, List, [], ◌∷◌, Option, Result, Ok, Err, OnOk, length, map}
+use Rattle.std.specs.Prelude.{◌≡◌, ◌≤◌, ◌⊎◌, ◌++◌, ℕ, List, [], ◌∷◌, Option, None, Result, Ok, Err, IfSome, length, map}
 use Rattle.std.specs.Io.KnownBytes.{Keeps}
 use Rattle.lab_records_kept.specs.declared.keeper.Keeper.{Ghosts}
+use Rattle.lab_wire_heads.specs.Interims.{interim_text}
 use Rattle.lab_desk_runs.specs.Keeping.{AreWithin}
+use Rattle.lab_desk.specs.Answering.{IsAsked}
 use Rattle.lab_desk.specs.Serving.{Exchange, HandlesRequest, OnHandled, OnUnhandled, Writes}
 use Rattle.lab_program_outside.specs.declared.faults.ConnectionFault.{ConnectionFault}
 use Rattle.lab_program_outside.specs.declared.faults.ConnectionFault.TheVariants.{Serving, Memory}
@@ -34,10 +36,17 @@ Sends interim reply (Err (Serving fault)) before after =
 Sends interim reply (Err Memory) before after = Keeps before after
 
 -- a connection: what its client sends, where that is known, the tick that was drawn when it was
--- accepted, and the reply; and how serving it ended
+-- accepted, and the reply; how serving it ended; and what had gone out over it before and after
 pub record Visit : Type 0 where
   pub exchange : Exchange
   pub ending : Ending
+  pub before : Option (List ℕ)
+  pub after : Option (List ℕ)
+
+-- the reply went out over the connection, whole or cut
+abbrev pub IsSent : Visit → Type 0
+IsSent visit = IfSome visit.exchange.known (λ bytes.
+    Sends (interim_text bytes) visit.exchange.reply visit.ending visit.before visit.after)
 
 module _ {S : Type 0} (keeper : Ghosts S) where
   -- the request of one connection was handled, or the keeper is as it was; and what a call of the
@@ -48,12 +57,17 @@ module _ {S : Type 0} (keeper : Ghosts S) where
     pub reached : (keeper.world old).is_reached
     pub handled : OnServed visit.ending (HandlesRequest keeper old new visit.exchange)
     pub untouched : OnUnserved visit.ending (new ≡ old)
+    pub sent : IsSent visit
+
+  -- the keeper is as it was, or was asked whether it answers
+  abbrev pub GoesOn : S → S → Type 0
+  GoesOn old new = (new ≡ old) ⊎ IsAsked keeper old new
 
   -- so were those of connections, one after the other
   abbrev pub AreVisits : S → List Visit → S → Type 0
   AreVisits old [] new = new ≡ old
-  AreVisits old (visit ∷ visits) new =
-      (next : S) × IsVisit old visit next × AreVisits next visits new
+  AreVisits old (visit ∷ visits) new = (start : S) × (next : S) × GoesOn old start
+      × IsVisit start visit next × AreVisits next visits new
 
 -- what a listener, a clock and a source of random words give before serving and after it, where that
 -- is known: of a connection, what its client sends, where that is known
@@ -61,6 +75,10 @@ pub record Sources : Type 0 where
   pub coming : Option (List (Option (List ℕ)))
   pub left : Option (List (Option (List ℕ)))
   pub drawing : Drawing
+
+-- of a listener nothing is known of what its clients send
+abbrev pub listened : Drawing → Sources
+listened drawing = record { coming = None; left = None; drawing = drawing }
 
 -- the visits are those of the connections, the moments and the words that the sources gave, in
 -- order
@@ -71,20 +89,24 @@ pub record AreGiven (visits : List Visit) (sources : Sources) : Type 0 where
   pub words_are : Gives sources.drawing.words sources.drawing.further
       (map (λ (visit : Visit). visit.exchange.tick.words) visits)
 
+-- these come first in a list, where it is known
+abbrev pub IsFront : {X : Type 0} → List X → Option (List X) → Type 0
+IsFront {X} front known = IfSome known (λ all. (rest : List X) × (all ≡ front ++ rest))
+
+-- where a fault came, they are the first of them
+pub record AreFirst (visits : List Visit) (sources : Sources) : Type 0 where
+  pub readers_are : IsFront (map (λ (visit : Visit). visit.exchange.known) visits) sources.coming
+  pub moments_are : IsFront (map (λ (visit : Visit). visit.exchange.tick.moment) visits)
+      sources.drawing.moments
+  pub words_are : IsFront (map (λ (visit : Visit). visit.exchange.tick.words) visits)
+      sources.drawing.words
+
+-- what was given is kept, however serving ended
+abbrev pub KeepsGiven : {F : Type 0} → Result (Unit {0}) F → List Visit → Sources → Type 0
+KeepsGiven (Ok _) visits sources = AreGiven visits sources
+KeepsGiven (Err _) visits sources = AreFirst visits sources
+
 -- so many connections were wanted: where no fault came, as many were served; and never more
 abbrev pub AreCounted : {F : Type 0} → Result (Unit {0}) F → ℕ → List Visit → Type 0
 AreCounted (Ok _) count visits = length visits ≡ count
 AreCounted (Err _) count visits = length visits ≤ count
-
--- so many connections were wanted, and this is how serving them ended
-pub record ServesCount {S F : Type 0} (keeper : Ghosts S) (old new : S)
-    (ending : Result (Unit {0}) F) (count : ℕ) : Type 0 where
-  pub visits : List Visit
-  pub are : AreVisits keeper old visits new
-  pub counted : AreCounted ending count visits
-
--- and where no fault came, they were served as the sources gave them
-pub record ServesGiven {S F : Type 0} (keeper : Ghosts S) (old new : S)
-    (ending : Result (Unit {0}) F) (count : ℕ) (sources : Sources) : Type 0 where
-  pub serves : ServesCount keeper old new ending count
-  pub given : OnOk ending (AreGiven serves.visits sources)

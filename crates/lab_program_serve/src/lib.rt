@@ -5,9 +5,12 @@
 
 mod connections;
 mod loopback;
+mod offices;
+mod openings;
 mod rehearsal_loopback;
 mod rehearsals;
 mod serving;
+mod shut;
 
 pub use connections::{Connection, Connections};
 pub use lab_desk::{Desk, Keeper};
@@ -17,6 +20,9 @@ pub use lab_program_outside::{
 };
 pub use lab_wire_heads::WriteFault;
 pub use loopback::{Listening, connect, listen, serve};
+pub use offices::Office;
+pub use openings::Opener;
 pub use rehearsal_loopback::rehearse;
 pub use rehearsals::{rehearse_over, request_bytes};
 pub use serving::{serve_connection, serve_over};
+pub use shut::Shut;

@@ -1,19 +1,21 @@
 //! Sockets: a listener of this machine, and what is served over it.
 
-ghost use Rattle.std.specs.Prelude.{◌≡◌, IfErr};
-ghost use Rattle.lab_records_kept.specs.Worlds.{Passes};
-ghost use Rattle.lab_desk_runs.specs.Keeping.{GivenWithin, StaysOn};
+ghost use Rattle.std.specs.Prelude.{◌≡◌, IfErr, IfSome};
 ghost use Rattle.lab_program_serve.specs.ServeTask.{IsServing};
 ghost use Rattle.lab_program_serve.specs.Texts.{IsAnnounced};
 ghost use Rattle.lab_program_outside.specs.declared.faults.ServerFault.TheVariants.{Read as NoneListened};
-ghost use Rattle.lab_program_serve.specs.Visits.{ServesCount};
+ghost use Rattle.lab_program_outside.specs.Sources.{drawing_of};
+ghost use Rattle.lab_program_serve.specs.Times.{ServesTimes};
+ghost use Rattle.lab_program_serve.specs.Visits.{listened};
 
 use crate::connections::{Connection, Connections};
+use crate::offices::Office;
+use crate::openings::Opener;
 use crate::serving::serve_over;
-use lab_desk::{Desk, Keeper};
+use lab_desk::Keeper;
 use lab_program_outside::{Chance, Clock, Host, ListenFault, ServerFault, tell};
 use lab_wire_heads::WriteFault;
-use std::io::{ErrorKind, Read, Write};
+use std::io::{Error, ErrorKind, Read, Write};
 use std::net::{
     Ipv4Addr, Net, OpenListener, OpenStream, SocketAddr, SocketAddrV4, TcpListener, TcpStream,
 };
@@ -47,8 +49,8 @@ impl<L: OpenListener + Drop> Listening<L> {
     fn next_stream(&self) -> Result<Option<L::Stream>, ListenFault> {
         match self.listener.accept() {
             Ok((stream, _)) => Ok(Some(stream)),
-            Err(error) if is_lost(error.kind()) => Ok(None),
-            Err(_) => Err(ListenFault),
+            Err(error) if is_end(&error) => Err(ListenFault),
+            Err(_) => Ok(None),
         }
     }
 }
@@ -67,11 +69,14 @@ where
     }
 }
 
-fn is_lost(kind: ErrorKind) -> bool {
-    matches!(
-        kind,
-        ErrorKind::Interrupted | ErrorKind::ConnectionAborted | ErrorKind::ConnectionReset
-    )
+// Whether an error is the listener's own end: it is no socket, or none that listens. Of all else a connection was lost, or
+// there was no descriptor or no memory for it, and another try may have the next one (accept(2), 'Error handling'). The
+// numbers are Linux's EBADF, EFAULT, EINVAL and ENOTSOCK.
+fn is_end(error: &Error) -> bool {
+    match error.raw_os_error() {
+        Some(number) => matches!(number, 9 | 14 | 22 | 88),
+        None => error.kind() != ErrorKind::Interrupted,
+    }
 }
 
 impl<L: OpenListener + Drop> Connections for Listening<L>
@@ -141,24 +146,25 @@ pub fn connect<N: Net>(
 }
 
 // Serves so many connections of a listener.
-fn serve_listener<N, H, C: Clock, X: Chance, P, S: Keeper + Drop, L: OpenListener + Drop, W: Write>(
+fn serve_listener<N, H, C: Clock, X: Chance, P, S: Keeper + Drop, O, L, W: Write>(
     host: &mut Host<'_, N, H, C, X, P>,
-    desk: &mut Desk<S>,
+    office: &mut Office<S, O>,
     listener: L,
     count: u32,
     output: &mut W,
 ) -> Result<(), ServerFault>
 where
+    O: Opener<H, S> + Drop,
+    L: OpenListener + Drop,
     L::Stream: Read + Write + OpenStream,
     ensures printed { IsAnnounced result (W.contents output.old) (W.contents output.new) }
-    ensures served { GivenWithin (S.world desk.old.keeper) (S.world desk.new.keeper)
-        (ServesCount S.Keeper desk.old.keeper desk.new.keeper result count) }
-    ensures stays { GivenWithin (S.world desk.old.keeper) (S.world desk.new.keeper)
-        (StaysOn (S.world desk.old.keeper) (S.world desk.new.keeper)) }
-    ensures passes { Passes (S.world desk.old.keeper) (S.world desk.new.keeper) }
+    ensures served { IfSome office.old (λ desk. O.opened desk.keeper →
+        ServesTimes S.Keeper O.opened desk.keeper result count (listened
+        (drawing_of (C.coming host.old.clock) (C.coming host.new.clock)
+        (X.coming host.old.chance) (X.coming host.new.chance)))) }
 {
     let mut listening = Listening::new(listener)?;
-    serve_over(host, desk, &mut listening, count, output)
+    serve_over(host, office, &mut listening, count, output)
 }
 
 /// `labdesk serve`: serves so many connections of a listener, as [`serve_over`] does, and tells on
@@ -167,38 +173,29 @@ where
 ///
 /// # Errors
 /// It stopped, and standard error failed before the whole line was told.
-pub fn serve<
-    N,
-    H,
-    C: Clock,
-    X: Chance,
-    P,
-    S: Keeper + Drop,
-    L: OpenListener + Drop,
-    W: Write,
-    E: Write,
->(
+pub fn serve<N, H, C: Clock, X: Chance, P, S: Keeper + Drop, O, L, W: Write, E: Write>(
     host: &mut Host<'_, N, H, C, X, P>,
-    desk: &mut Desk<S>,
+    office: &mut Office<S, O>,
     listener: L,
     count: u32,
     output: &mut W,
     errors: &mut E,
 ) -> Result<u8, WriteFault>
 where
+    O: Opener<H, S> + Drop,
+    L: OpenListener + Drop,
     L::Stream: Read + Write + OpenStream,
-    ensures serves { IsServing S.Keeper desk.old.keeper desk.new.keeper count (record {
-      before = W.contents output.old;
-      after = W.contents output.new;
-      told_before = E.contents errors.old;
-      told_after = E.contents errors.new;
-      status = result;
-    }) }
-    ensures stays { GivenWithin (S.world desk.old.keeper) (S.world desk.new.keeper)
-        (StaysOn (S.world desk.old.keeper) (S.world desk.new.keeper)) }
-    ensures passes { Passes (S.world desk.old.keeper) (S.world desk.new.keeper) }
+    ensures { IsServing S.Keeper O.opened office.old
+        (drawing_of (C.coming host.old.clock) (C.coming host.new.clock)
+        (X.coming host.old.chance) (X.coming host.new.chance)) count (record {
+          before = W.contents output.old;
+          after = W.contents output.new;
+          told_before = E.contents errors.old;
+          told_after = E.contents errors.new;
+          status = result;
+        }) }
 {
-    match serve_listener(host, desk, listener, count, output) {
+    match serve_listener(host, office, listener, count, output) {
         Ok(()) => Ok(0),
         Err(fault) => {
             tell(errors, fault.word())?;

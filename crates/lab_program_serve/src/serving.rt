@@ -1,15 +1,18 @@
 //! Serving connections, one after the other, whatever they come from.
 
-ghost use Rattle.std.specs.Prelude.{◌≡◌, OnOk, IfSome};
+ghost use Rattle.std.specs.Prelude.{◌≡◌, IfSome};
 ghost use Rattle.lab_wire_heads.specs.Interims.{interim_text};
 ghost use Rattle.lab_records_kept.specs.Worlds.{Passes};
-ghost use Rattle.lab_desk_runs.specs.Keeping.{GivenWithin, Stays, StaysOn};
+ghost use Rattle.lab_desk_runs.specs.Keeping.{GivenWithin, Stays};
 ghost use Rattle.lab_desk.specs.Serving.{HandlesRequest};
 ghost use Rattle.lab_program_serve.specs.Texts.{IsPrinted, listening_line};
 ghost use Rattle.lab_program_outside.specs.Sources.{drawing_of};
-ghost use Rattle.lab_program_serve.specs.Visits.{OnServed, OnUnserved, Sends, ServesGiven};
+ghost use Rattle.lab_program_serve.specs.Times.{ServesTimes};
+ghost use Rattle.lab_program_serve.specs.Visits.{OnServed, OnUnserved, Sends};
 
 use crate::connections::{Connection, Connections};
+use crate::offices::Office;
+use crate::openings::Opener;
 use lab_desk::{Desk, Keeper};
 use lab_forms_texts::Tick;
 use lab_program_outside::{Chance, Clock, ConnectionFault, Host, ServerFault, draw};
@@ -60,37 +63,37 @@ pub fn serve_connection<S: Keeper + Drop, R: Read + Drop, W: Write>(
 
 /// Serves so many connections, one after the other, and prints first to which port clients can
 /// connect. The tick of a connection is drawn when it is accepted. A connection whose request could
-/// not be read or answered whole counts as served, and the next one is served.
+/// not be read or answered whole counts as served, and the next one is served. A keeper that a fault
+/// has shut is opened anew before the next request.
 ///
 /// # Errors
 /// The line couldn't be printed, or there was no memory for it; or the listener, the clock or the
 /// source of random words failed: what was served before stands.
-pub fn serve_over<N, H, C: Clock, X: Chance, P, S: Keeper + Drop, L: Connections, W: Write>(
+pub fn serve_over<N, H, C: Clock, X: Chance, P, S: Keeper + Drop, O, L: Connections, W: Write>(
     host: &mut Host<'_, N, H, C, X, P>,
-    desk: &mut Desk<S>,
+    office: &mut Office<S, O>,
     connections: &mut L,
     count: u32,
     output: &mut W,
 ) -> Result<(), ServerFault>
+where
+    O: Opener<H, S> + Drop,
     ensures printed { IsPrinted (listening_line (L.listens_at connections.old)) result
         (W.contents output.old) (W.contents output.new) }
-    ensures served { GivenWithin (S.world desk.old.keeper) (S.world desk.new.keeper)
-        (ServesGiven S.Keeper desk.old.keeper desk.new.keeper result count (record {
+    ensures served { IfSome office.old (λ desk. O.opened desk.keeper →
+        ServesTimes S.Keeper O.opened desk.keeper result count (record {
           coming = L.coming connections.old;
           left = L.coming connections.new;
           drawing = drawing_of (C.coming host.old.clock) (C.coming host.new.clock)
               (X.coming host.old.chance) (X.coming host.new.chance);
         })) }
-    ensures stays { GivenWithin (S.world desk.old.keeper) (S.world desk.new.keeper)
-        (StaysOn (S.world desk.old.keeper) (S.world desk.new.keeper)) }
-    ensures passes { Passes (S.world desk.old.keeper) (S.world desk.new.keeper) }
 {
     announce(host.alloc, output, connections.port())?;
     for _ in 0..count {
         let connection = connections.accept()?;
         let tick = draw(&mut host.clock, &mut host.chance)?;
         let Connection { reader, mut writer } = connection;
-        let _ = serve_connection(host.alloc, desk, reader, &mut writer, &tick);
+        let _ = office.visit(host.alloc, &mut host.shelf, reader, &mut writer, &tick);
     }
     Ok(())
 }

@@ -28,7 +28,7 @@ where
     ensures ours { IfOk result (IsOurs H.Disk.Store) }
     ensures fault { IfErr result IsUnopened }
 {
-    if !shelf.has(path) {
+    if !shelf.has(path)? {
         return Err(TaskFault::File(FileFault::NotADeskFile));
     }
     let conn = shelf.connect(alloc, path)?;

@@ -16,7 +16,7 @@ use sqlite::{Connection, FileFrom, FileStore, Wary};
 use std::alloc::{AllocError, Global};
 use std::fs::{self, File, OpenOptions};
 use std::io::{ErrorKind, IsTerminal, Read, Write};
-use std::os::unix::fs::OpenOptionsExt;
+use std::os::unix::fs::{MetadataExt, OpenOptionsExt};
 use std::time::{SystemTime, UNIX_EPOCH};
 
 /// The first bytes of a SQLite database (SQLite, 'Database File Format', 1.3.1, 'Magic Header String').
@@ -32,6 +32,17 @@ pub struct HostShelf<'a> {
     rt: &'a HostRuntime,
     spot: Option<Spot>,
     had_log: bool,
+    connected: Option<Pair>,
+}
+
+// Which file is which: its device and its number there.
+type Node = (u64, u64);
+
+// The file that was connected to, and its log, where each lies at its path.
+#[derive(Clone, Copy, Debug, PartialEq, Eq)]
+struct Pair {
+    file: Option<Node>,
+    log: Option<Node>,
 }
 
 impl<'a> HostShelf<'a> {
@@ -41,6 +52,21 @@ impl<'a> HostShelf<'a> {
             rt,
             spot: None,
             had_log: true,
+            connected: None,
+        }
+    }
+
+    // What lies at a path, where something does.
+    fn node(&self, path: &str) -> Option<Node> {
+        let found = fs::metadata(self.rt, path).ok()?;
+        Some((found.dev(), found.ino()))
+    }
+
+    // What lies at a path and at that of its log.
+    fn pair(&self, path: &str, log: &str) -> Pair {
+        Pair {
+            file: self.node(path),
+            log: self.node(log),
         }
     }
 
@@ -64,10 +90,13 @@ impl<'a> HostShelf<'a> {
         }
     }
 
-    // Looks at the first bytes of a file.
+    // Looks at the first bytes of a file. The store looks at the rest, and leaves what isn't its own.
     fn look_inside(&self, path: &str) -> Result<(), TaskFault>
         ensures { IfErr result IsUnopened }
     {
+        if self.is_unfinished(path)? {
+            return Ok(());
+        }
         let mut first = [0u8; 16];
         let Ok(mut file) = File::open(self.rt, path) else {
             return Err(TaskFault::File(FileFault::Storage));
@@ -78,6 +107,22 @@ impl<'a> HostShelf<'a> {
             Err(error) if error.kind() == ErrorKind::UnexpectedEof => {
                 Err(TaskFault::File(FileFault::NotADeskFile))
             }
+            Err(_) => Err(TaskFault::File(FileFault::Storage)),
+        }
+    }
+
+    // Whether a file begins with a byte of 0, as one does whose making was cut off: the first byte of
+    // a database is written last, and it is 0 until then.
+    fn is_unfinished(&self, path: &str) -> Result<bool, TaskFault>
+        ensures { IfErr result IsUnopened }
+    {
+        let mut first = [1u8];
+        let Ok(mut file) = File::open(self.rt, path) else {
+            return Ok(false);
+        };
+        match file.read_exact(&mut first) {
+            Ok(()) => Ok(first == [0]),
+            Err(error) if error.kind() == ErrorKind::UnexpectedEof => Ok(false),
             Err(_) => Err(TaskFault::File(FileFault::Storage)),
         }
     }
@@ -122,8 +167,12 @@ fn log_path(alloc: Global, path: &str) -> Result<String, AllocError> {
 impl<'a> Shelf for HostShelf<'a> {
     type Disk = FileStore<FileFrom<Wary>>;
 
-    fn has(&self, path: &str) -> bool {
-        fs::metadata(self.rt, path).is_ok_and(|found| !found.is_file() || found.len() > 0)
+    fn has(&self, path: &str) -> Result<bool, TaskFault> {
+        match fs::metadata(self.rt, path) {
+            Ok(found) if found.is_file() && found.len() > 0 => Ok(!self.is_unfinished(path)?),
+            Ok(found) => Ok(!found.is_file()),
+            Err(_) => Ok(false),
+        }
     }
 
     fn connect(
@@ -138,8 +187,22 @@ impl<'a> Shelf for HostShelf<'a> {
         self.had_log = fs::metadata(self.rt, log.as_str()).is_ok();
         self.look(path, log.as_str())?;
         match Connection::open_from(self.rt, path, false, Wary) {
-            Ok(conn) => Ok(conn),
-            Err((error, _)) => Err(TaskFault::File(FileFault::from(error))),
+            Ok(conn) => {
+                self.connected = Some(self.pair(path, log.as_str()));
+                Ok(conn)
+            }
+            Err((error, _)) => {
+                self.tidy(alloc, path);
+                Err(TaskFault::File(FileFault::from(error)))
+            }
+        }
+    }
+
+    // Where there is no memory for the log's path, nothing is known to be gone.
+    fn is_there(&mut self, alloc: Global, path: &str) -> bool {
+        match log_path(alloc, path) {
+            Ok(log) => self.connected == Some(self.pair(path, log.as_str())),
+            Err(_) => true,
         }
     }
 

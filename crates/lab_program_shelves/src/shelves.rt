@@ -15,8 +15,12 @@ pub trait Shelf {
     /// What keeps a file.
     type Disk: Alter + Drop;
 
-    /// Whether there is a file at the path, and not an empty one.
-    fn has(&self, path: &str) -> bool;
+    /// Whether there is a file at the path, and not an empty one, nor one whose making was cut off.
+    ///
+    /// # Errors
+    /// The file couldn't be read.
+    fn has(&self, path: &str) -> Result<bool, TaskFault>
+        ensures fault { IfErr result IsUnopened };
 
     /// A connection to the file at the path, which is made, without a table, where there is none or an
     /// empty one. What is refused stays as it is.
@@ -27,6 +31,9 @@ pub trait Shelf {
     fn connect(&mut self, alloc: Global, path: &str) -> Result<Connection<Self::Disk>, TaskFault>
         ensures at_rest { IfOk result (λ conn. IsAtRest (state Self.Disk.Store conn)) }
         ensures fault { IfErr result IsUnopened };
+
+    /// Whether the file that was connected to last still lies at the path, and its log beside it.
+    fn is_there(&mut self, alloc: Global, path: &str) -> bool;
 
     /// Removes the log that a connection to a file left beside it, where there was none before. The
     /// connection is closed, and the file was refused.

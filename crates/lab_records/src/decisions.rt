@@ -4,7 +4,7 @@ ghost use Rattle.lab_records_laws.specs.Asking.{IsCommandFormed};
 ghost use Rattle.lab_records_machine.specs.Done.{done_of};
 ghost use Rattle.lab_records_machine.specs.Machine.{passage};
 ghost use Rattle.lab_records_machine.specs.Policy.{rule_of};
-ghost use Rattle.lab_records_outcomes.specs.Deciding.{outcome, ended_done, touching, decided_in, decided_by, decided};
+ghost use Rattle.lab_records_outcomes.specs.Deciding.{outcome, end_on, touch_changes, decided_in, decided_by, decided};
 ghost use Rattle.lab_records.specs.Makings.{is_made_in, is_made_by, is_made};
 
 use crate::{done_of, opening_done};
@@ -12,7 +12,9 @@ use lab_forms_texts::{Moment, OutOfMemory, PersonCode, Series, Tick};
 use lab_people_access::{PeopleRefusal, Person, Session};
 use lab_records_kept::{Change, Slice};
 use lab_records_machine::{Command, Done, Passage, RecordCommand, Reply, SessionCommand, pass};
-use lab_records_outcomes::{Outcome, end, opening_failed, opening_made, refused, touching};
+use lab_records_outcomes::{
+    Outcome, end, failed_opening, made_opening, refusal_outcome, touch_changes,
+};
 use lab_records_rules::{Refusal, Typed};
 use std::alloc::Global;
 
@@ -36,7 +38,7 @@ pub fn decide(
     if tick.moment < slice.last {
         drop(slice);
         drop(command);
-        return Ok(refused(Series::new(alloc), Refusal::ClockBehind));
+        return Ok(refusal_outcome(Series::new(alloc), Refusal::ClockBehind));
     }
     let mut slice = slice;
     let outcome = decide_by(alloc, &mut slice, tick, command);
@@ -126,7 +128,7 @@ fn decide_passed(
         Passage::Stranger => {
             drop(command);
             let refusal = Refusal::People(PeopleRefusal::NoSession);
-            Ok(refused(Series::new(alloc), refusal))
+            Ok(refusal_outcome(Series::new(alloc), refusal))
         }
         Passage::Barred(session, refusal) => {
             drop(command);
@@ -148,12 +150,12 @@ fn barred(
     refusal: Refusal,
 ) -> Result<Outcome, OutOfMemory>
     ensures { IfOk result
-        (λ told. told ≡ outcome (Reply.Refused refusal) (touching moment session)) }
+        (λ told. told ≡ outcome (Reply.Refused refusal) (touch_changes moment session)) }
 {
-    let changes = touching(alloc, moment, &session);
+    let changes = touch_changes(alloc, moment, &session);
     drop(session);
     match changes {
-        Ok(changes) => Ok(refused(changes, refusal)),
+        Ok(changes) => Ok(refusal_outcome(changes, refusal)),
         Err(fault) => {
             drop(refusal);
             Err(fault)
@@ -196,16 +198,16 @@ fn decide_opening(
     let person = slice.person.take();
     let repeated = &slice.session;
     match opening_done(alloc, code, person, password, tick, sessions, repeated)? {
-        Done::Refused(refusal) => Ok(refused(Series::new(alloc), refusal)),
+        Done::Refused(refusal) => Ok(refusal_outcome(Series::new(alloc), refusal)),
         Done::Failed(occasion, failure) => {
-            opening_failed(alloc, rows, slice.strays, moment, occasion, failure)
+            failed_opening(alloc, rows, slice.strays, moment, occasion, failure)
         }
         Done::Read(reply) => Ok(Outcome {
             reply,
             changes: Series::new(alloc),
         }),
         Done::Made(reply, deed, own) => {
-            opening_made(alloc, rows, moment, &told?, reply, deed, own)
+            made_opening(alloc, rows, moment, &told?, reply, deed, own)
         }
     }
 }
@@ -223,7 +225,7 @@ fn decide_allowed(
         ≡ decided_in slice.old tick.now command (Passage.Passes session caller.now)) }
 {
     let mut session = session;
-    match touching(alloc, tick.moment, &session) {
+    match touch_changes(alloc, tick.moment, &session) {
         Ok(before) => {
             session.touch(tick.moment);
             decide_noted(alloc, slice, tick, session, caller, command, before)
@@ -247,7 +249,7 @@ fn decide_noted(
     before: Series<Change>,
 ) -> Result<Outcome, OutOfMemory>
     ensures { IfOk result (λ outcome. outcome
-        ≡ ended_done slice.old tick.now.moment caller.now.code before
+        ≡ end_on slice.old tick.now.moment caller.now.code before
         (done_of slice.old tick.now session caller.now command)) }
 {
     let rows = slice.counts.trail;

@@ -13,6 +13,7 @@ use Rattle.lab_people_access.specs.declared.passwords.Password.TheVariants.{Unse
 use Rattle.lab_people_access.specs.declared.persons.Person.{Person}
 use Rattle.lab_people_access.specs.declared.sessions.Session.{Session}
 use Rattle.lab_people_access.specs.Roles.{no_roles, with_role}
+use Rattle.lab_people_access.specs.Sessions.{closed_session}
 use Rattle.lab_forms.specs.declared.kinds.Kind.TheVariants.{Number}
 use Rattle.lab_forms.specs.declared.forms.Field.{Field}
 use Rattle.lab_seal_versions.specs.declared.rows.EntryRow.{EntryRow}
@@ -33,8 +34,7 @@ use Rattle.lab_records_kept.specs.Digests.{digest_of, signature_of, seal_for}
 use Rattle.lab_records_kept.specs.Values.{version_state, all_rows}
 use Rattle.lab_records_kept.specs.Bound.{IsBoundTo, IsSealed, IsBoundRecord, IsBound}
 use Rattle.lab_records_kept.specs.Dual.{EnteredNone, IsSignedDually, IsDualRecord, IsDual}
-use Rattle.lab_records_kept.specs.Keeping.{KeepsPersons, IsToldOnce, Keeps}
-use Rattle.lab_records_kept.specs.Changes.{SamePerson}
+use Rattle.lab_records_kept.specs.Keeping.{KeepsPerson, KeepsPersons, IsToldOnce, Keeps}
 
 -- ---- what these laboratories hold: dan enters, eve reviews, gus approves
 
@@ -392,7 +392,8 @@ another = row (codes "dan") (codes "7.5") 1200 (Some (codes "one decimal is mean
 
 same_persons : (all : List Person) → KeepsPersons all all
 same_persons all code person is =
-    subst (λ (found : Option Person). MatchOption found ⊥ (SamePerson person)) (sym is) (record { code = refl; name = refl })
+    subst (λ (found : Option Person). MatchOption found ⊥ (KeepsPerson person)) (sym is)
+    (record { same = record { code = refl; name = refl }; retired = λ gone. gone })
 
 -- one row more, and one row of the trail more that tells of it
 pub known_kept : Keeps before (with_rows 1200 (by_dan ∷ another ∷ []) trail_after)
@@ -401,7 +402,7 @@ known_kept = record {
   code = refl;
   name = refl;
   persons = same_persons persons;
-  sessions = (record { number = refl; person = refl; token = refl; opened = refl }, tt);
+  sessions = (record { same = record { number = refl; person = refl; token = refl; opened = refl }; closed = λ is. is }, tt);
   forms = λ code number form is. is;
   records = (
     record {
@@ -468,3 +469,12 @@ pub known_signed_not_kept :
     Keeps (after_signing 1300 (by_dan ∷ []) trail) (after_signing 1350 (by_dan ∷ another ∷ []) trail_after) → ⊥
 known_signed_not_kept keeps =
     longer (by_dan ∷ []) another keeps.records.0.versions.0.rows
+
+-- dan was retired and is back; dan's session was closed and is open
+pub known_undone_not_kept :
+    (Keeps (record before { persons = record (account (codes "dan") (codes "Dan Day") Analyst) { retired = true } ∷ [] }) before → ⊥)
+    × (Keeps (record before { sessions = closed_session (session 1100) ∷ [] }) before → ⊥)
+known_undone_not_kept = (
+  λ keeps. false≢true ((keeps.persons (codes "dan") _ refl).retired refl),
+  λ keeps. false≢true (keeps.sessions.0.closed refl),
+)

@@ -1,8 +1,6 @@
 -- The numbers and the words of a keeper's faults.
 use Rattle.std.specs.Prelude.{codes}
 use Rattle.lab_forms_texts.specs.Faults.{Entry, memory_entry}
-use Rattle.lab_records_kept.specs.declared.faults.KeeperFault.{KeeperFault}
-use Rattle.lab_records_kept.specs.declared.faults.KeeperFault.TheVariants.{Storage, Memory}
 use Rattle.lab_records_kept.specs.declared.faults.PlacingFault.{PlacingFault}
 use Rattle.lab_records_kept.specs.declared.faults.PlacingFault.TheVariants.{LabExists, Storage as NotStored, Memory as NoMemory}
 
@@ -13,11 +11,6 @@ no_such_lab_entry = record { number = 40; word = codes "no_such_lab" }
 -- the store refused
 abbrev pub storage_entry : Entry
 storage_entry = record { number = 63; word = codes "storage" }
-
--- the faults of a keeper's reads and changes
-abbrev pub keeper_fault_entry : KeeperFault → Entry
-keeper_fault_entry Storage = storage_entry
-keeper_fault_entry Memory = memory_entry
 
 -- the faults of a keeper's foundings
 abbrev pub placing_fault_entry : PlacingFault → Entry

@@ -1,8 +1,9 @@
 -- What a laboratory keeps from one event to the next (21 CFR 11.10(e), "record changes shall not
 -- obscure previously recorded information", and 11.100(a), a signature is not reassigned), and what
 -- the trail tells where its records differ.
-use Rattle.std.specs.Prelude.{◌≡◌, ◌≢◌, ◌⊎◌, ℕ, ◌+◌, List, [], ◌∷◌, ◌++◌, length, Option, Some, IsSome, MatchOption, All, option_map, option_and_then}
+use Rattle.std.specs.Prelude.{◌≡◌, ◌≢◌, ◌⊎◌, ℕ, ◌+◌, true, List, [], ◌∷◌, ◌++◌, length, Option, Some, IsSome, MatchOption, All, option_map, option_and_then}
 use Rattle.lab_people_access.specs.declared.persons.Person.{Person}
+use Rattle.lab_people_access.specs.declared.sessions.Session.{Session}
 use Rattle.lab_people_access.specs.Persons.{person_of}
 use Rattle.lab_seal_versions.specs.declared.rows.EntryRow.{EntryRow}
 use Rattle.lab_seal_versions.specs.declared.seals.Meaning.{Meaning}
@@ -49,11 +50,21 @@ pub record KeepsRecord (old new : KeptRecord) : Type 0 where
   pub sample : new.sample ≡ old.sample
   pub versions : Extends KeepsVersion old.versions new.versions
 
--- whoever had a code has it, under the same printed name
+-- an account keeps its code and its printed name, and one who was retired stays retired
+pub record KeepsPerson (old new : Person) : Type 0 where
+  pub same : SamePerson old new
+  pub retired : old.retired ≡ true → new.retired ≡ true
+
+-- whoever had a code has it, under the same printed name, and retired, if it was
 abbrev pub KeepsPersons : List Person → List Person → Type 0
 KeepsPersons old new =
     (code : List ℕ) (person : Person) → person_of old code ≡ Some person
-    → MatchOption (person_of new code) ⊥ (SamePerson person)
+    → MatchOption (person_of new code) ⊥ (KeepsPerson person)
+
+-- a session keeps what it was opened with, and one that was closed stays closed
+pub record KeepsSession (old new : Session) : Type 0 where
+  pub same : SameSession old new
+  pub closed : old.closed ≡ true → new.closed ≡ true
 
 -- a version of a form stays as it is
 abbrev pub KeepsForms : List FormVersion → List FormVersion → Type 0
@@ -171,7 +182,7 @@ pub record Keeps (old new : Lab) : Type 0 where
   pub code : new.code ≡ old.code
   pub name : new.name ≡ old.name
   pub persons : KeepsPersons old.persons new.persons
-  pub sessions : Extends SameSession old.sessions new.sessions
+  pub sessions : Extends KeepsSession old.sessions new.sessions
   pub forms : KeepsForms old.forms new.forms
   pub records : Extends KeepsRecord old.records new.records
   pub trail : IsPrefix old.trail new.trail

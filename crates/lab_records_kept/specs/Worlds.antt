@@ -3,8 +3,9 @@
 use Rattle.std.specs.Prelude.{◌≡◌, ◌≢◌, ◌⊎◌, ℕ, List, Option, Some, None, Result, Ok, Err}
 use Rattle.lab_records_kept.specs.declared.labs.Lab.{Lab}
 use Rattle.lab_records_kept.specs.declared.changes.Change.{Change}
-use Rattle.lab_records_kept.specs.declared.faults.KeeperFault.{KeeperFault}
-use Rattle.lab_records_kept.specs.declared.faults.KeeperFault.TheVariants.{Storage, Memory}
+use Rattle.lab_forms_texts.specs.declared.refusals.Fault.{Fault}
+use Rattle.lab_forms_texts.specs.declared.refusals.Fault.TheVariants.{Refused, Memory}
+use Rattle.lab_records_kept.specs.declared.faults.BadStore.{BadStore}
 use Rattle.lab_records_kept.specs.declared.faults.PlacingFault.{PlacingFault}
 use Rattle.lab_records_kept.specs.declared.faults.PlacingFault.TheVariants.{LabExists, Storage as NotStored, Memory as NoMemory}
 use Rattle.lab_records_kept.specs.Changes.{changed_in}
@@ -103,8 +104,8 @@ StaysSafe old new = old.is_live → old.is_safe → new.is_safe
 -- ---- faults
 
 -- a keeper blames its store only where it may refuse
-abbrev pub KeeperFaultFits : Type 0 → KeeperFault → Type 0
-KeeperFaultFits may_refuse Storage = may_refuse
+abbrev pub KeeperFaultFits : Type 0 → Fault BadStore → Type 0
+KeeperFaultFits may_refuse (Refused _) = may_refuse
 KeeperFaultFits may_refuse Memory = Unit {0}
 
 -- at a founding too a keeper blames its store only where it may refuse; that the laboratory

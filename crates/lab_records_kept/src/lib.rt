@@ -19,7 +19,7 @@ mod trails;
 
 pub use births::Newborn;
 pub use changes::Change;
-pub use faults::{KeeperFault, PlacingFault};
+pub use faults::{BadStore, KeeperFault, PlacingFault};
 pub use keeper::Keeper;
 pub use lab_forms::{Bound, Choices, Field, Form, FormRefusal, Kind, Value};
 pub use lab_forms_texts::Series;

@@ -21,7 +21,7 @@ use Rattle.lab_records_laws.proofs.FitPersons.{touched_fits}
 use Rattle.lab_records_machine.specs.declared.done.Done.{Done}
 use Rattle.lab_records_machine.specs.declared.done.Done.TheVariants.{Refused, Failed, Read, Made}
 use Rattle.lab_records_outcomes.specs.declared.outcome.Outcome.{Outcome}
-use Rattle.lab_records_outcomes.specs.Deciding.{trail_row, failing, outcome, ended_made, ended_done, opening_ended, touching}
+use Rattle.lab_records_outcomes.specs.Deciding.{trail_row, failure_changes, outcome, made_end, end_on, opening_end, touch_changes}
 use Rattle.lab_records_laws.proofs.Joining.{changed_on, all_fit_on, changes_know}
 use Rattle.lab_records_laws.proofs.OwnCases.{case_of, slice_for}
 use Rattle.lab_records_laws.proofs.CaseFits.{Adds, FitsDone}
@@ -105,7 +105,7 @@ made_is : (Premise : Type 0) (lab : Lab) (before : List Change) (moment : ℕ) (
     → Adds Premise (changed lab before) person own
     → Matches Premise lab
     (made (changed lab before) (changed (changed lab before) own) moment person reply deed)
-    (ended_made before (length (changed lab before).trail) moment person reply deed own)
+    (made_end before (length (changed lab before).trail) moment person reply deed own)
 made_is Premise lab before moment person reply deed own fits adds =
     made_case (nat_le count_limit (length (changed lab before).trail)) Premise lab before moment
     person reply (ToldRefused (People LabFull)) deed own fits adds
@@ -113,7 +113,7 @@ made_is Premise lab before moment person reply deed own fits adds =
 -- ---- in a session
 
 pub touching_fits : (lab : Lab) (moment : ℕ) (session : Session)
-    → session_of lab.sessions session.token ≡ Some session → AllFit lab (touching moment session)
+    → session_of lab.sessions session.token ≡ Some session → AllFit lab (touch_changes moment session)
 touching_fits lab moment session found =
     (tt, (touched_fits (change lab (Last moment)) moment session found, tt))
 
@@ -124,7 +124,7 @@ pub ended_is : (Premise : Type 0) (lab : Lab) (digest : Option (List ℕ)) (comm
     → FitsDone Premise (touched lab moment session) person done
     → Matches Premise lab
     (ended (touched lab moment session) moment person (case_of (touched lab moment session) done))
-    (ended_done (slice_for lab digest command) moment person (touching moment session) done)
+    (end_on (slice_for lab digest command) moment person (touch_changes moment session) done)
 ended_is Premise lab digest command moment session person (Refused refusal) few found fits =
     record {
       reply = refl;
@@ -133,10 +133,10 @@ ended_is Premise lab digest command moment session person (Refused refusal) few 
     }
 ended_is Premise lab digest command moment session person (Failed occasion failure) few found fits =
     let now = touched lab moment session in
-    let changes = failing (length lab.trail) lab.strays moment occasion failure in
+    let changes = failure_changes (length lab.trail) lab.strays moment occasion failure in
     let after = failed now moment occasion failure in
-    replied Premise lab (ToldRefused (People Credentials)) (touching moment session ++ changes)
-    after (after_some Premise lab (touching moment session) changes after
+    replied Premise lab (ToldRefused (People Credentials)) (touch_changes moment session ++ changes)
+    after (after_some Premise lab (touch_changes moment session) changes after
     (touching_fits lab moment session found)
     (failing_is Premise now moment occasion failure few fits))
 ended_is Premise lab digest command moment session person (Read reply) few found fits =
@@ -146,7 +146,7 @@ ended_is Premise lab digest command moment session person (Read reply) few found
       after = refl;
     }
 ended_is Premise lab digest command moment session person (Made reply deed own) few found fits =
-    made_is Premise lab (touching moment session) moment person reply deed own
+    made_is Premise lab (touch_changes moment session) moment person reply deed own
     (touching_fits lab moment session found) fits
 
 -- ---- at an opening
@@ -161,12 +161,12 @@ pub opened_ended : (Premise : Type 0) (lab : Lab) (digest : Option (List ℕ)) (
     (moment : ℕ) (code : List ℕ) (done : Done) → (Premise → lab.strays ≤ stray_limit)
     → FitsDone Premise (at_moment moment lab) code done → TakesMoment lab moment done
     → Matches Premise lab (opened lab moment code (case_of lab done))
-    (opening_ended (slice_for lab digest command) moment code done)
+    (opening_end (slice_for lab digest command) moment code done)
 opened_ended Premise lab digest command moment code (Refused refusal) few fits takes =
     record { reply = refl; fits = λ given. tt; after = refl }
 opened_ended Premise lab digest command moment code (Failed occasion failure) few fits takes =
     let now = at_moment moment lab in
-    let changes = failing (length lab.trail) lab.strays moment occasion failure in
+    let changes = failure_changes (length lab.trail) lab.strays moment occasion failure in
     let after = failed now moment occasion failure in
     replied Premise lab (ToldRefused (People Credentials)) (Last moment ∷ changes) after
     (after_some Premise lab (Last moment ∷ []) changes after (tt, tt)
@@ -175,6 +175,6 @@ opened_ended Premise lab digest command moment code (Read reply) few fits takes 
     record { reply = refl; fits = λ given. tt; after = refl }
 opened_ended Premise lab digest command moment code (Made reply deed own) few fits takes =
     subst (λ after. Matches Premise lab (made lab after moment code reply deed)
-    (ended_made [] (length lab.trail) moment code reply deed (Last moment ∷ own))) takes
+    (made_end [] (length lab.trail) moment code reply deed (Last moment ∷ own))) takes
     (made_is Premise lab [] moment code reply deed (Last moment ∷ own) tt
     (moment_adds Premise lab moment code own fits))

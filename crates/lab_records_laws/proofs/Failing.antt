@@ -17,7 +17,7 @@ use Rattle.lab_records_kept.specs.Changes.{IsKnown, Fits, AllFit, change, change
 use Rattle.lab_records_machine.specs.Cases.{told, told_if_room, failed}
 use Rattle.lab_records_laws.proofs.FitAttempts.{FitsAttempt}
 use Rattle.lab_records_laws.proofs.LimitLists.{longer}
-use Rattle.lab_records_outcomes.specs.Deciding.{trail_row, trail_row_if_room, trail_rows_if_room, failing}
+use Rattle.lab_records_outcomes.specs.Deciding.{trail_row, trail_row_if_room, trail_rows_if_room, failure_changes}
 use Rattle.lab_records_laws.proofs.Joining.{set_known, change_knows}
 
 -- changes make another laboratory of one, and fit on a premise
@@ -90,7 +90,7 @@ few_strays false strays is few =
 
 counted_is : (lab : Lab) (moment : ℕ) (occasion : Occasion) (person : Person)
     → FitsAttempt lab (Err (Counted person))
-    → Becomes lab (failing (length lab.trail) lab.strays moment occasion (Counted person))
+    → Becomes lab (failure_changes (length lab.trail) lab.strays moment occasion (Counted person))
     (failed lab moment occasion (Counted person))
 counted_is lab moment occasion person fits =
     let known : IsKnown (change lab (PersonSet person)) person.code =
@@ -102,7 +102,7 @@ counted_is lab moment occasion person fits =
 
 locking_is : (lab : Lab) (moment : ℕ) (occasion : Occasion) (person : Person)
     → FitsAttempt lab (Err (Locking person))
-    → Becomes lab (failing (length lab.trail) lab.strays moment occasion (Locking person))
+    → Becomes lab (failure_changes (length lab.trail) lab.strays moment occasion (Locking person))
     (failed lab moment occasion (Locking person))
 locking_is lab moment occasion person fits =
     let known : IsKnown (change lab (PersonSet person)) person.code =
@@ -118,7 +118,7 @@ locking_is lab moment occasion person fits =
 
 pub failing_is : (Premise : Type 0) (lab : Lab) (moment : ℕ) (occasion : Occasion)
     (failure : Failure) → (Premise → lab.strays ≤ stray_limit) → FitsAttempt lab (Err failure)
-    → BecomesWhere Premise lab (failing (length lab.trail) lab.strays moment occasion failure)
+    → BecomesWhere Premise lab (failure_changes (length lab.trail) lab.strays moment occasion failure)
     (failed lab moment occasion failure)
 failing_is Premise lab moment occasion (Counted person) few fits =
     let is = counted_is lab moment occasion person fits in

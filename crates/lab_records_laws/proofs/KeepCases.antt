@@ -28,8 +28,8 @@ use Rattle.lab_records_kept.specs.declared.labs.Lab.{Lab}
 use Rattle.lab_records_kept.specs.declared.trails.Deed.{Deed}
 use Rattle.lab_records_kept.specs.Lookups.{person_at, session_at}
 use Rattle.lab_records_kept.specs.declared.records.Record.{Record as KeptRecord}
-use Rattle.lab_records_kept.specs.Changes.{SamePerson, SameSession, IsKnown, with_person, with_session, added_person}
-use Rattle.lab_records_kept.specs.Keeping.{Extends, KeepsPersons, KeepsForms, KeepsRecord, IsDoneTo}
+use Rattle.lab_records_kept.specs.Changes.{IsKnown, with_person, with_session, added_person}
+use Rattle.lab_records_kept.specs.Keeping.{Extends, KeepsPerson, KeepsPersons, KeepsSession, KeepsForms, KeepsRecord, IsDoneTo}
 use Rattle.lab_records_rules.specs.declared.refusals.Refusal.{Refusal}
 use Rattle.lab_records_machine.specs.Cases.{Case, Refuses, Fails, Reads, Makes}
 use Rattle.lab_records_machine.specs.Own.{then_case, then_person, then_read, opened_case, opening_case, closing_case, changed_case, enrolled_case, with_person_closed, with_opened}
@@ -47,7 +47,7 @@ pub record KeepsRest (old new : Lab) : Type 0 where
   pub code : new.code ≡ old.code
   pub name : new.name ≡ old.name
   pub persons : KeepsPersons old.persons new.persons
-  pub sessions : Extends SameSession old.sessions new.sessions
+  pub sessions : Extends KeepsSession old.sessions new.sessions
   pub forms : KeepsForms old.forms new.forms
 
 -- records became others by a deed of somebody of the laboratory
@@ -99,7 +99,7 @@ after_read lab moment person (Ok value) next = tt
 -- persons and sessions alone are others
 persons_made : (lab : Lab) (persons : List Person) (sessions : List Session) (deed : Deed)
     (moment : ℕ) (person : List ℕ) → KeepsPersons lab.persons persons
-    → Extends SameSession lab.sessions sessions
+    → Extends KeepsSession lab.sessions sessions
     → IsMade lab.last lab (record lab { persons = persons; sessions = sessions }) deed moment person
 persons_made lab persons sessions deed moment person kept stay = record {
   rest = record {
@@ -118,14 +118,14 @@ persons_made lab persons sessions deed moment person kept stay = record {
 -- ---- passwords
 
 abbrev LeavesSame : Person → Failure → Type 0
-LeavesSame person (Counted one) = SamePerson person one
-LeavesSame person (Locking one) = SamePerson person one
+LeavesSame person (Counted one) = KeepsPerson person one
+LeavesSame person (Locking one) = KeepsPerson person one
 LeavesSame person (AlreadyLocked one) = Unit {0}
 LeavesSame person Stray = Unit {0}
 
 -- what comes of a password that was given is about the same person
 abbrev pub IsAttemptOf : Person → Result Person Failure → Type 0
-IsAttemptOf person (Ok one) = SamePerson person one
+IsAttemptOf person (Ok one) = KeepsPerson person one
 IsAttemptOf person (Err failure) = LeavesSame person failure
 
 tests_same : (stray locked accepted few : Bool) (person : Person) (count moment : ℕ)
@@ -135,9 +135,9 @@ tests_same : (stray locked accepted few : Bool) (person : Person) (count moment 
     (Locking (locked_person moment person)))))))
 tests_same true locked accepted few person count moment = tt
 tests_same false true accepted few person count moment = tt
-tests_same false false true few person count moment = record { code = refl; name = refl }
-tests_same false false false true person count moment = record { code = refl; name = refl }
-tests_same false false false false person count moment = record { code = refl; name = refl }
+tests_same false false true few person count moment = record { same = record { code = refl; name = refl }; retired = λ is. is }
+tests_same false false false true person count moment = record { same = record { code = refl; name = refl }; retired = λ is. is }
+tests_same false false false false person count moment = record { same = record { code = refl; name = refl }; retired = λ is. is }
 
 pub attempt_same : (person : Person) (is_own : Bool) (text : List ℕ) (moment : ℕ)
     → IsAttemptOf person (attempt_by person is_own text moment)
@@ -165,7 +165,7 @@ opened_keeps : (lab : Lab) (opened : Opened) (deed : Deed) (moment : ℕ) (perso
 opened_keeps lab opened deed moment person set =
     persons_made lab (with_person opened.person lab.persons) (lab.sessions ++ opened.session ∷ [])
     deed moment person (set_keeps lab.persons opened.person set)
-    (extends_more SameSession session_itself lab.sessions (opened.session ∷ []))
+    (extends_more KeepsSession session_itself lab.sessions (opened.session ∷ []))
 
 opened_by : (repeated : Bool) (number : Option ℕ) (lab : Lab) (moment : ℕ) (code : List ℕ)
     (tick : Tick) (one : Person) → IsSet lab.persons one
@@ -213,7 +213,7 @@ closing_keeps lab session moment person there =
     persons_made lab lab.persons (with_session (closed_session session) lab.sessions) _ moment
     person (persons_itself lab.persons)
     (with_session_keeps lab.sessions (closed_session session) session there
-    (record { number = refl; person = refl; token = refl; opened = refl }))
+    (record { same = record { number = refl; person = refl; token = refl; opened = refl }; closed = λ is. refl }))
 
 changed_by : (bad same : Bool) (lab : Lab) (moment : ℕ) (code : List ℕ) (one : Person)
     (session : Session) (new : List ℕ) (tick : Tick) → IsSet lab.persons one
@@ -228,14 +228,17 @@ changed_by false false lab moment code one session new tick set there =
     let renewed : IsSet lab.persons changed.person = record {
       old = set.old;
       there = set.there;
-      same = record { code = set.same.code; name = set.same.name };
+      same = record {
+        same = record { code = set.same.same.code; name = set.same.same.name };
+        retired = set.same.retired;
+      };
     } in
     persons_made lab (with_person changed.person lab.persons)
     (sessions_after changed.closing changed.person.code sessions) _ moment code
     (set_keeps lab.persons changed.person renewed)
     (sessions_on lab.sessions sessions (sessions_after changed.closing changed.person.code sessions)
     (with_session_keeps lab.sessions changed.session session there
-    (record { number = refl; person = refl; token = refl; opened = refl }))
+    (record { same = record { number = refl; person = refl; token = refl; opened = refl }; closed = λ is. is }))
     (closed_keep changed.closing changed.person.code sessions))
 
 changing_by_keeps : (lab : Lab) (code : List ℕ) (caller : Person) (session : Session)
@@ -323,7 +326,7 @@ meant caller (Some person) next value h = record {
 pub record IsAbout (holder : Option Person) (person : Person) : Type 0 where
   pub found : Person
   pub there : holder ≡ Some found
-  pub same : SamePerson found person
+  pub same : KeepsPerson found person
 
 pub with_closed_keeps : (lab : Lab) (code : List ℕ) (person : Person) (closing : Closing)
     (deed : Deed)
@@ -355,7 +358,7 @@ roles_about caller holder roles effect h =
     record {
       found = m.found;
       there = m.there;
-      same = subst (λ one. SamePerson m.found one.person) is (record { code = refl; name = refl });
+      same = subst (λ one. KeepsPerson m.found one.person) is (record { same = record { code = refl; name = refl }; retired = λ is. is });
     }
 
 pub retired_about : (caller : List ℕ) (holder : Option Person) (effect : Effect)
@@ -367,7 +370,7 @@ retired_about caller holder effect h =
     record {
       found = m.found;
       there = m.there;
-      same = subst (λ one. SamePerson m.found one.person) is (record { code = refl; name = refl });
+      same = subst (λ one. KeepsPerson m.found one.person) is (record { same = record { code = refl; name = refl }; retired = λ is. refl });
     }
 
 pub unlocked_about : (caller : List ℕ) (holder : Option Person) (effect : Effect)
@@ -379,7 +382,7 @@ unlocked_about caller holder effect h =
     record {
       found = m.found;
       there = m.there;
-      same = subst (λ one. SamePerson m.found one.person) is (record { code = refl; name = refl });
+      same = subst (λ one. KeepsPerson m.found one.person) is (record { same = record { code = refl; name = refl }; retired = λ is. is });
     }
 
 asked_by : (other : Bool) (made issued : Issued) → cond other (Err IssueOpen) (Ok made) ≡ Ok issued
@@ -399,7 +402,7 @@ asked_about caller holder tick issued h =
     record {
       found = m.found;
       there = m.there;
-      same = subst (λ one. SamePerson m.found one.person) is (record { code = refl; name = refl });
+      same = subst (λ one. KeepsPerson m.found one.person) is (record { same = record { code = refl; name = refl }; retired = λ is. is });
     }
 
 own_by : (own : Bool) (made issued : Issued) → cond own (Err IsSamePerson) (Ok made) ≡ Ok issued
@@ -409,11 +412,11 @@ own_by false made issued h = cc
 
 confirmed_same : (caller : List ℕ) (tick : Tick) (found : Person) (ask : Option Ask)
     (issued : Issued)
-    → confirming_of caller tick found ask ≡ Ok issued → SamePerson found issued.person
+    → confirming_of caller tick found ask ≡ Ok issued → KeepsPerson found issued.person
 confirmed_same caller tick found None issued h = absurd (cc)
 confirmed_same caller tick found (Some ask) issued h =
     let is = own_by (bytes_eq ask.asker caller) (with_one_time_word tick ask found) issued h in
-    subst (λ one. SamePerson found one.person) is (record { code = refl; name = refl })
+    subst (λ one. KeepsPerson found one.person) is (record { same = record { code = refl; name = refl }; retired = λ is. is })
 
 pub confirmed_about : (caller : List ℕ) (holder : Option Person) (tick : Tick) (issued : Issued)
     → confirming caller holder tick ≡ Ok issued → IsAbout holder issued.person

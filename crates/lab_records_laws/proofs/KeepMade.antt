@@ -447,7 +447,7 @@ signature_keeps lab session one made moment caller known set there signed = reco
     name = refl;
     persons = set_keeps lab.persons one set;
     sessions = with_session_keeps lab.sessions (signed_session session) session there
-        (record { number = refl; person = refl; token = refl; opened = refl });
+        (record { same = record { number = refl; person = refl; token = refl; opened = refl }; closed = λ is. is });
     forms = forms_itself lab.forms;
   };
   records =
@@ -485,8 +485,8 @@ signing_by_keeps lab moment session caller number version digest signing (Ok one
     (signature_case lab session one) (λ made h.
     signature_keeps lab session one made moment caller known
     (set_from lab.persons caller.code caller one known same) there
-    (subst (λ name. IsSignatureMade lab.records caller.code name moment made) same.name
-    (subst (λ code. IsSignatureMade lab.records code one.name moment made) same.code
+    (subst (λ name. IsSignatureMade lab.records caller.code name moment made) same.same.name
+    (subst (λ code. IsSignatureMade lab.records code one.name moment made) same.same.code
     (signed_found lab.records number version lab.code (record_of lab.records number) digest signing
     one moment made refl h))))
 

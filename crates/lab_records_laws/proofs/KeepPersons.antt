@@ -7,8 +7,8 @@ use Rattle.lab_people_access.specs.declared.sessions.Session.{Session}
 use Rattle.lab_people_access.specs.declared.sessions.Closing.{Closing}
 use Rattle.lab_people_access.specs.Persons.{person_of}
 use Rattle.lab_people_access.specs.Sessions.{session_of, sessions_after, closed_session, is_closed_by}
-use Rattle.lab_records_kept.specs.Changes.{SamePerson, SameSession, with_person, with_session, added_person}
-use Rattle.lab_records_kept.specs.Keeping.{Extends, KeepsPersons}
+use Rattle.lab_records_kept.specs.Changes.{with_person, with_session, added_person}
+use Rattle.lab_records_kept.specs.Keeping.{Extends, KeepsPerson, KeepsPersons, KeepsSession}
 use Rattle.lab_records_laws.proofs.KeepLists.{extends_itself, extends_on, placed, inserted_is}
 use Rattle.lab_records_kept.specs.Lookups.{comes_before}
 
@@ -20,22 +20,25 @@ are_same one other h = (bytes_eq-Decides one other).0 h
 
 -- ---- persons
 
--- who has the code, or nobody, is the person under the same name
+-- who has the code, or nobody, is the person under the same name, retired if the person was
 abbrev Finds : Option Person → Person → Type 0
-Finds found person = MatchOption found ⊥ (SamePerson person)
+Finds found person = MatchOption found ⊥ (KeepsPerson person)
 
-pub person_itself : (person : Person) → SamePerson person person
-person_itself person = record { code = refl; name = refl }
+pub person_itself : (person : Person) → KeepsPerson person person
+person_itself person = record { same = record { code = refl; name = refl }; retired = λ is. is }
 
-pub person_on : (one two three : Person) → SamePerson one two → SamePerson two three
-    → SamePerson one three
-person_on one two three h g = record { code = g.code ∙ h.code; name = g.name ∙ h.name }
+pub person_on : (one two three : Person) → KeepsPerson one two → KeepsPerson two three
+    → KeepsPerson one three
+person_on one two three h g = record {
+  same = record { code = g.same.code ∙ h.same.code; name = g.same.name ∙ h.same.name };
+  retired = λ is. g.retired (h.retired is);
+}
 
 finds_itself : (found : Option Person) (person : Person) → found ≡ Some person → Finds found person
 finds_itself None person h = absurd (cc)
 finds_itself (Some one) person h =
     let same : person ≡ one = cc in
-    subst (SamePerson person) same (person_itself person)
+    subst (KeepsPerson person) same (person_itself person)
 
 pub persons_itself : (persons : List Person) → KeepsPersons persons persons
 persons_itself persons = λ code person h. finds_itself (person_of persons code) person h
@@ -68,16 +71,16 @@ found_code (one ∷ others) code person h =
     found_by (bytes_eq one.code code) one person (person_of others code) code refl h
     (found_code others code person)
 
--- a person who is set is somebody there, with the same code and name
+-- a person who is set is somebody there, with the same code and name, retired if the one there was
 pub record IsSet (persons : List Person) (person : Person) : Type 0 where
   pub old : Person
   pub there : person_of persons person.code ≡ Some old
-  pub same : SamePerson old person
+  pub same : KeepsPerson old person
 
 pub set_from : (persons : List Person) (code : List ℕ) (found person : Person)
-    → person_of persons code ≡ Some found → SamePerson found person → IsSet persons person
+    → person_of persons code ≡ Some found → KeepsPerson found person → IsSet persons person
 set_from persons code found person h same =
-    let own : code ≡ person.code = sym (found_code persons code found h) ∙ sym same.code in
+    let own : code ≡ person.code = sym (found_code persons code found h) ∙ sym same.same.code in
     record {
       old = found;
       there = subst (λ one. person_of persons one ≡ Some found) own h;
@@ -86,14 +89,14 @@ set_from persons code found person h same =
 
 -- the first of two tests that pass at once
 set_here : (is : Bool) (code : List ℕ) (one old person found : Person) (rest last : Option Person)
-    → bytes_eq one.code code ≡ is → one ≡ old → SamePerson old person
+    → bytes_eq one.code code ≡ is → one ≡ old → KeepsPerson old person
     → cond is (Some one) rest ≡ Some found → bytes_eq person.code code ≡ is
     → (rest ≡ Some found → Finds last found)
     → Finds (cond (bytes_eq person.code code) (Some person) last) found
 set_here true code one old person found rest last is at same h new next =
     let own : old ≡ found = cc in
     subst (λ test. Finds (cond test (Some person) last) found) (sym new)
-    (subst (λ it. SamePerson it person) own same)
+    (subst (λ it. KeepsPerson it person) own same)
 set_here false code one old person found rest last is at same h new next =
     subst (λ test. Finds (cond test (Some person) last) found) (sym new) (next h)
 
@@ -109,7 +112,7 @@ same_test one person code h = ap (λ it. bytes_eq it code) (sym h)
 
 set_by : (own : Bool) (one old person : Person) (others : List Person)
     → bytes_eq one.code person.code ≡ own
-    → cond own (Some one) (person_of others person.code) ≡ Some old → SamePerson old person
+    → cond own (Some one) (person_of others person.code) ≡ Some old → KeepsPerson old person
     → (person_of others person.code ≡ Some old → KeepsPersons others (with_person person others))
     → KeepsPersons (one ∷ others) (cond own (person ∷ others) (one ∷ with_person person others))
 set_by true one old person others is h same next = λ code found there.
@@ -123,7 +126,7 @@ set_by false one old person others is h same next = λ code found there.
     (person_of (with_person person others) code) there (next h code found)
 
 with_person_keeps : (person old : Person) (persons : List Person)
-    → person_of persons person.code ≡ Some old → SamePerson old person
+    → person_of persons person.code ≡ Some old → KeepsPerson old person
     → KeepsPersons persons (with_person person persons)
 with_person_keeps person old [] h same = absurd (cc)
 with_person_keeps person old (one ∷ others) h same =
@@ -182,24 +185,27 @@ added_keeps persons person free =
 
 -- ---- sessions
 
-pub session_itself : (session : Session) → SameSession session session
-session_itself session = record { number = refl; person = refl; token = refl; opened = refl }
+pub session_itself : (session : Session) → KeepsSession session session
+session_itself session = record { same = record { number = refl; person = refl; token = refl; opened = refl }; closed = λ is. is }
 
-pub session_on : (one two three : Session) → SameSession one two → SameSession two three
-    → SameSession one three
+pub session_on : (one two three : Session) → KeepsSession one two → KeepsSession two three
+    → KeepsSession one three
 session_on one two three h g = record {
-  number = g.number ∙ h.number;
-  person = g.person ∙ h.person;
-  token = g.token ∙ h.token;
-  opened = g.opened ∙ h.opened;
+  same = record {
+    number = g.same.number ∙ h.same.number;
+    person = g.same.person ∙ h.same.person;
+    token = g.same.token ∙ h.same.token;
+    opened = g.same.opened ∙ h.same.opened;
+  };
+  closed = λ is. g.closed (h.closed is);
 }
 
-pub sessions_itself : (sessions : List Session) → Extends SameSession sessions sessions
-sessions_itself sessions = extends_itself SameSession session_itself sessions
+pub sessions_itself : (sessions : List Session) → Extends KeepsSession sessions sessions
+sessions_itself sessions = extends_itself KeepsSession session_itself sessions
 
-pub sessions_on : (old between new : List Session) → Extends SameSession old between
-    → Extends SameSession between new → Extends SameSession old new
-sessions_on old between new h g = extends_on SameSession session_on old between new h g
+pub sessions_on : (old between new : List Session) → Extends KeepsSession old between
+    → Extends KeepsSession between new → Extends KeepsSession old new
+sessions_on old between new h g = extends_on KeepsSession session_on old between new h g
 
 token_by : (is : Bool) (one session : Session) (rest : Option Session) (token : List ℕ)
     → bytes_eq one.token token ≡ is → cond is (Some one) rest ≡ Some session
@@ -218,18 +224,18 @@ found_token (one ∷ others) token session h =
     (found_token others token session)
 
 session_by : (is : Bool) (one old session : Session) (others rest : List Session)
-    → cond is (Some one) (session_of others session.token) ≡ Some old → SameSession old session
-    → (session_of others session.token ≡ Some old → Extends SameSession others rest)
-    → Extends SameSession (one ∷ others) (cond is (session ∷ others) (one ∷ rest))
+    → cond is (Some one) (session_of others session.token) ≡ Some old → KeepsSession old session
+    → (session_of others session.token ≡ Some old → Extends KeepsSession others rest)
+    → Extends KeepsSession (one ∷ others) (cond is (session ∷ others) (one ∷ rest))
 session_by true one old session others rest h same next =
     let own : old ≡ one = cc in
-    (subst (λ it. SameSession it session) own same, sessions_itself others)
+    (subst (λ it. KeepsSession it session) own same, sessions_itself others)
 session_by false one old session others rest h same next = (session_itself one, next h)
 
 -- a session that is set keeps all
 pub with_session_keeps : (sessions : List Session) (session old : Session)
-    → session_of sessions session.token ≡ Some old → SameSession old session
-    → Extends SameSession sessions (with_session session sessions)
+    → session_of sessions session.token ≡ Some old → KeepsSession old session
+    → Extends KeepsSession sessions (with_session session sessions)
 with_session_keeps [] session old h same = tt
 with_session_keeps (one ∷ others) session old h same =
     session_by (bytes_eq one.token session.token) one old session others
@@ -257,13 +263,13 @@ with_session_found (one ∷ others) session old h =
     (with_session session others) refl h (with_session_found others session old)
 
 after_by : (is : Bool) (session : Session)
-    → SameSession session (cond is (closed_session session) session)
-after_by true session = record { number = refl; person = refl; token = refl; opened = refl }
+    → KeepsSession session (cond is (closed_session session) session)
+after_by true session = record { same = record { number = refl; person = refl; token = refl; opened = refl }; closed = λ is. refl }
 after_by false session = session_itself session
 
 -- sessions that are closed stay
 pub closed_keep : (closing : Closing) (person : List ℕ) (sessions : List Session)
-    → Extends SameSession sessions (sessions_after closing person sessions)
+    → Extends KeepsSession sessions (sessions_after closing person sessions)
 closed_keep closing person [] = tt
 closed_keep closing person (one ∷ others) =
     (after_by (is_closed_by closing person one) one, closed_keep closing person others)

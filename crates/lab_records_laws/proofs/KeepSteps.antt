@@ -24,8 +24,8 @@ use Rattle.lab_records_kept.specs.Limits.{AreFormsNumbered, count_limit}
 use Rattle.lab_records_kept.specs.Lookups.{last_form, exact_form, record_of, record_about}
 use Rattle.lab_records_kept.specs.Lookups.{person_at, caller_of}
 use Rattle.lab_records_kept.specs.Trails.{row_of}
-use Rattle.lab_records_kept.specs.Changes.{SameSession, IsKnown, with_person, with_session}
-use Rattle.lab_records_kept.specs.Keeping.{Extends, IsPrefix, KeepsPersons, KeepsRecord, IsToldOnce, Keeps}
+use Rattle.lab_records_kept.specs.Changes.{IsKnown, with_person, with_session}
+use Rattle.lab_records_kept.specs.Keeping.{Extends, IsPrefix, KeepsPersons, KeepsSession, KeepsRecord, IsToldOnce, Keeps}
 use Rattle.lab_records_rules.specs.Making.{making, opening_record}
 use Rattle.lab_records_versions.specs.Entering.{entering, amending}
 use Rattle.lab_records_rules.specs.Reading.{reading_form, reading_record, reading_version}
@@ -158,7 +158,7 @@ frame_keeps old new frame = record {
 
 -- another moment, other persons, sessions and strays
 frame_of : (lab : Lab) (last strays : ℕ) (persons : List Person) (sessions : List Session)
-    → KeepsPersons lab.persons persons → Extends SameSession lab.sessions sessions
+    → KeepsPersons lab.persons persons → Extends KeepsSession lab.sessions sessions
     → IsFrame lab (record lab {
       last = last;
       strays = strays;
@@ -312,7 +312,7 @@ told_before lab new last sessions (inr once) = inr (record {
 
 -- what is kept after a moment and sessions were noted is kept from before
 kept_before : (lab : Lab) (last : ℕ) (sessions : List Session) (new : Lab)
-    → Extends SameSession lab.sessions sessions
+    → Extends KeepsSession lab.sessions sessions
     → Keeps (record lab { last = last; sessions = sessions }) new → Keeps lab new
 kept_before lab last sessions new stay keeps = record {
   code = keeps.code;
@@ -326,7 +326,7 @@ kept_before lab last sessions new stay keeps = record {
 }
 
 where_before : (lab : Lab) (last : ℕ) (sessions : List Session) (new : Option Lab)
-    → Extends SameSession lab.sessions sessions
+    → Extends KeepsSession lab.sessions sessions
     → WhereThere (Keeps (record lab { last = last; sessions = sessions })) new
     → WhereThere (Keeps lab) new
 where_before lab last sessions None stay keeps = tt
@@ -384,10 +384,10 @@ own_code persons code person h =
 
 touching : (lab : Lab) (moment : ℕ) (session : Session)
     → session_of lab.sessions session.token ≡ Some session
-    → Extends SameSession lab.sessions (with_session (touched_session moment session) lab.sessions)
+    → Extends KeepsSession lab.sessions (with_session (touched_session moment session) lab.sessions)
 touching lab moment session there =
     with_session_keeps lab.sessions (touched_session moment session) session there
-    (record { number = refl; person = refl; token = refl; opened = refl })
+    (record { same = record { number = refl; person = refl; token = refl; opened = refl }; closed = λ is. is })
 
 allowed_keeps : (lab : Lab) (tick : Tick) (command : SessionCommand) (session : Session)
     (caller : Person)

@@ -23,7 +23,7 @@ use Rattle.lab_records_machine.specs.declared.done.Done.{Done}
 use Rattle.lab_records_machine.specs.declared.done.Done.TheVariants.{Refused, Failed, Read, Made}
 use Rattle.lab_records_machine.specs.Done.{opened_done, done_of}
 use Rattle.lab_records_outcomes.specs.declared.outcome.Outcome.{Outcome}
-use Rattle.lab_records_outcomes.specs.Deciding.{trail_row, outcome, ended_done, opening_ended, touching, decided_in, decided_by, decided}
+use Rattle.lab_records_outcomes.specs.Deciding.{trail_row, outcome, end_on, opening_end, touch_changes, decided_in, decided_by, decided}
 use Rattle.lab_records_laws.specs.TakenSteps.{NotesFirst}
 
 abbrev IsNoted : ℕ → Outcome → Type 0
@@ -38,17 +38,17 @@ made_notes false moment reply refused before more first noted = noted
 
 -- in a session
 ended_notes : (slice : Slice) (moment : ℕ) (person : List ℕ) (session : Session) (done : Done)
-    → IsNoted moment (ended_done slice moment person (touching moment session) done)
+    → IsNoted moment (end_on slice moment person (touch_changes moment session) done)
 ended_notes slice moment person session (Refused refusal) = refl
 ended_notes slice moment person session (Failed occasion failure) = refl
 ended_notes slice moment person session (Read reply) = refl
 ended_notes slice moment person session (Made reply deed own) =
     made_notes (nat_le count_limit slice.counts.trail) moment reply (ToldRefused (People LabFull))
-    (touching moment session) (own ++ trail_row slice.counts.trail moment person deed ∷ []) refl refl
+    (touch_changes moment session) (own ++ trail_row slice.counts.trail moment person deed ∷ []) refl refl
 
 -- at an opening
 opening_notes : (slice : Slice) (moment : ℕ) (code : List ℕ) (done : Done)
-    → IsNoted moment (opening_ended slice moment code done)
+    → IsNoted moment (opening_end slice moment code done)
 opening_notes slice moment code (Refused refusal) = tt
 opening_notes slice moment code (Failed occasion failure) = refl
 opening_notes slice moment code (Read reply) = tt

@@ -32,7 +32,7 @@ use Rattle.lab_records_laws.proofs.FitAccounts.{own_code}
 use Rattle.lab_records_laws.proofs.LimitParts.{session_set, session_token}
 use Rattle.lab_records_machine.specs.Done.{done_of, opened_done}
 use Rattle.lab_records_outcomes.specs.declared.outcome.Outcome.{Outcome}
-use Rattle.lab_records_outcomes.specs.Deciding.{outcome, ended_done, opening_ended, touching, decided_in, decided_by, decided}
+use Rattle.lab_records_outcomes.specs.Deciding.{outcome, end_on, opening_end, touch_changes, decided_in, decided_by, decided}
 use Rattle.lab_records_laws.proofs.OwnCases.{slice_for, opened_is}
 use Rattle.lab_records_laws.proofs.RuleCases.{own_is}
 use Rattle.lab_records_laws.proofs.RuleFits.{own_fits}
@@ -67,8 +67,8 @@ passed_is lab digest tick command session caller found there =
     let fits = own_fits (Premise lab (In command)) lab digest session tick noted caller command
     (λ given. given.1) (session_set noted session lab.sessions found) there in
     subst (λ case. Matches (Premise lab (In command)) lab (ended now tick.moment caller.code case)
-    (ended_done (slice_for lab digest (In command)) tick.moment caller.code
-    (touching tick.moment session) done))
+    (end_on (slice_for lab digest (In command)) tick.moment caller.code
+    (touch_changes tick.moment session) done))
     (sym (own_is lab digest session tick noted caller command))
     (ended_is (Premise lab (In command)) lab digest (In command) tick.moment session caller.code
     done (λ given. given.0) found fits)
@@ -161,7 +161,7 @@ open_is lab tick code password named =
     (session_at lab (token_digest tick)) in
     let now = at_moment tick.moment lab in
     subst (λ case. Matches (Premise lab (Open code password)) lab (opened lab tick.moment code case)
-    (opening_ended (slice_for lab digest (Open code password)) tick.moment code
+    (opening_end (slice_for lab digest (Open code password)) tick.moment code
     (opened_done result)))
     (sym (opened_is lab result))
     (opened_ended (Premise lab (Open code password)) lab digest (Open code password) tick.moment

@@ -13,7 +13,7 @@ use Rattle.lab_records_kept.specs.declared.trails.Occasion.TheVariants.{Opening}
 use Rattle.lab_records_kept.specs.Trails.{row_of}
 use Rattle.lab_records_rules.specs.declared.refusals.Refusal.TheVariants.{People}
 use Rattle.lab_records_machine.specs.declared.replies.Reply.TheVariants.{Refused, Closed}
-use Rattle.lab_records_outcomes.specs.Deciding.{IsFailureWritten, failing, outcome, ended_made}
+use Rattle.lab_records_outcomes.specs.Deciding.{IsFailureWritten, failure_changes, outcome, made_end}
 
 -- the row of that number, that the person's password was refused, or that the account was locked
 abbrev refused_row : ℕ → Person → Change
@@ -24,23 +24,23 @@ locked_row number person = TrailAdded (row_of number 500 (Some person.code) (Loc
 
 -- a password that locks: with room for two rows, for one, and for none
 pub known_locks : (person : Person)
-    → (failing 999999998 0 500 Opening (Locking person)
+    → (failure_changes 999999998 0 500 Opening (Locking person)
     ≡ PersonSet person ∷ SessionsClosed person.code All ∷ refused_row 999999999 person
     ∷ locked_row 1000000000 person ∷ [])
-    × (failing 999999999 0 500 Opening (Locking person)
+    × (failure_changes 999999999 0 500 Opening (Locking person)
     ≡ PersonSet person ∷ SessionsClosed person.code All ∷ refused_row 1000000000 person ∷ [])
-    × (failing 1000000000 0 500 Opening (Locking person)
+    × (failure_changes 1000000000 0 500 Opening (Locking person)
     ≡ PersonSet person ∷ SessionsClosed person.code All ∷ [])
 known_locks person = (refl, refl, refl)
 
 -- one that is counted, one that meets a lock, and one that is nobody's
 pub known_failures : (person : Person)
-    → (failing 999999999 0 500 Opening (Counted person)
+    → (failure_changes 999999999 0 500 Opening (Counted person)
     ≡ PersonSet person ∷ refused_row 1000000000 person ∷ [])
-    × (failing 1000000000 0 500 Opening (Counted person) ≡ PersonSet person ∷ [])
-    × (failing 0 0 500 Opening (AlreadyLocked person) ≡ refused_row 1 person ∷ [])
-    × (failing 1000000000 0 500 Opening (AlreadyLocked person) ≡ [])
-    × (failing 0 7 500 Opening Stray ≡ Strays 8 ∷ [])
+    × (failure_changes 1000000000 0 500 Opening (Counted person) ≡ PersonSet person ∷ [])
+    × (failure_changes 0 0 500 Opening (AlreadyLocked person) ≡ refused_row 1 person ∷ [])
+    × (failure_changes 1000000000 0 500 Opening (AlreadyLocked person) ≡ [])
+    × (failure_changes 0 7 500 Opening Stray ≡ Strays 8 ∷ [])
 known_failures person = (refl, refl, refl, refl, refl)
 
 -- memory may run out of a password that meets a lock as long as there is room for its row, and of one that is counted in any case
@@ -52,9 +52,9 @@ known_writings person = (refl, refl, refl)
 
 -- what is made is told, and refused where the trail is full
 pub known_ends : (before own : Change)
-    → (ended_made (before ∷ []) 999999999 500 (codes "dan") (Closed 3) (Open 3) (own ∷ [])
+    → (made_end (before ∷ []) 999999999 500 (codes "dan") (Closed 3) (Open 3) (own ∷ [])
     ≡ outcome (Closed 3)
     (before ∷ own ∷ TrailAdded (row_of 1000000000 500 (Some (codes "dan")) (Open 3)) ∷ []))
-    × (ended_made (before ∷ []) 1000000000 500 (codes "dan") (Closed 3) (Open 3) (own ∷ [])
+    × (made_end (before ∷ []) 1000000000 500 (codes "dan") (Closed 3) (Open 3) (own ∷ [])
     ≡ outcome (Refused (People LabFull)) (before ∷ []))
 known_ends before own = (refl, refl)

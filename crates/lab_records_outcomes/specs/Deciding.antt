@@ -51,15 +51,15 @@ trail_rows_if_room rows moment person first second =
     else trail_row rows moment person first ∷ trail_row_if_room (rows + 1) moment person second
 
 -- what a failed password changes, where the trail has so many rows and so many strays were counted
-abbrev pub failing : ℕ → ℕ → ℕ → Occasion → Failure → List Change
-failing rows strays moment occasion (Counted person) =
+abbrev pub failure_changes : ℕ → ℕ → ℕ → Occasion → Failure → List Change
+failure_changes rows strays moment occasion (Counted person) =
     PersonSet person ∷ trail_row_if_room rows moment person.code (Refuse occasion)
-failing rows strays moment occasion (Locking person) =
+failure_changes rows strays moment occasion (Locking person) =
     PersonSet person ∷ SessionsClosed person.code All
     ∷ trail_rows_if_room rows moment person.code (Refuse occasion) (Lock person.code)
-failing rows strays moment occasion (AlreadyLocked person) =
+failure_changes rows strays moment occasion (AlreadyLocked person) =
     trail_row_if_room rows moment person.code (Refuse occasion)
-failing rows strays moment occasion Stray = Strays (more_strays strays) ∷ []
+failure_changes rows strays moment occasion Stray = Strays (more_strays strays) ∷ []
 
 -- ---- the end of a command
 
@@ -67,21 +67,21 @@ abbrev pub outcome : Reply → List Change → Outcome
 outcome reply changes = record { reply = reply; changes = changes }
 
 -- a full trail refuses last; else the deed is told
-abbrev pub ended_made : List Change → ℕ → ℕ → List ℕ → Reply → Deed → List Change → Outcome
-ended_made before rows moment person reply deed own =
+abbrev pub made_end : List Change → ℕ → ℕ → List ℕ → Reply → Deed → List Change → Outcome
+made_end before rows moment person reply deed own =
     if nat_le count_limit rows then outcome (ToldRefused (People LabFull)) before
     else outcome reply (before ++ own ++ trail_row rows moment person deed ∷ [])
 
 -- in a session, where the trail has so many rows and so many strays were counted; `before` notes
 -- that the request came
-abbrev pub ended_by : ℕ → ℕ → ℕ → List ℕ → List Change → Done → Outcome
-ended_by rows strays moment person before (Refused refusal) = outcome (ToldRefused refusal) before
-ended_by rows strays moment person before (Failed occasion failure) =
+abbrev pub end_by : ℕ → ℕ → ℕ → List ℕ → List Change → Done → Outcome
+end_by rows strays moment person before (Refused refusal) = outcome (ToldRefused refusal) before
+end_by rows strays moment person before (Failed occasion failure) =
     outcome (ToldRefused (People Credentials))
-    (before ++ failing rows strays moment occasion failure)
-ended_by rows strays moment person before (Read reply) = outcome reply before
-ended_by rows strays moment person before (Made reply deed own) =
-    ended_made before rows moment person reply deed own
+    (before ++ failure_changes rows strays moment occasion failure)
+end_by rows strays moment person before (Read reply) = outcome reply before
+end_by rows strays moment person before (Made reply deed own) =
+    made_end before rows moment person reply deed own
 
 -- a failed password changes something, so that memory may be asked for: of a locked account where
 -- the trail has room for its row, and else in any case
@@ -99,38 +99,38 @@ IsWritten rows (Failed occasion failure) = IsFailureWritten rows failure
 IsWritten rows (Read reply) = ⊥
 IsWritten rows (Made reply deed own) = nat_le count_limit rows ≡ false
 
-abbrev pub ended_done : Slice → ℕ → List ℕ → List Change → Done → Outcome
-ended_done slice moment person before done =
-    ended_by slice.counts.trail slice.strays moment person before done
+abbrev pub end_on : Slice → ℕ → List ℕ → List Change → Done → Outcome
+end_on slice moment person before done =
+    end_by slice.counts.trail slice.strays moment person before done
 
 -- what notes a request by the session at the moment
-abbrev pub touching : ℕ → Session → List Change
-touching moment session = Last moment ∷ SessionSet (touched_session moment session) ∷ []
+abbrev pub touch_changes : ℕ → Session → List Change
+touch_changes moment session = Last moment ∷ SessionSet (touched_session moment session) ∷ []
 
 -- at an opening, whose moment is noted where it is accepted, and where the password fails
-abbrev pub opening_ended : Slice → ℕ → List ℕ → Done → Outcome
-opening_ended slice moment code (Refused refusal) = outcome (ToldRefused refusal) []
-opening_ended slice moment code (Failed occasion failure) =
+abbrev pub opening_end : Slice → ℕ → List ℕ → Done → Outcome
+opening_end slice moment code (Refused refusal) = outcome (ToldRefused refusal) []
+opening_end slice moment code (Failed occasion failure) =
     outcome (ToldRefused (People Credentials))
-    (Last moment ∷ failing slice.counts.trail slice.strays moment occasion failure)
-opening_ended slice moment code (Read reply) = outcome reply []
-opening_ended slice moment code (Made reply deed own) =
-    ended_made [] slice.counts.trail moment code reply deed (Last moment ∷ own)
+    (Last moment ∷ failure_changes slice.counts.trail slice.strays moment occasion failure)
+opening_end slice moment code (Read reply) = outcome reply []
+opening_end slice moment code (Made reply deed own) =
+    made_end [] slice.counts.trail moment code reply deed (Last moment ∷ own)
 
 -- a command in a session, by how far it gets
 abbrev pub decided_in : Slice → Tick → SessionCommand → Passage → Outcome
 decided_in slice tick command Stranger = outcome (ToldRefused (People NoSession)) []
 decided_in slice tick command (Barred session refusal) =
-    outcome (ToldRefused refusal) (touching tick.moment session)
+    outcome (ToldRefused refusal) (touch_changes tick.moment session)
 decided_in slice tick command (Passes session caller) =
-    ended_done slice tick.moment caller.code (touching tick.moment session)
+    end_on slice tick.moment caller.code (touch_changes tick.moment session)
     (done_of slice tick (touched_session tick.moment session) caller command)
 
 -- by the command; for an opening, the part brings the session that has its token
 abbrev pub decided_by : Slice → Tick → Command → Outcome
 decided_by slice tick Card = outcome (ShowsCard slice.code slice.name) []
 decided_by slice tick (Open code password) =
-    opening_ended slice tick.moment code
+    opening_end slice tick.moment code
     (opened_done
     (opening code slice.person password tick slice.counts.sessions slice.session))
 decided_by slice tick (In command) =

@@ -3,10 +3,10 @@
 ghost use Rattle.std.specs.Prelude.{◌≡◌, ◌++◌, ◌∷◌, [], Some, false, nat_le, IfOk, OnErr};
 ghost use Rattle.lab_records_kept.specs.Limits.{count_limit};
 ghost use Rattle.lab_records_kept.specs.Trails.{row_of};
-ghost use Rattle.lab_records_outcomes.specs.Deciding.{IsWritten, failing, outcome, ended_made, ended_by, touching};
+ghost use Rattle.lab_records_outcomes.specs.Deciding.{IsWritten, failure_changes, outcome, made_end, end_by, touch_changes};
 
 use crate::outcome::Outcome;
-use crate::telling::{failed, refused, told};
+use crate::telling::{deed_changes, failure_outcome, refusal_outcome};
 use crate::trail_rows::next_number;
 use lab_forms_texts::{Moment, Ordinal, OutOfMemory, PersonCode, Series};
 use lab_people_access::{Failure, PeopleRefusal, Session};
@@ -19,12 +19,12 @@ use std::alloc::Global;
 ///
 /// # Errors
 /// Memory ran out.
-pub fn touching(
+pub fn touch_changes(
     alloc: Global,
     moment: Moment,
     session: &Session,
 ) -> Result<Series<Change>, OutOfMemory>
-    ensures { IfOk result (λ changes. changes ≡ touching moment session.now) }
+    ensures { IfOk result (λ changes. changes ≡ touch_changes moment session.now) }
 {
     let mut touched = session.copy()?;
     touched.touch(moment);
@@ -36,7 +36,7 @@ pub fn touching(
 ///
 /// # Errors
 /// Memory ran out.
-pub fn opening_failed(
+pub fn failed_opening(
     alloc: Global,
     rows: u64,
     strays: u64,
@@ -46,10 +46,10 @@ pub fn opening_failed(
 ) -> Result<Outcome, OutOfMemory>
     ensures { IfOk result (λ told. told
         ≡ outcome (Reply.Refused (Refusal.People PeopleRefusal.Credentials))
-        (Change.Last moment ∷ failing rows strays moment occasion failure)) }
+        (Change.Last moment ∷ failure_changes rows strays moment occasion failure)) }
 {
     match single(alloc, Change::Last(moment)) {
-        Ok(before) => failed(alloc, before, rows, strays, moment, occasion, failure),
+        Ok(before) => failure_outcome(alloc, before, rows, strays, moment, occasion, failure),
         Err(fault) => {
             drop(failure);
             Err(fault)
@@ -62,7 +62,7 @@ pub fn opening_failed(
 ///
 /// # Errors
 /// Memory ran out.
-pub fn opening_made(
+pub fn made_opening(
     alloc: Global,
     rows: u64,
     moment: Moment,
@@ -72,7 +72,7 @@ pub fn opening_made(
     own: Series<Change>,
 ) -> Result<Outcome, OutOfMemory>
     ensures made { IfOk result (λ outcome. outcome
-        ≡ ended_made [] rows moment code.now reply deed (Change.Last moment ∷ own)) }
+        ≡ made_end [] rows moment code.now reply deed (Change.Last moment ∷ own)) }
     ensures memory { OnErr result (nat_le count_limit rows ≡ false) }
 {
     let Some(number) = next_number(rows) else {
@@ -80,12 +80,12 @@ pub fn opening_made(
         drop(deed);
         drop(own);
         let refusal = Refusal::People(PeopleRefusal::LabFull);
-        return Ok(refused(Series::new(alloc), refusal));
+        return Ok(refusal_outcome(Series::new(alloc), refusal));
     };
     match with_moment(alloc, moment, own) {
         Ok(own) => {
             let before = Series::new(alloc);
-            told_made(alloc, before, number, moment, code, reply, deed, own)
+            told_end(alloc, before, number, moment, code, reply, deed, own)
         }
         Err(fault) => {
             drop(reply);
@@ -126,26 +126,26 @@ pub fn end(
     done: Done,
 ) -> Result<Outcome, OutOfMemory>
     ensures ended { IfOk result
-        (λ outcome. outcome ≡ ended_by rows strays moment person.now before done) }
+        (λ outcome. outcome ≡ end_by rows strays moment person.now before done) }
     ensures memory { OnErr result (IsWritten rows done) }
 {
     match done {
-        Done::Refused(refusal) => Ok(refused(before, refusal)),
+        Done::Refused(refusal) => Ok(refusal_outcome(before, refusal)),
         Done::Failed(occasion, failure) => {
-            failed(alloc, before, rows, strays, moment, occasion, failure)
+            failure_outcome(alloc, before, rows, strays, moment, occasion, failure)
         }
         Done::Read(reply) => Ok(Outcome {
             reply,
             changes: before,
         }),
         Done::Made(reply, deed, own) => {
-            ended_made(alloc, before, rows, moment, person, reply, deed, own)
+            made_end(alloc, before, rows, moment, person, reply, deed, own)
         }
     }
 }
 
 // Something is made: a full trail refuses last; else the deed is told. The only error is out of memory, where the trail has room.
-fn ended_made(
+fn made_end(
     alloc: Global,
     before: Series<Change>,
     rows: u64,
@@ -156,20 +156,20 @@ fn ended_made(
     own: Series<Change>,
 ) -> Result<Outcome, OutOfMemory>
     ensures made { IfOk result (λ outcome. outcome
-        ≡ ended_made before rows moment person.now reply deed own) }
+        ≡ made_end before rows moment person.now reply deed own) }
     ensures memory { OnErr result (nat_le count_limit rows ≡ false) }
 {
     let Some(number) = next_number(rows) else {
         drop(reply);
         drop(deed);
         drop(own);
-        return Ok(refused(before, Refusal::People(PeopleRefusal::LabFull)));
+        return Ok(refusal_outcome(before, Refusal::People(PeopleRefusal::LabFull)));
     };
-    told_made(alloc, before, number, moment, person, reply, deed, own)
+    told_end(alloc, before, number, moment, person, reply, deed, own)
 }
 
 // What was made is told, by the number that the trail gives it. The only error is out of memory: its row is made in any case.
-fn told_made(
+fn told_end(
     alloc: Global,
     before: Series<Change>,
     number: Ordinal,
@@ -182,7 +182,7 @@ fn told_made(
     ensures { IfOk result (λ made. made ≡ outcome reply (before ++ own
         ++ Change.TrailAdded (row_of number moment (Some person.now) deed) ∷ [])) }
 {
-    let changes = told(alloc, before, own, number, moment, person, &deed);
+    let changes = deed_changes(alloc, before, own, number, moment, person, &deed);
     drop(deed);
     match changes {
         Ok(changes) => Ok(Outcome { reply, changes }),

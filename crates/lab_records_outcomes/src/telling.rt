@@ -1,7 +1,7 @@
 //! What is told: a refusal, a failed password, and the row behind what is made.
 ghost use Rattle.std.specs.Prelude.{◌≡◌, ◌++◌, ◌∷◌, [], Some, IfOk, OnErr};
 ghost use Rattle.lab_records_kept.specs.Trails.{row_of};
-ghost use Rattle.lab_records_outcomes.specs.Deciding.{IsFailureWritten, failing, outcome};
+ghost use Rattle.lab_records_outcomes.specs.Deciding.{IsFailureWritten, failure_changes, outcome};
 
 use crate::outcome::Outcome;
 use crate::trail_rows::{fail, row_of};
@@ -13,7 +13,7 @@ use lab_records_rules::Refusal;
 use std::alloc::Global;
 
 /// A command that is refused, with what is changed nevertheless.
-pub fn refused(changes: Series<Change>, refusal: Refusal) -> Outcome
+pub fn refusal_outcome(changes: Series<Change>, refusal: Refusal) -> Outcome
     ensures { result ≡ outcome (Reply.Refused refusal) changes }
 {
     Outcome {
@@ -26,7 +26,7 @@ pub fn refused(changes: Series<Change>, refusal: Refusal) -> Outcome
 ///
 /// # Errors
 /// Memory ran out.
-pub fn failed(
+pub fn failure_outcome(
     alloc: Global,
     before: Series<Change>,
     rows: u64,
@@ -37,19 +37,19 @@ pub fn failed(
 ) -> Result<Outcome, OutOfMemory>
     ensures failed { IfOk result (λ told. told
         ≡ outcome (Reply.Refused (Refusal.People PeopleRefusal.Credentials))
-        (before ++ failing rows strays moment occasion failure)) }
+        (before ++ failure_changes rows strays moment occasion failure)) }
     ensures memory { OnErr result (IsFailureWritten rows failure) }
 {
     let mut changes = before;
     fail(alloc, &mut changes, rows, strays, moment, occasion, failure)?;
-    Ok(refused(changes, Refusal::People(PeopleRefusal::Credentials)))
+    Ok(refusal_outcome(changes, Refusal::People(PeopleRefusal::Credentials)))
 }
 
 /// Changes, and behind them the row that tells of the deed. The only error is out of memory: the row is made in any case.
 ///
 /// # Errors
 /// Memory ran out.
-pub fn told(
+pub fn deed_changes(
     alloc: Global,
     before: Series<Change>,
     own: Series<Change>,

@@ -3,7 +3,7 @@ ghost use Rattle.std.specs.Prelude.{◌≡◌, ◌+◌, ◌++◌, ◌∷◌, Som
 ghost use Rattle.lab_records_kept.specs.Limits.{count_limit};
 ghost use Rattle.lab_records_kept.specs.Trails.{row_of};
 ghost use Rattle.lab_records_machine.specs.Cases.{more_strays};
-ghost use Rattle.lab_records_outcomes.specs.Deciding.{IsFailureWritten, trail_row_if_room, trail_rows_if_room, failing};
+ghost use Rattle.lab_records_outcomes.specs.Deciding.{IsFailureWritten, trail_row_if_room, trail_rows_if_room, failure_changes};
 
 use lab_forms_texts::{Moment, Ordinal, OutOfMemory, PersonCode, Series};
 use lab_people_access::{Closing, Failure, Person};
@@ -106,7 +106,7 @@ pub fn fail(
     failure: Failure,
 ) -> Result<(), OutOfMemory>
     ensures changed { OnOk result
-        (changes.new ≡ changes.old ++ failing rows strays moment occasion failure) }
+        (changes.new ≡ changes.old ++ failure_changes rows strays moment occasion failure) }
     ensures memory { OnErr result (IsFailureWritten rows failure) }
 {
     match failure {

@@ -6,4 +6,6 @@ pub mod HeadLemmas
 pub mod FaultLemmas
 pub mod ReadLemmas
 pub mod LimitLemmas
+pub mod EachLemmas
+pub mod LegibleLemmas
 pub mod KnownValues

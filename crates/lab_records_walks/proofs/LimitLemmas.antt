@@ -94,7 +94,7 @@ few_of_record : (lab : List ℕ) (kept : KeptRecord) → IsOrderly kept → IsDu
 few_of_record lab kept orderly dual =
     omega (arith, orderly.few, few_of_versions lab kept kept.versions orderly.rows dual.signed)
 
-few_of_records : (lab : List ℕ) (records : List KeptRecord) → All IsOrderly records →
+pub few_of_records : (lab : List ℕ) (records : List KeptRecord) → All IsOrderly records →
     All IsDualRecord records → length (body_lines lab records) ≤ length records * 20197
 few_of_records lab [] orderly dual = omega arith
 few_of_records lab (kept ∷ others) orderly dual =

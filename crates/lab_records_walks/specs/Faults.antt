@@ -1,11 +1,11 @@
 -- Why a copy didn't go out whole: numbers and words, and where each fault may be told.
 use Rattle.std.specs.Prelude.{ℕ, List, Option, Some, None, Result, Ok, Err, codes}
 use Rattle.lab_forms_texts.specs.Faults.{memory_entry}
-use Rattle.lab_records_kept.specs.declared.faults.KeeperFault.{KeeperFault}
-use Rattle.lab_records_kept.specs.declared.faults.KeeperFault.TheVariants.{Storage as StoreRefused, Memory as NoMemory}
+use Rattle.lab_forms_texts.specs.declared.refusals.Fault.{Fault}
+use Rattle.lab_forms_texts.specs.declared.refusals.Fault.TheVariants.{Refused, Memory as NoMemory}
+use Rattle.lab_records_kept.specs.declared.faults.BadStore.{BadStore}
 use Rattle.lab_records_kept.specs.Faults.{no_such_lab_entry, storage_entry}
-use Rattle.lab_copy_rows.specs.declared.faults.CopyOutFault.{CopyOutFault as RowFault}
-use Rattle.lab_copy_rows.specs.declared.faults.CopyOutFault.TheVariants.{Write as RowWrite, Memory as RowMemory}
+use Rattle.lab_copy_rows.specs.declared.faults.WriteFailure.{WriteFailure}
 use Rattle.lab_records_walks.specs.declared.faults.CopyOutFault.{CopyOutFault}
 use Rattle.lab_records_walks.specs.declared.faults.CopyOutFault.TheVariants.{NoSuchLab, Storage, Memory, Write}
 
@@ -24,13 +24,13 @@ copy_fault_word Memory = memory_entry.word
 copy_fault_word Write = codes "write_fault"
 
 -- what a fault of the keeper, and one of a row that didn't go out, are told as
-abbrev pub keeper_told : KeeperFault → CopyOutFault
-keeper_told StoreRefused = Storage
+abbrev pub keeper_told : Fault BadStore → CopyOutFault
+keeper_told (Refused _) = Storage
 keeper_told NoMemory = Memory
 
-abbrev pub row_told : RowFault → CopyOutFault
-row_told RowWrite = Write
-row_told (RowMemory _) = Memory
+abbrev pub row_told : Fault WriteFailure → CopyOutFault
+row_told (Refused _) = Write
+row_told NoMemory = Memory
 
 -- that there is no laboratory is told only where there is none; the keeper's store is blamed only
 -- where it may refuse, and the writer only where there is a copy to be written

@@ -1,3 +1,4 @@
 pub mod Walks
 pub mod Resting
 pub mod Faults
+pub mod Legible

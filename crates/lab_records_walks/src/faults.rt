@@ -71,7 +71,7 @@ impl From<KeeperFault> for CopyOutFault {
 
     fn from(fault: KeeperFault) -> CopyOutFault {
         match fault {
-            KeeperFault::Storage => CopyOutFault::Storage,
+            KeeperFault::Refused(_) => CopyOutFault::Storage,
             KeeperFault::Memory => CopyOutFault::Memory,
         }
     }
@@ -85,8 +85,8 @@ impl From<RowFault> for CopyOutFault {
 
     fn from(fault: RowFault) -> CopyOutFault {
         match fault {
-            RowFault::Write => CopyOutFault::Write,
-            RowFault::Memory(_) => CopyOutFault::Memory,
+            RowFault::Refused(_) => CopyOutFault::Write,
+            RowFault::Memory => CopyOutFault::Memory,
         }
     }
 }

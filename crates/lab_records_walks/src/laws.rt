@@ -1,8 +1,15 @@
 //! What the definitions say of laboratories whose copies go out.
+ghost use Rattle.lab_records_walks.specs.Legible.{AllGiveSoundCopies};
 ghost use Rattle.lab_records_walks.specs.Walks.{AllCanBeWalked};
 
 /// Law: a laboratory within its limits and under dual control can be walked.
 #[tactic(auto, using(crate::proofs::LimitLemmas::all_can_be_walked))]
 pub fn a_laboratory_can_be_walked()
     ensures { AllCanBeWalked }
+{}
+
+/// Law: a laboratory within its limits, bound, under dual control and legible gives sound copies.
+#[tactic(auto, using(crate::proofs::LegibleLemmas::all_give_sound_copies))]
+pub fn a_legible_laboratory_gives_sound_copies()
+    ensures { AllGiveSoundCopies }
 {}

@@ -5,6 +5,7 @@
 mod faults;
 mod givers;
 mod laws;
+mod legible;
 mod progress;
 mod reads;
 mod rows;
@@ -13,7 +14,8 @@ mod walks;
 pub use faults::CopyOutFault;
 pub use givers::{RecordGiver, WholeRecords};
 pub use lab_records_kept::{Keeper, LabCode, Moment, Ordinal};
-pub use laws::a_laboratory_can_be_walked;
+pub use laws::{a_laboratory_can_be_walked, a_legible_laboratory_gives_sound_copies};
+pub use legible::{changes_are_legible, newborn_is_legible, order_is_legible};
 pub use progress::{Progress, Unheard};
 pub use rows::give_rows;
 pub use walks::copy_out;

@@ -1,16 +1,18 @@
 //! The walk over a laboratory's records: the rows of each go out, one record after the other.
 
-ghost use Rattle.std.specs.Prelude.{◌≡◌, ◌≤◌, None, Err, IsSome, IfErr, OnOk};
+ghost use Rattle.std.specs.Prelude.{◌≡◌, ◌≤◌, None, Err, IsSome, IfErr, MatchOption, OnOk};
 ghost use Rattle.lab_copy_rows.specs.Outs.{Sends};
 ghost use Rattle.lab_records_kept.specs.Worlds.{Given, Lives};
 ghost use Rattle.lab_forms_texts.specs.Ordinals.{last_ordinal};
 ghost use Rattle.lab_copy_rows.specs.Csv.{csv_text};
 ghost use Rattle.lab_records_walks.specs.Faults.{CopyFaultFits, OnTold};
+ghost use Rattle.lab_records_walks.specs.Legible.{CanCopy, SendsSound};
 ghost use Rattle.lab_records_walks.specs.Resting.{IsRead};
 ghost use Rattle.lab_records_walks.specs.Walks.{AreCountable, CanWalk, copy_text, counted_all, desk_order, record_rows, text_under, walked_to};
 
 use crate::CopyOutFault;
 use crate::givers::RecordGiver;
+use crate::legible::order_is_legible;
 use crate::progress::Progress;
 use crate::reads::{first_line, head_of, last_kept};
 use lab_copy_rows::{CopyLine, CopyOut};
@@ -20,7 +22,8 @@ use std::io::Write;
 
 /// Writes the inspection copy of a laboratory's records from a number to a number, made for nobody
 /// at this moment (21 CFR 11.10(b)). The giver has the rows of one record after the other go out, and
-/// the progress is told after each.
+/// the progress is told after each. A copy that went out whole is sound: the checker finds no flaw in
+/// it.
 ///
 /// # Errors
 /// That there is no laboratory of the code, the store's refusal, that memory ran out, and a write
@@ -43,6 +46,13 @@ pub fn copy_out<S: Keeper, G: RecordGiver<S>, W: Write, P: Progress>(
         (Sends (W.contents writer.old) (W.contents writer.new)
         (copy_text (desk_order from to moment) ((S.world keeper.old).meaning lab.now)) result) }
 
+    // Where the laboratory is within its limits, bound, under dual control and legible:
+    ensures sound { CanCopy (S.world keeper.old) lab.now → from ≤ to →
+        Given (S.world keeper.old) (S.world keeper.new)
+        (OnOk result (MatchOption ((S.world keeper.old).meaning lab.now) ⊥
+        (SendsSound (desk_order from to moment)
+        (W.contents writer.old) (W.contents writer.new)))) }
+
     // Whatever they are:
     ensures found { Given (S.world keeper.old) (S.world keeper.new)
         (OnOk result (IsSome ((S.world keeper.old).meaning lab.now))) }
@@ -57,6 +67,7 @@ pub fn copy_out<S: Keeper, G: RecordGiver<S>, W: Write, P: Progress>(
         (OnTold result (Lives (S.world keeper.old) (S.world keeper.new))) }
     ensures read { IsRead S.world S.rests keeper.old keeper.new }
 {
+    order_is_legible(from, to, moment);
     match head_of(keeper, lab) {
         Ok(Some(slice)) => {
             let last = last_kept(&slice, to);

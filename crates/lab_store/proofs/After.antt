@@ -62,11 +62,6 @@ module _ (code : List ℕ) (changes : List Change) (old middle new : State) (rea
     crash = crash_after {A = A} {E = E} (Err e) ends;
   }
 
-  -- whatever the fault is told as
-  pub ends_told : {A B E F : Type 0} (e : E) (r : Result B F) → OnOk r ⊥ → Ends (InTurn (StepsBy id) changes) {A = A} {E = E} (Err e) middle new → Ends (AreMadeIfAny code changes) r old new
-  ends_told e (Ok b) told ends = absurd told
-  ends_told {A} {B} e (Err f) told ends = ends_err B e f ends
-
 -- the row of the laboratory that a look-up answered
 pub found_row : (o : Option LabRow) (head : LabHead) → Some head ≡ option_map lab_head o → (lab : LabRow) × (o ≡ Some lab) × (lab.id ≡ head.id)
 found_row None head is = absurd (let e = is in cc)

@@ -1,8 +1,9 @@
 -- What a call of the keeper promises, of what a call on its connection does.
 use Rattle.std.proofs.Common.{Result, Ok, Err, OnOk}
 use Rattle.sqlite.specs.State.{State, HasCleanDisk, IsUnchanged}
-use Rattle.lab_records_kept.specs.declared.faults.KeeperFault.{KeeperFault}
-use Rattle.lab_records_kept.specs.declared.faults.KeeperFault.TheVariants.{Storage, Memory}
+use Rattle.lab_forms_texts.specs.declared.refusals.Fault.{Fault}
+use Rattle.lab_records_kept.specs.declared.faults.BadStore.{BadStore}
+use Rattle.lab_forms_texts.specs.declared.refusals.Fault.TheVariants.{Refused, Memory}
 use Rattle.lab_records_kept.specs.Worlds.{Passes, Quiet, StaysSafe, Lives, KeeperFaultFits}
 use Rattle.lab_store_tables.specs.Ready.{IsReady, PassesBy}
 use Rattle.lab_store.specs.StoreWorlds.{world_of}
@@ -23,6 +24,6 @@ pub lives_by : {A E : Type 0} (old new : State) (r : Result A E) → OnOk r (IsU
 lives_by old new (Ok a) same = (same.0.was_open, same.0.is_open)
 lives_by old new (Err e) same = tt
 
-pub any_fault : (fault : KeeperFault) → KeeperFaultFits (Unit {0}) fault
-any_fault Storage = tt
+pub any_fault : (fault : Fault BadStore) → KeeperFaultFits (Unit {0}) fault
+any_fault (Refused _) = tt
 any_fault Memory = tt

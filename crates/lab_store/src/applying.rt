@@ -14,7 +14,7 @@ use crate::inside::Inside;
 use crate::tables::Tables;
 use lab_forms_texts::LabCode;
 use lab_records_kept::Change;
-use lab_store_columns::ReadFault;
+use lab_store_columns::{BadStore, ReadFault, read_fault};
 use lab_store_read_records::lab_at;
 use lab_store_write::RowId;
 use lab_store_write_changes::all_inside;
@@ -92,8 +92,10 @@ pub fn apply<S: Alter>(
         return Ok(());
     }
     let Some(head) = found else {
-        return Err(ReadFault::Storage);
+        return Err(ReadFault::Refused(BadStore));
     };
-    commit_all(&mut tables.conn, RowId { id: head.id }, changes)?;
-    Ok(())
+    match commit_all(&mut tables.conn, RowId { id: head.id }, changes) {
+        Ok(()) => Ok(()),
+        Err(error) => Err(read_fault(error)),
+    }
 }

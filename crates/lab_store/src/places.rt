@@ -14,17 +14,17 @@ ghost use Rattle.lab_store_write_changes.specs.NewbornRows.{AddsRows};
 use crate::inside::Inside;
 use lab_forms_texts::LabCode;
 use lab_records_kept::{Lab, PlacingFault};
-use lab_store_columns::{ReadFault, Readable};
+use lab_store_columns::{ReadFault, Readable, read_fault};
 use lab_store_read_records::lab_rows;
 use lab_store_write_changes::add_rows;
 use sqlite::{Alter, Connection, Error, Row, Transaction};
 
-// What an error of the store is told as.
-fn placing_fault(error: Error) -> PlacingFault
+// What a fault of the store is told as.
+fn placing_fault(fault: ReadFault) -> PlacingFault
     ensures { result ≢ LabExists }
 {
-    match ReadFault::from(error) {
-        ReadFault::Storage => PlacingFault::Storage,
+    match fault {
+        ReadFault::Refused(_) => PlacingFault::Storage,
         ReadFault::Memory => PlacingFault::Memory,
     }
 }
@@ -46,7 +46,7 @@ pub(crate) fn is_there<D: Readable>(conn: &mut D, code: &LabCode) -> Result<bool
 {
     match lab_rows(conn, code.as_str()) {
         Ok(rows) => Ok(has_row(&rows)),
-        Err(error) => Err(placing_fault(error)),
+        Err(fault) => Err(placing_fault(fault)),
     }
 }
 
@@ -88,6 +88,6 @@ pub(crate) fn place<S: Alter>(conn: &mut Connection<S>, lab: &Lab) -> Result<(),
 {
     match commit_rows(conn, lab) {
         Ok(()) => Ok(()),
-        Err(error) => Err(placing_fault(error)),
+        Err(error) => Err(placing_fault(read_fault(error))),
     }
 }

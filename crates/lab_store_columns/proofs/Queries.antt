@@ -19,7 +19,10 @@ use Rattle.sqlite.specs.declared.error.Error.{Error}
 use Rattle.sqlite.specs.Clock as clock
 use Rattle.sqlite.specs.Listing.{understood, if_select, is_select, listing_schema, reads_listing}
 use Rattle.sqlite.specs.State.{State, HasCleanDisk, IsUnchanged, IsRolledBack, IsNotRun, Shown, ShowsRows, FailsToQuery, FailsToShow, Survives, CommitsShowing}
+use Rattle.lab_forms_texts.specs.declared.refusals.Fault.{Fault}
+use Rattle.lab_records_kept.specs.declared.faults.BadStore.{BadStore}
 use Rattle.lab_store_tables.specs.Ready.{IsAtRest, IsKept, PassesBy}
+use Rattle.lab_store_columns.specs.Reads.{FailsToAsk}
 
 -- ---- the text is a query without RETURNING, under any schema
 
@@ -122,17 +125,17 @@ kept_open old new opened (inr it) = it.was_open opened
 
 module _ (sql : List ℕ) (read : IsRead (first sql)) (params : Row) (old new : State) (before : HasCleanDisk new → HasCleanDisk old) where
   -- at Ok nothing has changed
-  pub same : (r : Result (Vec Row Global) Error) → IfOk r (λ rows. Shown sql params old new rows.items) → OnOk r (IsUnchanged old new)
+  pub same : (r : Result (Vec Row Global) (Fault BadStore)) → IfOk r (λ rows. Shown sql params old new rows.items) → OnOk r (IsUnchanged old new)
   same (Ok rows) h = shown_unchanged sql read params old new rows.items h
   same (Err e) h = tt
 
-  pub ends : (r : Result (Vec Row Global) Error) → IfOk r (λ rows. Shown sql params old new rows.items) → IfErr r (FailsToQuery sql params old new)
+  pub ends : (r : Result (Vec Row Global) (Fault BadStore)) → IfOk r (λ rows. Shown sql params old new rows.items) → IfErr r (FailsToAsk sql params old new)
       → IsUnchanged old new ⊎ IsRolledBack old new
   ends (Ok rows) ok err = inl (shown_unchanged sql read params old new rows.items ok)
-  ends (Err e) ok err = fails_kept sql params old new e err
+  ends (Err fault) ok err = fails_kept sql params old new err.0 err.1
 
-  pub passes : (r : Result (Vec Row Global) Error) → (old.in_transaction ≡ false → new.in_transaction ≡ false)
-      → (HasCleanDisk new → IfOk r (λ rows. Shown sql params old new rows.items)) → (HasCleanDisk new → IfErr r (FailsToQuery sql params old new))
+  pub passes : (r : Result (Vec Row Global) (Fault BadStore)) → (old.in_transaction ≡ false → new.in_transaction ≡ false)
+      → (HasCleanDisk new → IfOk r (λ rows. Shown sql params old new rows.items)) → (HasCleanDisk new → IfErr r (FailsToAsk sql params old new))
       → Survives old new (CommitsShowing sql params old) → PassesBy old new
   passes r alone ok err survives = record {
     at_rest = rests;

@@ -3,7 +3,8 @@ use Rattle.std.proofs.Common.{◌≡◌, ℕ, ◌⊎◌, inl, inr, List, refl, �
 use Rattle.std.specs.Prelude.{Vec, IsErrAnd}
 use Rattle.std.specs.declared.alloc.Global.{Global}
 use Rattle.sqlite_value.specs.Order.{Row}
-use Rattle.sqlite.specs.declared.error.Error.{Error}
+use Rattle.lab_forms_texts.specs.declared.refusals.Fault.{Fault}
+use Rattle.lab_records_kept.specs.declared.faults.BadStore.{BadStore}
 use Rattle.sqlite.specs.Effect.{Database}
 use Rattle.sqlite.specs.State.{State, HasCleanDisk, IsUnchanged, IsRolledBack, KeepsCommit, Shown}
 use Rattle.sqlite_resolve.specs.Compile.{first}
@@ -15,7 +16,7 @@ use Rattle.lab_store_columns.proofs.Queries.{IsRead, shown_open, passes, same, e
 -- ---- one query
 
 -- a query of ours reads, where its rows are those that the tables show
-pub rows_read : {old new : State} {sql : List ℕ} {params : Row} {r : Result (Vec Row Global) Error} {Answer : Tables → Vec Row Global → Type 0}
+pub rows_read : {old new : State} {sql : List ℕ} {params : Row} {r : Result (Vec Row Global) (Fault BadStore)} {Answer : Tables → Vec Row Global → Type 0}
     → IsRead (first sql) → Asks sql params old new r
     → ((rows : Vec Row Global) → IsKept old.now → Shown sql params old new rows.items → Answer (tables_of old) rows) → Reads Answer old new r
 rows_read {old} {new} {sql} {params} {r} {Answer} read it exact =
@@ -26,7 +27,7 @@ rows_read {old} {new} {sql} {params} {r} {Answer} read it exact =
       answer = λ ready clean. go r (λ rows shown. exact rows (ready.kept (before clean) (shown_open sql params old new rows.items shown)) shown) (it.ok clean);
     }
   where
-    go : (r : Result (Vec Row Global) Error) → ((rows : Vec Row Global) → Shown sql params old new rows.items → Answer (tables_of old) rows)
+    go : (r : Result (Vec Row Global) (Fault BadStore)) → ((rows : Vec Row Global) → Shown sql params old new rows.items → Answer (tables_of old) rows)
         → IfOk r (λ rows. Shown sql params old new rows.items) → IfOk r (Answer (tables_of old))
     go (Ok rows) f it = f rows it
     go (Err e) f it = tt
@@ -36,7 +37,7 @@ kept_commit old new (inl it) = record { was_open = λ _. it.0.was_open; committe
 kept_commit old new (inr it) = record { was_open = it.was_open; committed = λ opened. (it.undone opened).1 }
 
 -- however a query of ours ends, nothing is committed
-pub rows_kept : {old new : State} {sql : List ℕ} {params : Row} {r : Result (Vec Row Global) Error} → IsRead (first sql) → Asks sql params old new r
+pub rows_kept : {old new : State} {sql : List ℕ} {params : Row} {r : Result (Vec Row Global) (Fault BadStore)} → IsRead (first sql) → Asks sql params old new r
     → HasCleanDisk new → KeepsCommit old new
 rows_kept {old} {new} {sql} {params} {r} read it clean =
     kept_commit old new (ends sql read params old new (λ (clean : HasCleanDisk new). omega (arith, it.survives.clean)) r (it.ok clean) (it.err clean))

@@ -7,12 +7,20 @@ use Rattle.sqlite.specs.declared.error.Error.{Error}
 use Rattle.sqlite.specs.State.{State, HasCleanDisk, IsUnchanged, Survives, Shown, CommitsShowing, FailsToQuery}
 use Rattle.lab_store_tables.specs.Rows.{Tables}
 use Rattle.lab_store_tables.specs.Ready.{IsReady, PassesBy, tables_of}
+use Rattle.lab_forms_texts.specs.declared.refusals.Fault.{Fault}
+use Rattle.lab_records_kept.specs.declared.faults.BadStore.{BadStore}
+use Rattle.lab_store_columns.specs.Faults.{store_fault}
+
+-- a query fails by an error of the store, which is told as a fault
+abbrev pub FailsToAsk : List ℕ → Row → State → State → Fault BadStore → Type 0
+FailsToAsk sql params old new fault =
+    (error : Error) × FailsToQuery sql params old new error × (fault ≡ store_fault error)
 
 -- one query, whatever the file is
 pub record Asks (sql : List ℕ) (params : Row) (old new : State)
-    (result : Result (Vec Row Global) Error) : Type 0 where
+    (result : Result (Vec Row Global) (Fault BadStore)) : Type 0 where
   pub ok : HasCleanDisk new → IfOk result (λ rows. Shown sql params old new rows.items)
-  pub err : HasCleanDisk new → IfErr result (FailsToQuery sql params old new)
+  pub err : HasCleanDisk new → IfErr result (FailsToAsk sql params old new)
   pub mode : old.in_transaction ≡ false → new.in_transaction ≡ false
   pub survives : Survives old new (CommitsShowing sql params old)
 

@@ -4,14 +4,19 @@ ghost use Rattle.std.specs.Prelude.{[], ◌∷◌, pos};
 ghost use Rattle.sqlite_value.specs.declared.value.Value.TheVariants.{Int, Text};
 ghost use Rattle.lab_store_columns.specs.Reads.{Asks};
 
+use crate::faults::ReadFault;
 use crate::readable::Readable;
-use sqlite::{Error, Row, params};
+use sqlite::{Row, params};
 
 /// The rows of a query with a text.
 ///
 /// # Errors
 /// The store refused, or memory ran out.
-pub fn rows_by_text<D: Readable>(conn: &mut D, sql: &str, first: &str) -> Result<Vec<Row>, Error>
+pub fn rows_by_text<D: Readable>(
+    conn: &mut D,
+    sql: &str,
+    first: &str,
+) -> Result<Vec<Row>, ReadFault>
     ensures { Asks sql.now (Text first.now ∷ []) (D.state conn.old) (D.state conn.new) result }
 {
     conn.query_all(sql, params![first])
@@ -21,7 +26,7 @@ pub fn rows_by_text<D: Readable>(conn: &mut D, sql: &str, first: &str) -> Result
 ///
 /// # Errors
 /// The store refused, or memory ran out.
-pub fn rows_by_one<D: Readable>(conn: &mut D, sql: &str, first: i64) -> Result<Vec<Row>, Error>
+pub fn rows_by_one<D: Readable>(conn: &mut D, sql: &str, first: i64) -> Result<Vec<Row>, ReadFault>
     ensures { Asks sql.now (Int first ∷ []) (D.state conn.old) (D.state conn.new) result }
 {
     conn.query_all(sql, params![first])
@@ -36,7 +41,7 @@ pub fn rows_by_code<D: Readable>(
     sql: &str,
     first: i64,
     second: &str,
-) -> Result<Vec<Row>, Error>
+) -> Result<Vec<Row>, ReadFault>
     ensures { Asks sql.now (Int first ∷ Text second.now ∷ [])
         (D.state conn.old) (D.state conn.new) result }
 {
@@ -53,7 +58,7 @@ pub fn rows_by_range<D: Readable>(
     first: i64,
     second: u32,
     third: u32,
-) -> Result<Vec<Row>, Error>
+) -> Result<Vec<Row>, ReadFault>
     ensures { Asks sql.now (Int first ∷ Int (pos second) ∷ Int (pos third) ∷ [])
         (D.state conn.old) (D.state conn.new) result }
 {

@@ -10,11 +10,12 @@ use crate::cells::text_of;
 use crate::faults::ReadFault;
 use crate::readable::Readable;
 use lab_forms_texts::PersonCode;
-use sqlite::{Error, Row};
+use lab_records_kept::BadStore;
+use sqlite::Row;
 use std::alloc::Global;
 
 // The code of the person with the id, as a row.
-fn code_rows<D: Readable>(conn: &mut D, id: i64) -> Result<Vec<Row>, Error>
+fn code_rows<D: Readable>(conn: &mut D, id: i64) -> Result<Vec<Row>, ReadFault>
     ensures { Reads (λ t rows. rows.items ≡ codes_shown t id)
         (D.state conn.old) (D.state conn.new) result }
 {
@@ -27,7 +28,7 @@ fn first_code(alloc: Global, rows: &[Row]) -> Result<PersonCode, ReadFault>
 {
     match rows.first() {
         Some(row) => text_of(alloc, row, 0),
-        None => Err(ReadFault::Storage),
+        None => Err(ReadFault::Refused(BadStore)),
     }
 }
 

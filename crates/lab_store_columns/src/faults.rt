@@ -1,83 +1,44 @@
 //! Why nothing was read.
 
 ghost use Rattle.std.specs.Prelude.{◌≡◌};
-ghost use Rattle.lab_store_columns.specs.Faults.{is_out_of_memory, store_fault, name_fault, kept_fault};
+ghost use Rattle.lab_store_columns.specs.Faults.{is_out_of_memory, name_fault, store_fault};
 
 use lab_forms_texts::NameFault;
-use lab_records_kept::KeeperFault;
-use sqlite::{Error as StoreError, ErrorCode};
+use lab_records_kept::{BadStore, KeeperFault};
+use sqlite::{Error, ErrorCode};
 use sqlite_resolve::CompileError;
-use std::alloc::{AllocError, AllocFailed};
 
-/// Why nothing was read. The rows are as they were.
-#[derive(Clone, Copy, Debug, PartialEq, Eq)]
-pub enum ReadFault {
-    /// The store refused, or a row of it is none that is written.
-    Storage,
-    /// Memory ran out.
-    Memory,
-}
+/// Why nothing was read: the store refused or a row of it is none that is written, or memory ran out. The rows are as they
+/// were. A keeper gives it as its own.
+pub type ReadFault = KeeperFault;
 
-impl From<StoreError> for ReadFault {
-    ghost from_gives = { λ error fault. fault ≡ store_fault error };
-
-    fn from(error: StoreError) -> ReadFault {
-        if is_out_of_memory(&error) {
-            ReadFault::Memory
-        } else {
-            ReadFault::Storage
-        }
+/// What an error of the store is told as.
+pub fn read_fault(error: Error) -> ReadFault
+    ensures { result ≡ store_fault error }
+{
+    if is_out_of_memory(&error) {
+        ReadFault::Memory
+    } else {
+        ReadFault::Refused(BadStore)
     }
 }
 
-fn is_out_of_memory(error: &StoreError) -> bool
+fn is_out_of_memory(error: &Error) -> bool
     ensures { result ≡ is_out_of_memory error.now }
 {
     matches!(
         error,
-        StoreError::SqliteFailure(ErrorCode::OutOfMemory)
-            | StoreError::SqlInputError(CompileError::OutOfMemory)
+        Error::SqliteFailure(ErrorCode::OutOfMemory)
+            | Error::SqlInputError(CompileError::OutOfMemory)
     )
 }
 
-impl From<NameFault> for ReadFault {
-    ghost from_gives = { λ error fault. fault ≡ name_fault error };
-
-    fn from(error: NameFault) -> ReadFault {
-        match error {
-            NameFault::Refused(_) => ReadFault::Storage,
-            NameFault::Memory => ReadFault::Memory,
-        }
-    }
-}
-
-impl From<AllocError> for ReadFault {
-    ghost use Rattle.lab_store_columns.specs.declared.faults.ReadFault.TheVariants.{Memory};
-
-    ghost from_gives = { λ _ fault. fault ≡ Memory };
-
-    fn from(_error: AllocError) -> ReadFault {
-        ReadFault::Memory
-    }
-}
-
-impl<T: Drop> From<AllocFailed<T>> for ReadFault {
-    ghost use Rattle.lab_store_columns.specs.declared.faults.ReadFault.TheVariants.{Memory};
-
-    ghost from_gives = { λ _ fault. fault ≡ Memory };
-
-    fn from(_error: AllocFailed<T>) -> ReadFault {
-        ReadFault::Memory
-    }
-}
-
-impl From<ReadFault> for KeeperFault {
-    ghost from_gives = { λ error fault. fault ≡ kept_fault error };
-
-    fn from(error: ReadFault) -> KeeperFault {
-        match error {
-            ReadFault::Storage => KeeperFault::Storage,
-            ReadFault::Memory => KeeperFault::Memory,
-        }
+/// What is told where a stored text is none of its kind, or memory ran out for it.
+pub(crate) fn name_fault(error: NameFault) -> ReadFault
+    ensures { result ≡ name_fault error }
+{
+    match error {
+        NameFault::Refused(_) => ReadFault::Refused(BadStore),
+        NameFault::Memory => ReadFault::Memory,
     }
 }

@@ -9,5 +9,6 @@ mod faults;
 mod readable;
 
 pub use codes::{code_at, code_if};
-pub use faults::ReadFault;
+pub use faults::{ReadFault, read_fault};
+pub use lab_records_kept::BadStore;
 pub use readable::Readable;

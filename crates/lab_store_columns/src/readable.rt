@@ -4,8 +4,9 @@ ghost use Rattle.sqlite.specs.State.{State};
 ghost use Rattle.sqlite.specs.Values.{bound};
 ghost use Rattle.lab_store_columns.specs.Reads.{Asks};
 
+use crate::faults::ReadFault;
+use sqlite::Row;
 use sqlite::types::ValueRef;
-use sqlite::{Error, Row};
 
 /// What answers queries, with its state, of which each reader tells what it reads and what stays as it was.
 ///
@@ -19,6 +20,6 @@ pub trait Readable {
     ///
     /// # Errors
     /// The statement is refused, the disk fails, or memory runs out.
-    fn query_all(&mut self, sql: &str, params: &[ValueRef<'_>]) -> Result<Vec<Row>, Error>
+    fn query_all(&mut self, sql: &str, params: &[ValueRef<'_>]) -> Result<Vec<Row>, ReadFault>
         ensures { Asks sql.now (bound params.now) (state self.old) (state self.new) result };
 }

@@ -174,10 +174,10 @@ module _ (t : Tables) (rising : AreRising t) (labs : have_own_ids lab_id t.labs 
   form_changes = rows_changed t after refl labs code row found (FormAdded form) by_case
 
 -- a version of a form is added, under the next number of its code
-pub form_is_added : {old new : Tables} {code : List ℕ} {form : FormVersion} → AreRising old → AreWellKept old
-    → ChangesFit (meaning old code) (FormAdded form ∷ []) → Applies code (FormAdded form) old new
+pub form_is_numbered : {old new : Tables} {code : List ℕ} {form : FormVersion} → AreRising old → AreWellKept old
+    → (it : Applies code (FormAdded form) old new) → form.version ≡ next_form_version (last_form (forms_of old it.lab.id) form.code)
     → Changes code (FormAdded form ∷ []) (meaning old) (meaning new)
-form_is_added {old} {new} {code} {form} rising well fit it =
+form_is_numbered {old} {new} {code} {form} rising well it next =
     let whole = whole_by_test old well.arrows in
     let id = it.made.id in
     let free = it.made.free in
@@ -189,5 +189,11 @@ form_is_added {old} {new} {code} {form} rising well fit it =
     (none_placed (λ (one : FieldRow). one.form) (λ (one : FieldRow). one.place) id old.fields no_own)
     (all_from_test (λ (one : ChoiceRow). has_parent field_id old.fields (Some one.field)) old.choices whole.choices) it.made.fields in
     subst (λ t. Changes code (FormAdded form ∷ []) (meaning old) (meaning t)) (sym all.2)
-    (form_changes old rising (own_by_tests old well.ids well.keys).labs whole code it.lab it.found form id free all.0 all.1 all.3
-    (fits_here old code it.lab (FormAdded form) it.found fit).0)
+    (form_changes old rising (own_by_tests old well.ids well.keys).labs whole code it.lab it.found form id free all.0 all.1 all.3 next)
+
+-- one that fits
+pub form_is_added : {old new : Tables} {code : List ℕ} {form : FormVersion} → AreRising old → AreWellKept old
+    → ChangesFit (meaning old code) (FormAdded form ∷ []) → Applies code (FormAdded form) old new
+    → Changes code (FormAdded form ∷ []) (meaning old) (meaning new)
+form_is_added {old} {new} {code} {form} rising well fit it =
+    form_is_numbered rising well it (fits_here old code it.lab (FormAdded form) it.found fit).0

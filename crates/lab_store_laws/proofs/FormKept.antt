@@ -175,14 +175,20 @@ module _ (t : Tables) (well : AreWellKept t) (lab : ℤ) (form : FormVersion) (i
         currents = kept.currents;
       }
 
+-- under the next number of its code
+pub form_numbered_keeps : {old new : Tables} {code : List ℕ} {form : FormVersion} → AreWellKept old → IsByRules new
+    → (it : Applies code (FormAdded form) old new) → form.version ≡ next_form_version (last_form (forms_of old it.lab.id) form.code) → AreWellKept new
+form_numbered_keeps {old} {new} {code} {form} well rules it number =
+    let row = form_row_of it.lab.id it.made.id form in
+    let forms = turns_leave (AddsField it.made.id) (λ (t : Tables). t.forms) (fields_leave it.made.id) form.form.fields (put_form row old) new it.made.fields in
+    let apart = subst (AreApart same_form) forms (apart_from_test same_form new.forms (own_keys new rules.keys).forms) in
+    let next = new_number old well it.lab.id form it.made.id it.made.free apart number in
+    let kept = turns_keep (AddsField it.made.id) AreAllKept (field_more it.made.id) form.form.fields (put_form row old) new it.made.fields
+    (with_form_kept old well it.lab.id form it.made.id it.made.free next) in
+    well_kept new rules kept
+
 pub form_added_keeps : {old new : Tables} {code : List ℕ} {form : FormVersion} → AreWellKept old → IsByRules new
     → ChangesFit (meaning old code) (FormAdded form ∷ [])
     → Applies code (FormAdded form) old new → AreWellKept new
 form_added_keeps {old} {new} {code} {form} well rules fit it =
-    let row = form_row_of it.lab.id it.made.id form in
-    let forms = turns_leave (AddsField it.made.id) (λ (t : Tables). t.forms) (fields_leave it.made.id) form.form.fields (put_form row old) new it.made.fields in
-    let apart = subst (AreApart same_form) forms (apart_from_test same_form new.forms (own_keys new rules.keys).forms) in
-    let next = new_number old well it.lab.id form it.made.id it.made.free apart (fits_here old code it.lab (FormAdded form) it.found fit).0 in
-    let kept = turns_keep (AddsField it.made.id) AreAllKept (field_more it.made.id) form.form.fields (put_form row old) new it.made.fields
-    (with_form_kept old well it.lab.id form it.made.id it.made.free next) in
-    well_kept new rules kept
+    form_numbered_keeps well rules it (fits_here old code it.lab (FormAdded form) it.found fit).0

@@ -3,6 +3,7 @@ use Rattle.std.proofs.Common.{◌≡◌, ◌+◌, ℤ, true, ◌&&◌, ◌==◌,
 use Rattle.sqlite_keyed.proofs.KeyedLemmas.{all-insert_by}
 use Rattle.lab_people_access.specs.declared.persons.Person.{Person}
 use Rattle.lab_records_kept.specs.declared.births.Newborn.{Newborn}
+use Rattle.lab_records_kept.specs.declared.labs.Lab.{Lab}
 use Rattle.lab_records_kept.specs.declared.trails.TrailRow.{TrailRow as Told}
 use Rattle.lab_records_kept.specs.declared.trails.Deed.TheVariants.{Found}
 use Rattle.lab_records_kept.specs.Births.{newborn_lab}
@@ -36,9 +37,9 @@ lab_put t row kept = record {
   trail = kept.trail;
 }
 
-module _ (t : Tables) (well : AreWellKept t) (newborn : Newborn) (id : ℤ) (free : IsFree lab_id t.labs id) where
+module _ (t : Tables) (well : AreWellKept t) (lab : Lab) (id : ℤ) (free : IsFree lab_id t.labs id) where
   abbrev new_lab : LabRow
-  new_lab = lab_row_of id (newborn_lab newborn)
+  new_lab = lab_row_of id lab
 
   no_records : filter (λ (one : RecordRow). int_eq one.lab id) t.records ≡ []
   no_records = none_leads lab_id t.labs (λ (one : RecordRow). one.lab) t.records id free (labs_lead t well.arrows).0
@@ -102,7 +103,7 @@ module _ (old new : Tables) (well : AreWellKept old) (newborn : Newborn) (it : P
   enrolled_kept : ArePersonsOwn it.enrolled
   enrolled_kept =
       turns_keep (AddsPerson it.id) ArePersonsOwn (one_added it.id) (map unasked (newborn_lab newborn).persons) started it.enrolled it.persons
-      ((own_ids old well.ids).persons, lab_more old well newborn it.id it.free)
+      ((own_ids old well.ids).persons, lab_more old well (newborn_lab newborn) it.id it.free)
 
   asked_kept : ArePersonsOwn it.asked
   asked_kept =
@@ -124,7 +125,7 @@ module _ (old new : Tables) (well : AreWellKept old) (newborn : Newborn) (it : P
 
   first_number : first_told.number ≡ length (filter (λ (one : TrailRow). int_eq one.lab it.id) it.filed.trail) + 1
   first_number =
-      let none = ap (λ (rows : List TrailRow). filter (λ (one : TrailRow). int_eq one.lab it.id) rows) same_trail ∙ no_trail old well newborn it.id it.free in
+      let none = ap (λ (rows : List TrailRow). filter (λ (one : TrailRow). int_eq one.lab it.id) rows) same_trail ∙ no_trail old well (newborn_lab newborn) it.id it.free in
       ap (λ (list : List TrailRow). length list + 1) (sym none)
 
   founded_kept : AreAllKept new

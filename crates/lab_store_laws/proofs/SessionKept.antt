@@ -51,14 +51,19 @@ module _ (t : Tables) (own : have_own_ids person_id t.persons ≡ true) (lab : �
     currents = kept.currents;
   }
 
+-- under the next number
+pub session_numbered_keeps : {old new : Tables} {code : List ℕ} {session : Session} → AreWellKept old → IsByRules new
+    → (it : Applies code (SessionAdded session) old new) → session.number ≡ length (sessions_of old it.lab.id) + 1 → AreWellKept new
+session_numbered_keeps {old} {new} {code} {session} well rules it next =
+    well_kept new rules
+    (subst AreAllKept (sym it.made.made)
+    (session_more old (own_ids old well.ids).persons it.lab.id session next it.made.id it.made.free it.made.person it.made.named (all_kept old well)))
+
 pub session_added_keeps : {old new : Tables} {code : List ℕ} {session : Session} → AreWellKept old → IsByRules new
     → ChangesFit (meaning old code) (SessionAdded session ∷ [])
     → Applies code (SessionAdded session) old new → AreWellKept new
 session_added_keeps {old} {new} {code} {session} well rules fit it =
-    let next = (fits_here old code it.lab (SessionAdded session) it.found fit).0 in
-    well_kept new rules
-    (subst AreAllKept (sym it.made.made)
-    (session_more old (own_ids old well.ids).persons it.lab.id session next it.made.id it.made.free it.made.person it.made.named (all_kept old well)))
+    session_numbered_keeps well rules it (fits_here old code it.lab (SessionAdded session) it.found fit).0
 
 -- ---- sessions that are set, each with its laboratory and its number
 

@@ -4,7 +4,8 @@ ghost use Rattle.std.specs.Prelude.{◌≡◌, IfOk};
 ghost use Rattle.sqlite_value.specs.Order.{column, bytes};
 
 use lab_records_kept::Subject;
-use lab_store_columns::ReadFault;
+use lab_store_columns::cells::cell_of;
+use lab_store_columns::{BadStore, ReadFault};
 use sqlite::Row;
 use sqlite::types::ValueRef;
 use std::alloc::Global;
@@ -15,7 +16,7 @@ fn subject_by(alloc: Global, text: &[u8]) -> Result<Subject, ReadFault>
 {
     match std::str::from_utf8(text) {
         Ok(text) => Ok(Subject::new(String::from_str(alloc, text)?)),
-        Err(_) => Err(ReadFault::Storage),
+        Err(_) => Err(ReadFault::Refused(BadStore)),
     }
 }
 
@@ -26,10 +27,8 @@ fn subject_by(alloc: Global, text: &[u8]) -> Result<Subject, ReadFault>
 pub(crate) fn subject_of(alloc: Global, row: &Row, at: usize) -> Result<Subject, ReadFault>
     ensures { IfOk result (λ subject. subject ≡ bytes (column row.now at)) }
 {
-    match row.get_ref(at)? {
+    match cell_of(row, at)? {
         ValueRef::Text(text) => subject_by(alloc, text),
-        ValueRef::Null | ValueRef::Int(_) | ValueRef::Real(_) | ValueRef::Blob(_) => {
-            Err(ReadFault::Storage)
-        }
+        _ => Err(ReadFault::Refused(BadStore)),
     }
 }

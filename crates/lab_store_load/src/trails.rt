@@ -14,12 +14,12 @@ use lab_forms_texts::{Keys, Ordinal, Text};
 use lab_records_kept::TrailRow;
 use lab_store_columns::asking::rows_by_range;
 use lab_store_columns::cells::{id_if, moment_of, ordinal_of, text_of};
-use lab_store_columns::{ReadFault, Readable, code_if};
-use sqlite::{Error, Row};
+use lab_store_columns::{BadStore, ReadFault, Readable, code_if};
+use sqlite::Row;
 use std::alloc::Global;
 
 // The rows of the trail of a range of numbers, in the laboratory with the id.
-fn told_rows<D: Readable>(conn: &mut D, lab: i64, from: u32, to: u32) -> Result<Vec<Row>, Error>
+fn told_rows<D: Readable>(conn: &mut D, lab: i64, from: u32, to: u32) -> Result<Vec<Row>, ReadFault>
     ensures { Reads (λ t rows. rows.items ≡ told_shown_within t lab from to)
         (D.state conn.old) (D.state conn.new) result }
 {
@@ -40,7 +40,7 @@ fn told_of_row(alloc: Global, row: &Row) -> Result<ToldHead, ReadFault>
     let moment = moment_of(row, 1)?;
     let person = id_if(row, 2)?;
     let word: Text<Keys> = text_of(alloc, row, 3)?;
-    let action = action_by(word.as_str()).ok_or(ReadFault::Storage)?;
+    let action = action_by(word.as_str()).ok_or(ReadFault::Refused(BadStore))?;
     let subject = subject_of(alloc, row, 4)?;
     Ok(ToldHead {
         number,

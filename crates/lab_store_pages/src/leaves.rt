@@ -12,7 +12,7 @@ ghost use Rattle.lab_store_tables.specs.Ready.{IsReady, PassesBy, tables_of};
 ghost use Rattle.lab_records_walks.specs.Faults.{CopyFaultFits};
 ghost use Rattle.lab_records_walks.specs.Walks.{counted_all};
 
-use crate::faults::told;
+use crate::faults::page_fault;
 use lab_copy_rows::CopyOut;
 use lab_forms_texts::LabCode;
 use lab_records_copies::{record_row, version_rows};
@@ -133,6 +133,6 @@ pub fn give_page<D: Readable, W: Write>(
 {
     match leaf_at(alloc, conn, head) {
         Ok(leaf) => give_leaf(alloc, lab, cover, before, leaf, out, writer),
-        Err(fault) => Err(told(fault)),
+        Err(fault) => Err(page_fault(fault)),
     }
 }

@@ -14,7 +14,7 @@ ghost use Rattle.lab_records_walks.specs.Faults.{CopyFaultFits};
 ghost use Rattle.lab_records_walks.specs.Walks.{counted_all, record_at, record_rows};
 
 use crate::covers::{cover_at, head_at};
-use crate::faults::told;
+use crate::faults::page_fault;
 use crate::leaves::{give_cover, give_page};
 use lab_copy_rows::CopyOut;
 use lab_forms_texts::{LabCode, Ordinal};
@@ -86,7 +86,7 @@ fn give_versions<D: Readable, W: Write>(
 {
     match versions_at(alloc, conn, kept) {
         Ok(heads) => give_pages(alloc, conn, lab, cover, heads, out, writer),
-        Err(fault) => Err(told(fault)),
+        Err(fault) => Err(page_fault(fault)),
     }
 }
 
@@ -146,7 +146,7 @@ fn give_headed<D: Readable, W: Write>(
     let id = head.id;
     match cover_at(alloc, conn, head) {
         Ok(cover) => give_covered(alloc, conn, lab, &cover, id, out, writer),
-        Err(fault) => Err(told(fault)),
+        Err(fault) => Err(page_fault(fault)),
     }
 }
 
@@ -181,6 +181,6 @@ pub fn give_record_at<D: Readable, W: Write>(
     match head_at(alloc, conn, lab, number) {
         Ok(Some(head)) => give_headed(alloc, conn, lab, head, out, writer),
         Ok(None) => Ok(()),
-        Err(fault) => Err(told(fault)),
+        Err(fault) => Err(page_fault(fault)),
     }
 }

@@ -5,7 +5,8 @@ ghost use Rattle.sqlite_value.specs.Order.{column, bytes};
 ghost use Rattle.lab_store_tables.specs.Rows.{optional_in};
 
 use lab_forms::Bound;
-use lab_store_columns::ReadFault;
+use lab_store_columns::cells::cell_of;
+use lab_store_columns::{BadStore, ReadFault};
 use sqlite::Row;
 use sqlite::types::ValueRef;
 use std::alloc::Global;
@@ -16,7 +17,7 @@ fn bound_of(alloc: Global, text: &[u8]) -> Result<Bound, ReadFault>
 {
     match std::str::from_utf8(text) {
         Ok(text) => Ok(Bound::new(String::from_str(alloc, text)?)),
-        Err(_) => Err(ReadFault::Storage),
+        Err(_) => Err(ReadFault::Refused(BadStore)),
     }
 }
 
@@ -27,9 +28,9 @@ fn bound_of(alloc: Global, text: &[u8]) -> Result<Bound, ReadFault>
 pub(crate) fn bound_if(alloc: Global, row: &Row, at: usize) -> Result<Option<Bound>, ReadFault>
     ensures { IfOk result (λ bound. bound ≡ optional_in bytes (column row.now at)) }
 {
-    match row.get_ref(at)? {
+    match cell_of(row, at)? {
         ValueRef::Null => Ok(None),
         ValueRef::Text(text) => Ok(Some(bound_of(alloc, text)?)),
-        ValueRef::Int(_) | ValueRef::Real(_) | ValueRef::Blob(_) => Err(ReadFault::Storage),
+        _ => Err(ReadFault::Refused(BadStore)),
     }
 }

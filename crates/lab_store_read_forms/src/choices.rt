@@ -9,11 +9,11 @@ use lab_forms_texts::Name;
 use lab_store_columns::asking::rows_by_one;
 use lab_store_columns::cells::text_of;
 use lab_store_columns::{ReadFault, Readable};
-use sqlite::{Error, Row};
+use sqlite::Row;
 use std::alloc::Global;
 
 // The names of the choice with the id, in the order of their places.
-fn name_rows<D: Readable>(conn: &mut D, field: i64) -> Result<Vec<Row>, Error>
+fn name_rows<D: Readable>(conn: &mut D, field: i64) -> Result<Vec<Row>, ReadFault>
     ensures { Reads (λ t rows. rows.items ≡ names_shown t field)
         (D.state conn.old) (D.state conn.new) result }
 {

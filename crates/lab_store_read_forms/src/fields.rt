@@ -13,11 +13,11 @@ use lab_forms::Field;
 use lab_store_columns::asking::rows_by_one;
 use lab_store_columns::cells::{flag_of, id_of, text_of};
 use lab_store_columns::{ReadFault, Readable};
-use sqlite::{Error, Row};
+use sqlite::Row;
 use std::alloc::Global;
 
 // The fields of the version of a form with the id, in the order of their places.
-fn field_rows<D: Readable>(conn: &mut D, form: i64) -> Result<Vec<Row>, Error>
+fn field_rows<D: Readable>(conn: &mut D, form: i64) -> Result<Vec<Row>, ReadFault>
     ensures { Reads (λ t rows. rows.items ≡ fields_shown t form)
         (D.state conn.old) (D.state conn.new) result }
 {

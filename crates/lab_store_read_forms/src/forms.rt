@@ -14,12 +14,12 @@ use lab_forms::{Field, Form};
 use lab_records_kept::FormVersion;
 use lab_store_columns::asking::rows_by_one;
 use lab_store_columns::cells::{flag_of, id_of, ordinal_of, text_of};
-use lab_store_columns::{ReadFault, Readable};
-use sqlite::{Error, Row};
+use lab_store_columns::{BadStore, ReadFault, Readable};
+use sqlite::Row;
 use std::alloc::Global;
 
 // The row of the version of a form with the id.
-fn form_rows<D: Readable>(conn: &mut D, id: i64) -> Result<Vec<Row>, Error>
+fn form_rows<D: Readable>(conn: &mut D, id: i64) -> Result<Vec<Row>, ReadFault>
     ensures { Reads (λ t rows. rows.items ≡ forms_shown t id)
         (D.state conn.old) (D.state conn.new) result }
 {
@@ -98,7 +98,7 @@ pub fn form_whole<D: Readable>(
     ensures { Reads (λ t form. form ≡ form_by t head) (D.state conn.old) (D.state conn.new) result }
 {
     let fields = fields_at(alloc, conn, head.id)?;
-    let form = form_made(fields, head.approval).ok_or(ReadFault::Storage)?;
+    let form = form_made(fields, head.approval).ok_or(ReadFault::Refused(BadStore))?;
     Ok(FormVersion {
         code: head.code,
         version: head.version,
@@ -114,7 +114,7 @@ pub fn form_at<D: Readable>(alloc: Global, conn: &mut D, id: i64) -> Result<Form
     ensures { Reads (λ t form. form ≡ form_at t id) (D.state conn.old) (D.state conn.new) result }
 {
     let Some(head) = form_head_at(alloc, conn, id)? else {
-        return Err(ReadFault::Storage);
+        return Err(ReadFault::Refused(BadStore));
     };
     form_whole(alloc, conn, head)
 }

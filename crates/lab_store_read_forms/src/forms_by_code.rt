@@ -14,7 +14,7 @@ use lab_forms_texts::{Key, Ordinal};
 use lab_records_kept::FormVersion;
 use lab_store_columns::asking::rows_by_code;
 use lab_store_columns::{ReadFault, Readable};
-use sqlite::{Error, Row};
+use sqlite::Row;
 use std::alloc::Global;
 
 // The row of the version of the form, in the laboratory with the id.
@@ -23,7 +23,7 @@ fn exact_rows<D: Readable>(
     lab: i64,
     code: &str,
     version: u32,
-) -> Result<Vec<Row>, Error>
+) -> Result<Vec<Row>, ReadFault>
     ensures { Reads (λ t rows. rows.items ≡ exact_shown t lab code.now version)
         (D.state conn.old) (D.state conn.new) result }
 {
@@ -37,7 +37,7 @@ fn exact_rows<D: Readable>(
 }
 
 // The rows of the versions of the form, in the laboratory with the id, in the order of their numbers.
-fn form_version_rows<D: Readable>(conn: &mut D, lab: i64, code: &str) -> Result<Vec<Row>, Error>
+fn form_version_rows<D: Readable>(conn: &mut D, lab: i64, code: &str) -> Result<Vec<Row>, ReadFault>
     ensures { Reads (λ t rows. rows.items ≡ form_versions_shown t lab code.now)
         (D.state conn.old) (D.state conn.new) result }
 {

@@ -9,8 +9,8 @@ ghost use Rattle.lab_store_read_forms.specs.KindsShown.{kind_cells};
 use crate::cells::bound_if;
 use lab_forms::{Choices, Kind};
 use lab_forms_texts::{Keys, Name, Text};
-use lab_store_columns::ReadFault;
 use lab_store_columns::cells::{small_if, text_if, text_of};
+use lab_store_columns::{BadStore, ReadFault};
 use sqlite::Row;
 use std::alloc::Global;
 
@@ -19,10 +19,10 @@ fn number_of_row(alloc: Global, row: &Row) -> Result<Kind, ReadFault>
     ensures { IfOk result (λ kind. kind ≡ number_kind (kind_cells row.now)) }
 {
     let Some(decimals) = small_if(row, 6)? else {
-        return Err(ReadFault::Storage);
+        return Err(ReadFault::Refused(BadStore));
     };
     let Some(unit) = text_if(alloc, row, 5)? else {
-        return Err(ReadFault::Storage);
+        return Err(ReadFault::Refused(BadStore));
     };
     let min = bound_if(alloc, row, 7)?;
     let max = bound_if(alloc, row, 8)?;
@@ -40,7 +40,7 @@ fn text_of_row(row: &Row) -> Result<Kind, ReadFault>
 {
     match small_if(row, 9)? {
         Some(size) => Ok(Kind::Text { size }),
-        None => Err(ReadFault::Storage),
+        None => Err(ReadFault::Refused(BadStore)),
     }
 }
 
@@ -57,7 +57,7 @@ fn kind_by(alloc: Global, row: &Row, word: &str) -> Result<Kind, ReadFault>
         }),
         "date" => Ok(Kind::Date),
         "yesno" => Ok(Kind::YesNo),
-        _ => Err(ReadFault::Storage),
+        _ => Err(ReadFault::Refused(BadStore)),
     }
 }
 

@@ -5,8 +5,8 @@ ghost use Rattle.sqlite_value.specs.Order.{column, bytes};
 ghost use Rattle.lab_store_tables.specs.Rows.{number_in, optional_in};
 
 use lab_forms_texts::Moment;
-use lab_store_columns::ReadFault;
-use lab_store_columns::cells::{moment_of, small_if};
+use lab_store_columns::cells::{cell_of, moment_of, small_if};
+use lab_store_columns::{BadStore, ReadFault};
 use sqlite::Row;
 use sqlite::types::ValueRef;
 
@@ -17,10 +17,10 @@ use sqlite::types::ValueRef;
 pub(crate) fn moment_if(row: &Row, at: usize) -> Result<Option<Moment>, ReadFault>
     ensures { IfOk result (λ moment. moment ≡ optional_in number_in (column row.now at)) }
 {
-    match row.get_ref(at)? {
+    match cell_of(row, at)? {
         ValueRef::Null => Ok(None),
         ValueRef::Int(_) => Ok(Some(moment_of(row, at)?)),
-        ValueRef::Real(_) | ValueRef::Text(_) | ValueRef::Blob(_) => Err(ReadFault::Storage),
+        _ => Err(ReadFault::Refused(BadStore)),
     }
 }
 
@@ -34,7 +34,7 @@ pub(crate) fn moment_due(row: &Row, at: usize) -> Result<Moment, ReadFault>
 {
     match moment_if(row, at)? {
         Some(moment) => Ok(moment),
-        None => Err(ReadFault::Storage),
+        None => Err(ReadFault::Refused(BadStore)),
     }
 }
 
@@ -48,7 +48,7 @@ pub(crate) fn small_due(row: &Row, at: usize) -> Result<u32, ReadFault>
 {
     match small_if(row, at)? {
         Some(count) => Ok(count),
-        None => Err(ReadFault::Storage),
+        None => Err(ReadFault::Refused(BadStore)),
     }
 }
 
@@ -60,14 +60,12 @@ pub(crate) fn salt_due(row: &Row, at: usize) -> Result<[u8; 16], ReadFault>
     ensures { IfOk result
         (λ salt. salt ≡ unwrap_or (optional_in bytes (column row.now at)) []) }
 {
-    match row.get_ref(at)? {
+    match cell_of(row, at)? {
         ValueRef::Blob(blob) => match <[u8; 16]>::try_from(blob) {
             Ok(salt) => Ok(salt),
-            Err(_) => Err(ReadFault::Storage),
+            Err(_) => Err(ReadFault::Refused(BadStore)),
         },
-        ValueRef::Null | ValueRef::Int(_) | ValueRef::Real(_) | ValueRef::Text(_) => {
-            Err(ReadFault::Storage)
-        }
+        _ => Err(ReadFault::Refused(BadStore)),
     }
 }
 
@@ -79,13 +77,11 @@ pub(crate) fn bytes_due(row: &Row, at: usize) -> Result<[u8; 32], ReadFault>
     ensures { IfOk result
         (λ made. made ≡ unwrap_or (optional_in bytes (column row.now at)) []) }
 {
-    match row.get_ref(at)? {
+    match cell_of(row, at)? {
         ValueRef::Blob(blob) => match <[u8; 32]>::try_from(blob) {
             Ok(made) => Ok(made),
-            Err(_) => Err(ReadFault::Storage),
+            Err(_) => Err(ReadFault::Refused(BadStore)),
         },
-        ValueRef::Null | ValueRef::Int(_) | ValueRef::Real(_) | ValueRef::Text(_) => {
-            Err(ReadFault::Storage)
-        }
+        _ => Err(ReadFault::Refused(BadStore)),
     }
 }

@@ -1,8 +1,9 @@
 //! What is kept of a password, what was asked for, and roles, from the columns of a person's row.
 
-ghost use Rattle.std.specs.Prelude.{◌≡◌, IfOk, unwrap_or};
+ghost use Rattle.std.specs.Prelude.{◌≡◌, true, IfOk, unwrap_or};
 ghost use Rattle.sqlite_value.specs.Order.{column, bytes};
 ghost use Rattle.lab_people_access.specs.declared.passwords.Password.TheVariants.{Chosen, OneTime};
+ghost use Rattle.lab_people_access.specs.Passwords.{are_rounds};
 ghost use Rattle.lab_store_tables.specs.Rows.{number_in, optional_in};
 ghost use Rattle.lab_store_tables.specs.Columns.{roles_in, verifier_in, password_in};
 ghost use Rattle.lab_store_read_people.specs.Heads.{ask_head};
@@ -10,10 +11,10 @@ ghost use Rattle.lab_store_read_people.specs.PersonsShown.{password_cells, ask_c
 
 use crate::cells::{bytes_due, moment_due, salt_due, small_due};
 use crate::heads::AskHead;
-use lab_people_access::{Password, Roles};
+use lab_people_access::{Password, Roles, are_rounds};
 use lab_seal_hashes::Verifier;
-use lab_store_columns::ReadFault;
 use lab_store_columns::cells::{id_if, small_of};
+use lab_store_columns::{BadStore, ReadFault};
 use sqlite::Row;
 
 /// The roles whose sum it is.
@@ -29,9 +30,10 @@ pub(crate) fn roles_of(sum: u32) -> Roles
     }
 }
 
-// The verifier whose parts stand in three columns.
+// The verifier whose parts stand in three columns. It has rounds by which verifiers are or were made.
 fn verifier_of(row: &Row, salt: usize, rounds: usize, made: usize) -> Result<Verifier, ReadFault>
-    ensures { IfOk result (λ verifier. verifier
+    ensures known { IfOk result (λ verifier. are_rounds verifier.rounds ≡ true) }
+    ensures parts { IfOk result (λ verifier. verifier
         ≡ verifier_in (optional_in bytes (column row.now salt))
         (optional_in number_in (column row.now rounds))
         (optional_in bytes (column row.now made))) }
@@ -39,8 +41,8 @@ fn verifier_of(row: &Row, salt: usize, rounds: usize, made: usize) -> Result<Ver
     let salt = salt_due(row, salt)?;
     let rounds = small_due(row, rounds)?;
     let made = bytes_due(row, made)?;
-    if rounds == 0 {
-        return Err(ReadFault::Storage);
+    if !are_rounds(rounds) {
+        return Err(ReadFault::Refused(BadStore));
     }
     Ok(Verifier::from_parts(salt, rounds, made))
 }
@@ -86,7 +88,7 @@ pub(crate) fn password_of_row(row: &Row) -> Result<Password, ReadFault>
     } else if kind == 2 {
         one_time_of_row(row)
     } else {
-        Err(ReadFault::Storage)
+        Err(ReadFault::Refused(BadStore))
     }
 }
 

@@ -15,11 +15,11 @@ use lab_people_access::{Ask, Person};
 use lab_store_columns::asking::{rows_by_code, rows_by_one};
 use lab_store_columns::cells::{flag_of, small_of, text_of};
 use lab_store_columns::{ReadFault, Readable, code_at};
-use sqlite::{Error, Row};
+use sqlite::Row;
 use std::alloc::Global;
 
 // The row of the person with the code, in the laboratory with the id.
-fn person_rows<D: Readable>(conn: &mut D, lab: i64, code: &str) -> Result<Vec<Row>, Error>
+fn person_rows<D: Readable>(conn: &mut D, lab: i64, code: &str) -> Result<Vec<Row>, ReadFault>
     ensures { Reads (λ t rows. rows.items ≡ person_shown_by t lab code.now)
         (D.state conn.old) (D.state conn.new) result }
 {
@@ -32,7 +32,7 @@ fn person_rows<D: Readable>(conn: &mut D, lab: i64, code: &str) -> Result<Vec<Ro
 }
 
 // The rows of the persons of the laboratory with the id, in the order of their codes.
-fn persons_rows<D: Readable>(conn: &mut D, lab: i64) -> Result<Vec<Row>, Error>
+fn persons_rows<D: Readable>(conn: &mut D, lab: i64) -> Result<Vec<Row>, ReadFault>
     ensures { Reads (λ t rows. rows.items ≡ persons_shown t lab)
         (D.state conn.old) (D.state conn.new) result }
 {
@@ -44,7 +44,7 @@ fn persons_rows<D: Readable>(conn: &mut D, lab: i64) -> Result<Vec<Row>, Error>
 }
 
 // The codes of the persons of the laboratory with the id, in order.
-fn all_code_rows<D: Readable>(conn: &mut D, lab: i64) -> Result<Vec<Row>, Error>
+fn all_code_rows<D: Readable>(conn: &mut D, lab: i64) -> Result<Vec<Row>, ReadFault>
     ensures { Reads (λ t rows. rows.items ≡ all_codes_shown t lab)
         (D.state conn.old) (D.state conn.new) result }
 {

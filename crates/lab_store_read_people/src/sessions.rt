@@ -11,11 +11,11 @@ use lab_people_access::Session;
 use lab_seal_hashes::Digest;
 use lab_store_columns::cells::{digest_of, flag_of, moment_of, ordinal_of, text_of};
 use lab_store_columns::{ReadFault, Readable};
-use sqlite::{Error, Row};
+use sqlite::Row;
 use std::alloc::Global;
 
 // The row of the session whose token has the digest, in the laboratory with the id.
-fn session_rows<D: Readable>(conn: &mut D, lab: i64, token: &[u8]) -> Result<Vec<Row>, Error>
+fn session_rows<D: Readable>(conn: &mut D, lab: i64, token: &[u8]) -> Result<Vec<Row>, ReadFault>
     ensures { Reads (λ t rows. rows.items ≡ sessions_shown t lab token.now)
         (D.state conn.old) (D.state conn.new) result }
 {

@@ -4,8 +4,8 @@ ghost use Rattle.std.specs.Prelude.{pos, [], ◌∷◌};
 ghost use Rattle.sqlite_value.specs.declared.value.Value.TheVariants.{Int};
 ghost use Rattle.lab_store_columns.specs.Reads.{Asks};
 
-use lab_store_columns::Readable;
-use sqlite::{Error, Row, params};
+use lab_store_columns::{ReadFault, Readable};
+use sqlite::{Row, params};
 
 /// The rows of a query with an id and a number.
 ///
@@ -16,7 +16,7 @@ pub(crate) fn rows_by_two<D: Readable>(
     sql: &str,
     first: i64,
     second: u32,
-) -> Result<Vec<Row>, Error>
+) -> Result<Vec<Row>, ReadFault>
     ensures { Asks sql.now (Int first ∷ Int (pos second) ∷ [])
         (D.state conn.old) (D.state conn.new) result }
 {

@@ -4,8 +4,8 @@ ghost use Rattle.std.specs.Prelude.{[], ◌∷◌};
 ghost use Rattle.sqlite_value.specs.declared.value.Value.TheVariants.{Int, Text};
 ghost use Rattle.lab_store_columns.specs.Reads.{Asks};
 
-use lab_store_columns::Readable;
-use sqlite::{Error, Row, params};
+use lab_store_columns::{ReadFault, Readable};
+use sqlite::{Row, params};
 
 /// The rows of a query with an id and two texts.
 ///
@@ -17,7 +17,7 @@ pub(crate) fn rows_by_key<D: Readable>(
     first: i64,
     second: &str,
     third: &str,
-) -> Result<Vec<Row>, Error>
+) -> Result<Vec<Row>, ReadFault>
     ensures { Asks sql.now (Int first ∷ Text second.now ∷ Text third.now ∷ [])
         (D.state conn.old) (D.state conn.new) result }
 {

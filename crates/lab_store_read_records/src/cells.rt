@@ -4,7 +4,7 @@ ghost use Rattle.std.specs.Prelude.{◌≡◌, IfOk};
 ghost use Rattle.sqlite_value.specs.Order.{column};
 ghost use Rattle.lab_store_tables.specs.Rows.{number_in};
 
-use lab_store_columns::ReadFault;
+use lab_store_columns::{ReadFault, read_fault};
 use sqlite::Row;
 
 /// A number that is never below zero.
@@ -14,5 +14,8 @@ use sqlite::Row;
 pub(crate) fn count_of(row: &Row, at: usize) -> Result<u64, ReadFault>
     ensures { IfOk result (λ count. count ≡ number_in (column row.now at)) }
 {
-    Ok(row.get(at)?)
+    match row.get::<u64>(at) {
+        Ok(count) => Ok(count),
+        Err(error) => Err(read_fault(error)),
+    }
 }

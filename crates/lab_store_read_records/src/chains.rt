@@ -11,7 +11,7 @@ use lab_forms_texts::{LabCode, Note, Ordinal, Series};
 use lab_records_kept::{Record, Version};
 use lab_seal_hashes::Digest;
 use lab_seal_versions::{Amendment, Format, Origin};
-use lab_store_columns::ReadFault;
+use lab_store_columns::{BadStore, ReadFault};
 use std::alloc::Global;
 
 // The format of a number, where the form wants an approval or not.
@@ -70,10 +70,7 @@ fn before_next(
     ensures { IfOk result (λ digest. digest ≡ before_next lab.now cover.now made.now) }
 {
     match made.last() {
-        Some(version) => match cover.digest_of(alloc, lab, version) {
-            Ok(digest) => Ok(Some(digest)),
-            Err(_) => Err(ReadFault::Memory),
-        },
+        Some(version) => Ok(Some(cover.digest_of(alloc, lab, version)?)),
         None => Ok(None),
     }
 }
@@ -90,7 +87,7 @@ fn add_version(
         ++ version_after cover.now (before_next lab.now cover.now made.old) (leaf_of leaf) ∷ []) }
 {
     let before = before_next(alloc, lab, cover, made)?;
-    let version = version_after(cover, before, leaf).ok_or(ReadFault::Storage)?;
+    let version = version_after(cover, before, leaf).ok_or(ReadFault::Refused(BadStore))?;
     made.push(version)?;
     Ok(())
 }

@@ -9,11 +9,11 @@ use lab_seal_versions::EntryRow;
 use lab_store_columns::asking::rows_by_one;
 use lab_store_columns::cells::{moment_of, text_if, text_of};
 use lab_store_columns::{ReadFault, Readable};
-use sqlite::{Error, Row};
+use sqlite::Row;
 use std::alloc::Global;
 
 // The entries of the version with the id, in the order of their places.
-fn entry_rows<D: Readable>(conn: &mut D, version: i64) -> Result<Vec<Row>, Error>
+fn entry_rows<D: Readable>(conn: &mut D, version: i64) -> Result<Vec<Row>, ReadFault>
     ensures { Reads (λ t rows. rows.items ≡ entries_shown t version)
         (D.state conn.old) (D.state conn.new) result }
 {

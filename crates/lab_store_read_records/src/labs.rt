@@ -13,14 +13,14 @@ use lab_forms_texts::LabCode;
 use lab_store_columns::asking::rows_by_text;
 use lab_store_columns::cells::{id_of, moment_of, text_of};
 use lab_store_columns::{ReadFault, Readable};
-use sqlite::{Error, Row};
+use sqlite::Row;
 use std::alloc::Global;
 
 /// The row of the laboratory with the code, if there is one. Nothing is committed.
 ///
 /// # Errors
 /// The store refuses, or memory runs out.
-pub fn lab_rows<D: Readable>(conn: &mut D, code: &str) -> Result<Vec<Row>, Error>
+pub fn lab_rows<D: Readable>(conn: &mut D, code: &str) -> Result<Vec<Row>, ReadFault>
     ensures kept { HasCleanDisk (D.state conn.new) →
         KeepsCommit (D.state conn.old) (D.state conn.new) }
     ensures reads { Reads (λ t rows. rows.items ≡ labs_shown t code.now)

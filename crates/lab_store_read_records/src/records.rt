@@ -10,11 +10,11 @@ use crate::heads::RecordHead;
 use lab_forms_texts::Ordinal;
 use lab_store_columns::cells::{id_of, ordinal_of, small_of, text_of};
 use lab_store_columns::{ReadFault, Readable};
-use sqlite::{Error, Row};
+use sqlite::Row;
 use std::alloc::Global;
 
 // The row of the record with the number, in the laboratory with the id.
-fn record_rows<D: Readable>(conn: &mut D, lab: i64, number: u32) -> Result<Vec<Row>, Error>
+fn record_rows<D: Readable>(conn: &mut D, lab: i64, number: u32) -> Result<Vec<Row>, ReadFault>
     ensures { Reads (λ t rows. rows.items ≡ records_shown t lab number)
         (D.state conn.old) (D.state conn.new) result }
 {

@@ -13,7 +13,7 @@ use crate::records::{first_record, record_of_row};
 use lab_forms_texts::{Key, Name, Ordinal};
 use lab_store_columns::asking::rows_by_range;
 use lab_store_columns::{ReadFault, Readable};
-use sqlite::{Error, Row};
+use sqlite::Row;
 use std::alloc::Global;
 
 // The row of the record by the form about the sample, in the laboratory with the id.
@@ -22,7 +22,7 @@ fn about_rows<D: Readable>(
     lab: i64,
     form: &str,
     sample: &str,
-) -> Result<Vec<Row>, Error>
+) -> Result<Vec<Row>, ReadFault>
     ensures { Reads (λ t rows. rows.items ≡ abouts_shown t lab form.now sample.now)
         (D.state conn.old) (D.state conn.new) result }
 {
@@ -55,7 +55,12 @@ pub fn record_about<D: Readable>(
 }
 
 // The rows of the records of a range of numbers, in the laboratory with the id.
-fn within_rows<D: Readable>(conn: &mut D, lab: i64, from: u32, to: u32) -> Result<Vec<Row>, Error>
+fn within_rows<D: Readable>(
+    conn: &mut D,
+    lab: i64,
+    from: u32,
+    to: u32,
+) -> Result<Vec<Row>, ReadFault>
     ensures { Reads (λ t rows. rows.items ≡ within_shown t lab from to)
         (D.state conn.old) (D.state conn.new) result }
 {

@@ -13,12 +13,12 @@ use lab_records_kept::Signature;
 use lab_seal_versions::{Meaning, Seal};
 use lab_store_columns::asking::rows_by_one;
 use lab_store_columns::cells::{digest_of, moment_of, text_if, text_of};
-use lab_store_columns::{ReadFault, Readable};
-use sqlite::{Error, Row};
+use lab_store_columns::{BadStore, ReadFault, Readable};
+use sqlite::Row;
 use std::alloc::Global;
 
 // The signatures of the version with the id, in the order of their places.
-fn signature_rows<D: Readable>(conn: &mut D, version: i64) -> Result<Vec<Row>, Error>
+fn signature_rows<D: Readable>(conn: &mut D, version: i64) -> Result<Vec<Row>, ReadFault>
     ensures { Reads (λ t rows. rows.items ≡ signatures_shown t version)
         (D.state conn.old) (D.state conn.new) result }
 {
@@ -53,7 +53,7 @@ fn meaning_of(alloc: Global, row: &Row) -> Result<Meaning, ReadFault>
 {
     let word: Text<Keys> = text_of(alloc, row, 2)?;
     let reason = text_if(alloc, row, 3)?;
-    meaning_by(word.as_str(), reason).ok_or(ReadFault::Storage)
+    meaning_by(word.as_str(), reason).ok_or(ReadFault::Refused(BadStore))
 }
 
 // The signature that a row shows.

@@ -9,11 +9,11 @@ use crate::heads::VersionHead;
 use lab_store_columns::asking::rows_by_one;
 use lab_store_columns::cells::{id_of, moment_of, ordinal_of, small_of, text_if, text_of};
 use lab_store_columns::{ReadFault, Readable};
-use sqlite::{Error, Row};
+use sqlite::Row;
 use std::alloc::Global;
 
 // The versions of the record with the id, in the order of their numbers.
-fn version_rows<D: Readable>(conn: &mut D, kept: i64) -> Result<Vec<Row>, Error>
+fn version_rows<D: Readable>(conn: &mut D, kept: i64) -> Result<Vec<Row>, ReadFault>
     ensures { Reads (λ t rows. rows.items ≡ versions_shown t kept)
         (D.state conn.old) (D.state conn.new) result }
 {

@@ -4,14 +4,15 @@
 use crate::results::print_made;
 use anyhow::{Context, Result};
 use lab_forms_texts::{Moment, PersonCodes, Tick};
-use lab_people::{
-    Ask, Issued, Opened, Password, Person, Roles, Session, Verifier, ask_issue, enrol, open_session,
-};
+use lab_people::{Ask, Opened, Password, Person, Roles, Session, Verifier, enrol, open_session};
 use lab_tests_samples::{both, made_of, text};
 use std::alloc::Global;
 use std::io::{self, Print};
 
 const PASSWORD: &str = "dan password 1";
+
+// The rounds of the verifiers here: so few that each growth is refused in no time.
+const ROUNDS: u32 = 2;
 
 /// Makes each copy once, and prints for each the code of its person, or the word of its fault.
 pub(crate) fn print_person_growths(rt: &impl Print, alloc: Global) -> io::Result<()> {
@@ -27,13 +28,16 @@ fn tick() -> Result<Tick> {
     })
 }
 
-// A person with a password of few rounds.
+fn verifier(text: &str) -> Verifier {
+    Verifier::make(text.as_bytes(), [7; 16], ROUNDS)
+}
+
 fn person(alloc: Global) -> Result<Person> {
     let changed = Moment::from_seconds(500)?;
     let (code, name) = both(text(alloc, "dan"), text(alloc, "Dan Dorn"))?;
     let mut newcomer = enrol(code, name, Roles::none(), None, 3)?;
     newcomer.password = Password::Chosen {
-        verifier: Verifier::make(PASSWORD.as_bytes(), [7; 16], 2),
+        verifier: verifier(PASSWORD),
         changed,
     };
     Ok(newcomer)
@@ -45,21 +49,25 @@ fn opened(alloc: Global) -> Result<Opened> {
     Ok(open_session(code, Some(dan), PASSWORD, &tick, 0, None)?)
 }
 
-// A one-time password was asked.
-fn issued(alloc: Global) -> Result<Issued> {
-    let tick = tick()?;
-    let (dan, ann) = both(person(alloc), text(alloc, "ann"))?;
-    Ok(ask_issue(ann, Some(dan), &tick)?)
+// A person for whom a one-time password was asked.
+fn asked(alloc: Global) -> Result<Person> {
+    let asked = Moment::from_seconds(900)?;
+    let (mut dan, asker) = both(person(alloc), text(alloc, "ann"))?;
+    dan.ask = Some(Ask {
+        asker,
+        asked,
+        first: verifier("half"),
+    });
+    Ok(dan)
 }
 
-// A copy of a person for whom a one-time password was asked.
 fn copied_person(alloc: Global) -> Result<Person> {
-    made_of(issued(alloc), |issued| issued.person.copy())
+    made_of(asked(alloc), |dan| dan.copy())
 }
 
 fn copied_ask(alloc: Global) -> Result<Ask> {
-    let issued = issued(alloc)?;
-    ask_of(&issued.person)
+    let dan = asked(alloc)?;
+    ask_of(&dan)
 }
 
 fn ask_of(person: &Person) -> Result<Ask> {

@@ -1,6 +1,6 @@
 //! A keeper that refuses every second call.
 use lab_forms_texts::{LabCode, Series};
-use lab_records_kept::{Change, Keeper, KeeperFault, Need, Newborn, PlacingFault, Slice};
+use lab_records_kept::{BadStore, Change, Keeper, KeeperFault, Need, Newborn, PlacingFault, Slice};
 use lab_records_lists::Lists;
 
 /// A list of laboratories that refuses every second call, for memory and for storage by turns, for
@@ -22,7 +22,7 @@ impl Moody {
         self.calls = (self.calls % 4).saturating_add(1);
         match (self.is_moody, self.calls) {
             (true, 2) => Some(KeeperFault::Memory),
-            (true, 4) => Some(KeeperFault::Storage),
+            (true, 4) => Some(KeeperFault::Refused(BadStore)),
             _ => None,
         }
     }
@@ -91,6 +91,6 @@ impl Keeper for Moody {
 fn placing(fault: KeeperFault) -> PlacingFault {
     match fault {
         KeeperFault::Memory => PlacingFault::Memory,
-        KeeperFault::Storage => PlacingFault::Storage,
+        KeeperFault::Refused(_) => PlacingFault::Storage,
     }
 }

@@ -8,7 +8,7 @@ use crate::refusals::RequestRefusal;
 use crate::statuses::answer_status;
 use http::StatusCode;
 use lab_forms_texts::{OutOfMemory, RefusalKind, Tick};
-use lab_records_kept::KeeperFault;
+use lab_records_kept::{BadStore, KeeperFault};
 use lab_records_machine::Reply;
 use lab_wire_heads::message;
 use lab_wire_replies::{entry_value, reply_body};
@@ -121,7 +121,7 @@ fn answer_body(alloc: Global, answer: &Answer) -> Result<Vec<u8>, OutOfMemory>
             entry_body(alloc, refusal.number().unwrap_or(0), refusal.word())
         }
         Answer::Storage => {
-            let storage = KeeperFault::Storage;
+            let storage = KeeperFault::Refused(BadStore);
             entry_body(alloc, storage.number().unwrap_or(0), storage.word())
         }
     }

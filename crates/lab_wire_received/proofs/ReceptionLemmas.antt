@@ -20,7 +20,7 @@ use Rattle.lab_wire_heads.specs.Receptions.{head_stop, request_length}
 use Rattle.lab_wire_heads.proofs.FrontLemmas.{good_parts}
 use Rattle.lab_wire_heads.proofs.RequestLemmas.{request_refused}
 use Rattle.lab_wire_heads.proofs.RequestLaws.{accepted_from, accepted_behind, request_whole, length_is, by_front_law, head_law}
-use Rattle.lab_wire_received.specs.Reading.{HasBody, IsBodyFault}
+use Rattle.lab_wire_received.specs.Reading.{HasBody, IsBodyFault, OnMemory}
 use Rattle.lab_wire_received.specs.Receptions.{IsWholeRequest, IsReception, lines_if, IsInterimOf}
 use Rattle.lab_wire_received.proofs.StopLemmas.{stop_if}
 
@@ -266,3 +266,25 @@ exact_unread (Some bytes) = tt
 pub interim_unread : (from old : Option (List ℕ)) → IfSome old (λ bytes. IsInterimOf (interim_text bytes) (Err Read) from from)
 interim_unread from None = tt
 interim_unread from (Some bytes) = inr (Appends-nil from)
+
+-- ---- no memory for a body
+
+pub unread_result : {R : Type 0} (rem : R → Option (List ℕ)) (old mid new : R) (head : List ℕ) (result : Result (List ℕ) HeadFault)
+    → Consumes (rem old) (rem mid) head → IfSome (rem old) (λ bytes. length head ≡ head_stop bytes) → OnMemory result (new ≡ mid)
+    → OnMemory result (IfSome (rem old) (λ bytes. Consumes (rem old) (rem new) (take (head_stop bytes) bytes)))
+unread_result rem old mid new head (Ok request) gave stop same = tt
+unread_result rem old mid new head (Err (Refused refusal)) gave stop same = tt
+unread_result rem old mid new head (Err Read) gave stop same = tt
+unread_result rem old mid new head (Err (Write sent)) gave stop same = tt
+unread_result rem old mid new head (Err Memory) gave stop same =
+    subst (λ left. IfSome (rem old) (λ bytes. Consumes (rem old) left (take (head_stop bytes) bytes))) (ap rem (sym same))
+    (by (rem old) (rem mid) gave stop)
+  where
+    by : (before after : Option (List ℕ)) → Consumes before after head → IfSome before (λ bytes. length head ≡ head_stop bytes)
+        → IfSome before (λ bytes. Consumes before after (take (head_stop bytes) bytes))
+    by None after gave stop = tt
+    by (Some bytes) None gave stop = absurd gave
+    by (Some bytes) (Some left) gave stop =
+        let front : take (head_stop bytes) bytes ≡ head =
+        (λ i. take (sym stop i) (gave i)) ∙ take-append_seam head left in
+        gave ∙ ap (λ t. t ++ left) (sym front)

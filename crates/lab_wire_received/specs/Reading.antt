@@ -1,5 +1,5 @@
 -- What a reader gave, piece by piece.
-use Rattle.std.specs.Prelude.{◌≡◌, ℕ, ◌<◌, List, [], ◌∷◌, ◌++◌, length, Option, Some, None, IfSome}
+use Rattle.std.specs.Prelude.{◌≡◌, ℕ, ◌<◌, List, [], ◌∷◌, ◌++◌, length, Option, Some, None, IfSome, Result, Ok, Err}
 use Rattle.std.specs.Io.KnownBytes.{Consumes, IsAtEnd}
 use Rattle.lab_wire_heads.specs.declared.refusals.HeadRefusal.TheVariants.{ShortBody}
 use Rattle.lab_wire_heads.specs.declared.refusals.HeadFault.{HeadFault}
@@ -26,3 +26,11 @@ IsBodyFault old count (Refused refusal) =
 IsBodyFault old count Read = Unit {0}
 IsBodyFault old count (Write sent) = ⊥
 IsBodyFault old count Memory = Unit {0}
+
+-- a fact where memory ran out
+abbrev pub OnMemory : Result (List ℕ) HeadFault → Type 0 → Type 0
+OnMemory (Ok request) P = Unit {0}
+OnMemory (Err (Refused refusal)) P = Unit {0}
+OnMemory (Err Read) P = Unit {0}
+OnMemory (Err (Write sent)) P = Unit {0}
+OnMemory (Err Memory) P = P

@@ -9,6 +9,11 @@ use Rattle.lab_wire_heads.specs.Requests.{accepted_head, request_in}
 use Rattle.lab_wire_heads.specs.Interims.{interim_lines, interim_text}
 use Rattle.lab_wire_heads.specs.Receptions.{request_length}
 
+-- how often a reader is asked for one request at most: a request has 73,728 bytes at most, so that
+-- single bytes suffice
+abbrev pub most_asks : ℕ
+most_asks = 80000
+
 -- the bytes are one request, and nothing behind it
 abbrev pub IsWholeRequest : List ℕ → Type 0
 IsWholeRequest bytes = IsOk (request_in bytes) × (request_length bytes ≡ length bytes)

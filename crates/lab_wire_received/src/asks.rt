@@ -1,17 +1,18 @@
-//! Asking a reader for bytes, and not forever.
+//! Asking a source for bytes, and not forever.
 
-ghost use Rattle.std.specs.Prelude.{◌<◌, ◌≤◌, OnOk, IfOk};
+ghost use Rattle.std.specs.Prelude.{◌<◌, ◌≤◌, ◌+◌, OnOk, IfOk};
 ghost use Rattle.std.specs.Io.{ReadsAtMost};
 ghost use Rattle.std.specs.Io.KnownBytes.{ReadConsumes};
 ghost use Rattle.lab_wire_received.specs.Reading.{TakesByte};
 
+use lab_forms_asks::ByteSource;
 use lab_wire_heads::HeadFault;
-use std::io::{ErrorKind, Read};
+use std::io::ErrorKind;
 
-/// How often a reader is asked for one request before it counts as failed. A request has at most 73,728 bytes.
+/// How often a source is asked for one request before it counts as failed. A request has at most 73,728 bytes.
 pub(crate) const MOST_ASKS: u32 = 80_000;
 
-/// The reader failed, or was asked too often.
+/// The source failed, or was asked too often.
 #[derive(Clone, Copy, Debug, PartialEq, Eq)]
 pub(crate) struct ReadFault;
 
@@ -26,11 +27,11 @@ impl From<ReadFault> for HeadFault {
     }
 }
 
-/// Asks for bytes, while asks are left. Where a signal interrupted the reader, it is asked again.
+/// Asks for bytes, while asks are left. Where a signal interrupted the source, it is asked again.
 ///
 /// # Errors
-/// The store refused, a row is none that this program writes, or memory ran out.
-pub(crate) fn read_some<R: Read>(
+/// The source failed, or no ask is left.
+pub(crate) fn read_some<R: ByteSource>(
     reader: &mut R,
     asks_left: &mut u32,
     buffer: &mut [u8],
@@ -39,13 +40,13 @@ pub(crate) fn read_some<R: Read>(
     ensures bytes { ReadConsumes (R.remaining reader.old) (R.remaining reader.new)
         result buffer.new }
 
-    // Each answer costs an ask, and none is given back.
+    // Each answer costs an ask, so with none left there is a fault; and no ask is given back.
     ensures asked { OnOk result (asks_left.new < asks_left.old) }
-    ensures asks { asks_left.new ≤ asks_left.old }
+    ensures asks { R.asks reader.new + asks_left.new ≤ R.asks reader.old + asks_left.old }
 {
     while *asks_left > 0 {
         *asks_left -= 1;
-        match reader.read(buffer) {
+        match reader.ask(buffer) {
             Ok(count) => return Ok(count),
             Err(error) if error.kind() == ErrorKind::Interrupted => {}
             Err(_) => return Err(ReadFault),
@@ -57,13 +58,13 @@ pub(crate) fn read_some<R: Read>(
 /// Takes the next byte, and none at the end.
 ///
 /// # Errors
-/// The store refused, a row is none that this program writes, or memory ran out.
-pub(crate) fn next_byte<R: Read>(
+/// The source failed, or no ask is left.
+pub(crate) fn next_byte<R: ByteSource>(
     reader: &mut R,
     asks_left: &mut u32,
 ) -> Result<Option<u8>, ReadFault>
     ensures taken { IfOk result (TakesByte (R.remaining reader.old) (R.remaining reader.new)) }
-    ensures asks { asks_left.new ≤ asks_left.old }
+    ensures asks { R.asks reader.new + asks_left.new ≤ R.asks reader.old + asks_left.old }
 {
     let mut byte = [0];
     if read_some(reader, asks_left, &mut byte)? == 0 {

@@ -1,19 +1,19 @@
 //! Reading the body behind a head, and no byte behind it.
 
-ghost use Rattle.std.specs.Prelude.{◌<◌, ◌≤◌, length, take, IfOk, IfErr};
+ghost use Rattle.std.specs.Prelude.{◌≡◌, ◌<◌, ◌≤◌, ◌+◌, length, take, IfOk, IfErr};
 ghost use Rattle.std.specs.Io.KnownBytes.{IsAtEnd};
 ghost use Rattle.lab_wire_heads.specs.Heads.{head_limit};
 ghost use Rattle.lab_wire_heads.specs.Lengths.{body_limit};
-ghost use Rattle.lab_wire_received.specs.Reading.{CameBehind, HasBody, IsBodyFault};
+ghost use Rattle.lab_wire_received.specs.Reading.{CameBehind, HasBody, IsBodyFault, OnMemory};
 
 use crate::asks::{ReadFault, read_some};
+use lab_forms_asks::ByteSource;
 use lab_forms_texts::Series;
 use lab_wire_heads::{HeadFault, HeadRefusal};
 use std::alloc::Global;
-use std::io::Read;
 
 // Reads from that place on until the bytes are full or the reader ends. It answers up to where they came.
-fn fill<R: Read>(
+fn fill<R: ByteSource>(
     reader: &mut R,
     asks_left: &mut u32,
     bytes: &mut [u8],
@@ -24,7 +24,7 @@ fn fill<R: Read>(
     ensures taken { IfOk result (λ end. CameBehind (take start bytes.old) (take end bytes.new)
         (R.remaining reader.old) (R.remaining reader.new)) }
     ensures end { IfOk result (λ end. end < length bytes.new → IsAtEnd (R.remaining reader.new)) }
-    ensures asks { asks_left.new ≤ asks_left.old }
+    ensures asks { R.asks reader.new + asks_left.new ≤ R.asks reader.old + asks_left.old }
 {
     let mut end = start;
     while end < bytes.len() {
@@ -41,7 +41,7 @@ fn fill<R: Read>(
 ///
 /// # Errors
 /// The reader ended before (`ShortBody`), failed or was asked too often, or memory ran out.
-pub(crate) fn read_body<R: Read>(
+pub(crate) fn read_body<R: ByteSource>(
     alloc: Global,
     reader: &mut R,
     asks_left: &mut u32,
@@ -53,7 +53,8 @@ pub(crate) fn read_body<R: Read>(
     ensures whole { IfOk result (λ request. HasBody head.now count request
         (R.remaining reader.old) (R.remaining reader.new)) }
     ensures fault { IfErr result (IsBodyFault (R.remaining reader.old) count) }
-    ensures asks { asks_left.new ≤ asks_left.old }
+    ensures unread { OnMemory result (reader.new ≡ reader.old) }
+    ensures asks { R.asks reader.new + asks_left.new ≤ R.asks reader.old + asks_left.old }
 {
     let whole = head.len() + count;
     let mut bytes = Vec::from_slice(alloc, head)?;

@@ -1,20 +1,20 @@
 //! Reading the bytes of a head, and none behind it.
 
-ghost use Rattle.std.specs.Prelude.{◌≡◌, ◌≤◌, length, take, IfOk, IfSome};
+ghost use Rattle.std.specs.Prelude.{◌≡◌, ◌≤◌, ◌+◌, length, take, IfOk, IfSome};
 ghost use Rattle.std.specs.Io.KnownBytes.{Consumes};
 ghost use Rattle.lab_wire_heads.specs.Heads.{head_limit};
 ghost use Rattle.lab_wire_heads.specs.Receptions.{head_stop};
 
 use crate::asks::{ReadFault, next_byte};
 use crate::stages::HeadStage;
-use std::io::Read;
+use lab_forms_asks::ByteSource;
 
 /// Reads the bytes of a head into the room, one at a time, so that those behind it are left to the reader: to the end of
 /// the head, or else to the limit or to the last byte. It answers how many they are.
 ///
 /// # Errors
-/// The store refused, a row is none that this program writes, or memory ran out.
-pub(crate) fn read_head<R: Read>(
+/// The source failed, or was asked too often.
+pub(crate) fn read_head<R: ByteSource>(
     reader: &mut R,
     asks_left: &mut u32,
     room: &mut [u8],
@@ -26,7 +26,7 @@ pub(crate) fn read_head<R: Read>(
     ensures stops { IfOk result (λ count.
         IfSome (R.remaining reader.old) (λ bytes. count ≡ head_stop bytes)) }
     ensures own { IfOk result (λ count. head_stop (take count room.new) ≡ count) }
-    ensures asks { asks_left.new ≤ asks_left.old }
+    ensures asks { R.asks reader.new + asks_left.new ≤ R.asks reader.old + asks_left.old }
 {
     let mut stage = HeadStage::Front;
     let mut count = 0;

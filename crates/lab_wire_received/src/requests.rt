@@ -1,18 +1,21 @@
 //! Reading one request from a reader: its head, the interim answer, its body.
 
-ghost use Rattle.std.specs.Prelude.{IfOk, IfSome};
+ghost use Rattle.std.specs.Prelude.{◌≤◌, ◌+◌, take, IfOk, IfSome};
 ghost use Rattle.std.specs.Io.KnownBytes.{Consumes};
 ghost use Rattle.lab_wire_heads.specs.Interims.{interim_text};
-ghost use Rattle.lab_wire_received.specs.Receptions.{IsReception, IsWholeRequest, IsInterimOf};
+ghost use Rattle.lab_wire_heads.specs.Receptions.{head_stop};
+ghost use Rattle.lab_wire_received.specs.Reading.{OnMemory};
+ghost use Rattle.lab_wire_received.specs.Receptions.{IsReception, IsWholeRequest, IsInterimOf, most_asks};
 
 use crate::asks::MOST_ASKS;
 use crate::bodies::read_body;
 use crate::heads::read_head;
 use crate::interims::send_interim;
+use lab_forms_asks::ByteSource;
 use lab_forms_texts::Series;
 use lab_wire_heads::{HEAD_LIMIT, HeadFault, expected_body};
 use std::alloc::Global;
-use std::io::{Read, Write};
+use std::io::Write;
 
 /// Reads one request, and gives its bytes, head and body. What follows the body is left to the reader. A client that waits
 /// with its body is sent the interim answer once its head is accepted; else nothing is written.
@@ -23,8 +26,9 @@ use std::io::{Read, Write};
 /// - `Refused`, as `request_parts` has it: the reader's bytes begin with no request that may be read;
 /// - `Read`: the reader failed, or was asked too often;
 /// - `Write`: the writer of the interim answer failed, or took no byte;
-/// - `Memory`: memory for the bytes ran out, once the head was accepted.
-pub fn read_request<R: Read, W: Write>(
+/// - `Memory`: memory for the bytes ran out, once the head was accepted. Nothing behind the head
+///   was read.
+pub fn read_request<R: ByteSource, W: Write>(
     alloc: Global,
     reader: &mut R,
     writer: &mut W,
@@ -36,8 +40,13 @@ pub fn read_request<R: Read, W: Write>(
     ensures interim { IfSome (R.remaining reader.old) (λ bytes.
         IsInterimOf (interim_text bytes) result (W.contents writer.old) (W.contents writer.new)) }
 
+    ensures unread { OnMemory result (IfSome (R.remaining reader.old) (λ bytes.
+        Consumes (R.remaining reader.old) (R.remaining reader.new)
+        (take (head_stop bytes) bytes))) }
+
     // Of any reader:
     ensures whole { IfOk result IsWholeRequest }
+    ensures asks { R.asks reader.new ≤ R.asks reader.old + most_asks }
 {
     let mut asks_left = MOST_ASKS;
     let mut room = [0; HEAD_LIMIT];

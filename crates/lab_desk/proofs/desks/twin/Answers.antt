@@ -3,8 +3,18 @@ use Rattle.std.proofs.Common.{sym, ◌∙◌}
 use Rattle.lab_wire.specs.declared.replies.Answer.TheVariants.{Refused}
 use Rattle.lab_wire.specs.Replies.{reply_text}
 use Rattle.lab_wire.specs.Asked.{asked}
-use Rattle.lab_desk.proofs.Agreeing.{still_agree, stays_elsewhere, same_but_for_memory}
+use Rattle.lab_desk.proofs.Agreeing.{same_but_for_memory, same_reply, still_agree, stays_elsewhere}
 use Rattle.lab_desk.proofs.desks.twin.Goals as goal
+
+pub returns-clause-replies : goal.returns-clause-replies
+returns-clause-replies g c = λ within other_within honest reached other_honest other_reached taken agree.
+    let one = c.handle in
+    let two = c.handle-2 in
+    same_reply (g.S.Keeper.world c.args.desk.now.keeper) (g.S.Keeper.world one.new.self.keeper)
+    (g.T.Keeper.world c.args.other.now.keeper) (g.T.Keeper.world two.new.self.keeper)
+    c.args.tick.now (asked c.args.bytes.now) one.new.self.reply two.new.self.reply
+    (one.ensures.taken within honest reached taken.0)
+    (two.ensures.taken other_within other_honest other_reached taken.1) agree
 
 pub returns-clause-agree : goal.returns-clause-agree
 returns-clause-agree g c = λ within other_within honest reached other_honest other_reached alike code agree live other_live.

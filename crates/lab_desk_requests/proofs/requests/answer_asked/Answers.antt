@@ -13,7 +13,7 @@ use Rattle.lab_records_outcomes.specs.Deciding.{decided}
 use Rattle.lab_wire.specs.declared.replies.Answer.TheVariants.{Replied}
 use Rattle.lab_wire.specs.Replies.{reply_text}
 use Rattle.lab_desk_runs.specs.Requests.{Builds, Steps}
-use Rattle.lab_desk_requests.proofs.Deciding.{builds, none_there, idle_none, none_changed, none_stepped, ends_on, fits_there, made_steps, on_ok, on_ok_all, either}
+use Rattle.lab_desk_requests.proofs.Deciding.{brings, brings_none, builds, none_there, idle_none, none_changed, none_stepped, ends_on, fits_there, made_steps, on_ok, on_ok_all, either}
 use Rattle.lab_desk_requests.proofs.requests.answer_asked.Given.{Over}
 use Rattle.lab_desk_requests.proofs.requests.answer_asked.Goals.{After-answer_on}
 use Rattle.lab_desk_requests.proofs.requests.answer_asked.Goals as goal
@@ -114,6 +114,12 @@ returns-in-Ok-Some-clause-does g c = λ within honest reached.
       reached = made.reached;
     }
 
+pub returns-in-Ok-Some-clause-legible : goal.returns-in-Ok-Some-clause-legible
+returns-in-Ok-Some-clause-legible g c = λ honest reached.
+    brings _ c.in-Ok-Some.slice c.args.tick.now c.args.asked.instruction c.answer_on.result
+    (sym c.in-Ok-Some.field-0-is ∙ c.in-Ok-Some.ensures.part
+    (c.answer_on.ensures.applies.ends.passes.honest honest) reached) c.answer_on.ensures.legible
+
 pub returns-in-Ok-Some-clause-ends : goal.returns-in-Ok-Some-clause-ends
 returns-in-Ok-Some-clause-ends g c = ends_on (g.S.Keeper.world c.args.keeper.now)
     (g.S.Keeper.world c.load_needed.new.keeper) (g.S.Keeper.world c.answer_on.new.keeper)
@@ -146,3 +152,9 @@ returns-in-Ok-None-clause-does g c = λ within honest reached.
           ∙ idle_none _ c.args.tick.now c.args.asked.instruction none));
       reached = loads.reached honest reached;
     }
+
+pub returns-in-Ok-None-clause-legible : goal.returns-in-Ok-None-clause-legible
+returns-in-Ok-None-clause-legible g c = λ honest reached.
+    on_ok_all c.no_such_lab.result (brings_none _ c.args.tick.now c.args.asked.instruction
+    (none_there _ c.args.tick.now c.args.asked.instruction
+    (sym c.in-Ok-None.field-0-is ∙ c.in-Ok-None.ensures.part honest reached)))

@@ -39,7 +39,19 @@ returns-in_err-listener-clause-fault g c =
     c.from_residual-in_err-listener.ensures.1 in
     rw (fault.1, fault.2, c.in_err-listener.ensures.fault) tt
 
+pub returns-in_err-office-clause-ours : goal.returns-in_err-office-clause-ours
+returns-in_err-office-clause-ours g c =
+    let fault = err_from_is_err_and c.from_residual-in_err-office.result
+    c.from_residual-in_err-office.ensures.1 in
+    rw fault.1 tt
+
+pub returns-in_err-office-clause-fault : goal.returns-in_err-office-clause-fault
+returns-in_err-office-clause-fault g c =
+    let fault = err_from_is_err_and c.from_residual-in_err-office.result
+    c.from_residual-in_err-office.ensures.1 in
+    rw (fault.1, fault.2) tt
+
 pub returns-clause-ours : goal.returns-clause-ours
 returns-clause-ours g c =
-    kept_so (IsOurs g.H.Disk.Store) c.in_ok-conn.conn c.new.result c.in_ok-desk.desk.keeper
-    c.in_ok-desk.ensures.keeper c.new.ensures c.in_ok-conn.ensures.ours
+    rw c.in_ok-office.ensures (kept_so (IsOurs g.H.Disk.Store) c.in_ok-conn.conn c.new.result
+    c.in_ok-desk.desk.keeper c.in_ok-desk.ensures.keeper c.new.ensures c.in_ok-conn.ensures.ours)

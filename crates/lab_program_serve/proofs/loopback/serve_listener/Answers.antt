@@ -1,10 +1,12 @@
-use Rattle.lab_desk_runs.proofs.Lasting.{stays_first}
+-- Where the port isn't known, nothing was served.
+use Rattle.std.proofs.Common.{arith}
+use Rattle.std.proofs.lemmas.Result.{err_from_is_err_and}
+use Rattle.lab_program_serve.proofs.TimeLemmas.{counts_first, serves_cut}
 use Rattle.lab_program_serve.proofs.loopback.serve_listener.Goals as goal
 
-pub returns-in_err-listening-clause-stays : goal.returns-in_err-listening-clause-stays
-returns-in_err-listening-clause-stays g c = λ within honest reached.
-    stays_first (g.S.Keeper.world c.args.desk.now.keeper) within reached
-
-pub returns-clause-served : goal.returns-clause-served
-returns-clause-served g c = λ within honest reached.
-    (c.serve_over.ensures.served within honest reached).serves
+pub returns-in_err-listening-clause-served : goal.returns-in_err-listening-clause-served
+returns-in_err-listening-clause-served g c =
+    let fault = err_from_is_err_and c.from_residual.result c.from_residual.ensures.1 in
+    rw fault.1 (serves_cut g.S.Keeper g.O.Opener.opened fault.0 c.args.office.now
+    c.args.office.now 0 c.args.count _ _ _ _ _ _ _ _ _ (omega arith)
+    (counts_first g.S.Keeper g.O.Opener.opened c.args.office.now _ _ _))

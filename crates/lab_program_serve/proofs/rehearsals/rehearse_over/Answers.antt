@@ -89,10 +89,14 @@ returns-in_err-serve_connection-clause-served g c = λ within honest reached.
         reply = c.serve_connection.new.desk.reply;
       };
       ending = c.serve_connection.result;
+      before = g.L.Writer.Write.contents c.in_ok-connection.connection.writer;
+      after = g.L.Writer.Write.contents c.serve_connection.new.writer;
     } in (
       visit ∷ [],
       (
+        c.args.desk.now.keeper,
         c.serve_connection.new.desk.keeper,
+        inl refl,
         record {
           within = within;
           honest = honest;
@@ -100,6 +104,7 @@ returns-in_err-serve_connection-clause-served g c = λ within honest reached.
           handled = served.handled;
           untouched = unserved c.serve_connection.result (ap (λ desk. desk.keeper))
               served.untouched;
+          sent = served.written;
         },
         refl,
       ),
@@ -120,16 +125,21 @@ returns-clause-served g c = λ within honest reached.
         reply = c.serve_connection.new.desk.reply;
       };
       ending = Ok tt;
+      before = g.L.Writer.Write.contents c.in_ok-connection.connection.writer;
+      after = g.L.Writer.Write.contents c.serve_connection.new.writer;
     } in (
       visit ∷ [],
       (
+        c.args.desk.now.keeper,
         c.serve_connection.new.desk.keeper,
+        inl refl,
         record {
           within = within;
           honest = honest;
           reached = reached;
           handled = c.in_ok-serve_connection.ensures.handled;
           untouched = tt;
+          sent = c.in_ok-serve_connection.ensures.written;
         },
         refl,
       ),

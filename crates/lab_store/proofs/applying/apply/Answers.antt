@@ -1,18 +1,22 @@
 use Rattle.std.proofs.Common.{◌≡◌, w64, to_z, of_z, SFits, rules, sym, ◌∙◌}
 use Rattle.std.proofs.lemmas.Int.{to_z-of_z}
 use Rattle.sqlite.specs.Held.{state}
-use Rattle.lab_store_columns.specs.declared.faults.ReadFault.{ReadFault}
-use Rattle.lab_store.proofs.After.{ends_ok, ends_told, found_row}
+use Rattle.lab_forms_texts.specs.declared.refusals.Fault.{Fault}
+use Rattle.lab_records_kept.specs.declared.faults.BadStore.{BadStore}
+use Rattle.lab_store.proofs.After.{ends_ok, ends_err, found_row}
 use Rattle.lab_store.proofs.applying.apply.Goals as goal
 
-pub returns-in_err-commit_all-clause-ends : goal.returns-in_err-commit_all-clause-ends
-returns-in_err-commit_all-clause-ends g c ready =
+pub returns-in-Ok-clause-ends : goal.returns-in-Ok-clause-ends
+returns-in-Ok-clause-ends g c ready =
     let old = state g.S.Store c.args.tables.now.conn in
     let middle = state g.S.Store c.lab_at.new.conn.conn in
     let new = state g.S.Store c.commit_all.new.conn in
     let fits : SFits w64 c.in-Some.head.id = search rules in
-    ends_told c.args.code.now c.args.changes.now old middle new ready c.in_ok-found.ensures.passes c.in_ok-found.ensures.same (to_z w64 (of_z w64 c.in-Some.head.id))
-    (λ clean. let row = found_row _ c.in-Some.head (sym c.in-Some.is ∙ c.in_ok-found.ensures.answer ready clean) in (row.0, row.1, row.2 ∙ sym (to_z-of_z w64 c.in-Some.head.id fits))) c.in_err-commit_all.field-0.0 c.from_residual-in_err-commit_all.result (search rules) c.in_err-commit_all.ensures.ends
+    ends_ok c.args.code.now c.args.changes.now old middle new ready
+    c.in_ok-found.ensures.passes c.in_ok-found.ensures.same (to_z w64 (of_z w64 c.in-Some.head.id))
+    (λ clean. let row = found_row _ c.in-Some.head (sym c.in-Some.is ∙ c.in_ok-found.ensures.answer ready clean) in
+    (row.0, row.1, row.2 ∙ sym (to_z-of_z w64 c.in-Some.head.id fits)))
+    (Fault BadStore) _ tt c.in-Ok.ensures.ends
 
 pub returns-clause-ends : goal.returns-clause-ends
 returns-clause-ends g c ready =
@@ -20,5 +24,8 @@ returns-clause-ends g c ready =
     let middle = state g.S.Store c.lab_at.new.conn.conn in
     let new = state g.S.Store c.commit_all.new.conn in
     let fits : SFits w64 c.in-Some.head.id = search rules in
-    ends_ok c.args.code.now c.args.changes.now old middle new ready c.in_ok-found.ensures.passes c.in_ok-found.ensures.same (to_z w64 (of_z w64 c.in-Some.head.id))
-    (λ clean. let row = found_row _ c.in-Some.head (sym c.in-Some.is ∙ c.in_ok-found.ensures.answer ready clean) in (row.0, row.1, row.2 ∙ sym (to_z-of_z w64 c.in-Some.head.id fits))) ReadFault c.in_ok-commit_all.field-0 tt c.in_ok-commit_all.ensures.ends
+    ends_err c.args.code.now c.args.changes.now old middle new ready
+    c.in_ok-found.ensures.passes c.in_ok-found.ensures.same (to_z w64 (of_z w64 c.in-Some.head.id))
+    (λ clean. let row = found_row _ c.in-Some.head (sym c.in-Some.is ∙ c.in_ok-found.ensures.answer ready clean) in
+    (row.0, row.1, row.2 ∙ sym (to_z-of_z w64 c.in-Some.head.id fits)))
+    _ c.in-Err.error c.read_fault.result c.in-Err.ensures.ends

@@ -1,5 +1,5 @@
 -- behind the place where it began, all bytes so far came from the reader
-use Rattle.std.proofs.Common.{◌-◌, ◌≤◌, length, take}
+use Rattle.std.proofs.Common.{◌+◌, ◌-◌, ◌≤◌, length, take}
 use Rattle.lab_wire_received.specs.Reading.{CameBehind}
 use Rattle.lab_wire_received.proofs.bodies.fill.Given as goal
 
@@ -8,8 +8,8 @@ invariant-loop-end g l =
     record {
       within : l.end ≤ length l.bytes;
       came : CameBehind (take l.fn.start l.fn.bytes) (take l.end l.bytes)
-          (g.R.Read.remaining l.fn.reader) (g.R.Read.remaining l.reader);
-      asks : l.asks_left ≤ l.fn.asks_left;
+          (g.R.ByteSource.remaining l.fn.reader) (g.R.ByteSource.remaining l.reader);
+      asks : g.R.ByteSource.asks l.reader + l.asks_left ≤ g.R.ByteSource.asks l.fn.reader + l.fn.asks_left;
     }
 
 abbrev pub decreases-loop-end : goal.decreases-loop-end

@@ -10,9 +10,9 @@ returns-then-branch-whole-clause-fault g c =
     let now = take c.in_ok-fill.field-0 c.fill.new.bytes in
     let start : take (length head) c.deref_mut.result.now ≡ head = grind (arith, common_steps) in (
       refl,
-      short_body (g.R.Read.remaining c.args.reader.now) (g.R.Read.remaining c.fill.new.reader)
+      short_body (g.R.ByteSource.remaining c.args.reader.now) (g.R.ByteSource.remaining c.fill.new.reader)
           head now c.args.count
           (grind (arith, common_steps))
-          (subst (λ t. CameBehind t now (g.R.Read.remaining c.args.reader.now) (g.R.Read.remaining c.fill.new.reader)) start c.in_ok-fill.ensures.taken)
+          (subst (λ t. CameBehind t now (g.R.ByteSource.remaining c.args.reader.now) (g.R.ByteSource.remaining c.fill.new.reader)) start c.in_ok-fill.ensures.taken)
           (c.in_ok-fill.ensures.end (grind (arith, common_steps))),
     )

@@ -1,5 +1,5 @@
 -- the bytes so far came from the reader, and no head has ended in them
-use Rattle.std.proofs.Common.{◌≡◌, ◌-◌, ◌≤◌, false, length, take}
+use Rattle.std.proofs.Common.{◌≡◌, ◌+◌, ◌-◌, ◌≤◌, false, length, take}
 use Rattle.std.specs.Io.KnownBytes.{Consumes}
 use Rattle.lab_wire_heads.specs.Heads.{head_limit}
 use Rattle.lab_wire_received.specs.Stages.{has_ended}
@@ -11,10 +11,10 @@ invariant-loop-count g l =
     record {
       within : l.count ≤ length l.room;
       size : length l.room ≡ head_limit;
-      taken : Consumes (g.R.Read.remaining l.fn.reader) (g.R.Read.remaining l.reader) (take l.count l.room);
+      taken : Consumes (g.R.ByteSource.remaining l.fn.reader) (g.R.ByteSource.remaining l.reader) (take l.count l.room);
       stage : l.stage ≡ stage_of (take l.count l.room);
       before : has_ended l.stage ≡ false;
-      asks : l.asks_left ≤ l.fn.asks_left;
+      asks : g.R.ByteSource.asks l.reader + l.asks_left ≤ g.R.ByteSource.asks l.fn.reader + l.fn.asks_left;
     }
 
 abbrev pub decreases-loop-count : goal.decreases-loop-count

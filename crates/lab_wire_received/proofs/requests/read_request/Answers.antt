@@ -1,7 +1,7 @@
 use Rattle.std.proofs.Common.{take}
 use Rattle.std.proofs.lemmas.Result.{err_from_is_err_and}
 use Rattle.lab_wire_heads.specs.Requests.{accepted_head}
-use Rattle.lab_wire_received.proofs.ReceptionLemmas.{expected_err, IsFound, exact_refused, interim_refused, stop_of, found_of, whole_result, exact_result, interim_result, exact_unsent, interim_unsent}
+use Rattle.lab_wire_received.proofs.ReceptionLemmas.{expected_err, IsFound, exact_refused, interim_refused, stop_of, found_of, whole_result, exact_result, interim_result, exact_unsent, interim_unsent, unread_result}
 use Rattle.lab_wire_received.proofs.requests.read_request.Given.{Over}
 use Rattle.lab_wire_received.proofs.requests.read_request.Goals.{In_ok-body}
 use Rattle.lab_wire_received.proofs.requests.read_request.Goals as goal
@@ -10,25 +10,25 @@ use Rattle.lab_wire_received.proofs.requests.read_request.Goals as goal
 
 pub returns-in_err-body-clause-exact : goal.returns-in_err-body-clause-exact
 returns-in_err-body-clause-exact g c =
-    let old = g.R.Read.remaining c.args.reader.now in
+    let old = g.R.ByteSource.remaining c.args.reader.now in
     let room = c.read_head.new.room in
     let count = c.in_ok-count.count in
     let head = take count room in
     let refusal = c.in_err-body.field-0.0 in
     let p = err_from_is_err_and c.from_residual-in_err-body.result c.from_residual-in_err-body.ensures.1 in
-    rw (p.1, p.2) (exact_refused old (g.R.Read.remaining c.read_head.new.reader) head refusal c.in_ok-count.ensures.taken
+    rw (p.1, p.2) (exact_refused old (g.R.ByteSource.remaining c.read_head.new.reader) head refusal c.in_ok-count.ensures.taken
     (stop_of old room count c.in_ok-count.ensures.within c.in_ok-count.ensures.stops)
     (expected_err (accepted_head head) refusal c.in_err-body.ensures.expected))
 
 pub returns-in_err-body-clause-interim : goal.returns-in_err-body-clause-interim
 returns-in_err-body-clause-interim g c =
-    let old = g.R.Read.remaining c.args.reader.now in
+    let old = g.R.ByteSource.remaining c.args.reader.now in
     let room = c.read_head.new.room in
     let count = c.in_ok-count.count in
     let head = take count room in
     let refusal = c.in_err-body.field-0.0 in
     let p = err_from_is_err_and c.from_residual-in_err-body.result c.from_residual-in_err-body.ensures.1 in
-    rw (p.1, p.2) (interim_refused (g.W.Write.contents c.args.writer.now) old (g.R.Read.remaining c.read_head.new.reader) head refusal
+    rw (p.1, p.2) (interim_refused (g.W.Write.contents c.args.writer.now) old (g.R.ByteSource.remaining c.read_head.new.reader) head refusal
     c.in_ok-count.ensures.taken
     (stop_of old room count c.in_ok-count.ensures.within c.in_ok-count.ensures.stops)
     (expected_err (accepted_head head) refusal c.in_err-body.ensures.expected))
@@ -50,7 +50,7 @@ returns-in_err-send_interim-clause-exact g c =
     let found = found g (goal.at.returns-in_err-send_interim-clause-exact g c).In_ok-body in
     let p = err_from_is_err_and c.from_residual-in_err-send_interim.result c.from_residual-in_err-send_interim.ensures.1 in
     rw (p.1, p.2) (exact_unsent (take count room) body found c.in_err-send_interim.field-0.0.sent
-    (g.R.Read.remaining c.args.reader.now) (g.R.Read.remaining c.read_head.new.reader) c.in_ok-count.ensures.taken
+    (g.R.ByteSource.remaining c.args.reader.now) (g.R.ByteSource.remaining c.read_head.new.reader) c.in_ok-count.ensures.taken
     c.in_err-send_interim.ensures.short)
 
 pub returns-in_err-send_interim-clause-interim : goal.returns-in_err-send_interim-clause-interim
@@ -61,7 +61,7 @@ returns-in_err-send_interim-clause-interim g c =
     let found = found g (goal.at.returns-in_err-send_interim-clause-interim g c).In_ok-body in
     let p = err_from_is_err_and c.from_residual-in_err-send_interim.result c.from_residual-in_err-send_interim.ensures.1 in
     rw (p.1, p.2) (interim_unsent (take count room) body found c.in_err-send_interim.field-0.0.sent
-    (g.R.Read.remaining c.args.reader.now) (g.R.Read.remaining c.read_head.new.reader) c.in_ok-count.ensures.taken
+    (g.R.ByteSource.remaining c.args.reader.now) (g.R.ByteSource.remaining c.read_head.new.reader) c.in_ok-count.ensures.taken
     (g.W.Write.contents c.args.writer.now) (g.W.Write.contents c.send_interim.new.writer)
     c.in_err-send_interim.ensures.cut)
 
@@ -74,7 +74,7 @@ returns-clause-exact g c =
     let body = c.in_ok-body.body in
     let found = found g (goal.at.returns-clause-exact g c).In_ok-body in
     exact_result (take count room) body found c.read_body.result
-    (g.R.Read.remaining c.args.reader.now) (g.R.Read.remaining c.read_head.new.reader) (g.R.Read.remaining c.read_body.new.reader)
+    (g.R.ByteSource.remaining c.args.reader.now) (g.R.ByteSource.remaining c.read_head.new.reader) (g.R.ByteSource.remaining c.read_body.new.reader)
     c.in_ok-count.ensures.taken c.read_body.ensures.whole c.read_body.ensures.fault
 
 pub returns-clause-interim : goal.returns-clause-interim
@@ -84,7 +84,7 @@ returns-clause-interim g c =
     let body = c.in_ok-body.body in
     let found = found g (goal.at.returns-clause-interim g c).In_ok-body in
     interim_result (take count room) body found c.read_body.result
-    (g.R.Read.remaining c.args.reader.now) (g.R.Read.remaining c.read_head.new.reader) (g.R.Read.remaining c.read_body.new.reader)
+    (g.R.ByteSource.remaining c.args.reader.now) (g.R.ByteSource.remaining c.read_head.new.reader) (g.R.ByteSource.remaining c.read_body.new.reader)
     c.in_ok-count.ensures.taken
     (g.W.Write.contents c.args.writer.now) (g.W.Write.contents c.send_interim.new.writer)
     c.in_ok-send_interim.ensures.whole c.read_body.ensures.fault
@@ -96,5 +96,24 @@ returns-clause-whole g c =
     let body = c.in_ok-body.body in
     let found = found g (goal.at.returns-clause-whole g c).In_ok-body in
     whole_result (take count room) body found c.read_body.result
-    (g.R.Read.remaining c.args.reader.now) (g.R.Read.remaining c.read_head.new.reader) (g.R.Read.remaining c.read_body.new.reader)
+    (g.R.ByteSource.remaining c.args.reader.now) (g.R.ByteSource.remaining c.read_head.new.reader) (g.R.ByteSource.remaining c.read_body.new.reader)
     c.in_ok-count.ensures.taken c.read_body.ensures.whole
+
+-- there was no memory for the body
+
+pub returns-in_err-body-clause-unread : goal.returns-in_err-body-clause-unread
+returns-in_err-body-clause-unread g c =
+    let p = err_from_is_err_and c.from_residual-in_err-body.result c.from_residual-in_err-body.ensures.1 in
+    rw (p.1, p.2) tt
+
+pub returns-in_err-send_interim-clause-unread : goal.returns-in_err-send_interim-clause-unread
+returns-in_err-send_interim-clause-unread g c =
+    let p = err_from_is_err_and c.from_residual-in_err-send_interim.result c.from_residual-in_err-send_interim.ensures.1 in
+    rw (p.1, p.2) tt
+
+pub returns-clause-unread : goal.returns-clause-unread
+returns-clause-unread g c =
+    unread_result g.R.ByteSource.remaining c.args.reader.now c.read_head.new.reader c.read_body.new.reader
+    (take c.in_ok-count.count c.read_head.new.room) c.read_body.result c.in_ok-count.ensures.taken
+    (stop_of (g.R.ByteSource.remaining c.args.reader.now) c.read_head.new.room c.in_ok-count.count c.in_ok-count.ensures.within
+    c.in_ok-count.ensures.stops) c.read_body.ensures.unread

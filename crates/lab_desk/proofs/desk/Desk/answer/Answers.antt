@@ -1,4 +1,5 @@
 -- The answer that was written is the witness; one event is a run by the lemmas of `Running`.
+use Rattle.lab_desk_runs.proofs.Leaving.{call_leaves, found_leaves}
 use Rattle.lab_desk_runs.proofs.Running.{one_founding, one_call, sent_as}
 use Rattle.lab_desk.proofs.desk.Desk.answer.Goals as goal
 
@@ -25,6 +26,26 @@ returns-in-Call-clause-answered g c = λ within honest reached. (
   sent_as _ _ _ _ c.write_reply-in-Call.ensures.whole c.write_reply-in-Call.ensures.cut
       c.write_reply-in-Call.ensures.short,
 )
+
+pub returns-in-Found-clause-leaves : goal.returns-in-Found-clause-leaves
+returns-in-Found-clause-leaves g c = λ within honest reached.
+    found_leaves (g.S.Keeper.world c.args.self.now.keeper)
+    (g.S.Keeper.world c.answer_founding-line.new.self.keeper) c.args.event.now c.in-Found.lab c.in-Found.tick c.in-Found.body
+    c.as_slice.result.now c.answer_founding-line.result.taken c.in-Found.is c.as_slice.ensures
+    (c.answer_founding-line.ensures.crash honest reached)
+    (λ taken. (c.answer_founding-line.ensures.taken honest reached taken).after)
+    (c.answer_founding-line.ensures.settles honest reached)
+
+pub returns-in-Call-clause-leaves : goal.returns-in-Call-clause-leaves
+returns-in-Call-clause-leaves g c = λ within honest reached.
+    call_leaves (g.S.Keeper.world c.args.self.now.keeper)
+    (g.S.Keeper.world c.handle.new.self.keeper) c.args.event.now c.in-Call.tick c.in-Call.bytes c.as_slice-in-Call.result.now
+    c.handle.result c.in-Call.is c.as_slice-in-Call.ensures (record {
+      after = λ taken. (c.handle.ensures.taken within honest reached taken).after;
+      crash = c.handle.ensures.crash within honest reached;
+      quiet = λ idle. c.handle.ensures.quiet idle honest reached;
+      durable = c.handle.ensures.durable within honest reached;
+    })
 
 pub returns-in-Call-clause-stays : goal.returns-in-Call-clause-stays
 returns-in-Call-clause-stays g c = c.handle.ensures.stays

@@ -1,7 +1,9 @@
 -- A founding was taken where a laboratory was founded, and where its refusal is told.
 use Rattle.lab_desk_foundings.specs.Foundings.{founding_in}
 use Rattle.lab_desk_foundings.proofs.Bearing.{takes_founded, takes_refused}
+use Rattle.std.proofs.Common.{inl}
 use Rattle.lab_desk_runs.proofs.Lasting.{still_stays}
+use Rattle.lab_desk_runs.proofs.Leaving.{settles_refused}
 use Rattle.lab_desk.proofs.desk.Desk.answer_founding.Goals as goal
 use Rattle.lab_desk.proofs.desk.Desk.answer_founding.Goals.{in-Ok-found, in-Err}
 
@@ -20,6 +22,18 @@ returns-clause-taken g c = λ honest reached taken. elim c.match-found.branch [
       c.found.ensures.fault c.found.ensures.untouched (c.found.ensures.lives honest reached)
       (c.found.ensures.err honest reached))
 ]
+
+pub returns-clause-settles : goal.returns-clause-settles
+returns-clause-settles g c = λ honest reached taken. elim c.match-found.branch [
+  | in-Ok-found w ↦ inl (rw w.in-Ok-found.is at c.found.ensures.durable honest reached)
+  | in-Err w ↦ settles_refused g.S.Keeper.world c.args.self.now.keeper c.found.new.self.keeper
+      c.found.result _ w.in-Err.is (w.unfounded.ensures.taken (rw w.result-is at taken)).0
+      (c.found.ensures.quiet honest reached) (c.found.ensures.err honest reached)
+      c.found.ensures.untouched (c.found.ensures.lives honest reached)
+]
+
+pub returns-in_default-clause-crash : goal.returns-in_default-clause-crash
+returns-in_default-clause-crash g c = λ honest reached live held left. inl left
 
 pub returns-in_default-clause-stays : goal.returns-in_default-clause-stays
 returns-in_default-clause-stays g c = λ honest reached.

@@ -11,6 +11,7 @@ returns-in-Ok g c =
     rw (c.keep.ensures.keeper, ← c.self.view_is, c.in-Ok.ensures.asks)
     (asked_so g.S.Keeper c.self.inside.keeper answered.new.keeper c.args.tick.now c.in-Ok.asked
     answered.result (λ reply. reply.items) c.keep.result c.keep.new.self.reply (record {
+      formed = answered.ensures.formed;
       within = λ within honest reached. asked_within (g.S.Keeper.world c.self.inside.keeper)
           (g.S.Keeper.world answered.new.keeper) c.args.tick.now c.in-Ok.asked answered.result
           answered.ensures.formed (answered.ensures.ends.passes.live honest)
@@ -22,6 +23,8 @@ returns-in-Ok g c =
       does = answered.ensures.does;
       replied = c.keep.ensures.replied;
       failed = c.keep.ensures.fault;
+      named = answered.ensures.asked;
+      brings = answered.ensures.legible;
     }))
 
 pub returns-in-Err-Refused : goal.returns-in-Err-Refused

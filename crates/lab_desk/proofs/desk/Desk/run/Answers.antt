@@ -1,8 +1,10 @@
 -- The run goes on by each event; a write fault ends it within the answer of its last event.
-use Rattle.std.proofs.Common.{rules, ◌≡◌, ◌+◌, [], ◌∷◌, ◌++◌, length, subst, arith}
+use Rattle.std.proofs.Common.{rules, ◌≡◌, ◌+◌, [], ◌∷◌, ◌++◌, length, refl, subst, arith}
 use Rattle.std.proofs.lemmas.List.{take_all}
+use Rattle.lab_desk_runs.specs.Leaving.{LeavesRun}
 use Rattle.lab_desk_runs.specs.Runs.{Runs}
 use Rattle.lab_desk_runs.proofs.Lasting.{stays_first, stays_after}
+use Rattle.lab_desk_runs.proofs.Leaving.{leaves_more, leaves_none}
 use Rattle.lab_desk_runs.proofs.Running.{run_more, run_cut, runs_none}
 use Rattle.lab_desk.proofs.desk.Desk.run.Goals as goal
 
@@ -17,6 +19,9 @@ loop-event-init g c = record {
       rw c.in-Ok.ensures.empty (runs_none
       (g.S.Keeper.world c.args.self.now.keeper) c.args.events.now
       (g.W.Write.contents c.args.writer.now));
+  leaves = λ within honest reached.
+      rw c.in-Ok.ensures.empty
+      (leaves_none g.S.Keeper c.args.self.now.keeper c.args.events.now);
 }
 
 pub returns-in_default-clause-stays : goal.returns-in_default-clause-stays
@@ -52,6 +57,25 @@ loop-event-preserved g c = record {
         is = c.event-item.is;
         within = c.loop-event-test.true;
       }) (rw c.in_default-sent.is at here.2));
+  leaves = λ within honest reached.
+      let earlier = c.answer-answered.ensures.passes.honest honest in
+      let before = c.loop-event.invariant.stays within earlier reached in
+      let here = c.answer-answered.ensures.answered before.within honest before.reached in
+      let pushed : c.push.new.self.items
+      ≡ c.loop-event.taken.items ++ c.answer-answered.result.taken ∷ [] = search rules in
+      rw pushed (leaves_more g.S.Keeper c.args.self.now.keeper c.loop-event.self.keeper
+      c.answer-answered.new.self.keeper c.args.events.now c.loop-event.event-index
+      c.loop-event.taken.items c.event-item.result c.answer-answered.result.taken
+      c.event-item.is c.loop-event-test.true (c.loop-event.invariant.leaves within earlier reached)
+      (record {
+        back = c.answer-answered.ensures.passes.live honest;
+        leaves = c.answer-answered.ensures.leaves before.within honest before.reached;
+        stays = c.answer-answered.ensures.stays before.within honest before.reached;
+        within = before.within;
+        releasing = before.releasing;
+        after = here.1.after (g.S.Keeper.world c.loop-event.self.keeper).meaning
+            (λ live code. refl);
+      }));
 }
 
 pub returns-in-Err-clause-cut : goal.returns-in-Err-clause-cut
@@ -77,6 +101,28 @@ returns-in-Err-clause-cut g c = λ within honest reached.
       within = c.loop-event-test.true;
     }) pushed counted (rw c.in-Err.is at here.2)
 
+pub returns-in-Err-clause-leaves_cut : goal.returns-in-Err-clause-leaves_cut
+returns-in-Err-clause-leaves_cut g c = λ within honest reached.
+    let earlier = c.answer-answered.ensures.passes.honest honest in
+    let before = c.loop-event.invariant.stays within earlier reached in
+    let here = c.answer-answered.ensures.answered before.within honest before.reached in
+    let pushed : c.push.new.self.items
+    ≡ c.loop-event.taken.items ++ c.answer-answered.result.taken ∷ [] = search rules in
+    let counted : length c.push.new.self.items ≡ c.loop-event.event-index + 1 = search rules in
+    rw (counted, pushed) (leaves_more g.S.Keeper c.args.self.now.keeper c.loop-event.self.keeper
+    c.answer-answered.new.self.keeper c.args.events.now c.loop-event.event-index
+    c.loop-event.taken.items c.event-item.result c.answer-answered.result.taken
+    c.event-item.is c.loop-event-test.true (c.loop-event.invariant.leaves within earlier reached)
+    (record {
+      back = c.answer-answered.ensures.passes.live honest;
+      leaves = c.answer-answered.ensures.leaves before.within honest before.reached;
+      stays = c.answer-answered.ensures.stays before.within honest before.reached;
+      within = before.within;
+      releasing = before.releasing;
+      after = here.1.after (g.S.Keeper.world c.loop-event.self.keeper).meaning
+          (λ live code. refl);
+    })).leaves
+
 pub returns-in-Err-clause-stays : goal.returns-in-Err-clause-stays
 returns-in-Err-clause-stays g c =
     stays_after (g.S.Keeper.world c.args.self.now.keeper)
@@ -92,3 +138,11 @@ returns-clause-alone g c = λ within honest reached.
     (g.W.Write.contents c.args.writer.now) (g.W.Write.contents c.loop-event.writer))
     (take_all c.loop-event.event-index c.args.events.now (omega arith))
     (c.loop-event.invariant.run within honest reached)
+
+pub returns-clause-leaves : goal.returns-clause-leaves
+returns-clause-leaves g c = λ within honest reached.
+    let done = c.loop-event-test.false in
+    subst (λ events. LeavesRun g.S.Keeper c.args.self.now.keeper c.loop-event.self.keeper events
+    c.loop-event.taken.items)
+    (take_all c.loop-event.event-index c.args.events.now (omega arith))
+    (c.loop-event.invariant.leaves within honest reached).leaves

@@ -1,0 +1,67 @@
+-- What a crash may leave at the end of a run: what is kept by every event that was taken, or that
+-- and one event beside it whose commit the store didn't confirm (21 CFR 11.10(c), "protection of
+-- records to enable their accurate and ready retrieval throughout the records retention period").
+use Rattle.std.specs.Prelude.{◌≡◌, ◌⊎◌, ◌++◌, List, [], ◌∷◌, Bool, true, false}
+use Rattle.lab_records_kept.specs.declared.keeper.Keeper.{Ghosts}
+use Rattle.lab_records_kept.specs.Limits.{IsWithin}
+use Rattle.lab_records_kept.specs.Worlds.{World, Meaning, IsDurable, Quiet, SameMeaning}
+use Rattle.lab_records_laws.specs.Runs.{IsReleasing}
+use Rattle.lab_desk_runs.specs.declared.events.Event.{Event}
+use Rattle.lab_desk_runs.specs.Keeping.{AreReleasing, LeavesOnly}
+use Rattle.lab_desk_runs.specs.Runs.{Handled, IsTold, after_run}
+
+-- an event as one that was taken or refused; what it answers plays no part here
+abbrev pub as_told : Event → Bool → Handled
+as_told event taken = record { event = event; taken = taken; answer = [] }
+
+-- the laboratories of a front of the run, whose last event was refused and made all the same;
+-- nothing that was taken since has changed any
+pub record IsFront (start : Meaning) (handled : List Handled) (held : Meaning) : Type 0 where
+  pub front : List Handled
+  pub one : Handled
+  pub rest : List Handled
+  pub are : handled ≡ front ++ one ∷ rest
+  pub refused : one.taken ≡ false
+  pub made : SameMeaning (after_run start (front ++ as_told one.event true ∷ [])) held
+  pub since : SameMeaning (after_run start front) (after_run start handled)
+
+-- what a crash may leave once these were handled: what is kept; a front of the run; or what it
+-- could leave before the run, where nothing that was taken has changed any laboratory
+abbrev pub IsLeftBy : Meaning → (Meaning → Type 0) → List Handled → Meaning → Type 0
+IsLeftBy start before handled held =
+    SameMeaning (after_run start handled) held
+    ⊎ (IsFront start handled held
+    ⊎ (before held × SameMeaning start (after_run start handled)))
+
+-- the same of one event
+abbrev pub LeavesByOne : World → World → Event → Bool → Type 0
+LeavesByOne old new event taken = (held : Meaning) → new.may_leave held →
+    SameMeaning (after_run old.meaning (as_told event taken ∷ [])) held
+    ⊎ (((taken ≡ false) × SameMeaning (after_run old.meaning (as_told event true ∷ [])) held)
+    ⊎ (old.may_leave held
+    × SameMeaning old.meaning (after_run old.meaning (as_told event taken ∷ []))))
+
+-- a founding that was taken has its rows on the disk, or left every laboratory, and no more than
+-- before for a crash to leave
+abbrev pub Settles : World → World → Type 0
+Settles old new =
+    IsDurable new ⊎ (Quiet old new × (old.is_live → SameMeaning old.meaning new.meaning))
+
+-- what a crash may leave at the end of a run, told also where a fault at its last event has shut
+-- the keeper
+pub record LeavesRun {S : Type 0} (keeper : Ghosts S) (old new : S) (events : List Event)
+    (taken : List Bool) : Type 0 where
+  pub handled : List Handled
+  pub told : IsTold events taken handled
+  -- the keeper before the last event; it was live where it is so at the end
+  pub before : S
+  pub lives : (keeper.world new).is_live → (keeper.world before).is_live
+  -- where it was live:
+  pub left : (keeper.world before).is_live → (held : Meaning) → (keeper.world new).may_leave held →
+      IsLeftBy (keeper.world old).meaning (keeper.world old).may_leave handled held
+  pub safe : (keeper.world before).is_live → (keeper.world old).is_safe →
+      (keeper.world new).is_safe
+  pub left_within : (keeper.world before).is_live → LeavesOnly IsWithin (keeper.world old) →
+      LeavesOnly IsWithin (keeper.world new)
+  pub left_releasing : (keeper.world before).is_live → AreReleasing (keeper.world old) →
+      LeavesOnly IsReleasing (keeper.world old) → LeavesOnly IsReleasing (keeper.world new)

@@ -1,0 +1,12 @@
+pub mod Wholes
+pub mod SignaturesInTurn
+pub mod VersionWhole
+pub mod VersionsInTurn
+pub mod ExactForm
+pub mod RecordWhole
+pub mod RecordWholeKept
+pub mod Comings
+pub mod OwnRow
+pub mod Orders
+pub mod WholeLab
+pub mod LabPlaced

@@ -1,0 +1,2 @@
+pub mod OldSchemaValues
+pub mod KnownOldFile

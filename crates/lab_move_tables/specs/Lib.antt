@@ -1,0 +1,5 @@
+pub mod OldSchema
+pub mod OldRows
+pub mod Owned
+pub mod KeptLabs
+pub mod Reading

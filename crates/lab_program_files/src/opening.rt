@@ -1,0 +1,55 @@
+//! Who opens the file at a path, and opens it anew.
+
+use crate::leaving::leave;
+use lab_program_serve::Opener;
+use lab_program_shelves::{Closing, Shelf, TaskFault, open_file};
+use lab_records_kept::{BadStore, KeeperFault};
+use lab_store::Store;
+use lab_store_files::FileFault;
+use sqlite::Connection;
+use std::alloc::Global;
+
+/// Who opens the file of laboratories at a path.
+#[derive(Drop)]
+pub struct FileOpener<'a> {
+    path: &'a str,
+}
+
+impl<'a> FileOpener<'a> {
+    /// Who opens the file at the path.
+    pub fn new(path: &'a str) -> FileOpener<'a> {
+        FileOpener { path }
+    }
+}
+
+// Why no keeper was opened.
+fn unopened(fault: TaskFault) -> KeeperFault {
+    match fault {
+        TaskFault::File(FileFault::Memory) => KeeperFault::Memory,
+        _ => KeeperFault::Refused(BadStore),
+    }
+}
+
+impl<'a, H: Shelf> Opener<H, Store<H::Disk>> for FileOpener<'a>
+where
+    Connection<H::Disk>: Closing,
+{
+    ghost use Rattle.lab_program_shelves.specs.Files.{IsOurs};
+
+    ghost opened = { IsOurs H.Disk.Store };
+
+    fn is_there(&mut self, alloc: Global, host: &mut H) -> bool {
+        host.is_there(alloc, self.path)
+    }
+
+    fn open(&mut self, alloc: Global, host: &mut H) -> Result<Store<H::Disk>, KeeperFault> {
+        match open_file(alloc, host, self.path) {
+            Ok(conn) => Ok(Store::new(alloc, conn)),
+            Err(fault) => Err(unopened(fault)),
+        }
+    }
+
+    fn close(&mut self, _host: &mut H, keeper: Store<H::Disk>) {
+        leave(keeper);
+    }
+}

@@ -1,0 +1,98 @@
+-- The times of a server. Over a keeper that was opened it serves one connection after the other. Once
+-- that keeper no longer answers, it is given up, and before the next request one is opened anew;
+-- where none could be, that request is refused, and the next one tries again.
+use Rattle.std.specs.Prelude.{◌≡◌, ◌⊎◌, ◌++◌, ℕ, List, [], ◌∷◌, Option, Some, None, Result}
+use Rattle.lab_records_kept.specs.declared.keeper.Keeper.{Ghosts}
+use Rattle.lab_records_kept.specs.Worlds.{Passes}
+use Rattle.lab_desk_runs.specs.Keeping.{GivenWithin, Stays, StaysOn}
+use Rattle.lab_desk.specs.Answering.{IsAsked}
+use Rattle.lab_desk.specs.Desk.{Served}
+use Rattle.lab_desk.specs.Serving.{HandlesRequest}
+use Rattle.lab_program_serve.specs.declared.shut.Shut.{Shut}
+use Rattle.lab_program_serve.specs.Shut.{shut_keeper}
+use Rattle.lab_program_serve.specs.Visits.{AreCounted, AreVisits, IsSent, KeepsGiven, OnServed, OnUnserved, Sources, Visit}
+
+pub record Time (S : Type 0) : Type 0 where
+  -- the keeper as it was opened
+  pub first : S
+  -- the connections that were served over it
+  pub visits : List Visit
+  -- the keeper after them
+  pub last : S
+  -- those that came once it was given up, while none could be opened
+  pub refused : List Visit
+
+-- all connections, in order
+abbrev pub visits_of : {S : Type 0} → List (Time S) → List Visit
+visits_of [] = []
+visits_of (time ∷ times) = (time.visits ++ time.refused) ++ visits_of times
+
+-- the request of a connection was handled as by a keeper that a fault has shut
+pub record IsRefused (visit : Visit) : Type 0 where
+  pub old : Shut
+  pub new : Shut
+  pub handled : OnServed visit.ending (HandlesRequest shut_keeper old new visit.exchange)
+  pub sent : IsSent visit
+
+abbrev pub AreRefused : List Visit → Type 0
+AreRefused [] = Unit {0}
+AreRefused (visit ∷ visits) = IsRefused visit × AreRefused visits
+
+module _ {S : Type 0} (keeper : Ghosts S) where
+  -- a connection was served over a desk, whatever was so before
+  pub record IsServed (old : S) (visit : Visit) (new : S) : Type 0 where
+    pub handled : OnServed visit.ending (HandlesRequest keeper old new visit.exchange)
+    pub untouched : OnUnserved visit.ending (new ≡ old)
+    pub sent : IsSent visit
+    pub stays : GivenWithin (keeper.world old) (keeper.world new)
+        (Stays (keeper.world old) (keeper.world new))
+    pub passes : Passes (keeper.world old) (keeper.world new)
+
+module _ {S : Type 0} (keeper : Ghosts S) (opened : S → Type 0) where
+  -- one time. Its keeper passes on what every call passes on, and all that stays true stays so,
+  -- from its opening to the last connection: so a crash then leaves what it may leave there, of
+  -- which the next opening finds one
+  pub record IsTime (time : Time S) : Type 0 where
+    pub opened_so : opened time.first
+    pub are : GivenWithin (keeper.world time.first) (keeper.world time.last)
+        (AreVisits keeper time.first time.visits time.last)
+    pub stays : GivenWithin (keeper.world time.first) (keeper.world time.last)
+        (StaysOn (keeper.world time.first) (keeper.world time.last))
+    pub passes : Passes (keeper.world time.first) (keeper.world time.last)
+    pub refused_so : AreRefused time.refused
+
+  abbrev pub AreTimes : List (Time S) → Type 0
+  AreTimes [] = Unit {0}
+  AreTimes (time ∷ times) = IsTime time × AreTimes times
+
+  -- before a request: the keeper was asked whether it answers, or another was opened, or none
+  -- could be
+  abbrev pub IsMended : Option (Served S) → Option (Served S) → Type 0
+  IsMended (Some old) (Some new) = IsAsked keeper old.keeper new.keeper ⊎ opened new.keeper
+  IsMended None (Some new) = opened new.keeper
+  IsMended old None = Unit {0}
+
+  -- and then it is served, or refused
+  abbrev pub IsMet : Option (Served S) → Visit → Option (Served S) → Type 0
+  IsMet (Some old) visit (Some new) = IsServed keeper old.keeper visit new.keeper
+  IsMet None visit None = IsRefused visit
+  IsMet old visit new = ⊥
+
+  pub record IsNext (old : Option (Served S)) (visit : Visit) (new : Option (Served S)) : Type 0 where
+    pub start : Option (Served S)
+    pub mended : IsMended old start
+    pub met : IsMet start visit new
+
+  -- the first time begins with this keeper
+  abbrev pub BeginWith : S → List (Time S) → Type 0
+  BeginWith first [] = ⊥
+  BeginWith first (time ∷ times) = time.first ≡ first
+
+  -- so many connections were wanted, and this is how serving them ended
+  pub record ServesTimes {F : Type 0} (first : S) (ending : Result (Unit {0}) F) (count : ℕ)
+      (sources : Sources) : Type 0 where
+    pub times : List (Time S)
+    pub begin : BeginWith first times
+    pub are : AreTimes times
+    pub counted : AreCounted ending count (visits_of times)
+    pub given : KeepsGiven ending (visits_of times) sources

@@ -1,0 +1,183 @@
+//! A desk over a keeper that is opened anew once a fault has shut it.
+
+ghost use Rattle.std.specs.Prelude.{◌≡◌, true, ℕ, List, Some, None, IfOk};
+ghost use Rattle.lab_program_serve.specs.Times.{IsMended, IsNext};
+
+use crate::openings::Opener;
+use crate::serving::serve_connection;
+use crate::shut::Shut;
+use lab_desk::{Desk, Keeper};
+use lab_forms_texts::{LabCode, OutOfMemory, Tick};
+use lab_program_outside::ConnectionFault;
+use lab_records_kept::{BadStore, KeeperFault};
+use std::alloc::Global;
+use std::io::{Read, Write};
+use std::marker::Model;
+
+/// The code of the laboratory of which a keeper is asked whether it answers. There need be none.
+const ASKED: &str = "is-it-there";
+
+/// A desk over a keeper that was opened, who opens it anew, and a desk for the requests that come
+/// while none could be opened. A contract sees the first desk.
+pub struct Office<S, O> {
+    opener: O,
+    lab: LabCode,
+    desk: Option<Desk<S>>,
+    shut: Desk<Shut>,
+}
+
+// `drop` is written out, so that a caller doesn't prove again how each part is dropped.
+impl<S: Drop, O: Drop> Drop for Office<S, O> {
+    fn drop(self) {
+        let Office {
+            opener: _,
+            lab: _,
+            desk: _,
+            shut: _,
+        } = self;
+    }
+}
+
+impl<S, O> Model for Office<S, O> {
+    ghost use Rattle.std.specs.Prelude.{Option};
+    ghost use Rattle.lab_desk.specs.Desk.{Served};
+
+    ghost Value = { Option (Served S) };
+
+    ghost view = { λ office. office.desk };
+}
+
+impl<S: Keeper + Drop, O: Drop> Office<S, O> {
+    /// An office with a desk over a keeper that was opened.
+    ///
+    /// # Errors
+    /// Only that memory ran out.
+    pub fn new(alloc: Global, opener: O, desk: Desk<S>) -> Result<Office<S, O>, OutOfMemory>
+        ensures { IfOk result (λ office. office ≡ Some desk) }
+    {
+        let Ok(lab) = LabCode::parse(alloc, ASKED) else {
+            return Err(OutOfMemory);
+        };
+        let fault = KeeperFault::Refused(BadStore);
+        let shut = Desk::new(alloc, Shut { fault })?;
+        Ok(Office {
+            opener,
+            lab,
+            desk: Some(desk),
+            shut,
+        })
+    }
+
+    // Whether there is a desk whose keeper answers, and lies where it was opened.
+    fn is_open<H>(&mut self, alloc: Global, host: &mut H) -> bool
+    where
+        O: Opener<H, S>,
+        ensures { result ≡ true → IsMended S.Keeper O.opened self.old self.new }
+    {
+        let is_there = self.opener.is_there(alloc, host);
+        match self.desk.take() {
+            Some(mut desk) => {
+                let answer = desk.answers(&self.lab);
+                self.desk = Some(desk);
+                is_there & !is_shut(answer)
+            }
+            None => false,
+        }
+    }
+
+    // A desk over a keeper that is opened anew.
+    fn opened<H>(&mut self, alloc: Global, host: &mut H) -> Result<Desk<S>, KeeperFault>
+    where
+        O: Opener<H, S>,
+        ensures opened { IfOk result (λ desk. O.opened desk.keeper) }
+        ensures same { self.new ≡ self.old }
+    {
+        let keeper = self.opener.open(alloc, host)?;
+        match Desk::new(alloc, keeper) {
+            Ok(desk) => Ok(desk),
+            Err(_) => Err(KeeperFault::Memory),
+        }
+    }
+
+    // Gives up the keeper, if there is one.
+    fn give_up<H>(&mut self, host: &mut H)
+    where
+        O: Opener<H, S>,
+        ensures { self.new ≡ None }
+    {
+        if let Some(desk) = self.desk.take() {
+            self.opener.close(host, desk.into_keeper());
+        }
+    }
+
+    // Before a request: a keeper that doesn't answer is given up, and opened anew.
+    fn mend<H>(&mut self, alloc: Global, host: &mut H)
+    where
+        O: Opener<H, S>,
+        ensures { IsMended S.Keeper O.opened self.old self.new }
+    {
+        if self.is_open(alloc, host) {
+            return;
+        }
+        self.give_up(host);
+        match self.opened(alloc, host) {
+            Ok(desk) => self.desk = Some(desk),
+            Err(fault) => self.shut.set_keeper(Shut { fault }),
+        }
+    }
+
+    /// Serves one connection. Before its request a keeper that a fault has shut, or that no longer
+    /// lies where it was opened, is opened anew; where that can't be, the request is refused as by
+    /// a keeper whose store refused, or for which there was no memory.
+    ///
+    /// # Errors
+    /// Those of serving a request, and that there was no memory for the buffer: nothing is changed.
+    pub fn visit<H, R: Read + Drop, W: Write>(
+        &mut self,
+        alloc: Global,
+        host: &mut H,
+        reader: R,
+        writer: &mut W,
+        tick: &Tick,
+    ) -> Result<(), ConnectionFault>
+    where
+        O: Opener<H, S>,
+        ensures { (reply : List ℕ) × IsNext S.Keeper O.opened self.old (record {
+          exchange = record { known = R.remaining reader; tick = tick.now; reply = reply };
+          ending = result;
+          before = W.contents writer.old;
+          after = W.contents writer.new;
+        }) self.new }
+    {
+        self.mend(alloc, host);
+        match self.desk.take() {
+            Some(mut desk) => {
+                let ending = serve_connection(alloc, &mut desk, reader, writer, tick);
+                self.desk = Some(desk);
+                ending
+            }
+            None => serve_connection(alloc, &mut self.shut, reader, writer, tick),
+        }
+    }
+
+    /// Closes the keeper, if there is one.
+    pub fn close<H>(self, host: &mut H)
+    where
+        O: Opener<H, S>,
+    {
+        let Office {
+            mut opener,
+            lab: _,
+            desk,
+            shut: _,
+        } = self;
+        if let Some(desk) = desk {
+            opener.close(host, desk.into_keeper());
+        }
+    }
+}
+
+// Whether a keeper that answered so is to be opened anew. For want of memory it stays as it is.
+fn is_shut(answer: Result<(), KeeperFault>) -> bool {
+    matches!(answer, Err(KeeperFault::Refused(BadStore)))
+}
