@@ -6,7 +6,7 @@
 The program is fed a part of a stream, and the next part only when all of it is answered. What it took for a part is the processor's
 time of its process, by the clock that Linux has for its number. A figure is the least of five runs, by the request. Beside it
 stands what Python's json takes to read the same bodies, of the requests and of the replies, and where a password is tried or kept,
-how often: each time is PBKDF2 of 10,000 rounds, which Python's hashlib is timed on too.
+how often: each time is PBKDF2 of 100,000 rounds, which Python's hashlib is timed on too.
 """
 import hashlib
 import json
@@ -21,6 +21,7 @@ import time
 TOP = os.path.dirname(os.path.dirname(os.path.abspath(__file__)))
 sys.path.insert(0, f"{TOP}/tests/model")
 from children import proved_program  # noqa: E402
+from laboratory import ROUNDS  # noqa: E402
 from streams import FOUNDERS, LEAD, NOTE, compact, request_of  # noqa: E402
 
 RUNS = 5
@@ -141,7 +142,7 @@ def pbkdf2_seconds():
     for _ in range(RUNS):
         begun = time.process_time()
         for _ in range(10):
-            hashlib.pbkdf2_hmac("sha256", b"correct horse 1", b"salt", 10_000)
+            hashlib.pbkdf2_hmac("sha256", b"correct horse 1", b"salt", ROUNDS)
         runs.append((time.process_time() - begun) / 10)
     return min(runs)
 
@@ -306,7 +307,7 @@ def each_kind(path):
                 runs.append(seconds / len(events))
             beside = json_seconds(bodies(events, told), len(events))
             print(f"| {called} | {us(min(runs))} | {hashed or ''} | {us(beside)} |", flush=True)
-    print(f"| PBKDF2 of 10,000 rounds, by `hashlib` | {us(pbkdf2_seconds())} | 1 | |")
+    print(f"| PBKDF2 of 100,000 rounds, by `hashlib` | {us(pbkdf2_seconds())} | 1 | |")
 
 
 # ---- entries beside another laboratory

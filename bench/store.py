@@ -11,8 +11,8 @@ answers, over the other the C library runs the statements that crates/lab_store_
 with the texts of their sources, at the moments and with the values that the replies tell. In the end both have the same rows.
 
 A figure is the least of some rounds, by the request: on the wall, from one reply to the next, and the processor's time of the process
-that has the file. Sizes and programs take turns in each round. The passwords have one round of PBKDF2, so that nothing else is timed;
-what 10,000 rounds take, Python's hashlib tells in the same run. Both commit by a log that is synced (`journal_mode=WAL`,
+that has the file. Sizes and programs take turns in each round. The passwords have 10,000 rounds of PBKDF2, the fewest that are
+read, and the library derives none; what they take, Python's hashlib tells in the same run. Both commit by a log that is synced (`journal_mode=WAL`,
 `synchronous=EXTRA`), hold the file alone, and copy the log into the file at 1,000 pages.
 """
 import contextlib
@@ -35,6 +35,7 @@ TOP = pathlib.Path(__file__).resolve().parent.parent
 sys.path.insert(0, str(TOP / "tests/model"))
 import files  # noqa: E402
 from children import best, proved_program  # noqa: E402
+from laboratory import OLD_ROUNDS  # noqa: E402
 from streams import FOUNDERS, LEAD, NOTE, compact  # noqa: E402
 
 ROUNDS = 10
@@ -349,12 +350,12 @@ def readings(server):
 
 
 def quicken(file):
-    """The passwords get verifiers of one round."""
+    """The passwords get verifiers of the rounds of before."""
     with files.opened(file) as base:
         for code, password in PASSWORDS.items():
             salt = hashlib.sha256(code.encode()).digest()[:16]
-            made = hashlib.pbkdf2_hmac("sha256", password.encode(), salt, 1)
-            base.execute("UPDATE persons SET salt = ?, rounds = 1, bytes = ? WHERE code = ?", (salt, made, code))
+            made = hashlib.pbkdf2_hmac("sha256", password.encode(), salt, OLD_ROUNDS)
+            base.execute("UPDATE persons SET salt = ?, rounds = ?, bytes = ? WHERE code = ?", (salt, OLD_ROUNDS, made, code))
         base.execute("PRAGMA wal_checkpoint(TRUNCATE)")
 
 
@@ -428,7 +429,7 @@ def opening(program, file):
 
 def pbkdf2():
     begun = time.perf_counter()
-    hashlib.pbkdf2_hmac("sha256", b"correct horse 1", b"salt", 10_000)
+    hashlib.pbkdf2_hmac("sha256", b"correct horse 1", b"salt", OLD_ROUNDS)
     return time.perf_counter() - begun
 
 

@@ -14,7 +14,7 @@ line (.args) and what it must print (.stdout):
 examples/look.txt shows the day for people, and docs/look.svg is a picture of its second half. What the program must print is worked out
 by the laboratory of tests/model/laboratory.py and by examples/check_copy.py. Neither is part of the program.
 
-In a program that is built to be tried, each password costs seconds. So the day has as few as two signatures need: the three of
+In a program that is built to be tried, each password costs most of a minute. So the day has as few as two signatures need: the three of
 the founding, and five that are tried.
 """
 import html

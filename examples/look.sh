@@ -1,5 +1,5 @@
 #!/usr/bin/env bash
-# A look at the main job of labdesk, in five minutes, with the Rattle kit and nothing else: two persons sign a result, one's own work
+# A look at the main job of labdesk, in ten minutes, with the Rattle kit and nothing else: two persons sign a result, one's own work
 # is refused, the version is released, and a copy of it is checked.
 #
 #     examples/look.sh
@@ -17,8 +17,8 @@ trap 'exit 130' INT
 trap 'exit 143' TERM HUP
 
 command -v rt >/dev/null || { echo "look.sh: no command rt on the path: the Rattle kit builds the program" >&2; exit 1; }
-echo "The program is being built, without its proof. This takes about four minutes." >&2
-exec 3< <(cd "$top/crates/lab_program" && exec rt try --seconds 300 --cases "$runs" 2>&1 </dev/null)
+echo "The program is being built, without its proof, and tries eight passwords slowly. This takes about ten minutes." >&2
+exec 3< <(cd "$top/crates/lab_program" && exec rt try --seconds 1800 --cases "$runs" 2>&1 </dev/null)
 child=$!
 while :; do
     got=0

@@ -3,6 +3,7 @@
 follows the rules apart from the program, in the form of docs/HTTP.md.
 
     tests/model/cases.py PROGRAM [NAME ..]   plays all cases, or these: a line for each, `ok ..` or `FAILED ..`
+    tests/model/cases.py PROGRAM --some      plays all that begin with foundings alone, and every fourth of the others
     tests/model/cases.py --names             prints their names
     tests/model/cases.py --events NAME       prints a case as `labdesk replay` reads it
 
@@ -21,6 +22,7 @@ import subprocess
 import sys
 
 import cases_of_requests
+import laboratory
 from accounts import FROM_NOTHING, FROM_SETUP
 from bodies import BODIES, members_of_the_body
 from laboratory import sha, token_of
@@ -91,6 +93,19 @@ def founders():
     s.post(10, "bob", "/roles", code="ann", roles=["analyst", "manager", "administrator"])
     s.post(10, "ann", "/roles", code="bob", roles=["reviewer", "administrator"])
     s.post(10, "ann", "/forms", form="water", fields=[LEAD, NOTE])
+    return s
+
+
+@functools.cache
+def as_before(start):
+    """With what a case begins, as a file has it that was there before: what led to it isn't asked again, and each password has a verifier
+    of the rounds of before."""
+    s = copy.deepcopy(start())
+    for lab in s.labs.values():
+        for p in lab.persons:
+            salt = bytes.fromhex(p.password[1][0])
+            p.password = ("chosen", laboratory.verifier(s.passwords[lab.code, p.code], salt, laboratory.OLD_ROUNDS), p.password[2])
+    s.events, s.answers = [], []
     return s
 
 
@@ -1122,9 +1137,10 @@ def random_request(s, draw, moment, people):
 # ---- the program
 
 
-def stream_of(name):
+def stream_of(name, begun=lambda start: start()):
+    """A case, from its start on; or from what `begun` makes of that."""
     start, play = CASES[name]
-    s = copy.deepcopy(start())
+    s = copy.deepcopy(begun(start))
     play(s)
     if s.reader:
         s.read_all(s.reader)
@@ -1147,6 +1163,13 @@ def difference(program, s):
     if (ran.returncode, ran.stderr) != (s.status, s.told):
         return f"status {ran.returncode} and {shown(ran.stderr)}, where {s.status} and {shown(s.told)} are wanted"
     return None
+
+
+def some():
+    """The cases that begin with foundings alone, and every fourth of the others: each of these opens sessions with some forty passwords
+    before it begins."""
+    others = [name for name, (start, _) in CASES.items() if start in (setup, all_are_in)]
+    return [name for name in CASES if name not in others] + others[::4]
 
 
 def play(program, names):
@@ -1174,8 +1197,9 @@ def main(words):
         return 0
     if not words or words[0].startswith("-"):
         sys.exit(__doc__)
-    seen, failed = play(words[0], words[1:] or CASES)
-    if len(words) > 1:
+    names = some() if words[1:] == ["--some"] else words[1:]
+    seen, failed = play(words[0], names or CASES)
+    if names:
         return 1 if failed else 0
     missing = sorted(set(STATUS) - {63, 90} - seen)
     told = ", ".join(map(str, sorted(seen)))

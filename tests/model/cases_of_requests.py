@@ -6,8 +6,7 @@ import json
 
 import laboratory
 from bodies import changes, pairs_of, text_of
-from laboratory import Machine
-from streams import FOUNDERS, LEAD, NOTE, WORDS, compact, lines, reply_of, request_of
+from streams import FOUNDERS, LEAD, NOTE, WORDS, compact, lines, request_of
 
 # By name, with what each begins with, as tests/model/cases.py names it, and how it goes on.
 CASES = {}
@@ -198,30 +197,22 @@ def the_body_of_what_is_read_is_passed_over(s):
     s.open(1200, "hal")
     for place in ("", "/persons", "/forms/water/1", "/records/1", "/records/1/versions/1", "/records?from=1&to=100", "/trail?from=1&to=100"):
         s.get(1200, "hal", place, request=request_of("aqua", "GET", place, "no JSON", s.tokens["aqua", "hal"]))
-    copied(s, 1200, "hal", 1, 100, content="no JSON")
+    s.copy(1200, "hal", 1, 100, content="no JSON")
 
 
 # ---- copies
 
 
-def copied(s, moment, who, first, last, content=None):
-    """A copy of aqua that is given."""
-    words, token = s.words(), s.tokens["aqua", who]
-    text = Machine(s.labs["aqua"], moment, words).run(token, "copy", first, last)[1]
-    request = request_of("aqua", "GET", f"/copy?from={first}&to={last}", content, token)
-    s.add(f"call {moment} {words} {len(request)}", request, reply_of(200, moment, text).replace(b"application/json", b"text/csv", 1))
-
-
 @case("setup")
 def a_copy_is_csv(s):
     s.open(5000, "hal")
-    copied(s, 5000, "hal", 3, 5)
+    s.copy(5000, "hal", 3, 5)
     assert s.answers[-1] == (
         b"HTTP/1.1 200 OK\r\nDate: Thu, 01 Jan 1970 01:23:20 GMT\r\nContent-Type: text/csv\r\nContent-Length: 156\r\nConnection: close\r\n\r\n"
         b"kind,lab,record,version,key,value,unit,person,name,moment,reason,digest,seal\n"
         b"copy,aqua,3,5,2,,,hal,Aqua Lab,1970-01-01T01:23:20Z,,,\nend,aqua,0,0,0,0,,,,,,,\n")
     for first, last in ((1, 100), (1, 1), (2, 101), (1_000_000_000, 1_000_000_000), (999_999_901, 1_000_000_000)):
-        copied(s, 5000, "hal", first, last)
+        s.copy(5000, "hal", first, last)
     s.open(5000, "dan")
     ask = s.tokens["aqua", "dan"], "copy", (1, 100), None
     s.ask(5000, "aqua", *ask, request_of("aqua", "GET", "/copy?from=1&to=100", None, ask[0]), '{"error":"role_wanted","number":24,"rule":"P22"}')
@@ -236,7 +227,7 @@ def quotes_of_a_copy_are_doubled_and_its_length_is_in_bytes(s):
     s.open(100, "ann")
     s.post(100, "ann", "/roles", code="bob", roles=["inspector"])
     s.open(5000, "bob")
-    copied(s, 5000, "bob", 3, 5)
+    s.copy(5000, "bob", 3, 5)
     assert s.answers[-1] == (
         b"HTTP/1.1 200 OK\r\nDate: Thu, 01 Jan 1970 01:23:20 GMT\r\nContent-Type: text/csv\r\nContent-Length: 169\r\nConnection: close\r\n\r\n"
         b"kind,lab,record,version,key,value,unit,person,name,moment,reason,digest,seal\n"
@@ -255,13 +246,13 @@ def copies_of_what_is_signed(s):
     s.sign(1350, "dan", 2, 1, "authorship", wants={"state": "signed"})
     s.open(1400, "hal")
     for first, last, end in ((1, 1, "1,1,1,2"), (1, 5, "2,2,2,3"), (2, 2, "1,1,1,1")):
-        copied(s, 1410, "hal", first, last)
+        s.copy(1410, "hal", first, last)
         assert s.answers[-1].endswith(f"\nend,aqua,{end},,,,,,,\n".encode())
     states = [(one["record"], one["state"]) for one in s.get(1420, "dan", "/records?from=1&to=100")["records"]]
     assert states == [(1, "released"), (2, "signed")]
     altered = [{"key": "lead", "value": "7.5", "unit": "mg/L"}]
     s.post(1440, "dan", "/amendments", record=1, reason='misread: "7,50"', altered=altered, wants={"version": 2})
-    copied(s, 1450, "hal", 1, 1)
+    s.copy(1450, "hal", 1, 1)
     assert b',"misread: ""7,50""",' in s.answers[-1] and s.answers[-1].endswith(b"\nend,aqua,1,2,2,2,,,,,,,\n")
 
 
@@ -271,7 +262,7 @@ def managers_and_inspectors_take_copies_and_nobody_else(s):
         s.open(moment, who)
     s.post(1212, "ann", "/roles", code="eve", roles=[])
     for who in ("gus", "hal"):
-        copied(s, 1213, who, 1, 1)
+        s.copy(1213, who, 1, 1)
         assert s.answers[-1].partition(b"\r\n\r\n")[2].count(b"\n") == 6
     for moment, who in enumerate(("dan", "ann", "eve", "fay"), 1220):
         s.get(moment, who, "/copy?from=1&to=1", wants='{"error":"role_wanted","number":24,"rule":"P22"}')

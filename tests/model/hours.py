@@ -180,6 +180,16 @@ def hour():
     return one.steps
 
 
+def halves():
+    """The hour in two, each by itself: what comes before the sessions, and what comes in them. So a run has fewer passwords."""
+    first, second = Hour(), Hour()
+    before_the_sessions(first)
+    second.add(Founding("aqua", *second.tick(), "Aqua Lab", FOUNDERS))
+    accounts(second)
+    records(second)
+    return first.steps, second.steps
+
+
 class StoredDay(days.Day):
     """The day of examples/, whose events are noted as steps."""
 

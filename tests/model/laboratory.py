@@ -1,14 +1,17 @@
 """A laboratory as docs/LABORATORY.md, docs/PERSONS.md and docs/RECORDS.md describe it, written apart from the program: what each
 command is answered, and what the laboratory is like afterwards. Hashes are those of Python's hashlib."""
+import contextlib
 import copy
 import csv
 import datetime
+import functools
 import hashlib
 import io
 import json
 import re
 
-ROUNDS = 10_000
+# The rounds of a verifier as it is made, and those of one that was made before, which is tried in a tenth of the time.
+ROUNDS, OLD_ROUNDS = 100_000, 10_000
 ROLES = ["analyst", "reviewer", "manager", "administrator", "inspector"]
 WORDS = {
     7: "no_such_field", 8: "bad_value", 9: "wrong_unit", 10: "out_of_range",
@@ -64,6 +67,17 @@ def sha(data):
 def verifier(password, salt, rounds=ROUNDS):
     made = hashlib.pbkdf2_hmac("sha256", password.encode(), salt, rounds)
     return (salt.hex(), rounds, made.hex())
+
+
+@contextlib.contextmanager
+def old_rounds():
+    """Verifiers are made here as they were before: where a test begins in the middle and isn't about the rounds."""
+    global verifier
+    whole, verifier = verifier, functools.partial(verifier, rounds=OLD_ROUNDS)
+    try:
+        yield
+    finally:
+        verifier = whole
 
 
 def verifies(kept, password):

@@ -279,7 +279,7 @@ def begun(s, lab, value):
     for code in NAMES[lab]:
         s.change(500, code, f"{code} of {lab} 1", lab=lab)
     s.post(500, "ann", "/persons", lab=lab, code="ida", name="Ida Inn", roles=["analyst"])
-    s.post(500, "ann", "/issue", lab=lab, code="ida")
+    s.passwords[lab, "ida"] = s.post(500, "ann", "/issue", lab=lab, code="ida")["half"]
     s.post(600, "gus", "/forms", lab=lab, form="water", fields=[LEAD, NOTE, COLOUR])
     s.open(900, "dan", lab=lab)
     s.post(1000, "dan", "/records", lab=lab, form="water", sample="S1")
@@ -295,13 +295,11 @@ def begun(s, lab, value):
 
 
 def setup():
-    """Both laboratories, with no events so far. Passwords have one round."""
-    whole = laboratory.verifier
-    laboratory.verifier = functools.partial(whole, rounds=1)
+    """Both laboratories, with no events so far. Passwords have the rounds of before."""
     s = Stream()
-    begun(s, "brick", "6.25")
-    begun(s, "aqua", "7.50")
-    laboratory.verifier = whole
+    with laboratory.old_rounds():
+        begun(s, "brick", "6.25")
+        begun(s, "aqua", "7.50")
     s.events, s.answers, s.next_word = [], [], 10_000
     return s
 

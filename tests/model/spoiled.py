@@ -19,7 +19,7 @@ VERSION = f"record = {RECORD} AND number ="
 ROW = f"version IN (SELECT id FROM versions WHERE record = {RECORD})"
 DAN = [f"UPDATE persons SET {one} WHERE {person('dan')}" for one in (
     "name = ' Dan'", "roles = 4294967296", "retired = -1", "failures = -1", "locked = 253402300800", "kind = 2", "kind = 3",
-    "salt = x'01'", "rounds = 0", "rounds = 4294967296", "bytes = NULL", "changed = NULL")]
+    "salt = x'01'", "rounds = 0", "rounds = 9999", "rounds = 4294967295", "rounds = 4294967296", "bytes = NULL", "changed = NULL")]
 WATER = [f"UPDATE fields SET {what} WHERE {field('water', key)}" for key, what in (
     ("lead", "unit = NULL"), ("lead", "decimals = 7"), ("lead", "low = 'none'"), ("note", "size = NULL"))] + [
     f"UPDATE choices SET name = '' WHERE place = 1 AND field IN (SELECT id FROM fields WHERE {field('water', 'colour')})",
@@ -30,8 +30,9 @@ SPOILED = {
     "open dan": DAN,
     "persons": [
         f"UPDATE persons SET code = 'Dan' WHERE {person('dan')}", f"UPDATE persons SET salt2 = NULL WHERE {person('ida')}",
+        f"UPDATE persons SET rounds2 = 1 WHERE {person('ida')}",
         f"UPDATE persons SET asked = NULL WHERE {person('jon')}", f"UPDATE persons SET ask_salt = NULL WHERE {person('jon')}",
-        f"UPDATE persons SET ask_rounds = 0 WHERE {person('jon')}"],
+        f"UPDATE persons SET ask_rounds = 1 WHERE {person('jon')}"],
     "dan's record": [f"UPDATE sessions SET {one} WHERE number = {{session}} AND lab = {LAB}" for one in (
         "number = 0", "number = 1000000001", "opened = -1", "closed = -1")] + [f"UPDATE persons SET failures = -1 WHERE {person('dan')}"],
     "new record": [

@@ -183,6 +183,13 @@ class Stream:
         request = request or request_of(lab, "GET", place, None, token)
         return self.ask(moment, lab, token, *got(place), None, request, wants)
 
+    def copy(self, moment, who, first, last, lab="aqua", words=None, content=None):
+        """A copy that is given."""
+        words, token = words or self.words(), self.tokens[lab, who]
+        text = Machine(self.labs[lab], moment, words).run(token, "copy", first, last)[1]
+        request = request_of(lab, "GET", f"/copy?from={first}&to={last}", content, token)
+        self.add(f"call {moment} {words} {len(request)}", request, reply_of(200, moment, text).replace(b"application/json", b"text/csv", 1))
+
     def post(self, moment, who, place, wants=None, lab="aqua", words=None, request=None, **members):
         """A body of these members. One that is none is left out."""
         members = {name: value for name, value in members.items() if value is not None}

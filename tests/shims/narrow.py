@@ -5,7 +5,7 @@ NARROW has a word for each place, `PLACE:ROOM:ERROR:TIMES`: a descriptor's numbe
 on any; how many bytes, or calls of `accept` and `dup`, go through; by which error the calls behind fail, where 0 stands for an answer
 of no bytes; and how many of them fail before all go through again, where -1 stands for all. Where AT_ONCE stands, a read or write of
 such a place takes at most so many bytes; where INTERRUPTED stands, so many reads of each such place are interrupted first; where
-OTHER_ONES stands, each other one is. Where WIDER stands, the room of `recv` is one byte more for each connection that is accepted.
+OTHER_ONES stands, each other one is. Where WIDER stands, the room of `recv` and of `send` is one byte more for each connection that is accepted.
 On the descriptor in TELLS it is told in the end how often `recv` was called, and how many bytes it gave.
 """
 import subprocess
@@ -86,14 +86,16 @@ BYTES(write, numbered(place), 0, const void *, NOTHING, NOTHING)
 BYTES(send, named("send"), 0, const void *, COMMA int flags, COMMA flags)
 int accept4(int place, struct sockaddr *address, socklen_t *length, int flags) {
     static int (*real)(int, struct sockaddr *, socklen_t *, int);
-    struct place *p = named("accept"), *in = named("recv");
+    struct place *p = named("accept"), *ends[2] = {named("recv"), named("send")};
     ssize_t answer;
     size_t one = 1;
     if (!real) real = dlsym(RTLD_NEXT, "accept4");
     if (answered(p, 0, &one, &answer)) return -1;
     if (p && p->left > 0) p->left--;
     place = real(place, address, length, flags);
-    if (in && getenv("WIDER") && place >= 0) { in->left = in->room + accepted++; in->failed = 0; }
+    if (!getenv("WIDER") || place < 0) return place;
+    for (int at = 0; at < 2; at++) if (ends[at]) { ends[at]->left = ends[at]->room + accepted; ends[at]->failed = 0; }
+    accepted++;
     return place;
 }
 int fcntl(int place, int what, ...) {
