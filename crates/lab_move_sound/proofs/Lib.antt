@@ -1,0 +1,5 @@
+pub mod Decisions
+pub mod BoundDecided
+pub mod DualDecided
+pub mod WithinDecided
+pub mod KnownSoundness
