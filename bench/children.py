@@ -1,10 +1,9 @@
-"""Runs a command, and tells what it took: seconds on the wall, and its greatest memory, as Linux tells it of a process that runs."""
+"""Runs a command, and tells what it took: the processor's seconds, and its greatest memory, as Linux tells it of a process that runs."""
 import contextlib
 import os
 import re
 import subprocess
 import threading
-import time
 
 TOP = os.path.dirname(os.path.dirname(os.path.abspath(__file__)))
 EVERY = 0.002
@@ -42,16 +41,22 @@ class Watch(threading.Thread):
 def took(words, given="/dev/null", written=None):
     """What a command took that read this file, and wrote to that one or to nobody."""
     with open(given, "rb") as source, open(written or "/dev/null", "wb") as target:
-        begun = time.perf_counter()
         process = subprocess.Popen(words, stdin=source, stdout=target)
         watch = Watch(process)
         watch.start()
-        status = process.wait()
-        seconds = time.perf_counter() - begun
+        _, status, used = os.wait4(process.pid, 0)
+        process.returncode = os.waitstatus_to_exitcode(status)
         watch.ended.set()
         watch.join()
-    assert status == 0, (words, status)
-    return Took(seconds, watch.most)
+    assert process.returncode == 0, (words, process.returncode)
+    return Took(used.ru_utime + used.ru_stime, watch.most)
+
+
+def compiled(source, room, *words):
+    """A C program, compiled into a folder."""
+    made = str(room / source.removesuffix(".c"))
+    subprocess.run(["gcc", "-O2", "-o", made, f"{TOP}/bench/{source}", *words], check=True)
+    return made
 
 
 def best(words, given="/dev/null", written=None, runs=3):

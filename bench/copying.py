@@ -4,20 +4,15 @@ tells the greatest memory of each.
 
     bench/copying.py [PROGRAM [MEGABYTES ..]]   prints tables for docs/PERFORMANCE.md; without a program, over the one that is proved;
                                              without lengths, on copies of 1, 10 and 100 MB
-    bench/copying.py --read FILE LAB            what a copy from a file is held against: all records of a laboratory in Python's sqlite3
-                                             and csv, read as `labdesk copy` reads them, a version after the other
 
-A time is the least of three runs, on the wall. Beside a check stand sha256sum of the same file and Python's csv reader over it, beside
-a copy the same rows by --read, whose lines have to be the same but for the row that tells when the copy was made; and the copy of one
-record of the file, which does little but open it. The status is 1 where a check takes more than five times what sha256sum takes or
-more than 64 MB of memory, or where a copy takes 64 MB more than the opening.
+A time is the processor's, and the least of three runs. Beside a check stand sha256sum of the same file and Python's csv reader over it.
+Beside a copy stand a small C program over the C library (bench/copies.c), whose lines have to be the same but for the row that tells
+when the copy was made; and the copy of one record of the file, which does little but open it. The status is 1 where a check takes more
+than five times what sha256sum takes or more than 64 MB of memory, or where a copy takes 64 MB more than the opening.
 """
-import contextlib
-import csv
 import datetime
 import os
 import pathlib
-import sqlite3
 import subprocess
 import sys
 import tempfile
@@ -25,8 +20,8 @@ import tempfile
 TOP = os.path.dirname(os.path.dirname(os.path.abspath(__file__)))
 sys.path.insert(0, f"{TOP}/tests/model")
 import files  # noqa: E402
-from children import best, proved_program  # noqa: E402
-from store import found  # noqa: E402
+from children import best, compiled, proved_program  # noqa: E402
+from serving import found  # noqa: E402
 
 BAR_OF_TIME, BAR_OF_MEMORY = 5, 64
 SIGNERS = [("dan", "Dan Day"), ("eve", "Eve Ems")]
@@ -91,55 +86,15 @@ def checks(program, room, megabytes, bars):
 # ---- copies
 
 
-def read(path, code):
-    """A copy of all records of a laboratory, which nobody asked for."""
-    out = csv.writer(sys.stdout, lineterminator="\n")
-    out.writerow(files.HEADER.strip().split(","))
-    with contextlib.closing(sqlite3.connect(f"file:{path}?mode=ro", uri=True)) as base:
-        lab, name, last = base.execute("SELECT id, name, records FROM labs WHERE code = ?", (code,)).fetchone()
-        out.writerow(["copy", code, 1, last, 2, "", "", "", name, files.printed(0), "", "", ""])
-        counts = [0, 0, 0, 0]
-        for number in range(1, last + 1):
-            for row in rows_of(base, lab, code, number):
-                counts[["record", "version", "entry", "signature"].index(row[0])] += 1
-                out.writerow(row)
-    out.writerow(["end", code, *counts, *[""] * 7])
-
-
-def rows_of(base, lab, code, number):
-    record, sample, form, form_version, approval = base.execute(
-        "SELECT records.id, sample, form_code, version, approval FROM records, forms "
-        "WHERE records.lab = ? AND number = ? AND forms.id = form", (lab, number)).fetchone()
-    yield ["record", code, number, form_version, form, sample, *[""] * 7]
-    previous = "-"
-    versions = base.execute("SELECT versions.id, number, format, persons.code, opened, reason FROM versions, persons "
-                            "WHERE record = ? AND persons.id = opener ORDER BY number", (record,)).fetchall()
-    for version, at, form_of_text, opener, opened, reason in versions:
-        entries = base.execute("SELECT key, value, unit, code, moment, reason FROM entries, persons "
-                               "WHERE version = ? AND persons.id = person ORDER BY place", (version,)).fetchall()
-        signatures = base.execute("SELECT meaning, code, signatures.name, moment, reason, digest, seal FROM signatures, persons "
-                                  "WHERE version = ? AND persons.id = person ORDER BY place", (version,)).fetchall()
-        text = [f"labrecord {form_of_text}", code, str(number), str(at), form, str(form_version), "yes" if approval else "no", sample,
-                previous, reason or "", opener, files.printed(opened), str(len(entries))]
-        for key, value, unit, person, moment, why in entries:
-            text += [key, value, unit, person, files.printed(moment), why or ""]
-        previous = files.sha(text).hex()
-        state = {0: "open", 1: "signed", 2: "released"}[len(signatures)]
-        yield ["version", code, number, at, form_of_text, state, "", opener, "", files.printed(opened), reason, previous, ""]
-        for key, value, unit, person, moment, why in entries:
-            yield ["entry", code, number, at, key, value, unit, person, "", files.printed(moment), why, "", ""]
-        for meaning, person, printed_name, moment, why, digest, seal in signatures:
-            yield ["signature", code, number, at, "", meaning, "", person, printed_name, files.printed(moment), why, digest.hex(), seal.hex()]
-
-
 def are_same(ours, theirs):
     """Whether both are the same copy, but for the row that says when it was made."""
     return subprocess.run(["bash", "-c", 'cmp <(sed 2d "$1") <(sed 2d "$2")', "cmp", ours, theirs]).returncode == 0
 
 
 def copies(program, room, counts, bars):
-    print("| Records | File | Copy | `labdesk copy` | its memory | of one record | its memory | Python's `sqlite3` and `csv` | its memory |")
-    print("|---|---|---|---|---|---|---|---|---|")
+    print("| Records | File | Copy | `labdesk copy` | its memory | of one record | its memory | C library | its memory | times, but for the "
+          "opening |\n|---|---|---|---|---|---|---|---|---|---|")
+    plain = compiled("copies.c", room, "-lsqlite3")
     for count in counts:
         file, ours, theirs = (str(room / f"{name}-{count}") for name in ("file", "ours", "theirs"))
         found(program, file, "aqua")
@@ -147,17 +102,16 @@ def copies(program, room, counts, bars):
         words = [program, "copy", "--file", file, "--lab", "aqua", "--from", "1", "--to"]
         runs = 1 if count > 50_000 else 3
         copy, one = best([*words, str(count)], written=ours, runs=runs), best([*words, "1"], runs=runs)
-        other = best([sys.executable, os.path.abspath(__file__), "--read", file, "aqua"], written=theirs, runs=1)
-        bars.hold(are_same(ours, theirs), f"a copy of {count:,} records isn't what Python's csv writes")
+        other = best([plain, file, "aqua"], written=theirs)
+        bars.hold(are_same(ours, theirs), f"a copy of {count:,} records isn't what the C program writes")
         best([program, "check"], ours, runs=1)
         print(f"| {count:,} | {os.path.getsize(file) / 1e6:.1f} MB | {os.path.getsize(ours) / 1e6:.1f} MB | {seconds(copy)} | {memory(copy)} "
-              f"| {seconds(one)} | {memory(one)} | {seconds(other)} | {memory(other)} |", flush=True)
+              f"| {seconds(one)} | {memory(one)} | {seconds(other)} | {memory(other)} "
+              f"| {(copy.seconds - one.seconds) / other.seconds:.1f} |", flush=True)
         bars.hold(copy.memory - one.memory <= BAR_OF_MEMORY, f"a copy of {count:,} records takes {memory(copy)}, and of one {memory(one)}")
 
 
 def main(words):
-    if words[:1] == ["--read"]:
-        return read(*words[1:])
     program = words[0] if words else proved_program()
     bars = Bars()
     with tempfile.TemporaryDirectory() as name:

@@ -1,13 +1,15 @@
 #!/usr/bin/env python3
 """Times the replies to openings that are refused, by the reason, and to one that is taken: what a guesser can learn by a clock.
 
-    bench/refused.py [PROGRAM [ROUNDS]]   prints the table of SECURITY.md; without a program, over the one that is proved
+    bench/refused.py [PROGRAM [ROUNDS]]   prints a table for docs/PERFORMANCE.md; without a program, over the one that is proved
 
-A laboratory is founded and served over a file on this machine. In each round each of the openings is asked for once, in turn. A figure is
-the middle one of all rounds, on the wall, from the connection to the end of the reply.
+A laboratory is founded and served over a file on this machine. In each round each of the openings is asked for once, in turn. The
+figures are the least and the middle one of all rounds, on the wall, from the connection to the end of the reply.
 """
+import datetime
 import http.client
 import json
+import os
 import pathlib
 import statistics
 import subprocess
@@ -87,9 +89,10 @@ def main(words):
                     lab.round(times)
             finally:
                 server.kill()
-    print("| Refused, because | Time of the reply |\n|---|---|")
+    print("| Refused, because | Least | Median |\n|---|---|---|")
     for what, each in times.items():
-        print(f"| {what} | {1000 * statistics.median(each):.1f} ms |")
+        print(f"| {what} | {1000 * min(each):.1f} ms | {1000 * statistics.median(each):.1f} ms |")
+    print(f"\n{rounds} rounds; {datetime.date.today()}, load {os.getloadavg()[0]:.1f}")
 
 
 if __name__ == "__main__":
