@@ -67,7 +67,7 @@ class Time:
 
 
 class Instructions:
-    """The instructions of the server, by callgrind, which is told over its own channel when to begin and when to tell them."""
+    """The instructions of the server, by callgrind, which begins and prints them when its own channel says so."""
 
     def __init__(self, room):
         self.out = room / "dumped"

@@ -1,4 +1,4 @@
-"""Runs a command, and tells what it took: the processor's seconds, and its greatest memory, as Linux tells it of a process that runs."""
+"""Runs a command, and returns what it took: the processor's seconds, and its greatest memory, as Linux gives it of a process that runs."""
 import contextlib
 import os
 import re

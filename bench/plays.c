@@ -1,4 +1,4 @@
-/* Plays the statements of requests over a file of laboratories, by the C library alone, and tells what each part of the play took.
+/* Plays the statements of requests over a file of laboratories, by the C library alone, and prints what each part of the play took.
  *
  *     plays FILE <PLAY
  *

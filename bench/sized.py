@@ -1,9 +1,9 @@
-"""Files of two laboratories, brick and aqua, of a size that is told, and the requests that bench/beside.py makes to aqua.
+"""Files of two laboratories, brick and aqua, of a given size, and the requests that bench/beside.py makes to aqua.
 
 A file is written by the C library, with the rows of tests/model/files.py, and no request. In aqua ann enters and signs, and bob reviews and
 reads. All records but the last of aqua have one released version of three rows. The last of aqua are those that are worked on: each
 has so many versions of so many rows, released but for the last, which is open. Passwords have 10,000 rounds, the fewest that are read,
-but that of dan, who has 100,000: by both it can be told what the rounds take.
+but that of dan, who has 100,000: both together show what the rounds take.
 """
 import contextlib
 import functools
