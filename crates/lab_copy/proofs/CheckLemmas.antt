@@ -1,6 +1,6 @@
 -- What each row of a copy leaves to find, where the reader's bytes are known.
-use Rattle.std.proofs.Common.{◌≡◌, ℕ, ◌+◌, Bool, true, false, List, length, Option, Some, None, Result, Ok, Err, refl, sym, ap, subst, ◌∙◌}
-use Rattle.std.specs.Prelude.{IfSome, option_map}
+use Rattle.std.proofs.Common.{◌≡◌, ℕ, ◌+◌, ◌≤◌, true, false, List, length, Option, Some, None, Result, Ok, Err, sym, ap, subst, ◌∙◌, arith}
+use Rattle.std.specs.Prelude.{◌<◌, IfSome, OnOk, option_map}
 use Rattle.csv.specs.Reading.{ReadRecord, default_config, reader_config, reader_state, source_of, strip_bom}
 use Rattle.csv.specs.declared.parser.State.TheVariants as st
 use Rattle.csv.specs.declared.reader.Reader.{Reader}
@@ -10,17 +10,17 @@ use Rattle.lab_copy_rows.specs.declared.flaws.Flaw.TheVariants as flaw
 use Rattle.lab_copy_rows.specs.declared.lines.Counts.{Counts}
 use Rattle.lab_copy_rows.specs.declared.lines.Line.{Line}
 use Rattle.lab_copy.specs.Faults.{IsAnswer, IsNoFlaw}
-use Rattle.lab_copy.specs.Checks.{fault_at, rows_of}
+use Rattle.lab_copy.specs.Checks.{fault_at, most_rows, rows_of}
 use Rattle.lab_copy_lines.specs.Lines.{IsRead, line_at}
-use Rattle.lab_copy.specs.Kept.{IsAt, IsTaken, edition_by, kept_none, verdict_kept}
-use Rattle.lab_copy.specs.Left.{AnswersRest, IsLeftOf}
+use Rattle.lab_copy.specs.Kept.{IsAt, IsTaken, edition_by, verdict_kept}
+use Rattle.lab_copy.specs.Left.{AnswersRest, AreRows, IsLeftOf}
 use Rattle.lab_copy.specs.declared.faults.CheckFault.{CheckFault}
 use Rattle.lab_copy.specs.declared.faults.CheckFault.TheVariants.{Flawed, Read, Memory}
 use Rattle.lab_forms_texts.specs.declared.refusals.Fault.{Fault}
 use Rattle.lab_forms_texts.specs.declared.refusals.Fault.TheVariants as row_fault
 use Rattle.lab_copy_lines.specs.declared.faults.BadRow.{BadRow}
 use Rattle.lab_copy.specs.declared.kept.Kept.{Kept}
-use Rattle.lab_copy.proofs.ReadLemmas.{record_reads, when_known, no_header, bad_header, begun_left, at_end, bad_row, taken_left, taken_fault}
+use Rattle.lab_copy.proofs.ReadLemmas.{record_reads, when_known, no_header, bad_header, begun_left, at_end, bad_row, taken_left, taken_fault, rows_begun, rows_end}
 
 -- a fault that says nothing of a copy
 pub nothing_known : (known : Option (List ℕ)) (fault : CheckFault) → IsNoFlaw fault
@@ -58,6 +58,14 @@ module _ {R : Type 0} (rem : R → Option (List ℕ)) (known : Option (List ℕ)
       (begun_left bytes (reader_state new) (source_of rem new) fields
       (rw (state, source ∙ ap (option_map strip_bom) is) at (record_reads rem old new true fields config read)) good))
 
+  pub first_rows : ReadRecord rem old new true fields → (result : Result Counts CheckFault)
+      → ((total : ℕ) → AreRows total 2 (reader_state new) (source_of rem new) → OnOk result (total ≤ most_rows))
+      → IfSome known (λ bytes. OnOk result (length (rows_of bytes) ≤ most_rows))
+  first_rows read result few =
+      when_known known _ (λ bytes is. few (length (rows_of bytes))
+      (rows_begun bytes (reader_state new) (source_of rem new) fields
+      (rw (state, source ∙ ap (option_map strip_bom) is) at (record_reads rem old new true fields config read))))
+
 -- ---- every other row
 
 module _ {R : Type 0} (rem : R → Option (List ℕ)) (found : Result Counts Flaw) (old new : Reader R) (fields : List (List ℕ))
@@ -93,6 +101,16 @@ module _ {R : Type 0} (rem : R → Option (List ℕ)) (found : Result Counts Fla
       next_fault more fault takes =
           taken_fault found kept row (reader_state old) (reader_state new) (source_of rem old) (source_of rem new) fields left
           (record_reads rem old new true fields config read) line is_line more fault takes
+
+-- the rows have ended, before so many were read
+pub few_rows : {R : Type 0} (rem : R → Option (List ℕ)) (old new : Reader R) (fields : List (List ℕ)) (total row : ℕ)
+    → reader_config old ≡ default_config → AreRows total row (reader_state old) (source_of rem old)
+    → ReadRecord rem old new false fields → row < most_rows + 2 → (result : Result Counts CheckFault) → OnOk result (total ≤ most_rows)
+few_rows rem old new fields total row config rows read within (Ok _) =
+    let all = rows_end total row (reader_state old) (reader_state new) (source_of rem old) (source_of rem new) fields rows
+    (record_reads rem old new false fields config read) in
+    omega (arith, all, within)
+few_rows rem old new fields total row config rows read within (Err _) = tt
 
 -- a fault that says nothing of a copy
 pub answers_nothing : (found : Result Counts Flaw) (fault : CheckFault) → IsNoFlaw fault → IsAnswer found (Err fault)

@@ -1,5 +1,5 @@
 -- What is kept of lines tells what the lines tell.
-use Rattle.std.proofs.Common.{◌≡◌, ◌≢◌, ◌⊎◌, inl, inr, ℕ, ◌+◌, ◌^◌, ◌<◌, ◌≤◌, Bool, true, false, not, ◌&&◌, if◌then◌else◌, nat_le, List, [], ◌∷◌, ◌++◌, map, length, Option, Some, None, option_map, Result, Ok, Err, refl, sym, ap, subst, ◌∙◌, arith}
+use Rattle.std.proofs.Common.{◌≡◌, ◌⊎◌, inl, inr, ℕ, ◌+◌, ◌^◌, ◌<◌, ◌≤◌, Bool, true, false, not, ◌&&◌, if◌then◌else◌, List, [], ◌∷◌, ◌++◌, length, Option, Some, None, option_map, Result, Ok, Err, refl, sym, ap, subst, ◌∙◌, arith}
 use Rattle.std.specs.Prelude.{◌==◌, unwrap_or, is_some, IfErr, IsTrue, OnOk}
 use Rattle.std.specs.List.{before_last, after_last, cons_option, filter_map}
 use Rattle.std.specs.Option.{option_or}
@@ -10,7 +10,7 @@ use Rattle.lab_seal_versions.specs.Origins.{first_number, AmendsUnlessFirst}
 use Rattle.lab_seal.specs.Reading.{◌>>=◌}
 use Rattle.lab_seal_versions.specs.declared.rows.EntryRow.{EntryRow}
 use Rattle.lab_seal_versions.specs.Seals.{seal_of}
-use Rattle.lab_copy_rows.specs.Copies.{Told, lab_of, may_follow, was_asked, is_later_record, is_first_version, is_next_version, is_version_after, is_version_numbered, has_its_numbers, is_in_place, is_some_and, is_none_or, is_of_version, is_version, is_end, last_of, record_in, version_in, entry_in, signature_in, last_record, last_version, last_told, counts_of, amendment_told, parts_told, flaw_of_version, flaw_of_last_version, flaw_of_signature, flaw_shown, flaw_of_line, flaw_at_end, verdict_or, edition_of}
+use Rattle.lab_copy_rows.specs.Copies.{Told, lab_of, may_follow, is_first_version, is_next_version, is_version_after, is_version_numbered, has_its_numbers, is_in_place, is_some_and, is_of_version, is_version, is_end, last_of, record_in, version_in, entry_in, signature_in, last_record, last_version, last_told, counts_of, amendment_told, parts_told, flaw_of_version, flaw_of_last_version, flaw_of_signature, flaw_shown, flaw_of_line, flaw_at_end, verdict_or, edition_of}
 use Rattle.lab_copy_rows.specs.declared.flaws.Flaw.{Flaw}
 use Rattle.lab_copy_rows.specs.declared.flaws.Flaw.TheVariants as flaw
 use Rattle.lab_copy_rows.specs.declared.lines.CopyLine.{CopyLine}
@@ -24,9 +24,9 @@ use Rattle.lab_copy_rows.specs.declared.lines.VersionLine.{VersionLine}
 use Rattle.lab_copy.specs.Places.{count_of, counts_with}
 use Rattle.lab_copy_lines.specs.Fields.{HasReasonUnlessFirst}
 use Rattle.lab_copy_lines.specs.Lines.{IsReasoned}
-use Rattle.lab_copy.specs.Hands.{hand_of, amendment_by, amendment_behind, begun, with_entry, with_signature, has_numbers, is_next, flaw_of_hand}
+use Rattle.lab_copy.specs.Hands.{hand_of, amendment_by, amendment_behind, begun, with_entry, with_signature, has_numbers, flaw_of_hand}
 use Rattle.lab_copy_lines.specs.Kinds.{kind_of, may_come_after, is_end_kind}
-use Rattle.lab_copy.specs.Kept.{is_next_record, is_version_behind, has_kept_numbers, may_come, is_in_place_by, is_in_place_kept, flaw_of_signature_kept, flaw_of_version_kept, flaw_kept, hand_begun, copy_with, about_with, version_with, kept_with, verdict_kept, edition_by, first_copy, ends_in_version, hand_at, kept_none, kept_of, BeginsWithCopy, HasVersion, IsAt, IsKeepFault, IsTaken, MayBegin, MayRunOut, is_kept_made, is_text_made}
+use Rattle.lab_copy.specs.Kept.{is_version_behind, has_kept_numbers, may_come, is_in_place_by, is_in_place_kept, flaw_of_signature_kept, flaw_of_version_kept, flaw_kept, hand_begun, copy_with, about_with, version_with, kept_with, verdict_kept, edition_by, first_copy, ends_in_version, hand_at, kept_none, kept_of, BeginsWithCopy, HasVersion, IsAt, IsKeepFault, IsTaken, MayBegin, MayRunOut, is_kept_made, is_text_made}
 use Rattle.lab_copy.specs.declared.faults.CheckFault.{CheckFault}
 use Rattle.lab_copy.specs.declared.faults.CheckFault.TheVariants.{Flawed, Read, Memory}
 use Rattle.lab_copy.specs.declared.hands.VersionAtHand.{VersionAtHand}

@@ -11,7 +11,7 @@ use Rattle.csv.specs.declared.parser.Config.{Config}
 use Rattle.csv.specs.declared.parser.Terminator.TheVariants as term
 use Rattle.csv.specs.declared.parser.State.{State}
 use Rattle.csv.specs.declared.parser.State.TheVariants as st
-use Rattle.lab_copy_rows.specs.Copies.{counts_of, edition_of, flaw_of_line, flaw_at_end, is_header, line_in, verdict, verdict_after, verdict_of_line, verdict_or}
+use Rattle.lab_copy_rows.specs.Copies.{flaw_of_line, is_header, line_in, verdict, verdict_after, verdict_of_line, verdict_or}
 use Rattle.lab_copy_rows.specs.declared.flaws.Flaw.{Flaw}
 use Rattle.lab_copy_rows.specs.declared.flaws.Flaw.TheVariants as flaw
 use Rattle.lab_copy_rows.specs.declared.lines.Counts.{Counts}
@@ -20,7 +20,7 @@ use Rattle.lab_copy.specs.Faults.{IsAnswer}
 use Rattle.lab_copy.specs.Checks.{rows_of}
 use Rattle.lab_copy_lines.specs.Lines.{line_at}
 use Rattle.lab_copy.specs.Kept.{IsAt, IsTaken, edition_by, kept_none, verdict_kept}
-use Rattle.lab_copy.specs.Left.{IsEnough, IsLeft, IsLeftOf}
+use Rattle.lab_copy.specs.Left.{AreRows, IsEnough, IsLeftOf}
 use Rattle.lab_copy.specs.declared.faults.CheckFault.{CheckFault}
 use Rattle.lab_copy.specs.declared.faults.CheckFault.TheVariants.{Flawed, Read, Memory}
 use Rattle.lab_copy.specs.declared.kept.Kept.{Kept}
@@ -352,3 +352,34 @@ module _ (found : Result Counts Flaw) (kept : Kept) (row : ℕ) (before after : 
       taken_fault more (Flawed told) takes = found_by ∙ ap (verdict_or later) (takes behind.lines behind.row_is behind.kept_at)
       taken_fault more Read takes = tt
       taken_fault more (Memory _) takes = tt
+
+-- ---- how many rows there are
+
+pub rows_begun : (bytes : List ℕ) (after : State) (next : Option (List ℕ)) (fields : List (List ℕ))
+    → ReadsNext default_config st.StartRecord (Some (strip_bom bytes)) next true fields after
+    → AreRows (length (rows_of bytes)) 2 after next
+rows_begun bytes after next fields reads =
+    let left = first_left bytes after next fields reads in
+    (left.0, left.1, left.2, left.3, omega (arith, ap length left.4))
+
+module _ (total row : ℕ) (before after : State) (source next : Option (List ℕ)) (fields : List (List ℕ))
+    (rows : AreRows total row before source) where
+  pub rows_end : ReadsNext default_config before source next false fields after → total + 1 ≡ row
+  rows_end reads =
+      let none = none_left rows.1 before rows.0 (read_none before after rows.0 next fields
+      (subst (λ bytes. ReadsNext default_config before bytes next false fields after) rows.2 reads)) in
+      omega (arith, rows.4, ap length none)
+
+  pub rows_next : ReadsNext default_config before source next true fields after → AreRows total (row + 1) after next
+  rows_next reads =
+      let came = read_some before after rows.0 next fields
+      (subst (λ bytes. ReadsNext default_config before bytes next true fields after) rows.2 reads) in
+      let more = some_left rows.1 before rows.0 came.0 rows.3 came.1 in
+      let here : records_from default_config more.0 came.0.1 came.0.2 ≡ records_from default_config more.0 after came.0.2 =
+      ap (λ s. records_from default_config more.0 s came.0.2) (sym came.3) in (
+        came.0.2,
+        more.0,
+        came.4,
+        subst (λ s. IsEnough more.0 s came.0.2) (sym came.3) more.2,
+        omega (arith, rows.4, ap length more.1, ap length here),
+      )

@@ -13,6 +13,14 @@ use Rattle.lab_copy.specs.declared.faults.CheckFault.TheVariants.{Flawed, Memory
 abbrev pub rows_of : List ℕ → List (List (List ℕ))
 rows_of bytes = records default_config (strip_bom bytes)
 
+-- how many rows of a copy are read at most, and how often its reader is asked; no copy has as many
+-- rows or bytes
+abbrev pub most_rows : ℕ
+most_rows = 1000000000000
+
+abbrev pub most_asks : ℕ
+most_asks = 1000000000000000
+
 -- the fault of a check whose row wasn't read
 abbrev pub fault_at : ℕ → Fault BadRow → CheckFault
 fault_at row (row_fault.Refused _) = Flawed (flaw.BadRow row)

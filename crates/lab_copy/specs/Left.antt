@@ -33,6 +33,12 @@ abbrev pub IsLeftOf : Result Counts Flaw → Kept → ℕ → State → Option (
 IsLeftOf found kept row state source =
     (bytes : List ℕ) × (source ≡ Some bytes) × IsLeft found kept row state bytes
 
+-- so many rows there are in all: those in front of this one, and those in the bytes
+abbrev pub AreRows : ℕ → ℕ → State → Option (List ℕ) → Type 0
+AreRows total row state source =
+    (bytes : List ℕ) × (fuel : ℕ) × (source ≡ Some bytes) × IsEnough fuel state bytes
+    × (total + 1 ≡ row + length (records_from default_config fuel state bytes))
+
 -- what the rows behind the header leave to find is answered
 abbrev pub AnswersRest : State → Option (List ℕ) → Result Counts CheckFault → Type 0
 AnswersRest state source result =

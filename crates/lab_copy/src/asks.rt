@@ -1,55 +1,87 @@
 //! A reader that isn't asked forever.
-ghost use Rattle.std.specs.Prelude.{◌≡◌, ◌<◌, ◌≤◌, OnOk};
+ghost use Rattle.std.specs.Prelude.{◌≡◌, ℕ, ◌+◌, ◌<◌, ◌≤◌, OnOk};
 ghost use Rattle.std.specs.Io.{ReadsAtMost};
 ghost use Rattle.std.specs.Io.KnownBytes.{ReadConsumes};
 
+use lab_forms_asks::ByteSource;
 use std::io;
 use std::io::{ErrorKind, Read};
+use std::marker::{Brand, PhantomData};
 
-/// How often a reader of a copy is asked before it counts as failed. No copy has as many bytes.
+/// How often the source of a copy is asked before it counts as failed. No copy has as many bytes.
 pub(crate) const MOST_ASKS: u64 = 1_000_000_000_000_000;
 
-/// A reader, and how often it may still be asked.
-#[derive(Drop)]
-pub(crate) struct AskedReader<R> {
-    reader: R,
-    asks_left: u64,
+/// One check of a copy, as the type of its reader names it, so that a reader of CSV, which may do with its reader what it likes,
+/// still asks the check's own source, and not too often.
+pub(crate) trait Asking {
+    // The source's name as a borrow.
+    ghost name: { ℕ };
+
+    // What the source's count may come to.
+    ghost most: { ℕ };
 }
 
-impl<R: Read> AskedReader<R> {
-    /// The reader, not asked yet.
-    pub(crate) fn new(reader: R) -> AskedReader<R>
-        ensures reader { result.reader ≡ reader }
-        ensures asks { result.asks_left ≡ 1000000000000000 }
+impl Asking for Brand {
+    ghost name = { 0 };
+
+    ghost most = { 0 };
+}
+
+/// A reader that asks a source, and how often it may still ask.
+#[derive(Drop)]
+pub(crate) struct AskedReader<'a, A: Asking, R: ByteSource> {
+    pub(crate) source: &'a mut R,
+    pub(crate) asks_left: u64,
+    pub(crate) asking: PhantomData<A>,
+    ghost same: { source.ghost_name ≡ A.name },
+    ghost few: { R.asks source.now + asks_left ≤ A.most },
+}
+
+impl<'a, A: Asking, R: ByteSource> AskedReader<'a, A, R> {
+    /// The source, given back.
+    pub(crate) fn into_source(self) -> &'a mut R
+        ensures name { result.ghost_name ≡ A.name }
+        ensures asks { R.asks result.now ≤ A.most }
     {
-        AskedReader {
-            reader,
-            asks_left: MOST_ASKS,
-        }
+        let AskedReader {
+            source,
+            asks_left: _,
+            asking: _,
+        } = self;
+        source
     }
 }
 
-impl<R: Read> Read for AskedReader<R> {
-    ghost remaining = { λ s. R.remaining s.reader };
+impl<A: Asking, R: ByteSource> Read for AskedReader<'_, A, R> {
+    ghost remaining = { λ asked. R.remaining asked.source.now };
 
     fn read(&mut self, buffer: &mut [u8]) -> io::Result<usize> {
-        read_some(&mut self.reader, &mut self.asks_left, buffer)
+        let AskedReader {
+            source,
+            asks_left,
+            asking: _,
+        } = self;
+        read_some(&mut **source, asks_left, buffer)
     }
 }
 
-// Asks for bytes, while asks are left. Where a signal interrupted the reader, it is asked again.
-fn read_some<R: Read>(reader: &mut R, asks_left: &mut u64, buffer: &mut [u8]) -> io::Result<usize>
+// Asks for bytes, while asks are left. Where a signal interrupted the source, it is asked again.
+fn read_some<R: ByteSource>(
+    source: &mut R,
+    asks_left: &mut u64,
+    buffer: &mut [u8],
+) -> io::Result<usize>
     ensures bound { ReadsAtMost result buffer.new }
-    ensures bytes { ReadConsumes (R.remaining reader.old) (R.remaining reader.new)
+    ensures bytes { ReadConsumes (R.remaining source.old) (R.remaining source.new)
         result buffer.new }
 
-    // Each answer costs an ask, and none is given back.
+    // Each answer costs an ask, so with none left there is a fault; and no ask is given back.
     ensures asked { OnOk result (asks_left.new < asks_left.old) }
-    ensures asks { asks_left.new ≤ asks_left.old }
+    ensures asks { R.asks source.new + asks_left.new ≤ R.asks source.old + asks_left.old }
 {
     while *asks_left > 0 {
         *asks_left -= 1;
-        match reader.read(buffer) {
+        match source.ask(buffer) {
             Ok(count) => return Ok(count),
             Err(error) if error.kind() == ErrorKind::Interrupted => {}
             Err(error) => return Err(error),

@@ -1,24 +1,25 @@
 //! The check of a copy, which keeps only the version at hand.
-ghost use Rattle.std.specs.Prelude.{◌≡◌, ℕ, true, List, Option, IfOk, IfErr, OnOk, IfSome, option_map};
+ghost use Rattle.std.specs.Prelude.{◌≡◌, ℕ, ◌+◌, ◌≤◌, true, List, Option, IfOk, IfErr, OnOk, IfSome, length, option_map};
 ghost use Rattle.csv.specs.Reading.{ReadRecord, Ready, default_config, reader_config, reader_state, reader_trim, source_of, strip_bom, took_first};
 ghost use Rattle.csv.specs.Records.{fields_of};
 ghost use Rattle.csv.specs.declared.parser.State.TheVariants as st;
 ghost use Rattle.csv.specs.declared.reader.Trim.TheVariants as trim;
 ghost use Rattle.lab_copy_rows.specs.Copies.{verdict};
 ghost use Rattle.lab_copy.specs.Faults.{IsAnswer, IsNoFlaw};
-ghost use Rattle.lab_copy.specs.Checks.{fault_at, rows_of};
+ghost use Rattle.lab_copy.specs.Checks.{fault_at, most_asks, most_rows, rows_of};
 ghost use Rattle.lab_copy.specs.Kept.{kept_none};
-ghost use Rattle.lab_copy.specs.Left.{AnswersRest};
-ghost use Rattle.lab_copy.specs.declared.asks.AskedReader.{AskedReader};
+ghost use Rattle.lab_copy.specs.Left.{AnswersRest, AreRows};
 
 use crate::CheckFault;
-use crate::asks::AskedReader;
+use crate::asks::{AskedReader, Asking, MOST_ASKS};
 use crate::kept::Kept;
 use csv::{ByteRecord, ErrorKind, Reader, ReaderBuilder};
 use lab_copy_lines::{RowFault, is_header, read_line};
 use lab_copy_rows::{Counts, Flaw, OutOfMemory};
+use lab_forms_asks::ByteSource;
 use std::alloc::Global;
 use std::io::Read;
+use std::marker::{Brand, PhantomData};
 
 /// The most rows that are read. No copy has as many.
 const MOST_ROWS: u64 = 1_000_000_000_000;
@@ -27,14 +28,41 @@ const MOST_ROWS: u64 = 1_000_000_000_000;
 /// is told. It recomputes every digest and every seal.
 ///
 /// # Errors
-/// The copy's first flaw, a reader that failed, or memory that ran out.
-pub fn check_copy<R: Read + Drop>(alloc: Global, reader: R) -> Result<Counts, CheckFault>
-    ensures { IfSome (R.remaining reader) (λ bytes. IsAnswer (verdict (rows_of bytes)) result) }
+/// The copy's first flaw; a reader that failed, was asked 1,000,000,000,000,000 times or gave more than 1,000,000,000,000 rows;
+/// or memory that ran out.
+pub fn check_copy<R: ByteSource>(alloc: Global, reader: &mut R) -> Result<Counts, CheckFault>
+    ensures verdict { IfSome (R.remaining reader.old) (λ bytes.
+        IsAnswer (verdict (rows_of bytes)) result) }
+    ensures rows { IfSome (R.remaining reader.old) (λ bytes.
+        OnOk result (length (rows_of bytes) ≤ most_rows)) }
+    ensures asks { R.asks reader.new ≤ R.asks reader.old + most_asks }
 {
-    let mut rows = copy_reader(alloc, reader);
-    let answer = check_all(alloc, &mut rows);
-    drop(rows);
+    let (answer, _) = check_asking::<Brand, R>(alloc, reader);
     answer
+}
+
+// The same of a source whose name and count the type names. The source is given back.
+fn check_asking<'a, A: Asking, R: ByteSource>(
+    alloc: Global,
+    source: &'a mut R,
+) -> (Result<Counts, CheckFault>, &'a mut R)
+    requires name { source.ghost_name ≡ A.name }
+    requires most { R.asks source.old + most_asks ≤ A.most }
+    ensures verdict { IfSome (R.remaining source.old) (λ bytes.
+        IsAnswer (verdict (rows_of bytes)) result.0) }
+    ensures rows { IfSome (R.remaining source.old) (λ bytes.
+        OnOk result.0 (length (rows_of bytes) ≤ most_rows)) }
+    ensures same_reference { result.1.ghost_name ≡ source.entry.ghost_name }
+    ensures asks { R.asks result.1.now ≤ A.most }
+{
+    let asked = AskedReader::<A, R> {
+        source,
+        asks_left: MOST_ASKS,
+        asking: PhantomData,
+    };
+    let mut rows = copy_reader(alloc, asked);
+    let answer = check_all(alloc, &mut rows);
+    (answer, rows.into_inner().into_source())
 }
 
 // Checks the rows that a reader gives from its start.
@@ -43,9 +71,12 @@ fn check_all<R: Read>(alloc: Global, rows: &mut Reader<R>) -> Result<Counts, Che
     requires trim { reader_trim rows.old ≡ trim.None }
     requires ready { Ready rows.old }
     requires state { reader_state rows.old ≡ st.StartRecord }
-    ensures { (known : Option (List ℕ))
+    ensures verdict { (known : Option (List ℕ))
         → source_of R.remaining rows.old ≡ option_map strip_bom known
         → IfSome known (λ bytes. IsAnswer (verdict (rows_of bytes)) result) }
+    ensures rows { (known : Option (List ℕ))
+        → source_of R.remaining rows.old ≡ option_map strip_bom known
+        → IfSome known (λ bytes. OnOk result (length (rows_of bytes) ≤ most_rows)) }
 {
     let mut row = ByteRecord::new(alloc);
     if !read_row(rows, &mut row)? {
@@ -60,19 +91,18 @@ fn check_all<R: Read>(alloc: Global, rows: &mut Reader<R>) -> Result<Counts, Che
     answer
 }
 
-// A reader of rows, that take no header and may have any number of fields, from a reader that isn't asked forever.
-fn copy_reader<R: Read>(alloc: Global, reader: R) -> Reader<AskedReader<R>>
+// A reader of rows, that take no header and may have any number of fields.
+fn copy_reader<R: Read>(alloc: Global, reader: R) -> Reader<R>
     ensures config { reader_config result ≡ default_config }
     ensures trim { reader_trim result ≡ trim.None }
     ensures ready { Ready result }
     ensures state { reader_state result ≡ st.StartRecord }
-    ensures source { source_of (λ (asked : AskedReader R). R.remaining asked.reader) result
-        ≡ option_map strip_bom (R.remaining reader) }
+    ensures source { source_of R.remaining result ≡ option_map strip_bom (R.remaining reader) }
 {
     ReaderBuilder::new()
         .has_headers(false)
         .flexible(true)
-        .from_reader(alloc, AskedReader::new(reader))
+        .from_reader(alloc, reader)
 }
 
 // Checks the rows behind the header.
@@ -86,9 +116,12 @@ fn check_rows<R: Read>(
     requires trim { reader_trim rows.old ≡ trim.None }
     requires ready { Ready rows.old }
     requires none { kept.old ≡ kept_none }
-    ensures { AnswersRest (reader_state rows.old) (source_of R.remaining rows.old) result }
+    ensures verdict { AnswersRest (reader_state rows.old) (source_of R.remaining rows.old) result }
+    ensures rows { (total : ℕ)
+        → AreRows total 2 (reader_state rows.old) (source_of R.remaining rows.old)
+        → OnOk result (total ≤ most_rows) }
 {
-    for number in 2..MOST_ROWS {
+    for number in 2..MOST_ROWS + 2 {
         if !read_row(rows, row)? {
             return kept.finish(alloc);
         }

@@ -1,18 +1,20 @@
 //! Serving one request: it is read from any reader, piece by piece, and handled, and its reply goes
 //! to any writer.
 
-ghost use Rattle.std.specs.Prelude.{◌≡◌, IfSome, OnErr};
+ghost use Rattle.std.specs.Prelude.{◌≡◌, ◌≤◌, ◌+◌, IfSome, OnErr};
 ghost use Rattle.lab_wire_heads.specs.Interims.{interim_text};
+ghost use Rattle.lab_wire_received.specs.Receptions.{most_asks};
 ghost use Rattle.lab_desk.specs.Serving.{OnUnhandled, GreetsBy, Serves, Writes};
 
 use crate::desk::Desk;
 use lab_desk_foundings::ServeFault;
+use lab_forms_asks::ByteSource;
 use lab_forms_texts::Tick;
 use lab_records_kept::Keeper;
 use lab_wire::RequestRefusal;
 use lab_wire_heads::{HeadFault, write_reply};
 use lab_wire_received::read_request;
-use std::io::{Read, Write};
+use std::io::Write;
 
 impl<S: Keeper + Drop> Desk<S> {
     /// Serves one request: reads it, handles it, and writes its reply, which [`Desk::reply`] has
@@ -21,9 +23,9 @@ impl<S: Keeper + Drop> Desk<S> {
     /// answered by its refusal.
     ///
     /// # Errors
-    /// That the reader failed, or was asked too often: nothing is answered. That the writer failed:
+    /// That the reader failed, or was asked 80,000 times: nothing is answered. That the writer failed:
     /// within the interim answer nothing is changed; within the reply the request stands.
-    pub fn serve_one<R: Read, W: Write>(
+    pub fn serve_one<R: ByteSource, W: Write>(
         &mut self,
         reader: &mut R,
         writer: &mut W,
@@ -38,6 +40,7 @@ impl<S: Keeper + Drop> Desk<S> {
             Writes (interim_text bytes) self.new.reply result
             (W.contents writer.old) (W.contents writer.new)) }
         ensures untouched { OnUnhandled result (self.new ≡ self.old) }
+        ensures asks { R.asks reader.new ≤ R.asks reader.old + most_asks }
     {
         self.receive(reader, writer, tick)?;
         match write_reply(writer, self.reply()) {
@@ -47,7 +50,7 @@ impl<S: Keeper + Drop> Desk<S> {
     }
 
     // Reads a request and handles it: its reply is kept, and not yet written.
-    fn receive<R: Read, W: Write>(
+    fn receive<R: ByteSource, W: Write>(
         &mut self,
         reader: &mut R,
         writer: &mut W,
@@ -61,6 +64,7 @@ impl<S: Keeper + Drop> Desk<S> {
         ensures interim { IfSome (R.remaining reader.old) (λ bytes.
             GreetsBy (interim_text bytes) result (W.contents writer.old) (W.contents writer.new)) }
         ensures untouched { OnErr result (self.new ≡ self.old) }
+        ensures asks { R.asks reader.new ≤ R.asks reader.old + most_asks }
     {
         match read_request(self.alloc(), reader, writer) {
             Ok(request) => {

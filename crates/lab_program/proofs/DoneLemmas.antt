@@ -4,6 +4,7 @@ use Rattle.std.specs.Prelude.{IfSome, nat_le}
 use Rattle.std.specs.Io.KnownBytes.{Keeps}
 use Rattle.std.proofs.lemmas.List.Elements.{All-nil}
 use Rattle.clap.specs.declared.error.kind.ErrorKind.TheVariants.{OutOfMemory}
+use Rattle.sqlite_trees.specs.Tree.{Trees}
 use Rattle.sqlite_trees.specs.declared.store.Store.{Ghosts}
 use Rattle.lab_forms_texts.specs.Faults.{memory_entry}
 use Rattle.lab_forms_texts.specs.Names.{is_lab_code}
@@ -19,7 +20,7 @@ use Rattle.lab_program_check.specs.declared.faults.StopFault.TheVariants.{Memory
 use Rattle.lab_program_check.specs.Verdicts.{IsCheck}
 use Rattle.lab_program_shelves.specs.Faults.{unopened_fault}
 use Rattle.lab_program_files.specs.FileWorlds.{file_keeper}
-use Rattle.lab_program_shelves.specs.Files.{IsOpened, IsOurs}
+use Rattle.lab_program_shelves.specs.Files.{IsOpened, IsOurs, IsOursAnywhere}
 use Rattle.lab_program_outside.specs.Sources.{Drawing}
 use Rattle.lab_program_files.specs.Copying.{CopyTask}
 use Rattle.lab_program_replay.specs.Replays.{IsReplay, ReplaysFromNothing}
@@ -33,11 +34,11 @@ use Rattle.lab_program_words.specs.Tasks.{Asked, founds, serves, copies, checks,
 -- ---- each task, not begun
 
 module _ (before after told_before told_after : Option (List ℕ)) (status : Result ℕ Untold) where
-  no_serving : {S : Type 0} (keeper : KeeperOf S) (opened : S → Type 0) (drawing : Drawing) (count : ℕ)
+  no_serving : {S : Type 0} (keeper : KeeperOf S) (found opened : S → Type 0) (drawing : Drawing) (count : ℕ)
       → IsUnbegun before after told_before told_after status
-      → ServesFile keeper opened drawing count (seen before after told_before told_after status)
-  no_serving keeper opened drawing count told =
-      inr (unopened_fault, tt, told.0, declines_task before after told_before told_after status told)
+      → ServesFile keeper found opened drawing count (seen before after told_before told_after status)
+  no_serving keeper found opened drawing count told =
+      inr (inl (told.0, (unopened_fault, declines_task before after told_before told_after status told)))
 
   -- the input may have anything
   begins_none : (input : Option (List ℕ)) →
@@ -89,24 +90,25 @@ no_check (Some bytes) before after told_before told_after status told =
 
 -- ---- whichever is asked for
 
-module _ {S : Type 0} (disk : Ghosts S) (drawing : Drawing) (before after told_before told_after : Option (List ℕ))
+module _ {S Shelf : Type 0} (disk : Ghosts S) (holds : Shelf → List ℕ → Trees → Type 0) (shelf : Shelf) (drawing : Drawing)
+    (before after told_before told_after : Option (List ℕ))
     (status : Result ℕ Untold) where
-  no_copy_if : (task : CopyTask) (ordered : Bool) → IsUnbegun before after told_before told_after status
-      → IsCopiedIf disk task ordered (seen before after told_before told_after status)
-  no_copy_if task true told = never_begun before after told_before told_after status _
-      (no_copying before after told_before told_after status (file_keeper disk) task (IsOurs disk))
+  no_copy_if : (IsHeld : Trees → Type 0) (task : CopyTask) (ordered : Bool) → IsUnbegun before after told_before told_after status
+      → IsCopiedIf disk IsHeld task ordered (seen before after told_before told_after status)
+  no_copy_if IsHeld task true told = never_begun before after told_before told_after status _
+      (no_copying before after told_before told_after status (file_keeper disk) task (IsOurs disk IsHeld))
       (is_lab_code task.code) told
-  no_copy_if task false told = (OutOfMemory, inl refl, told)
+  no_copy_if IsHeld task false told = (OutOfMemory, inl refl, told)
 
   pub never_done : (asked : Asked) (input : Option (List ℕ)) → IsUnbegun before after told_before told_after status
-      → IsDone disk drawing asked input (seen before after told_before told_after status)
+      → IsDone disk holds shelf drawing asked input (seen before after told_before told_after status)
   never_done (founds file lab) input told = never_begun before after told_before told_after status _
       (no_founding before after told_before told_after status (file_keeper disk)
-      (record { drawing = drawing; code = lab; body = body_in input }) (IsOpened disk))
+      (record { drawing = drawing; code = lab; body = body_in input }) (IsOpened disk (holds shelf file)))
       (is_lab_code lab) told
   never_done (serves file port count) input told =
-      no_serving before after told_before told_after status (file_keeper disk) (IsOurs disk) drawing count told
-  never_done (copies file lab from to) input told = no_copy_if (record {
+      no_serving before after told_before told_after status (file_keeper disk) (IsOurs disk (holds shelf file)) (IsOursAnywhere disk holds) drawing count told
+  never_done (copies file lab from to) input told = no_copy_if (holds shelf file) (record {
     moments = drawing.moments;
     later = drawing.later;
     code = lab;
@@ -119,7 +121,7 @@ module _ {S : Type 0} (disk : Ghosts S) (drawing : Drawing) (before after told_b
       (no_rehearsal before after told_before told_after status lab (body_in input)) (is_lab_code lab) told
 
   pub done_as : (asked other : Asked) (input : Option (List ℕ)) → asked ≡ other
-      → IsDone disk drawing other input (seen before after told_before told_after status)
-      → IsDone disk drawing asked input (seen before after told_before told_after status)
+      → IsDone disk holds shelf drawing other input (seen before after told_before told_after status)
+      → IsDone disk holds shelf drawing asked input (seen before after told_before told_after status)
   done_as asked other input is done =
-      subst (λ a. IsDone disk drawing a input (seen before after told_before told_after status)) (sym is) done
+      subst (λ a. IsDone disk holds shelf drawing a input (seen before after told_before told_after status)) (sym is) done

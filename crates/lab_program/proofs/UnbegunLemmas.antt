@@ -1,6 +1,6 @@
 -- Of the tasks of one laboratory: its name is a code, or none is begun; and nothing was begun since
 -- memory ran out.
-use Rattle.std.proofs.Common.{◌≡◌, ℕ, List, [], Option, Some, None, Result, Err, Bool, true, false, inl}
+use Rattle.std.proofs.Common.{◌≡◌, ℕ, List, [], Option, Some, None, Result, Err, Bool, true, false}
 use Rattle.std.specs.Prelude.{IfSome}
 use Rattle.std.specs.Io.KnownBytes.{Appends, Keeps}
 use Rattle.std.proofs.KnownBytes.{Appends-kept, Appends-nil}
@@ -71,7 +71,7 @@ module _ (before after told_before told_after : Option (List ℕ)) (status : Res
 
 module _ (before after told_before told_after : Option (List ℕ)) (status : Result ℕ Untold) where
   pub declines_task : IsUnbegun before after told_before told_after status → DeclinesTask unopened_fault status told_before told_after
-  declines_task told = (told.1.0, inl told.1.1)
+  declines_task told = told.1
 
   pub no_founding : {S : Type 0} (keeper : KeeperOf S) (task : FoundTask) (opened : S → Type 0)
       → IsUnbegun before after told_before told_after status
@@ -79,7 +79,8 @@ module _ (before after told_before told_after : Option (List ℕ)) (status : Res
   no_founding keeper task opened told = record {
     ending = Err unopened_fault;
     ends = tt;
-    prints = told.0;
+    prints = tt;
+    unbegun = told.0;
     told = declines_task told;
   }
 
@@ -88,7 +89,8 @@ module _ (before after told_before told_after : Option (List ℕ)) (status : Res
       → IsCopying keeper task opened (seen before after told_before told_after status)
   no_copying keeper task opened told = record {
     ending = Err unopened_fault;
-    copies = told.0;
+    copies = tt;
+    unbegun = told.0;
     told = declines_task told;
   }
 

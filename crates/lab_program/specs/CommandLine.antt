@@ -1,5 +1,6 @@
 -- What `labdesk` does for words that ask for a task.
 use Rattle.std.specs.Prelude.{List, ℕ, Option, IfSome, nat_le}
+use Rattle.sqlite_trees.specs.Tree.{Trees}
 use Rattle.sqlite_trees.specs.declared.store.Store.{Ghosts}
 use Rattle.lab_copy_rows.specs.Copies.{verdict}
 use Rattle.lab_copy.specs.Checks.{rows_of}
@@ -7,29 +8,33 @@ use Rattle.lab_program_check.specs.Verdicts.{IsCheck}
 use Rattle.lab_program_outside.specs.Sources.{Drawing}
 use Rattle.lab_program_outside.specs.TaskEnds.{TaskEnd}
 use Rattle.lab_program_files.specs.FileWorlds.{file_keeper}
-use Rattle.lab_program_shelves.specs.Files.{IsOurs}
+use Rattle.lab_program_shelves.specs.Files.{IsOurs, IsOursAnywhere}
 use Rattle.lab_program_replay.specs.Replays.{IsReplay}
 use Rattle.lab_program_files.specs.Serving.{ServesFile}
 use Rattle.lab_program.specs.Laboratories.{IsCopiedIf, IsFounded, IsRehearsed, body_in}
 use Rattle.lab_program_words.specs.Tasks.{Asked, founds, serves, copies, checks, replays, rehearses}
 
--- what is asked for is done, from this input, at the moment and with the words that were drawn.
--- Which file lies at a path, and who is at a port, can't be said here
-abbrev pub IsDone : {S : Type 0} → Ghosts S → Drawing → Asked → (input : Option (List ℕ)) →
-    TaskEnd → Type 0
-IsDone disk drawing (founds file lab) input end =
-    IsFounded disk (record { drawing = drawing; code = lab; body = body_in input }) end
-IsDone disk drawing (serves file port count) input end =
-    ServesFile (file_keeper disk) (IsOurs disk) drawing count end
-IsDone disk drawing (copies file lab from to) input end = IsCopiedIf disk (record {
-  moments = drawing.moments;
-  later = drawing.later;
-  code = lab;
-  from = from;
-  to = to;
-}) (nat_le from to) end
-IsDone disk drawing checks input end = IfSome input (λ bytes. IsCheck (verdict (rows_of bytes))
-    end.status end.before end.after end.told_before end.told_after)
-IsDone disk drawing replays input end =
+-- what is asked for is done, from this input, at the moment and with the words that were drawn,
+-- over files that held what the shelf says of their paths. Who is at a port can't be said here
+abbrev pub IsDone : {S Shelf : Type 0} → Ghosts S → (Shelf → List ℕ → Trees → Type 0) → Shelf →
+    Drawing → Asked → (input : Option (List ℕ)) → TaskEnd → Type 0
+IsDone disk holds shelf drawing (founds file lab) input end = IsFounded disk (holds shelf file)
+    (record { drawing = drawing; code = lab; body = body_in input }) end
+IsDone disk holds shelf drawing (serves file port count) input end =
+    ServesFile (file_keeper disk) (IsOurs disk (holds shelf file)) (IsOursAnywhere disk holds)
+    drawing count end
+IsDone disk holds shelf drawing (copies file lab from to) input end =
+    IsCopiedIf disk (holds shelf file) (record {
+      moments = drawing.moments;
+      later = drawing.later;
+      code = lab;
+      from = from;
+      to = to;
+    }) (nat_le from to) end
+IsDone disk holds shelf drawing checks input end = IfSome input (λ bytes.
+    IsCheck (verdict (rows_of bytes)) end.status end.before end.after end.told_before
+    end.told_after)
+IsDone disk holds shelf drawing replays input end =
     IsReplay input end.before end.after end.told_before end.told_after end.status
-IsDone disk drawing (rehearses lab moment) input end = IsRehearsed lab (body_in input) end
+IsDone disk holds shelf drawing (rehearses lab moment) input end =
+    IsRehearsed lab (body_in input) end

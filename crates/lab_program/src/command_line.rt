@@ -32,7 +32,8 @@ fn do_task<N: Net, H: Shelf, C: Clock, X: Chance, P: Progress, R: Read + Drop, W
 where
     Connection<H::Disk>: Closing,
     ensures { (asked : Asked) → IsTask task.entry asked →
-        IsDone H.Disk.Store (drawing_of (C.coming host.old.clock) (C.coming host.new.clock)
+        IsDone H.Disk.Store H.holds host.old.shelf
+        (drawing_of (C.coming host.old.clock) (C.coming host.new.clock)
         (X.coming host.old.chance) (X.coming host.new.chance)) asked (R.remaining input) (record {
           before = W.contents output.old;
           after = W.contents output.new;
@@ -81,7 +82,8 @@ pub fn labdesk<
 where
     Connection<H::Disk>: Closing,
     ensures done { (asked : Asked) → Asks asked (map S.text words.now) →
-        IsDone H.Disk.Store (drawing_of (C.coming host.old.clock) (C.coming host.new.clock)
+        IsDone H.Disk.Store H.holds host.old.shelf
+        (drawing_of (C.coming host.old.clock) (C.coming host.new.clock)
         (X.coming host.old.chance) (X.coming host.new.chance)) asked (R.remaining input) (record {
           before = W.contents output.old;
           after = W.contents output.new;

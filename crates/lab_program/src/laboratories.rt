@@ -44,7 +44,7 @@ pub fn found_for<N, H: Shelf, C: Clock, X: Chance, P, R: Read + Drop, W: Write, 
 ) -> Result<u8, WriteFault>
 where
     Connection<H::Disk>: Closing,
-    ensures { IsFounded H.Disk.Store (record {
+    ensures { IsFounded H.Disk.Store (H.holds host.old.shelf file.now) (record {
       drawing = drawing_of (C.coming host.old.clock) (C.coming host.new.clock)
           (X.coming host.old.chance) (X.coming host.new.chance);
       code = lab.now;
@@ -88,7 +88,7 @@ fn copy_range<N, H: Shelf, C: Clock, X, P: Progress, W: Write, E: Write>(
 ) -> Result<u8, WriteFault>
 where
     Connection<H::Disk>: Closing,
-    ensures { IsCopied H.Disk.Store (record {
+    ensures { IsCopied H.Disk.Store (H.holds host.old.shelf file.now) (record {
       moments = C.coming host.old.clock;
       later = C.coming host.new.clock;
       code = lab.now;
@@ -130,7 +130,7 @@ pub fn copy_for<N, H: Shelf, C: Clock, X, P: Progress, W: Write, E: Write>(
 where
     Connection<H::Disk>: Closing,
     ensures { IsTrue (is_ordinal from) → IsTrue (is_ordinal to) →
-        IsCopiedIf H.Disk.Store (record {
+        IsCopiedIf H.Disk.Store (H.holds host.old.shelf file.now) (record {
           moments = C.coming host.old.clock;
           later = C.coming host.new.clock;
           code = lab.now;

@@ -46,7 +46,8 @@ fn look_over<R: Read + Drop>(alloc: Global, input: R) -> Result<Found, StopFault
         IsFound (verdict (rows_of bytes)) found.line.bytes.items found.status)) }
     ensures fault { IfErr result (λ fault. fault ≢ NotWritten) }
 {
-    match check_copy(alloc, input) {
+    let mut input = input;
+    match check_copy(alloc, &mut input) {
         Ok(counts) => Ok(Found {
             line: good_line(alloc, counts)?,
             status: 0,

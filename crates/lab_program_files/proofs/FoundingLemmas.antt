@@ -1,5 +1,5 @@
 -- How a founding over a keeper ends, and what is printed of it.
-use Rattle.std.proofs.Common.{◌≡◌, ℕ, List, Option, None, Some, inl, inr, refl, subst, sym}
+use Rattle.std.proofs.Common.{◌≡◌, ℕ, List, Option, None, Some, refl, subst, sym}
 use Rattle.std.specs.Prelude.{Err, IfErr, IfSome, IsSome, Ok, Result}
 use Rattle.std.specs.Io.KnownBytes.{Keeps}
 use Rattle.lab_forms_texts.specs.declared.tick.Tick.{Tick}
@@ -12,11 +12,10 @@ use Rattle.lab_program_outside.specs.declared.faults.ServerFault.{ServerFault}
 use Rattle.lab_program_outside.specs.declared.faults.ServerFault.TheVariants.{Memory, Read, Write}
 use Rattle.lab_program_outside.specs.Faults.{IsReaderFault}
 use Rattle.lab_program_outside.proofs.ReadLemmas.{for_known, known_as}
-use Rattle.lab_program_shelves.specs.Faults.{IsUnopened}
-use Rattle.lab_program_shelves.specs.declared.faults.TaskFault.{TaskFault}
-use Rattle.lab_program_shelves.specs.declared.faults.TaskFault.TheVariants.{Copying, File, Founding, Server}
+use Rattle.lab_program_outside.specs.declared.faults.RehearsalFault.{RehearsalFault as FoundingFault}
+use Rattle.lab_program_outside.specs.declared.faults.RehearsalFault.TheVariants.{Founding, Server}
 use Rattle.lab_program_outside.specs.Sources.{Drawing, IsDrawn, drawing_of}
-use Rattle.lab_program_files.specs.Foundings.{Ends, EndsFounding, EndsInFile, FoundTask, IsFounded, Prints}
+use Rattle.lab_program_files.specs.Foundings.{Ends, EndsFounding, FoundTask, IsFounded, Prints}
 
 -- ---- what is printed
 
@@ -69,7 +68,7 @@ module _ {S : Type 0} (keeper : Ghosts S) (drawing : Drawing) (code : List ℕ) 
       (known_as known read bytes same whole) (tick, drawn, fits, leaves honest reached)
 
   printed_so : (known : Option (List ℕ)) (bytes : List ℕ) (old new : S)
-      (result : Result (Unit {0}) TaskFault) → IfErr result (λ fault. fault ≡ Server Write) →
+      (result : Result (Unit {0}) FoundingFault) → IfErr result (λ fault. fault ≡ Server Write) →
       IsFounded keeper (task_of drawing code known) bytes old new →
       EndsFounding keeper (task_of drawing code known) bytes old new result
   printed_so known bytes old new (Ok done) e is = is
@@ -78,7 +77,7 @@ module _ {S : Type 0} (keeper : Ghosts S) (drawing : Drawing) (code : List ℕ) 
 
   -- the laboratory was founded, whether or not that was printed
   pub ends_founded : (known : Option (List ℕ)) (read bytes : List ℕ) (old new : S) (tick : Tick)
-      (result : Result (Unit {0}) TaskFault) → IsDrawn drawing tick → read ≡ bytes
+      (result : Result (Unit {0}) FoundingFault) → IsDrawn drawing tick → read ≡ bytes
       → IfSome known (λ all. bytes ≡ all) → IfErr result (λ fault. fault ≡ Server Write) →
       Given (keeper.world old) (keeper.world new) (Founds (keeper.world old) (keeper.world new)
       (keeper.places old new) code tick (founding_in read)) →
@@ -90,32 +89,3 @@ module _ {S : Type 0} (keeper : Ghosts S) (drawing : Drawing) (code : List ℕ) 
       (known_as known read bytes same whole)
       (printed_so known read old new result printed
       (tick, drawn, founds honest reached, durable honest reached))
-
-  -- so it was over the keeper of a file that was opened
-  pub in_file : (opened : S → Type 0) (known : Option (List ℕ)) (old new : S)
-      (result : Result (Unit {0}) TaskFault) → opened old
-      → Ends keeper (task_of drawing code known) old new result
-      → EndsInFile keeper (task_of drawing code known) opened result
-  in_file opened known old new (Ok done) is ends = (old, new, is, ends)
-  in_file opened known old new (Err (File fault)) is ends = tt
-  in_file opened known old new (Err (Founding fault)) is ends = (old, new, is, ends)
-  in_file opened known old new (Err (Copying fault)) is ends = (old, new, is, ends)
-  in_file opened known old new (Err (Server fault)) is ends = inr (old, new, is, ends)
-
--- no file was opened
-pub unopened_ends : {S : Type 0} (keeper : Ghosts S) (task : FoundTask) (opened : S → Type 0)
-    (fault : TaskFault) → IsUnopened fault → EndsInFile keeper task opened (Err fault)
-unopened_ends keeper task opened (File fault) is = tt
-unopened_ends keeper task opened (Founding fault) is = absurd is
-unopened_ends keeper task opened (Copying fault) is = absurd is
-unopened_ends keeper task opened (Server fault) is = inl is
-
--- and nothing was printed
-pub unopened_prints : (line : List ℕ) (fault : TaskFault) (known : Option (List ℕ)) → IsUnopened fault →
-    Keeps known known → Prints line (Err fault) known known
-unopened_prints line (File fault) known is keeps = keeps
-unopened_prints line (Founding fault) known is keeps = absurd is
-unopened_prints line (Copying fault) known is keeps = absurd is
-unopened_prints line (Server Read) known is keeps = keeps
-unopened_prints line (Server Write) known is keeps = absurd is
-unopened_prints line (Server Memory) known is keeps = absurd is

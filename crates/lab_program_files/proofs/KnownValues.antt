@@ -1,12 +1,10 @@
 -- Values from outside, computed on the definitions: small instances of what a founding printed and of a tick that was drawn.
 use Rattle.std.proofs.Common.{codes, lit<, refl, ap, ℕ, List, [], ◌∷◌, true≢false, Some, Ok, Err}
 use Rattle.std.specs.Str.{bytes_eq}
-use Rattle.lab_program_outside.specs.declared.faults.ServerFault.TheVariants.{Write, Memory, Read}
-use Rattle.lab_program_shelves.specs.declared.faults.TaskFault.TheVariants.{Server, File}
+use Rattle.lab_program_outside.specs.declared.faults.ServerFault.TheVariants.{Write, Memory}
+use Rattle.lab_program_outside.specs.declared.faults.RehearsalFault.TheVariants.{Server}
 use Rattle.lab_program_outside.specs.Sources.{IsDrawn, drawing_of}
 use Rattle.lab_program_files.specs.Foundings.{Prints}
-use Rattle.lab_store_files.specs.declared.faults.FileFault.TheVariants.{NotADeskFile}
-use Rattle.lab_program_files.specs.Serving.{IsUnprepared}
 
 -- the whole line, or a part where the output failed; where memory ran out, nothing
 pub known_printed : Prints (codes "founded aqua\n") (Ok tt) (Some []) (Some (codes "founded aqua\n"))
@@ -25,8 +23,3 @@ pub known_drawn :
     IsDrawn (drawing_of (Some (7 ∷ 8 ∷ [])) (Some (8 ∷ [])) (Some ((1 ∷ []) ∷ [])) (Some []))
     (record { moment = 7; words = 1 ∷ [] })
 known_drawn = ((8 ∷ [], refl, refl), ([], refl, refl))
-
--- before serving a file isn't opened or a port not listened at; no writer is blamed
-pub known_unprepared : IsUnprepared (File NotADeskFile) × IsUnprepared (Server Read)
-    × (IsUnprepared (Server Write) → ⊥)
-known_unprepared = (tt, tt, λ wrong. wrong)

@@ -1,3 +1,4 @@
 pub mod FoundingLemmas
 pub mod KnownValues
 pub mod ServingLemmas
+pub mod StartLemmas

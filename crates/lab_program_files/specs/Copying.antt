@@ -1,18 +1,16 @@
 -- The inspection copy of a laboratory of a file (21 CFR 11.10(b); docs/COPIES.md has its text).
-use Rattle.std.specs.Prelude.{◌≡◌, ℕ, List, [], ◌∷◌, Option, None, Result, Ok, Err, IfErr, IsSome}
+use Rattle.std.specs.Prelude.{◌≡◌, ℕ, List, [], ◌∷◌, Option, None, Result, IfErr, IfOk, IsSome}
 use Rattle.std.specs.Io.KnownBytes.{Keeps}
 use Rattle.lab_records_kept.specs.declared.keeper.Keeper.{Ghosts}
 use Rattle.lab_records_kept.specs.Worlds.{Given}
 use Rattle.lab_program_outside.specs.Sources.{Gives}
 use Rattle.lab_program_outside.specs.TaskEnds.{TaskEnd}
-use Rattle.lab_program_outside.specs.declared.faults.ServerFault.TheVariants.{Read, Write, Memory}
 use Rattle.lab_copy_rows.specs.Outs.{Sends}
 use Rattle.lab_records_walks.specs.declared.faults.CopyOutFault.{CopyOutFault}
-use Rattle.lab_records_walks.specs.Faults.{CopyFaultFits}
+use Rattle.lab_records_walks.specs.Faults.{CopyFaultFits, copy_fault_word}
 use Rattle.lab_records_walks.specs.Resting.{IsRead}
 use Rattle.lab_records_walks.specs.Walks.{CanWalk, copy_text, desk_order}
-use Rattle.lab_program_shelves.specs.declared.faults.TaskFault.{TaskFault}
-use Rattle.lab_program_shelves.specs.declared.faults.TaskFault.TheVariants.{File, Founding, Copying, Server}
+use Rattle.lab_program_shelves.specs.declared.faults.OpenFault.{OpenFault}
 use Rattle.lab_program_shelves.specs.Faults.{TellsTask}
 
 -- what the task `copy` is given
@@ -48,20 +46,11 @@ module _ {S : Type 0} (keeper : Ghosts S) (task : CopyTask) (opened : S → Type
         (IsSome ((keeper.world old).meaning task.code))))
     pub read : IsRead keeper.world keeper.rests old new
 
-  -- by how the task ended: where the file wasn't opened or the clock failed, nothing went out; and
-  -- there is no other fault
-  abbrev pub CopiesBy : Result (Unit {0}) TaskFault → Type 0
-  CopiesBy (Ok done) = Copies (Ok done)
-  CopiesBy (Err (File fault)) = Keeps before after
-  CopiesBy (Err (Founding fault)) = ⊥
-  CopiesBy (Err (Copying fault)) = Copies (Err fault)
-  CopiesBy (Err (Server Read)) = Keeps before after
-  CopiesBy (Err (Server Write)) = ⊥
-  CopiesBy (Err (Server Memory)) = ⊥
-
--- the task `copy`, by its status and what was told
+-- the task `copy`, by its status and what was told: where the file wasn't opened or the clock
+-- failed, nothing went out
 pub record IsCopying {S : Type 0} (keeper : Ghosts S) (task : CopyTask) (opened : S → Type 0)
     (end : TaskEnd) : Type 0 where
-  pub ending : Result (Unit {0}) TaskFault
-  pub copies : CopiesBy keeper task opened end.before end.after ending
-  pub told : TellsTask ending end.status end.told_before end.told_after
+  pub ending : Result (Result (Unit {0}) CopyOutFault) OpenFault
+  pub copies : IfOk ending (Copies keeper task opened end.before end.after)
+  pub unbegun : IfErr ending (λ _. Keeps end.before end.after)
+  pub told : TellsTask copy_fault_word ending end.status end.told_before end.told_after

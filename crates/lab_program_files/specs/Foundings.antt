@@ -1,6 +1,6 @@
 -- Founding a laboratory over a keeper, and in a file: how it ended, what it made, and what was
 -- printed (ISO/IEC 17025:2017, 7.11.2; docs/FORMATS.md has the body and the line).
-use Rattle.std.specs.Prelude.{◌≡◌, ◌⊎◌, ◌<◌, ℕ, List, Option, Result, Ok, Err, IfSome, IsSome, length, take}
+use Rattle.std.specs.Prelude.{◌≡◌, ◌<◌, ℕ, List, Option, Result, Ok, Err, IfErr, IfOk, IfSome, IsSome, length, take}
 use Rattle.std.specs.Io.KnownBytes.{Appends, Keeps}
 use Rattle.lab_forms_texts.specs.declared.tick.Tick.{Tick}
 use Rattle.lab_records_kept.specs.declared.keeper.Keeper.{Ghosts}
@@ -9,21 +9,21 @@ use Rattle.lab_desk_foundings.specs.Faults.{FoundFaultFits}
 use Rattle.lab_desk_foundings.specs.Foundings.{Founds, founded_line, founding_in}
 use Rattle.lab_program_outside.specs.Sources.{Drawing, IsDrawn}
 use Rattle.lab_program_outside.specs.TaskEnds.{TaskEnd}
+use Rattle.lab_program_outside.specs.Faults.{rehearsal_fault_word}
 use Rattle.lab_program_outside.specs.declared.faults.ServerFault.TheVariants.{Read, Write, Memory}
-use Rattle.lab_program_shelves.specs.declared.faults.TaskFault.{TaskFault}
-use Rattle.lab_program_shelves.specs.declared.faults.TaskFault.TheVariants.{File, Founding, Copying, Server}
-use Rattle.lab_program_shelves.specs.Faults.{IsUnopened, TellsTask}
+use Rattle.lab_program_outside.specs.declared.faults.RehearsalFault.{RehearsalFault as FoundingFault}
+use Rattle.lab_program_outside.specs.declared.faults.RehearsalFault.TheVariants.{Founding, Server}
+use Rattle.lab_program_shelves.specs.declared.faults.OpenFault.{OpenFault}
+use Rattle.lab_program_shelves.specs.Faults.{TellsTask}
 
 -- ---- what was printed
 
 -- the line, where all was done; its first bytes, and not all, where the output failed; and else
--- nothing. There is no fault of a copy
-abbrev pub Prints : List ℕ → Result (Unit {0}) TaskFault → Option (List ℕ) → Option (List ℕ) →
-    Type 0
+-- nothing
+abbrev pub Prints : List ℕ → Result (Unit {0}) FoundingFault → Option (List ℕ) →
+    Option (List ℕ) → Type 0
 Prints line (Ok _) before after = Appends before after line
-Prints line (Err (File fault)) before after = Keeps before after
 Prints line (Err (Founding fault)) before after = Keeps before after
-Prints line (Err (Copying fault)) before after = ⊥
 Prints line (Err (Server Read)) before after = Keeps before after
 Prints line (Err (Server Write)) before after =
     (sent : ℕ) × (sent < length line) × Appends before after (take sent line)
@@ -51,44 +51,35 @@ module _ {S : Type 0} (keeper : Ghosts S) (task : FoundTask) where
 
     -- by how it ended: where the output failed the laboratory is founded all the same; a refusal is
     -- the founding's, at the tick, and every laboratory means what it meant; where body, clock or
-    -- chance failed, or memory ran out before, nothing was done; and there is no other fault
-    abbrev pub EndsFounding : Result (Unit {0}) TaskFault → Type 0
+    -- chance failed, or memory ran out before, nothing was done
+    abbrev pub EndsFounding : Result (Unit {0}) FoundingFault → Type 0
     EndsFounding (Ok _) = IsFounded
-    EndsFounding (Err (File fault)) = ⊥
     EndsFounding (Err (Founding fault)) = (tick : Tick) × IsDrawn task.drawing tick
         × FoundFaultFits (keeper.world old).may_refuse
         (Given (keeper.world old) (keeper.world new)
         (IsSome ((keeper.world old).meaning task.code))) task.code tick
         (founding_in bytes) fault
         × Leaves (keeper.world old) (keeper.world new)
-    EndsFounding (Err (Copying fault)) = ⊥
     EndsFounding (Err (Server Read)) = new ≡ old
     EndsFounding (Err (Server Write)) = IsFounded
     EndsFounding (Err (Server Memory)) = new ≡ old
 
   -- how a founding ends, where its body is known
-  abbrev pub Ends : S → S → Result (Unit {0}) TaskFault → Type 0
+  abbrev pub Ends : S → S → Result (Unit {0}) FoundingFault → Type 0
   Ends old new ending = Given (keeper.world old) (keeper.world new)
       (IfSome task.body (λ bytes. EndsFounding bytes old new ending))
 
   module _ (opened : S → Type 0) where
     -- the founding ended so over a keeper that was opened
-    abbrev pub EndsOver : Result (Unit {0}) TaskFault → Type 0
+    abbrev pub EndsOver : Result (Unit {0}) FoundingFault → Type 0
     EndsOver ending = (old : S) × (new : S) × opened old × Ends old new ending
 
-    -- over the keeper of a file, where one was opened: it may not be where the fault is the file's
-    -- or that of the source of random words
-    abbrev pub EndsInFile : Result (Unit {0}) TaskFault → Type 0
-    EndsInFile (Ok done) = EndsOver (Ok done)
-    EndsInFile (Err (File fault)) = Unit {0}
-    EndsInFile (Err (Founding fault)) = EndsOver (Err (Founding fault))
-    EndsInFile (Err (Copying fault)) = EndsOver (Err (Copying fault))
-    EndsInFile (Err (Server fault)) =
-        IsUnopened (Server fault) ⊎ EndsOver (Err (Server fault))
-
-    -- the task `found`, by its status, what was printed and what was told
+    -- the task `found`, by its status, what was printed and what was told: where the file wasn't
+    -- made or opened, nothing was printed
     pub record IsFounding (end : TaskEnd) : Type 0 where
-      pub ending : Result (Unit {0}) TaskFault
-      pub ends : EndsInFile ending
-      pub prints : Prints (founded_line task.code) ending end.before end.after
-      pub told : TellsTask ending end.status end.told_before end.told_after
+      pub ending : Result (Result (Unit {0}) FoundingFault) OpenFault
+      pub ends : IfOk ending EndsOver
+      pub prints : IfOk ending (λ founding.
+          Prints (founded_line task.code) founding end.before end.after)
+      pub unbegun : IfErr ending (λ _. Keeps end.before end.after)
+      pub told : TellsTask rehearsal_fault_word ending end.status end.told_before end.told_after

@@ -2,3 +2,4 @@ pub mod FileWorlds
 pub mod Foundings
 pub mod Copying
 pub mod Serving
+pub mod Starts

@@ -6,34 +6,28 @@ use Rattle.lab_desk.specs.Desk.{Served}
 use Rattle.lab_program_outside.specs.Sources.{Drawing}
 use Rattle.lab_program_serve.specs.ServeTask.{IsServing}
 use Rattle.lab_program_outside.specs.TaskEnds.{TaskEnd}
-use Rattle.lab_program_outside.specs.declared.faults.ServerFault.TheVariants.{Read, Write, Memory}
-use Rattle.lab_program_shelves.specs.declared.faults.TaskFault.{TaskFault}
-use Rattle.lab_program_shelves.specs.declared.faults.TaskFault.TheVariants.{File, Founding, Copying, Server}
-use Rattle.lab_program_shelves.specs.Faults.{Declines}
+use Rattle.lab_wire_heads.specs.Sending.{read_fault_word}
+use Rattle.lab_program_shelves.specs.declared.faults.OpenFault.{OpenFault}
+use Rattle.lab_program_shelves.specs.Faults.{Declines, TellsWord}
 
--- a fault before serving: the file wasn't opened, no port listened at, or memory ran out; nothing
--- was written yet, so no writer is blamed
-abbrev pub IsUnprepared : TaskFault → Type 0
-IsUnprepared (File fault) = Unit {0}
-IsUnprepared (Founding fault) = ⊥
-IsUnprepared (Copying fault) = ⊥
-IsUnprepared (Server Read) = Unit {0}
-IsUnprepared (Server Write) = ⊥
-IsUnprepared (Server Memory) = Unit {0}
-
-module _ {S : Type 0} (keeper : Ghosts S) (opened : S → Type 0) (drawing : Drawing) (count : ℕ)
-    (end : TaskEnd) where
-  -- from the keeper of a file that was opened on so many connections were served, unless a fault
+module _ {S : Type 0} (keeper : Ghosts S) (found opened : S → Type 0) (drawing : Drawing)
+    (count : ℕ) (end : TaskEnd) where
+  -- from the keeper of the file that was found on so many connections were served, unless a fault
   -- came, which was told; over each keeper that was opened each laboratory stays within its limits
   -- and has all that was recorded
   abbrev pub Serves : Type 0
-  Serves = (first : Served S) × opened first.keeper
+  Serves = (first : Served S) × found first.keeper
       × IsServing keeper opened (Some first) drawing count end
 
-  -- nothing was served, and why was told: the file wasn't opened, or no port listened at
+  -- nothing was served, and why was told: the file wasn't opened, or memory ran out
   abbrev pub DeclinesToServe : Type 0
-  DeclinesToServe = (fault : TaskFault) × IsUnprepared fault × Keeps end.before end.after
-      × Declines fault end.status end.told_before end.told_after
+  DeclinesToServe = Keeps end.before end.after
+      × ((fault : OpenFault) × Declines fault end.status end.told_before end.told_after)
+
+  -- nothing was served, since no port was listened at, and that was told
+  abbrev pub DeclinesToListen : Type 0
+  DeclinesToListen = Keeps end.before end.after
+      × TellsWord read_fault_word end.status end.told_before end.told_after
 
   abbrev pub ServesFile : Type 0
-  ServesFile = Serves ⊎ DeclinesToServe
+  ServesFile = Serves ⊎ DeclinesToServe ⊎ DeclinesToListen

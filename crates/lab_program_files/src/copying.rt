@@ -1,20 +1,25 @@
 //! `labdesk copy`: the inspection copy of a laboratory of a file.
 
-ghost use Rattle.lab_program_files.specs.Copying.{CopiesBy, IsCopying};
+ghost use Rattle.std.specs.Prelude.{IfErr, IfOk};
+ghost use Rattle.std.specs.Io.KnownBytes.{Keeps};
+ghost use Rattle.lab_program_files.specs.Copying.{Copies, IsCopying};
 ghost use Rattle.lab_program_files.specs.FileWorlds.{file_keeper};
 ghost use Rattle.lab_program_shelves.specs.Files.{IsOurs};
 
 use crate::leaving::leave;
-use lab_forms_texts::{LabCode, Moment, Ordinal};
+use lab_forms_texts::{LabCode, Ordinal};
 use lab_program_outside::{Clock, Host};
-use lab_program_shelves::{Closing, Shelf, TaskFault, Trouble, decline, open_file};
-use lab_records_walks::{Progress, copy_out};
+use lab_program_shelves::{
+    Closing, OpenFault, Shelf, Trouble, decline, decline_to_open, open_file,
+};
+use lab_records_walks::{CopyOutFault, Progress, copy_out};
 use lab_store::{OneVersionAtATime, Store};
 use lab_wire_heads::WriteFault;
 use sqlite::Connection;
 use std::io::Write;
 
-// Copies the records of a laboratory of the file at the path, as of a moment of the clock.
+// Copies the records of a laboratory of the file at the path, as of a moment of the clock. Answers
+// how the copy ended, where one was begun.
 fn copy_file<N, H: Shelf, C: Clock, X, P: Progress, W: Write>(
     host: &mut Host<'_, N, H, C, X, P>,
     path: &str,
@@ -22,20 +27,23 @@ fn copy_file<N, H: Shelf, C: Clock, X, P: Progress, W: Write>(
     from: Ordinal,
     to: Ordinal,
     output: &mut W,
-) -> Result<(), TaskFault>
+) -> Result<Result<(), CopyOutFault>, OpenFault>
 where
     Connection<H::Disk>: Closing,
-    ensures { CopiesBy (file_keeper H.Disk.Store) (record {
+    ensures copies { IfOk result (Copies (file_keeper H.Disk.Store) (record {
       moments = C.coming host.old.clock;
       later = C.coming host.new.clock;
       code = lab.now;
       from = from;
       to = to;
-    }) (IsOurs H.Disk.Store)
-        (W.contents output.old) (W.contents output.new) result }
+    }) (IsOurs H.Disk.Store (H.holds host.old.shelf path.now))
+        (W.contents output.old) (W.contents output.new)) }
+    ensures unbegun { IfErr result (λ _. Keeps (W.contents output.old) (W.contents output.new)) }
 {
     let conn = open_file(host.alloc, &mut host.shelf, path)?;
-    let moment: Moment = host.clock.moment()?;
+    let Ok(moment) = host.clock.moment() else {
+        return Err(OpenFault::Drawing);
+    };
     let mut store = Store::new(host.alloc, conn);
     let copied = copy_out(
         host.alloc,
@@ -49,10 +57,7 @@ where
         &mut host.progress,
     );
     leave(store);
-    match copied {
-        Ok(()) => Ok(()),
-        Err(fault) => Err(TaskFault::Copying(fault)),
-    }
+    Ok(copied)
 }
 
 /// `labdesk copy`: opens the file at the path, writes the inspection copy of the laboratory's
@@ -79,7 +84,7 @@ where
       code = lab.now;
       from = from;
       to = to;
-    }) (IsOurs H.Disk.Store) (record {
+    }) (IsOurs H.Disk.Store (H.holds host.old.shelf path.now)) (record {
       before = W.contents output.old;
       after = W.contents output.new;
       told_before = E.contents errors.old;
@@ -88,11 +93,11 @@ where
     }) }
 {
     match copy_file(host, path, lab, from, to, output) {
-        Ok(()) => Ok(0),
-        Err(fault) => {
-            let status = decline(host.alloc, errors, fault);
-            host.shelf.advise(Trouble::OverFile { path, fault });
-            status
+        Ok(Ok(())) => Ok(0),
+        Ok(Err(fault)) => {
+            let trouble = Trouble::Copying(path, fault);
+            decline(&mut host.shelf, errors, fault.word(), trouble)
         }
+        Err(fault) => decline_to_open(host.alloc, &mut host.shelf, errors, path, fault),
     }
 }

@@ -3,18 +3,22 @@
 ghost use Rattle.lab_desk_foundings.specs.Foundings.{founded_line};
 ghost use Rattle.lab_program_files.specs.FileWorlds.{file_keeper};
 ghost use Rattle.lab_program_shelves.specs.Files.{IsOpened};
-ghost use Rattle.lab_program_files.specs.Foundings.{Ends, EndsInFile, IsFounding, Prints};
-ghost use Rattle.lab_program_outside.specs.Sources.{drawing_of};
-ghost use Rattle.std.specs.Prelude.{◌≡◌, IfErr, IfOk};
+ghost use Rattle.lab_program_files.specs.Foundings.{Ends, EndsOver, IsFounding, Prints};
+ghost use Rattle.lab_program_outside.specs.Faults.{IsReaderFault};
+ghost use Rattle.lab_program_outside.specs.Sources.{IsDrawn, drawing_of};
+ghost use Rattle.std.specs.Io.KnownBytes.{Keeps};
+ghost use Rattle.std.specs.Prelude.{◌≡◌, IfErr, IfOk, IfSome};
 ghost use Rattle.lab_records_kept.specs.Worlds.{Passes};
 ghost use Rattle.lab_program_outside.specs.declared.faults.ServerFault.TheVariants.{Write as NotWritten};
-ghost use Rattle.lab_program_shelves.specs.declared.faults.TaskFault.TheVariants.{Server as OfServer};
+ghost use Rattle.lab_program_outside.specs.declared.faults.RehearsalFault.TheVariants.{Server as OfServer};
 
 use crate::leaving::leave;
-use lab_forms_texts::{LabCode, OutOfMemory};
+use lab_forms_texts::{LabCode, OutOfMemory, Tick};
 use lab_program_outside::{Chance, Clock, FoundFault, Host, ServerFault, draw, read_all};
 use lab_program_serve::{Desk, Keeper};
-use lab_program_shelves::{Closing, Shelf, TaskFault, Trouble, decline, make_file};
+use lab_program_shelves::{
+    Closing, FoundingFault, OpenFault, Shelf, Trouble, decline, decline_to_open, make_file,
+};
 use lab_store::Store;
 use lab_wire_heads::{WriteFault, write_reply};
 use sqlite::Connection;
@@ -29,14 +33,45 @@ fn founded_line(alloc: Global, lab: &LabCode) -> Result<Vec<u8>, OutOfMemory>
     Ok(format!(in alloc; "founded {code}\n")?.into_bytes())
 }
 
+// What a founding takes before it is begun.
+#[derive(Drop)]
+struct Intake {
+    // The line that tells of it.
+    line: Vec<u8>,
+    // Its body.
+    bytes: Vec<u8>,
+    // Its tick.
+    tick: Tick,
+}
+
+// Takes what a founding needs. The tick is drawn once the body is read.
+fn taken<N, H, C: Clock, X: Chance, P, B: Read>(
+    host: &mut Host<'_, N, H, C, X, P>,
+    lab: &LabCode,
+    body: &mut B,
+) -> Result<Intake, ServerFault>
+    ensures line { IfOk result (λ taken. taken.line.items ≡ founded_line lab.now) }
+    ensures body { IfOk result (λ taken.
+        IfSome (B.remaining body.old) (λ all. taken.bytes.items ≡ all)) }
+    ensures tick { IfOk result (λ taken. IsDrawn
+        (drawing_of (C.coming host.old.clock) (C.coming host.new.clock)
+        (X.coming host.old.chance) (X.coming host.new.chance)) taken.tick) }
+    ensures fault { IfErr result IsReaderFault }
+{
+    let line = founded_line(host.alloc, lab)?;
+    let bytes = read_all(host.alloc, body)?;
+    let tick = draw(&mut host.clock, &mut host.chance)?;
+    Ok(Intake { line, bytes, tick })
+}
+
 // Prints a line.
-fn print<W: Write>(output: &mut W, line: &[u8]) -> Result<(), TaskFault>
+fn print<W: Write>(output: &mut W, line: &[u8]) -> Result<(), FoundingFault>
     ensures printed { Prints line.now result (W.contents output.old) (W.contents output.new) }
     ensures fault { IfErr result (λ fault. fault ≡ OfServer NotWritten) }
 {
     match write_reply(output, line) {
         Ok(()) => Ok(()),
-        Err(_) => Err(TaskFault::Server(ServerFault::Write)),
+        Err(_) => Err(FoundingFault::Server(ServerFault::Write)),
     }
 }
 
@@ -67,7 +102,7 @@ pub fn found_over<N, H: Shelf, C: Clock, X: Chance, P, S: Keeper + Drop, B: Read
     lab: &LabCode,
     body: &mut B,
     output: &mut W,
-) -> Result<(), TaskFault>
+) -> Result<(), FoundingFault>
     ensures ends { Ends S.Keeper (record {
       drawing = drawing_of (C.coming host.old.clock) (C.coming host.new.clock)
           (X.coming host.old.chance) (X.coming host.new.chance);
@@ -78,38 +113,44 @@ pub fn found_over<N, H: Shelf, C: Clock, X: Chance, P, S: Keeper + Drop, B: Read
         (W.contents output.old) (W.contents output.new) }
     ensures passes { Passes (S.world desk.old.keeper) (S.world desk.new.keeper) }
 {
-    let line = founded_line(host.alloc, lab)?;
-    let bytes = read_all(host.alloc, body)?;
-    let tick = draw(&mut host.clock, &mut host.chance)?;
-    let founded = desk.found(lab, &tick, bytes.as_slice());
-    noted(host.alloc, &mut host.shelf, bytes.as_slice(), founded)?;
-    print(output, line.as_slice())
+    let intake = taken(host, lab, body)?;
+    let founded = desk.found(lab, &intake.tick, intake.bytes.as_slice());
+    noted(
+        host.alloc,
+        &mut host.shelf,
+        intake.bytes.as_slice(),
+        founded,
+    )?;
+    print(output, intake.line.as_slice())
 }
 
-// Founds a laboratory in the file at the path.
+// Founds a laboratory in the file at the path. Answers how the founding ended, where one was begun.
 fn found_in_file<N, H: Shelf, C: Clock, X: Chance, P, B: Read, W: Write>(
     host: &mut Host<'_, N, H, C, X, P>,
     path: &str,
     lab: &LabCode,
     body: &mut B,
     output: &mut W,
-) -> Result<(), TaskFault>
+) -> Result<Result<(), FoundingFault>, OpenFault>
 where
     Connection<H::Disk>: Closing,
-    ensures ends { EndsInFile (file_keeper H.Disk.Store) (record {
+    ensures ends { IfOk result (EndsOver (file_keeper H.Disk.Store) (record {
       drawing = drawing_of (C.coming host.old.clock) (C.coming host.new.clock)
           (X.coming host.old.chance) (X.coming host.new.chance);
       code = lab.now;
       body = B.remaining body.old;
-    }) (IsOpened H.Disk.Store) result }
-    ensures prints { Prints (founded_line lab.now) result
-        (W.contents output.old) (W.contents output.new) }
+    }) (IsOpened H.Disk.Store (H.holds host.old.shelf path.now))) }
+    ensures prints { IfOk result (λ ending. Prints (founded_line lab.now) ending
+        (W.contents output.old) (W.contents output.new)) }
+    ensures unbegun { IfErr result (λ _. Keeps (W.contents output.old) (W.contents output.new)) }
 {
     let conn = make_file(host.alloc, &mut host.shelf, path)?;
-    let mut desk = Desk::new(host.alloc, Store::new(host.alloc, conn))?;
+    let Ok(mut desk) = Desk::new(host.alloc, Store::new(host.alloc, conn)) else {
+        return Ok(Err(FoundingFault::Server(ServerFault::Memory)));
+    };
     let done = found_over(host, &mut desk, lab, body, output);
     leave(desk.into_keeper());
-    done
+    Ok(done)
 }
 
 /// `labdesk found`: founds a laboratory in the file at the path, which is made where there is none,
@@ -134,7 +175,7 @@ where
           (X.coming host.old.chance) (X.coming host.new.chance);
       code = lab.now;
       body = B.remaining body.old;
-    }) (IsOpened H.Disk.Store) (record {
+    }) (IsOpened H.Disk.Store (H.holds host.old.shelf path.now)) (record {
       before = W.contents output.old;
       after = W.contents output.new;
       told_before = E.contents errors.old;
@@ -143,11 +184,11 @@ where
     }) }
 {
     match found_in_file(host, path, lab, body, output) {
-        Ok(()) => Ok(0),
-        Err(fault) => {
-            let status = decline(host.alloc, errors, fault);
-            host.shelf.advise(Trouble::OverFile { path, fault });
-            status
+        Ok(Ok(())) => Ok(0),
+        Ok(Err(fault)) => {
+            let trouble = Trouble::Founding(path, fault);
+            decline(&mut host.shelf, errors, fault.word(), trouble)
         }
+        Err(fault) => decline_to_open(host.alloc, &mut host.shelf, errors, path, fault),
     }
 }

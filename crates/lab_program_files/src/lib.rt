@@ -7,12 +7,14 @@ mod founding;
 mod leaving;
 mod opening;
 mod serving;
+mod starts;
 
 pub use copying::copy;
 pub use founding::{found, found_over};
 pub use lab_program_outside::{Chance, Clock, Host};
 pub use lab_program_shelves::{
-    Closing, HostShelf, Progress, Shelf, SystemChance, SystemClock, TaskFault, TerminalProgress,
-    Trouble, Unheard,
+    Closing, FoundingFault, HostShelf, OpenFault, Progress, Shelf, Supposed, SystemChance,
+    SystemClock, TerminalProgress, Trouble, Unheard,
 };
 pub use serving::serve;
+pub use starts::a_start_finds_what_was_left;

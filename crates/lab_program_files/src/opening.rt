@@ -2,7 +2,7 @@
 
 use crate::leaving::leave;
 use lab_program_serve::Opener;
-use lab_program_shelves::{Closing, Shelf, TaskFault, open_file};
+use lab_program_shelves::{Closing, OpenFault, Shelf, open_file};
 use lab_records_kept::{BadStore, KeeperFault};
 use lab_store::Store;
 use lab_store_files::FileFault;
@@ -23,9 +23,9 @@ impl<'a> FileOpener<'a> {
 }
 
 // Why no keeper was opened.
-fn unopened(fault: TaskFault) -> KeeperFault {
+fn unopened(fault: OpenFault) -> KeeperFault {
     match fault {
-        TaskFault::File(FileFault::Memory) => KeeperFault::Memory,
+        OpenFault::File(FileFault::Memory) => KeeperFault::Memory,
         _ => KeeperFault::Refused(BadStore),
     }
 }
@@ -34,9 +34,9 @@ impl<'a, H: Shelf> Opener<H, Store<H::Disk>> for FileOpener<'a>
 where
     Connection<H::Disk>: Closing,
 {
-    ghost use Rattle.lab_program_shelves.specs.Files.{IsOurs};
+    ghost use Rattle.lab_program_shelves.specs.Files.{IsOursAnywhere};
 
-    ghost opened = { IsOurs H.Disk.Store };
+    ghost opened = { IsOursAnywhere H.Disk.Store H.holds };
 
     fn is_there(&mut self, alloc: Global, host: &mut H) -> bool {
         host.is_there(alloc, self.path)

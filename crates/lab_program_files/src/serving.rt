@@ -1,15 +1,17 @@
 //! `labdesk serve`: the laboratories of a file are served on a port of this machine.
 
 ghost use Rattle.lab_program_files.specs.FileWorlds.{file_keeper};
-ghost use Rattle.lab_program_shelves.specs.Files.{IsOurs};
-ghost use Rattle.lab_program_files.specs.Serving.{IsUnprepared, ServesFile};
+ghost use Rattle.lab_program_shelves.specs.Files.{IsOurs, IsOursAnywhere};
+ghost use Rattle.lab_program_files.specs.Serving.{ServesFile};
 ghost use Rattle.lab_program_outside.specs.Sources.{drawing_of};
-ghost use Rattle.std.specs.Prelude.{IfErr, IfOk, IsSomeAnd};
+ghost use Rattle.std.specs.Prelude.{IfOk, IsSomeAnd};
 
 use crate::opening::FileOpener;
 use lab_program_outside::{Chance, Clock, Host, ServerFault};
 use lab_program_serve::{Desk, Office, listen};
-use lab_program_shelves::{Closing, Shelf, TaskFault, Trouble, decline, open_file};
+use lab_program_shelves::{
+    Additions, Closing, OpenFault, Shelf, Trouble, decline, decline_to_open, open_file,
+};
 use lab_store::Store;
 use lab_wire_heads::WriteFault;
 use sqlite::Connection;
@@ -17,33 +19,24 @@ use std::alloc::Global;
 use std::io::Write;
 use std::net::Net;
 
-// An office with a desk over the file at the path, and a listener at the port.
-fn prepared<'p, N: Net, H: Shelf>(
+// An office with a desk over the file at the path.
+fn opened<'p, H: Shelf>(
     alloc: Global,
-    net: &N,
     shelf: &mut H,
     path: &'p str,
-    port: u16,
-) -> Result<(Office<Store<H::Disk>, FileOpener<'p>>, N::Listener), TaskFault>
+) -> Result<Office<Store<H::Disk>, FileOpener<'p>>, OpenFault>
 where
     Connection<H::Disk>: Closing,
-    ensures ours { IfOk result (λ prepared.
-        IsSomeAnd prepared.0 (λ desk. IsOurs H.Disk.Store desk.keeper)) }
-    ensures fault { IfErr result IsUnprepared }
+    ensures { IfOk result (λ office. IsSomeAnd office (λ desk.
+        IsOurs H.Disk.Store (H.holds shelf.old path.now) desk.keeper)) }
 {
     let conn = open_file(alloc, shelf, path)?;
-    let desk = Desk::new(alloc, Store::new(alloc, conn))?;
-    let office = Office::new(alloc, FileOpener::new(path), desk)?;
-    let listener = listen(net, port)?;
-    Ok((office, listener))
-}
-
-// What stopped a server before it began: nothing is read before the port is listened at.
-fn trouble_of(path: &str, port: u16, fault: TaskFault) -> Trouble<'_> {
-    match fault {
-        TaskFault::Server(ServerFault::Read) => Trouble::AtPort(port),
-        fault => Trouble::OverFile { path, fault },
+    let additions = Additions::of(conn.schema());
+    if !additions.are_none() {
+        shelf.remark(path, additions);
     }
+    let desk = Desk::new(alloc, Store::new(alloc, conn))?;
+    Ok(Office::new(alloc, FileOpener::new(path), desk)?)
 }
 
 /// `labdesk serve`: opens the file at the path, listens at a port of this machine (0 is any that is
@@ -64,7 +57,9 @@ pub fn serve<N: Net, H: Shelf, C: Clock, X: Chance, P, W: Write, E: Write>(
 ) -> Result<u8, WriteFault>
 where
     Connection<H::Disk>: Closing,
-    ensures { ServesFile (file_keeper H.Disk.Store) (IsOurs H.Disk.Store)
+    ensures { ServesFile (file_keeper H.Disk.Store)
+        (IsOurs H.Disk.Store (H.holds host.old.shelf path.now))
+        (IsOursAnywhere H.Disk.Store H.holds)
         (drawing_of (C.coming host.old.clock) (C.coming host.new.clock)
         (X.coming host.old.chance) (X.coming host.new.chance)) count (record {
           before = W.contents output.old;
@@ -74,23 +69,21 @@ where
           status = result;
         }) }
 {
-    match prepared(host.alloc, host.net, &mut host.shelf, path, port) {
-        Ok((mut office, listener)) => {
-            let status = lab_program_serve::serve(
-                host,
-                &mut office,
-                listener,
-                count,
-                output,
-                errors,
-            );
-            office.close(&mut host.shelf);
-            status
+    let mut office = match opened(host.alloc, &mut host.shelf, path) {
+        Ok(office) => office,
+        Err(OpenFault::Drawing) => {
+            let word = OpenFault::Drawing.word();
+            return decline(&mut host.shelf, errors, word, Trouble::AtPort(port));
         }
         Err(fault) => {
-            let status = decline(host.alloc, errors, fault);
-            host.shelf.advise(trouble_of(path, port, fault));
-            status
+            return decline_to_open(host.alloc, &mut host.shelf, errors, path, fault);
         }
-    }
+    };
+    let Ok(listener) = listen(host.net, port) else {
+        let word = ServerFault::Read.word();
+        return decline(&mut host.shelf, errors, word, Trouble::AtPort(port));
+    };
+    let status = lab_program_serve::serve(host, &mut office, listener, count, output, errors);
+    office.close(&mut host.shelf);
+    status
 }

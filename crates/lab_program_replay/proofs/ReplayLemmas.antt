@@ -84,6 +84,7 @@ telling meaning = record {
   is_honest = Unit {0};
   is_live = Unit {0};
   is_reached = Unit {0};
+  faults = 0;
   may_refuse = Unit {0};
   may_leave = λ held. Unit {0};
   is_safe = Unit {0};

@@ -1,13 +1,15 @@
 -- Values from outside, computed on the definitions: the line that is printed (docs/FORMATS.md), and small instances of what a
 -- writer that failed has taken and of how many connections are served.
-use Rattle.std.proofs.Common.{◌≡◌, decimal, codes, lit<, ◌∙◌, refl, ◌++◌, ap, ℕ, List, [], true≢false, Some, Ok, Err}
+use Rattle.std.proofs.Common.{◌≡◌, decimal, codes, lit<, ◌∙◌, refl, ◌++◌, ap, ℕ, List, [], true, false, true≢false, Some, Ok, Err}
 use Rattle.std.proofs.lemmas.Fmt.{decimal-digits_of}
 use Rattle.std.specs.Prelude.{◌==◌}
 use Rattle.std.specs.Str.{bytes_eq}
 use Rattle.lab_program_outside.specs.declared.faults.ServerFault.{ServerFault}
 use Rattle.lab_program_outside.specs.declared.faults.ServerFault.TheVariants.{Write}
 use Rattle.lab_program_serve.specs.Texts.{listening_line, IsPrinted}
-use Rattle.lab_program_serve.specs.Visits.{AreCounted}
+use Rattle.lab_forms_texts.specs.declared.refusals.Fault.TheVariants.{Refused, Memory}
+use Rattle.lab_records_kept.specs.declared.faults.BadStore.{BadStore}
+use Rattle.lab_program_serve.specs.Visits.{AreCounted, IsNoRefusal, is_unavailable}
 
 port : decimal 8080 ≡ codes "8080"
 port = decimal-digits_of 8080 (lit< tt) (lit< tt) ∙ refl
@@ -27,3 +29,12 @@ known_printed = (
 pub known_counted : AreCounted {F = ServerFault} (Ok tt) 0 []
     × (AreCounted {F = ServerFault} (Ok tt) 1 [] → ⊥)
 known_counted = (refl, λ counted. true≢false (ap (λ (number : ℕ). number == 0) counted))
+
+-- behind which replies a keeper is asked whether it answers, and what it may answer
+pub known_unavailable : (is_unavailable (codes "HTTP/1.1 503 Service Unavailable\r\n") ≡ true)
+    × (is_unavailable (codes "HTTP/1.1 200 OK\r\n") ≡ false) × (is_unavailable [] ≡ false)
+known_unavailable = (refl, refl, refl)
+
+pub known_refusal : (fault : BadStore) → IsNoRefusal (Ok tt) × IsNoRefusal (Err Memory)
+    × (IsNoRefusal (Err (Refused fault)) → ⊥)
+known_refusal fault = (tt, tt, λ no. no)

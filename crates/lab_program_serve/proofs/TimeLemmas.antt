@@ -1,17 +1,16 @@
 -- One connection more: it is served over the keeper that was there, or over one that was opened anew, or refused.
 use Rattle.std.proofs.Common.{◌≡◌, ◌⊎◌, inl, inr, ◌+◌, length, ℕ, List, [], ◌∷◌, ◌++◌, Option, Some, None, Result, Ok, Err, refl, sym, ap, subst, ◌∙◌, append_assoc, arith, ◌≤◌}
-use Rattle.std.specs.Prelude.{IfSome}
+use Rattle.std.specs.Prelude.{IfSome, false}
 use Rattle.std.proofs.lemmas.List.{length-append}
 use Rattle.lab_records_kept.specs.declared.keeper.Keeper.{Ghosts}
 use Rattle.lab_records_kept.specs.Worlds.{Passes, World}
-use Rattle.lab_desk.specs.Answering.{IsAsked}
 use Rattle.lab_desk.specs.Desk.{Served}
 use Rattle.lab_desk_runs.specs.Keeping.{GivenWithin, Stays, StaysOn}
 use Rattle.lab_desk_runs.proofs.Lasting.{stays_after, stays_first, still_stays}
 use Rattle.lab_program_outside.specs.Sources.{Gives}
 use Rattle.lab_program_serve.specs.Times.{AreRefused, AreTimes, BeginWith, IsMended, IsMet, IsNext, IsRefused, IsServed, IsTime, ServesTimes, Time, visits_of}
-use Rattle.lab_program_serve.specs.Visits.{AreCounted, AreGiven, AreVisits, GoesOn, KeepsGiven, Sources, Visit}
-use Rattle.lab_program_serve.proofs.VisitLemmas.{first_of, given_more, given_none, sources_of, visits_more}
+use Rattle.lab_program_serve.specs.Visits.{AreCounted, AreGiven, AreVisits, GoesOn, KeepsGiven, Sources, Visit, is_unavailable, reply_after}
+use Rattle.lab_program_serve.proofs.VisitLemmas.{first_of, given_more, given_none, reply_last, sources_of, visits_more}
 
 -- ---- lists
 
@@ -76,11 +75,13 @@ passes_on first next last one other = record {
 
 module _ {S : Type 0} (keeper : Ghosts S) (opened : S → Type 0) where
   -- before its first connection
-  abbrev pub time_of : S → Time S
-  time_of first = record { first = first; visits = []; last = first; refused = [] }
+  abbrev pub time_of : S → List ℕ → Time S
+  time_of first reply =
+      record { first = first; reply = reply; visits = []; last = first; refused = [] }
 
-  time_first : (first : S) → opened first → IsTime keeper opened (time_of first)
-  time_first first is = record {
+  time_first : (first : S) (reply : List ℕ) → opened first →
+      IsTime keeper opened (time_of first reply)
+  time_first first reply is = record {
     opened_so = is;
     are = λ within honest reached. refl;
     stays = λ within honest reached. stays_first (keeper.world first) within reached;
@@ -91,13 +92,14 @@ module _ {S : Type 0} (keeper : Ghosts S) (opened : S → Type 0) where
   abbrev pub time_with : Time S → Visit → S → Time S
   time_with time visit new = record {
     first = time.first;
+    reply = time.reply;
     visits = time.visits ++ visit ∷ [];
     last = new;
     refused = [];
   }
 
   module _ (time : Time S) (is : IsTime keeper opened time) (start new : S) (visit : Visit)
-      (on : GoesOn keeper time.last start)
+      (on : GoesOn keeper (reply_after time.reply time.visits) time.last start)
       (passes : Passes (keeper.world time.last) (keeper.world start))
       (stays : GivenWithin (keeper.world time.last) (keeper.world start)
       (Stays (keeper.world time.last) (keeper.world start)))
@@ -113,7 +115,7 @@ module _ {S : Type 0} (keeper : Ghosts S) (opened : S → Type 0) where
       are = λ within honest reached.
           let early = served.passes.honest honest in
           let here = upto within early reached in
-          visits_more keeper time.first time.last start new time.visits visit
+          visits_more keeper (GoesOn keeper) time.reply time.first time.last start new time.visits visit
           (is.are within (passes.honest early) reached) on
           (record {
             within = here.within;
@@ -131,18 +133,34 @@ module _ {S : Type 0} (keeper : Ghosts S) (opened : S → Type 0) where
       refused_so = tt;
     }
 
-  -- over a keeper that answered
+  -- over a keeper that is as it was, or answered
+  on_passes : (reply : List ℕ) (old new : S) → GoesOn keeper reply old new →
+      Passes (keeper.world old) (keeper.world new)
+  on_passes reply old new (inl same) = subst (λ now. Passes (keeper.world old) (keeper.world now))
+      (sym same.1) (passes_still (keeper.world old))
+  on_passes reply old new (inr asked) = asked.1.passes
+
+  on_stays : (reply : List ℕ) (old new : S) → GoesOn keeper reply old new →
+      GivenWithin (keeper.world old) (keeper.world new) (Stays (keeper.world old) (keeper.world new))
+  on_stays reply old new (inl same) = subst
+      (λ now. GivenWithin (keeper.world old) (keeper.world now)
+      (Stays (keeper.world old) (keeper.world now)))
+      (sym same.1) (λ within honest reached. still_stays (keeper.world old) reached)
+  on_stays reply old new (inr asked) = asked.1.stays
+
   time_on : (time : Time S) → IsTime keeper opened time → (start new : S) (visit : Visit) →
-      IsAsked keeper time.last start → IsServed keeper start visit new →
-      IsTime keeper opened (time_with time visit new)
-  time_on time is start new visit answers served =
-      time_more time is start new visit (inr answers) answers.1.passes answers.1.stays served
+      GoesOn keeper (reply_after time.reply time.visits) time.last start →
+      IsServed keeper start visit new → IsTime keeper opened (time_with time visit new)
+  time_on time is start new visit on served =
+      let reply = reply_after time.reply time.visits in
+      time_more time is start new visit on (on_passes reply time.last start on)
+      (on_stays reply time.last start on) served
 
   -- over one that was opened anew
   time_anew : (start new : S) (visit : Visit) → opened start → IsServed keeper start visit new →
-      IsTime keeper opened (time_with (time_of start) visit new)
+      IsTime keeper opened (time_with (time_of start []) visit new)
   time_anew start new visit is served =
-      time_more (time_of start) (time_first start is) start new visit (inl refl)
+      time_more (time_of start []) (time_first start [] is) start new visit (inl (refl, refl))
       (passes_still (keeper.world start))
       (λ within honest reached. still_stays (keeper.world start) reached) served
 
@@ -150,6 +168,7 @@ module _ {S : Type 0} (keeper : Ghosts S) (opened : S → Type 0) where
   abbrev pub time_refused : Time S → Visit → Time S
   time_refused time visit = record {
     first = time.first;
+    reply = time.reply;
     visits = time.visits;
     last = time.last;
     refused = time.refused ++ visit ∷ [];
@@ -170,6 +189,7 @@ module _ {S : Type 0} (keeper : Ghosts S) (opened : S → Type 0) where
   -- the last time goes on where there is a desk
   abbrev pub GoesOnAt : Time S → Option (Served S) → Type 0
   GoesOnAt time (Some desk) = (time.refused ≡ []) × (time.last ≡ desk.keeper)
+      × (reply_after time.reply time.visits ≡ desk.reply)
   GoesOnAt time None = Unit {0}
 
   pub record SoFar (first : S) (now : Option (Served S)) (visits : List Visit) : Type 0 where
@@ -184,21 +204,21 @@ module _ {S : Type 0} (keeper : Ghosts S) (opened : S → Type 0) where
   pub so_far_first : (desk : Served S) → opened desk.keeper → SoFar desk.keeper (Some desk) []
   so_far_first desk is = record {
     earlier = [];
-    time = time_of desk.keeper;
+    time = time_of desk.keeper desk.reply;
     begin = refl;
     are = tt;
-    is = time_first desk.keeper is;
-    goes_on = (refl, refl);
+    is = time_first desk.keeper desk.reply is;
+    goes_on = (refl, refl, refl);
     all = refl;
   }
 
   module _ (first : S) (visits : List Visit) (visit : Visit) where
-    -- the keeper answered
+    -- the keeper is as it was, or answered
     so_far_on : (old start new : Served S) → SoFar first (Some old) visits →
-        IsAsked keeper old.keeper start.keeper →
-        IsServed keeper start.keeper visit new.keeper →
+        GoesOn keeper old.reply old.keeper start.keeper →
+        IsServed keeper start.keeper visit new.keeper → new.reply ≡ visit.exchange.reply →
         SoFar first (Some new) (visits ++ visit ∷ [])
-    so_far_on old start new so answers served =
+    so_far_on old start new so on served replied =
         let time = time_with so.time visit new.keeper in
         let same : time.visits ++ time.refused ≡ (so.time.visits ++ so.time.refused) ++ visit ∷ [] =
         nothing_after (so.time.visits ++ visit ∷ [])
@@ -210,9 +230,10 @@ module _ {S : Type 0} (keeper : Ghosts S) (opened : S → Type 0) where
           begin = begin_other keeper opened first so.earlier so.time time refl so.begin;
           are = so.are;
           is = time_on so.time so.is start.keeper new.keeper visit
-              (subst (λ kept. IsAsked keeper kept start.keeper) (sym so.goes_on.1) answers)
+              (subst (λ reply. GoesOn keeper reply so.time.last start.keeper) (sym so.goes_on.2)
+              (subst (λ kept. GoesOn keeper old.reply kept start.keeper) (sym so.goes_on.1) on))
               served;
-          goes_on = (refl, refl);
+          goes_on = (refl, refl, reply_last so.time.reply so.time.visits visit ∙ sym replied);
           all = visits_with so.earlier so.time time visit same
               ∙ ap (λ rest. rest ++ visit ∷ []) so.all;
         }
@@ -220,9 +241,9 @@ module _ {S : Type 0} (keeper : Ghosts S) (opened : S → Type 0) where
     -- another was opened
     so_far_anew : (now : Option (Served S)) (start new : Served S) → SoFar first now visits →
         opened start.keeper → IsServed keeper start.keeper visit new.keeper →
-        SoFar first (Some new) (visits ++ visit ∷ [])
-    so_far_anew now start new so is served =
-        let time = time_with (time_of start.keeper) visit new.keeper in
+        new.reply ≡ visit.exchange.reply → SoFar first (Some new) (visits ++ visit ∷ [])
+    so_far_anew now start new so is served replied =
+        let time = time_with (time_of start.keeper []) visit new.keeper in
         let before = so.earlier ++ so.time ∷ [] in
         record {
           earlier = before;
@@ -230,7 +251,7 @@ module _ {S : Type 0} (keeper : Ghosts S) (opened : S → Type 0) where
           begin = begin_longer keeper opened first before (time ∷ []) so.begin;
           are = times_more keeper opened so.earlier so.time so.are so.is;
           is = time_anew start.keeper new.keeper visit is served;
-          goes_on = (refl, refl);
+          goes_on = (refl, refl, sym replied);
           all = visits_but before time ∙ ap (λ rest. rest ++ visit ∷ []) so.all;
         }
 
@@ -254,11 +275,12 @@ module _ {S : Type 0} (keeper : Ghosts S) (opened : S → Type 0) where
     so_far_met : (old start new : Option (Served S)) → SoFar first old visits →
         IsMended keeper opened old start → IsMet keeper opened start visit new →
         SoFar first new (visits ++ visit ∷ [])
-    so_far_met (Some old) (Some start) (Some new) so (inl answers) met =
-        so_far_on old start new so answers met
+    so_far_met (Some old) (Some start) (Some new) so (inl on) met =
+        so_far_on old start new so on met.0 met.1
     so_far_met (Some old) (Some start) (Some new) so (inr is) met =
-        so_far_anew (Some old) start new so is met
-    so_far_met None (Some start) (Some new) so is met = so_far_anew None start new so is met
+        so_far_anew (Some old) start new so is.0 met.0 met.1
+    so_far_met None (Some start) (Some new) so is met =
+        so_far_anew None start new so is.0 met.0 met.1
     so_far_met old (Some start) None so is met = absurd met
     so_far_met old None (Some new) so is met = absurd met
     so_far_met old None None so is met = so_far_shut old so met
@@ -382,14 +404,15 @@ module _ {S : Type 0} (keeper : Ghosts S) (opened : S → Type 0) where
 
 -- ---- before a request
 
-pub mended_asked : {S : Type 0} (keeper : Ghosts S) (opened : S → Type 0) (old new : Served S) →
-    IsAsked keeper old.keeper new.keeper → IsMended keeper opened (Some old) (Some new)
-mended_asked keeper opened old new is = inl is
+pub mended_on : {S : Type 0} (keeper : Ghosts S) (opened : S → Type 0) (old new : Served S) →
+    GoesOn keeper old.reply old.keeper new.keeper →
+    IsMended keeper opened (Some old) (Some new)
+mended_on keeper opened old new is = inl is
 
 pub mended_anew : {S : Type 0} (keeper : Ghosts S) (opened : S → Type 0) (old : Option (Served S))
-    (new : Served S) → opened new.keeper → IsMended keeper opened old (Some new)
-mended_anew keeper opened None new is = is
-mended_anew keeper opened (Some old) new is = inr is
+    (new : Served S) → opened new.keeper → new.reply ≡ [] → IsMended keeper opened old (Some new)
+mended_anew keeper opened None new is none = (is, none)
+mended_anew keeper opened (Some old) new is none = inr (is, none)
 
 pub mended_none : {S : Type 0} (keeper : Ghosts S) (opened : S → Type 0)
     (old : Option (Served S)) → IsMended keeper opened old None

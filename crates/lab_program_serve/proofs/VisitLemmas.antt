@@ -5,7 +5,7 @@ use Rattle.lab_records_kept.specs.declared.keeper.Keeper.{Ghosts}
 use Rattle.lab_desk_foundings.specs.declared.run_faults.ServeFault.TheVariants.{Read, Interim, Reply}
 use Rattle.lab_program_outside.specs.declared.faults.ConnectionFault.TheVariants.{Serving, Memory}
 use Rattle.lab_program_outside.specs.Sources.{Gives, drawing_of}
-use Rattle.lab_program_serve.specs.Visits.{AreFirst, AreGiven, AreVisits, Ending, GoesOn, IsFront, IsVisit, OnUnserved, Sources, Visit}
+use Rattle.lab_program_serve.specs.Visits.{AreFirst, AreGiven, AreVisits, Ending, IsFront, IsVisit, OnUnserved, Sources, Visit, reply_after}
 
 -- ---- what sources give
 
@@ -70,14 +70,25 @@ given_more visits visit coming left last moments later latest words further furt
           furthest given.words_are three;
     }
 
-pub visits_more : {S : Type 0} (keeper : Ghosts S) (old mid start new : S) (visits : List Visit)
-    (visit : Visit) → AreVisits keeper old visits mid → GoesOn keeper mid start →
-    IsVisit keeper start visit new →
-    AreVisits keeper old (visits ++ visit ∷ []) new
-visits_more keeper old mid start new [] visit same on one =
-    (start, new, subst (λ kept. GoesOn keeper kept start) same on, one, refl)
-visits_more keeper old mid start new (first ∷ others) visit so on one =
-    (so.0, so.1, so.2, so.3, visits_more keeper so.1 mid start new others visit so.4 on one)
+pub visits_more : {S : Type 0} (keeper : Ghosts S) (Between : List ℕ → S → S → Type 0)
+    (reply : List ℕ) (old mid start new : S) (visits : List Visit) (visit : Visit) →
+    AreVisits keeper Between reply old visits mid →
+    Between (reply_after reply visits) mid start → IsVisit keeper start visit new →
+    AreVisits keeper Between reply old (visits ++ visit ∷ []) new
+visits_more keeper Between reply old mid start new [] visit same on one =
+    (start, new, subst (λ kept. Between reply kept start) same on, one, refl)
+visits_more keeper Between reply old mid start new (first ∷ others) visit so on one = (
+  so.0,
+  so.1,
+  so.2,
+  so.3,
+  visits_more keeper Between first.exchange.reply so.1 mid start new others visit so.4 on one,
+)
+
+pub reply_last : (reply : List ℕ) (visits : List Visit) (visit : Visit) →
+    reply_after reply (visits ++ visit ∷ []) ≡ visit.exchange.reply
+reply_last reply [] visit = refl
+reply_last reply (first ∷ others) visit = reply_last first.exchange.reply others visit
 
 -- a fact on a request that wasn't served, and what follows from it
 pub unserved : {P Q : Type 0} (ending : Ending) → (P → Q) → OnUnserved ending P →

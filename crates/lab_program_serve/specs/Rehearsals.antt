@@ -47,7 +47,8 @@ Forwards known (Err _) before after =
 
 -- one connection was served, at this tick; where a fault came, one or none
 abbrev pub IsServedAt : {F : Type 0} → Tick → Result (Unit {0}) F → List Visit → Type 0
-IsServedAt tick (Ok _) visits = (visit : Visit) × (visits ≡ visit ∷ []) × (visit.exchange.tick ≡ tick)
+IsServedAt tick (Ok _) visits = (visit : Visit) × (visits ≡ visit ∷ [])
+    × (visit.exchange.tick ≡ tick)
     × (visit.ending ≡ Ok tt)
 IsServedAt tick (Err _) visits = (visits ≡ []) ⊎ ((visit : Visit) × (visits ≡ visit ∷ [])
     × (visit.exchange.tick ≡ tick))

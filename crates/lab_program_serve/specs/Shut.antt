@@ -9,6 +9,7 @@ shut_world = record {
   meaning = λ _. None;
   is_honest = Unit {0};
   is_live = ⊥;
+  faults = 0;
   is_reached = Unit {0};
   may_refuse = Unit {0};
   may_leave = λ _. ⊥;

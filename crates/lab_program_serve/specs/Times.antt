@@ -1,20 +1,20 @@
--- The times of a server. Over a keeper that was opened it serves one connection after the other. Once
--- that keeper no longer answers, it is given up, and before the next request one is opened anew;
--- where none could be, that request is refused, and the next one tries again.
+-- The times of a server. Over a keeper that was opened it serves one connection after the other.
+-- Once that keeper no longer answers, it is given up, and before the next request one is opened
+-- anew; where none could be opened, that request is refused, and the next one tries again.
 use Rattle.std.specs.Prelude.{◌≡◌, ◌⊎◌, ◌++◌, ℕ, List, [], ◌∷◌, Option, Some, None, Result}
 use Rattle.lab_records_kept.specs.declared.keeper.Keeper.{Ghosts}
 use Rattle.lab_records_kept.specs.Worlds.{Passes}
 use Rattle.lab_desk_runs.specs.Keeping.{GivenWithin, Stays, StaysOn}
-use Rattle.lab_desk.specs.Answering.{IsAsked}
 use Rattle.lab_desk.specs.Desk.{Served}
 use Rattle.lab_desk.specs.Serving.{HandlesRequest}
 use Rattle.lab_program_serve.specs.declared.shut.Shut.{Shut}
 use Rattle.lab_program_serve.specs.Shut.{shut_keeper}
-use Rattle.lab_program_serve.specs.Visits.{AreCounted, AreVisits, IsSent, KeepsGiven, OnServed, OnUnserved, Sources, Visit}
+use Rattle.lab_program_serve.specs.Visits.{AreCounted, AreVisits, GoesOn, IsSent, KeepsGiven, OnServed, OnUnserved, Sources, Visit}
 
 pub record Time (S : Type 0) : Type 0 where
-  -- the keeper as it was opened
+  -- the keeper as it was opened, and the reply that its desk held then: none but at the start
   pub first : S
+  pub reply : List ℕ
   -- the connections that were served over it
   pub visits : List Visit
   -- the keeper after them
@@ -55,7 +55,7 @@ module _ {S : Type 0} (keeper : Ghosts S) (opened : S → Type 0) where
   pub record IsTime (time : Time S) : Type 0 where
     pub opened_so : opened time.first
     pub are : GivenWithin (keeper.world time.first) (keeper.world time.last)
-        (AreVisits keeper time.first time.visits time.last)
+        (AreVisits keeper (GoesOn keeper) time.reply time.first time.visits time.last)
     pub stays : GivenWithin (keeper.world time.first) (keeper.world time.last)
         (StaysOn (keeper.world time.first) (keeper.world time.last))
     pub passes : Passes (keeper.world time.first) (keeper.world time.last)
@@ -65,20 +65,26 @@ module _ {S : Type 0} (keeper : Ghosts S) (opened : S → Type 0) where
   AreTimes [] = Unit {0}
   AreTimes (time ∷ times) = IsTime time × AreTimes times
 
-  -- before a request: the keeper was asked whether it answers, or another was opened, or none
-  -- could be
+  -- a desk over a keeper that was opened, which has answered nothing
+  abbrev pub IsFresh : Served S → Type 0
+  IsFresh new = opened new.keeper × (new.reply ≡ [])
+
+  -- before a request: the keeper is as it was, or answered where the last reply was one for the
+  -- store's sake; or another was opened, or none could be
   abbrev pub IsMended : Option (Served S) → Option (Served S) → Type 0
-  IsMended (Some old) (Some new) = IsAsked keeper old.keeper new.keeper ⊎ opened new.keeper
-  IsMended None (Some new) = opened new.keeper
+  IsMended (Some old) (Some new) = GoesOn keeper old.reply old.keeper new.keeper ⊎ IsFresh new
+  IsMended None (Some new) = IsFresh new
   IsMended old None = Unit {0}
 
   -- and then it is served, or refused
   abbrev pub IsMet : Option (Served S) → Visit → Option (Served S) → Type 0
-  IsMet (Some old) visit (Some new) = IsServed keeper old.keeper visit new.keeper
+  IsMet (Some old) visit (Some new) =
+      IsServed keeper old.keeper visit new.keeper × (new.reply ≡ visit.exchange.reply)
   IsMet None visit None = IsRefused visit
   IsMet old visit new = ⊥
 
-  pub record IsNext (old : Option (Served S)) (visit : Visit) (new : Option (Served S)) : Type 0 where
+  pub record IsNext (old : Option (Served S)) (visit : Visit) (new : Option (Served S)) :
+      Type 0 where
     pub start : Option (Served S)
     pub mended : IsMended old start
     pub met : IsMet start visit new

@@ -1,11 +1,15 @@
 -- What connections make of a desk: each is handled in its turn, over the keeper as the one before
 -- it left it, and nothing else is done.
-use Rattle.std.specs.Prelude.{◌≡◌, ◌≤◌, ◌⊎◌, ◌++◌, ℕ, List, [], ◌∷◌, Option, None, Result, Ok, Err, IfSome, length, map}
+use Rattle.std.specs.Prelude.{◌≡◌, ◌≤◌, ◌⊎◌, ◌++◌, ℕ, Bool, false, List, [], ◌∷◌, Option, None, Result, Ok, Err, IfSome, codes, length, map, nat_eq}
 use Rattle.std.specs.Io.KnownBytes.{Keeps}
+use Rattle.std.specs.List.{starts_with}
+use Rattle.lab_forms_texts.specs.declared.refusals.Fault.{Fault}
+use Rattle.lab_forms_texts.specs.declared.refusals.Fault.TheVariants.{Refused}
+use Rattle.lab_records_kept.specs.declared.faults.BadStore.{BadStore}
 use Rattle.lab_records_kept.specs.declared.keeper.Keeper.{Ghosts}
 use Rattle.lab_wire_heads.specs.Interims.{interim_text}
 use Rattle.lab_desk_runs.specs.Keeping.{AreWithin}
-use Rattle.lab_desk.specs.Answering.{IsAsked}
+use Rattle.lab_desk.specs.Answering.{Answers}
 use Rattle.lab_desk.specs.Serving.{Exchange, HandlesRequest, OnHandled, OnUnhandled, Writes}
 use Rattle.lab_program_outside.specs.declared.faults.ConnectionFault.{ConnectionFault}
 use Rattle.lab_program_outside.specs.declared.faults.ConnectionFault.TheVariants.{Serving, Memory}
@@ -48,6 +52,16 @@ abbrev pub IsSent : Visit → Type 0
 IsSent visit = IfSome visit.exchange.known (λ bytes.
     Sends (interim_text bytes) visit.exchange.reply visit.ending visit.before visit.after)
 
+-- a reply that refuses a request for the store's sake, or for want of memory (RFC 9110, 15.6.4,
+-- '503 Service Unavailable')
+abbrev pub is_unavailable : List ℕ → Bool
+is_unavailable reply = starts_with nat_eq reply (codes "HTTP/1.1 503 ")
+
+-- an answer that isn't the store's refusal
+abbrev pub IsNoRefusal : Result (Unit {0}) (Fault BadStore) → Type 0
+IsNoRefusal (Err (Refused _)) = ⊥
+IsNoRefusal _ = Unit {0}
+
 module _ {S : Type 0} (keeper : Ghosts S) where
   -- the request of one connection was handled, or the keeper is as it was; and what a call of the
   -- desk asks was so: laboratories within their limits, an honest keeper, and well-kept tables
@@ -59,18 +73,32 @@ module _ {S : Type 0} (keeper : Ghosts S) where
     pub untouched : OnUnserved visit.ending (new ≡ old)
     pub sent : IsSent visit
 
-  -- the keeper is as it was, or was asked whether it answers
-  abbrev pub GoesOn : S → S → Type 0
-  GoesOn old new = (new ≡ old) ⊎ IsAsked keeper old new
+  -- behind a reply: the keeper is as it was, unless that is one for the store's sake; or it was
+  -- asked whether it answers, and didn't refuse
+  abbrev pub GoesOn : List ℕ → S → S → Type 0
+  GoesOn reply old new = ((is_unavailable reply ≡ false) × (new ≡ old))
+      ⊎ ((result : Result (Unit {0}) (Fault BadStore)) × Answers keeper old new result
+      × IsNoRefusal result)
 
-  -- so were those of connections, one after the other
-  abbrev pub AreVisits : S → List Visit → S → Type 0
-  AreVisits old [] new = new ≡ old
-  AreVisits old (visit ∷ visits) new = (start : S) × (next : S) × GoesOn old start
-      × IsVisit start visit next × AreVisits next visits new
+  -- behind any reply the keeper is as it was
+  abbrev pub IsStill : List ℕ → S → S → Type 0
+  IsStill reply old new = new ≡ old
 
--- what a listener, a clock and a source of random words give before serving and after it, where that
--- is known: of a connection, what its client sends, where that is known
+  -- so were those of connections, one after the other, the first of them behind a reply; and this
+  -- came between two of them
+  abbrev pub AreVisits : (List ℕ → S → S → Type 0) → List ℕ → S → List Visit → S → Type 0
+  AreVisits Between reply old [] new = new ≡ old
+  AreVisits Between reply old (visit ∷ visits) new = (start : S) × (next : S)
+      × Between reply old start × IsVisit start visit next
+      × AreVisits Between visit.exchange.reply next visits new
+
+-- the last reply, behind a reply and those of connections
+abbrev pub reply_after : List ℕ → List Visit → List ℕ
+reply_after reply [] = reply
+reply_after reply (visit ∷ visits) = reply_after visit.exchange.reply visits
+
+-- what a listener, a clock and a source of random words give before serving and after it, where
+-- that is known: of a connection, what its client sends, where that is known
 pub record Sources : Type 0 where
   pub coming : Option (List (Option (List ℕ)))
   pub left : Option (List (Option (List ℕ)))
@@ -83,7 +111,8 @@ listened drawing = record { coming = None; left = None; drawing = drawing }
 -- the visits are those of the connections, the moments and the words that the sources gave, in
 -- order
 pub record AreGiven (visits : List Visit) (sources : Sources) : Type 0 where
-  pub readers_are : Gives sources.coming sources.left (map (λ (visit : Visit). visit.exchange.known) visits)
+  pub readers_are : Gives sources.coming sources.left
+      (map (λ (visit : Visit). visit.exchange.known) visits)
   pub moments_are : Gives sources.drawing.moments sources.drawing.later
       (map (λ (visit : Visit). visit.exchange.tick.moment) visits)
   pub words_are : Gives sources.drawing.words sources.drawing.further

@@ -1,6 +1,6 @@
 //! Serving requests over loopback sockets, one connection after the other, and the rehearsal of one
-//! request. What is said of sockets stands in `loopback` and `rehearsal_loopback`; all else is said of
-//! any connections.
+//! request. What is said of sockets stands in `loopback` and `rehearsal_loopback`; all else is said
+//! of any connections.
 #![tactic(auto)]
 
 mod connections;

@@ -59,8 +59,8 @@ impl<L: OpenListener + Drop> Listening<L>
 where
     L::Stream: Read + Write + OpenStream,
 {
-    // Both ends of the next stream; none where its connection was lost, or where the system has no second handle of it,
-    // with which that connection ends.
+    // Both ends of the next stream; none where its connection was lost, or where the system has no
+    // second handle of it, with which that connection ends.
     fn next_ends(&self) -> Result<Option<Connection<L::Stream, L::Stream>>, ListenFault> {
         match self.next_stream()? {
             Some(stream) => Ok(ends_of(stream).ok()),
@@ -69,9 +69,9 @@ where
     }
 }
 
-// Whether an error is the listener's own end: it is no socket, or none that listens. Of all else a connection was lost, or
-// there was no descriptor or no memory for it, and another try may have the next one (accept(2), 'Error handling'). The
-// numbers are Linux's EBADF, EFAULT, EINVAL and ENOTSOCK.
+// Whether an error is the listener's own end: it is no socket, or none that listens. Of all else a
+// connection was lost, or there was no descriptor or no memory for it, and another try may have the
+// next one (accept(2), 'Error handling'). The numbers are Linux's EBADF, EFAULT, EINVAL and ENOTSOCK.
 fn is_end(error: &Error) -> bool {
     match error.raw_os_error() {
         Some(number) => matches!(number, 9 | 14 | 22 | 88),

@@ -1,7 +1,8 @@
 //! A desk over a keeper that is opened anew once a fault has shut it.
 
-ghost use Rattle.std.specs.Prelude.{◌≡◌, true, ℕ, List, Some, None, IfOk};
+ghost use Rattle.std.specs.Prelude.{◌≡◌, true, false, ℕ, List, [], Some, None, IfOk};
 ghost use Rattle.lab_program_serve.specs.Times.{IsMended, IsNext};
+ghost use Rattle.lab_program_serve.specs.Visits.{GoesOn, IsNoRefusal};
 
 use crate::openings::Opener;
 use crate::serving::serve_connection;
@@ -16,6 +17,10 @@ use std::marker::Model;
 
 /// The code of the laboratory of which a keeper is asked whether it answers. There need be none.
 const ASKED: &str = "is-it-there";
+
+/// How a reply begins that refuses a request for the store's sake, or for want of memory (RFC 9110,
+/// 15.6.4, '503 Service Unavailable').
+const UNAVAILABLE: &[u8] = b"HTTP/1.1 503 ";
 
 /// A desk over a keeper that was opened, who opens it anew, and a desk for the requests that come
 /// while none could be opened. A contract sees the first desk.
@@ -77,9 +82,9 @@ impl<S: Keeper + Drop, O: Drop> Office<S, O> {
         let is_there = self.opener.is_there(alloc, host);
         match self.desk.take() {
             Some(mut desk) => {
-                let answer = desk.answers(&self.lab);
+                let answers = is_live(&mut desk, &self.lab);
                 self.desk = Some(desk);
-                is_there & !is_shut(answer)
+                is_there & answers
             }
             None => false,
         }
@@ -89,7 +94,7 @@ impl<S: Keeper + Drop, O: Drop> Office<S, O> {
     fn opened<H>(&mut self, alloc: Global, host: &mut H) -> Result<Desk<S>, KeeperFault>
     where
         O: Opener<H, S>,
-        ensures opened { IfOk result (λ desk. O.opened desk.keeper) }
+        ensures opened { IfOk result (λ desk. O.opened desk.keeper × (desk.reply ≡ [])) }
         ensures same { self.new ≡ self.old }
     {
         let keeper = self.opener.open(alloc, host)?;
@@ -177,7 +182,21 @@ impl<S: Keeper + Drop, O: Drop> Office<S, O> {
     }
 }
 
+// Whether the keeper of a desk is live. It is asked only behind a reply that may be the store's,
+// since nothing but a fault of the store shuts a keeper.
+fn is_live<S: Keeper + Drop>(desk: &mut Desk<S>, lab: &LabCode) -> bool
+    ensures { result ≡ true →
+        GoesOn S.Keeper desk.old.reply desk.old.keeper desk.new.keeper }
+{
+    if !desk.reply().starts_with(UNAVAILABLE) {
+        return true;
+    }
+    !is_shut(desk.answers(lab))
+}
+
 // Whether a keeper that answered so is to be opened anew. For want of memory it stays as it is.
-fn is_shut(answer: Result<(), KeeperFault>) -> bool {
+fn is_shut(answer: Result<(), KeeperFault>) -> bool
+    ensures { result ≡ false → IsNoRefusal answer }
+{
     matches!(answer, Err(KeeperFault::Refused(BadStore)))
 }

@@ -5,7 +5,7 @@ ghost use Rattle.lab_records_kept.specs.Worlds.{Passes};
 ghost use Rattle.lab_desk_runs.specs.Keeping.{GivenWithin};
 ghost use Rattle.lab_program_serve.specs.Rehearsals.{Forwards, IsFounded, IsServedAt, IsUnfounded, card_request, rehearsal_tick};
 ghost use Rattle.lab_program_serve.specs.Texts.{IsPrinted};
-ghost use Rattle.lab_program_serve.specs.Visits.{AreVisits, Visit};
+ghost use Rattle.lab_program_serve.specs.Visits.{AreVisits, IsStill, Visit};
 
 use crate::{Connection, Connections, Desk, Keeper, serve_connection};
 use lab_forms_texts::{LabCode, Moment, OutOfMemory, Tick};
@@ -105,7 +105,8 @@ pub fn rehearse_over<S: Keeper + Drop, A: Read, B: Write, L: Connections, W: Wri
         (W.contents output.old) (W.contents output.new) }
     ensures served { GivenWithin (S.world desk.old.keeper) (S.world desk.new.keeper)
         ((visits : List Visit)
-        × AreVisits S.Keeper desk.old.keeper visits desk.new.keeper
+        × AreVisits S.Keeper (IsStill S.Keeper) desk.old.reply desk.old.keeper visits
+        desk.new.keeper
         × IsServedAt (rehearsal_tick moment) result visits) }
     ensures passes { Passes (S.world desk.old.keeper) (S.world desk.new.keeper) }
 {

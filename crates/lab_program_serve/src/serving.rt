@@ -63,8 +63,8 @@ pub fn serve_connection<S: Keeper + Drop, R: Read + Drop, W: Write>(
 
 /// Serves so many connections, one after the other, and prints first to which port clients can
 /// connect. The tick of a connection is drawn when it is accepted. A connection whose request could
-/// not be read or answered whole counts as served, and the next one is served. A keeper that a fault
-/// has shut is opened anew before the next request.
+/// not be read or answered whole counts as served, and the next one is served. A keeper that a
+/// fault has shut is opened anew before the next request.
 ///
 /// # Errors
 /// The line couldn't be printed, or there was no memory for it; or the listener, the clock or the

@@ -1,3 +1,2 @@
 pub mod FileLemmas
-pub mod TellLemmas
 pub mod KnownValues

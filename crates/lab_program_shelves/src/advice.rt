@@ -1,6 +1,6 @@
 //! What a person at a terminal is advised to do, below the line that says why a task stopped.
 
-use crate::faults::TaskFault;
+use crate::faults::{FoundingFault, OpenFault};
 use lab_program_outside::{FoundFault, ServerFault};
 use lab_records_kept::PlacingFault;
 use lab_records_walks::CopyOutFault;
@@ -13,13 +13,12 @@ use std::io::{self, Write};
 /// What stopped a task, with what its words said.
 #[derive(Clone, Copy, Debug, PartialEq, Eq)]
 pub enum Trouble<'a> {
-    /// A task over the file at the path stopped for the fault.
-    OverFile {
-        /// The path.
-        path: &'a str,
-        /// The fault.
-        fault: TaskFault,
-    },
+    /// Nothing was begun over the file at the path.
+    Opening(&'a str, OpenFault),
+    /// In the file at the path no laboratory was founded, or that was not printed.
+    Founding(&'a str, FoundingFault),
+    /// Of the file at the path no copy went out whole.
+    Copying(&'a str, CopyOutFault),
     /// The port can't be listened at.
     AtPort(u16),
     /// The text is no code of a laboratory.
@@ -69,7 +68,19 @@ pub(crate) fn write_advice<W: Write>(
     trouble: Trouble<'_>,
 ) -> io::Result<()> {
     match trouble {
-        Trouble::OverFile { path, fault } => write_of_task(rt, spot, errors, path, fault),
+        Trouble::Opening(path, OpenFault::File(fault)) => write_of_file(rt, errors, path, fault),
+        Trouble::Founding(path, FoundingFault::Founding(fault)) => {
+            write_of_founding(rt, spot, errors, path, fault)
+        }
+        Trouble::Opening(_, OpenFault::Drawing)
+        | Trouble::Founding(_, FoundingFault::Server(ServerFault::Read)) => writeln!(
+            errors,
+            "Standard input, the clock or the source of random words failed."
+        ),
+        Trouble::Copying(path, CopyOutFault::Storage) => write_of_storage(rt, errors, path),
+        Trouble::Copying(path, CopyOutFault::NoSuchLab) => {
+            writeln!(errors, "{path} has no laboratory of that code.")
+        }
         Trouble::AtPort(port) => writeln!(
             errors,
             "Port {port} can't be listened at; perhaps another program has it. --port 0 takes any that is free."
@@ -78,45 +89,44 @@ pub(crate) fn write_advice<W: Write>(
             errors,
             "{text:?} is no laboratory's code: 1 to 12 of a to z, 0 to 9 and '-', a letter first."
         ),
+        Trouble::Founding(..) | Trouble::Copying(..) => Ok(()),
     }
 }
 
-// Of a task over a file, by its fault.
-fn write_of_task<W: Write>(
+// Of a file that was not opened.
+fn write_of_file<W: Write>(
+    rt: &HostRuntime,
+    errors: &mut W,
+    path: &str,
+    fault: FileFault,
+) -> io::Result<()> {
+    match fault {
+        FileFault::NotADeskFile => write_of_kind(rt, errors, path),
+        FileFault::SchemaOld(_) | FileFault::SchemaNew(_) => writeln!(
+            errors,
+            "A labdesk of another version made {path}: take that version."
+        ),
+        FileFault::Storage => write_of_storage(rt, errors, path),
+        FileFault::NotEmpty | FileFault::Memory => Ok(()),
+    }
+}
+
+// Of a founding that founded nothing.
+fn write_of_founding<W: Write>(
     rt: &HostRuntime,
     spot: Option<Spot>,
     errors: &mut W,
     path: &str,
-    fault: TaskFault,
+    fault: FoundFault,
 ) -> io::Result<()> {
     match fault {
-        TaskFault::File(FileFault::NotADeskFile) => write_of_kind(rt, errors, path),
-        TaskFault::File(FileFault::SchemaOld(_) | FileFault::SchemaNew(_)) => {
-            writeln!(
-                errors,
-                "A labdesk of another version made {path}: take that version."
-            )
-        }
-        TaskFault::File(FileFault::Storage)
-        | TaskFault::Founding(FoundFault::Placing(PlacingFault::Storage))
-        | TaskFault::Copying(CopyOutFault::Storage) => write_of_storage(rt, errors, path),
-        TaskFault::Founding(FoundFault::Body(_)) => spot.map_or(Ok(()), |spot| spot.write(errors)),
-        TaskFault::Founding(FoundFault::Placing(PlacingFault::LabExists)) => {
-            writeln!(
-                errors,
-                "{path} has that laboratory already; nothing was changed."
-            )
-        }
-        TaskFault::Copying(CopyOutFault::NoSuchLab) => {
-            writeln!(errors, "{path} has no laboratory of that code.")
-        }
-        TaskFault::Server(ServerFault::Read) => {
-            writeln!(
-                errors,
-                "Standard input, the clock or the source of random words failed."
-            )
-        }
-        _ => Ok(()),
+        FoundFault::Body(_) => spot.map_or(Ok(()), |spot| spot.write(errors)),
+        FoundFault::Placing(PlacingFault::LabExists) => writeln!(
+            errors,
+            "{path} has that laboratory already; nothing was changed."
+        ),
+        FoundFault::Placing(PlacingFault::Storage) => write_of_storage(rt, errors, path),
+        FoundFault::Birth(_) | FoundFault::Placing(PlacingFault::Memory) => Ok(()),
     }
 }
 

@@ -1,12 +1,11 @@
 //! A file of laboratories, opened, or made where there is none.
 
-ghost use Rattle.std.specs.Prelude.{◌≡◌, IfOk, IfErr};
+ghost use Rattle.std.specs.Prelude.{◌≡◌, IfOk};
 ghost use Rattle.sqlite.specs.Held.{state};
 ghost use Rattle.lab_store_tables.specs.Ready.{IsAtRest};
-ghost use Rattle.lab_program_shelves.specs.Faults.{IsUnopened};
-ghost use Rattle.lab_program_shelves.specs.Files.{IsNew, IsOpened, IsOurs};
+ghost use Rattle.lab_program_shelves.specs.Files.{IsNewFrom, IsOpened, IsOurs, IsOursFrom};
 
-use crate::faults::TaskFault;
+use crate::faults::OpenFault;
 use crate::shelves::{Closing, Shelf};
 use lab_store_files::{FileFault, create, open};
 use sqlite::{Alter, Connection};
@@ -21,15 +20,14 @@ pub fn open_file<H: Shelf>(
     alloc: Global,
     shelf: &mut H,
     path: &str,
-) -> Result<Connection<H::Disk>, TaskFault>
+) -> Result<Connection<H::Disk>, OpenFault>
 where
     Connection<H::Disk>: Closing,
     ensures at_rest { IfOk result (λ conn. IsAtRest (state H.Disk.Store conn)) }
-    ensures ours { IfOk result (IsOurs H.Disk.Store) }
-    ensures fault { IfErr result IsUnopened }
+    ensures ours { IfOk result (IsOurs H.Disk.Store (H.holds shelf.old path.now)) }
 {
     if !shelf.has(path)? {
-        return Err(TaskFault::File(FileFault::NotADeskFile));
+        return Err(OpenFault::File(FileFault::NotADeskFile));
     }
     let conn = shelf.connect(alloc, path)?;
     kept_tidy(alloc, shelf, path, opened(conn))
@@ -40,8 +38,8 @@ fn kept_tidy<H: Shelf, T>(
     alloc: Global,
     shelf: &mut H,
     path: &str,
-    answer: Result<T, TaskFault>,
-) -> Result<T, TaskFault>
+    answer: Result<T, OpenFault>,
+) -> Result<T, OpenFault>
     ensures { result ≡ answer }
 {
     if answer.is_err() {
@@ -51,37 +49,35 @@ fn kept_tidy<H: Shelf, T>(
 }
 
 // A connection over which a file of laboratories was opened.
-fn opened<S: Alter>(mut conn: Connection<S>) -> Result<Connection<S>, TaskFault>
+fn opened<S: Alter>(mut conn: Connection<S>) -> Result<Connection<S>, OpenFault>
 where
     Connection<S>: Closing,
     requires { IsAtRest (state S.Store conn) }
     ensures at_rest { IfOk result (λ conn. IsAtRest (state S.Store conn)) }
-    ensures ours { IfOk result (IsOurs S.Store) }
-    ensures fault { IfErr result IsUnopened }
+    ensures ours { IfOk result (IsOursFrom S.Store conn) }
 {
     match open(&mut conn) {
         Ok(()) => Ok(conn),
         Err(fault) => {
             let _ = conn.close_whole();
-            Err(TaskFault::File(fault))
+            Err(OpenFault::File(fault))
         }
     }
 }
 
 // A connection over which the tables of laboratories were made.
-fn made<S: Alter>(mut conn: Connection<S>) -> Result<Connection<S>, TaskFault>
+fn made<S: Alter>(mut conn: Connection<S>) -> Result<Connection<S>, OpenFault>
 where
     Connection<S>: Closing,
     requires { IsAtRest (state S.Store conn) }
     ensures at_rest { IfOk result (λ conn. IsAtRest (state S.Store conn)) }
-    ensures made { IfOk result (IsNew S.Store) }
-    ensures fault { IfErr result IsUnopened }
+    ensures made { IfOk result (IsNewFrom S.Store conn) }
 {
     match create(&mut conn) {
         Ok(()) => Ok(conn),
         Err(fault) => {
             let _ = conn.close_whole();
-            Err(TaskFault::File(fault))
+            Err(OpenFault::File(fault))
         }
     }
 }
@@ -96,12 +92,11 @@ pub fn make_file<H: Shelf>(
     alloc: Global,
     shelf: &mut H,
     path: &str,
-) -> Result<Connection<H::Disk>, TaskFault>
+) -> Result<Connection<H::Disk>, OpenFault>
 where
     Connection<H::Disk>: Closing,
     ensures at_rest { IfOk result (λ conn. IsAtRest (state H.Disk.Store conn)) }
-    ensures opened { IfOk result (IsOpened H.Disk.Store) }
-    ensures fault { IfErr result IsUnopened }
+    ensures opened { IfOk result (IsOpened H.Disk.Store (H.holds shelf.old path.now)) }
 {
     let conn = shelf.connect(alloc, path)?;
     if conn.schema().tables.is_empty() {

@@ -1,18 +1,16 @@
 //! The files, the clock and the source of chance of this machine, and its terminal.
 
-ghost use Rattle.std.specs.Prelude.{IfErr};
-ghost use Rattle.lab_program_shelves.specs.Faults.{IsUnopened};
-
+use crate::additions::Additions;
 use crate::advice::{Spot, Trouble, write_advice};
-use crate::faults::TaskFault;
+use crate::faults::OpenFault;
 use crate::shelves::Shelf;
 use lab_forms_texts::Moment;
-use lab_program_outside::{Chance, Clock, DrawFault, ServerFault};
+use lab_program_outside::{Chance, Clock, DrawFault};
 use lab_records_walks::Progress;
 use lab_store_files::FileFault;
 use rand::TryRng;
 use rand::rngs::SysRng;
-use sqlite::{Connection, FileFrom, FileStore, Wary};
+use sqlite::{Connection, FileFrom, FileStore, Start, Wary};
 use std::alloc::{AllocError, Global};
 use std::fs::{self, File, OpenOptions};
 use std::io::{ErrorKind, IsTerminal, Read, Write};
@@ -25,11 +23,26 @@ const HEADER: &[u8; 16] = b"SQLite format 3\0";
 /// The bytes that a log has at least which holds a commit: its header and that of one frame (SQLite, 'Database File Format', 4.1).
 const SHORTEST_LOG: u64 = 56;
 
-/// The files of this machine. Of a torn write any bytes may be left, so each commit is synchronized
-/// twice.
+/// What is supposed of files as they are opened: of the bytes that they hold, which no code reads,
+/// and of what a crash may leave of a torn write.
+pub trait Supposed: Start {
+    /// The same for one opening more.
+    fn again(&self) -> Self;
+}
+
+// Of a torn write any bytes may be left, so each commit is synchronized twice.
+impl Supposed for Wary {
+    fn again(&self) -> Wary {
+        Wary
+    }
+}
+
+/// The files of this machine, of which this is supposed. What is proved for each `S` holds of
+/// whatever bytes the files held.
 #[derive(Drop)]
-pub struct HostShelf<'a> {
+pub struct HostShelf<'a, S> {
     rt: &'a HostRuntime,
+    start: S,
     spot: Option<Spot>,
     had_log: bool,
     connected: Option<Pair>,
@@ -45,11 +58,12 @@ struct Pair {
     log: Option<Node>,
 }
 
-impl<'a> HostShelf<'a> {
+impl<'a, S: Supposed> HostShelf<'a, S> {
     /// The files of the machine of this runtime.
-    pub fn new(rt: &'a HostRuntime) -> HostShelf<'a> {
+    pub fn new(rt: &'a HostRuntime, start: S) -> HostShelf<'a, S> {
         HostShelf {
             rt,
+            start,
             spot: None,
             had_log: true,
             connected: None,
@@ -73,12 +87,10 @@ impl<'a> HostShelf<'a> {
     // Looks at a path before a file is opened there, so that what is refused stays as it is. What is
     // no regular file could be waited at for ever; what is no SQLite database would be written over;
     // and a log without its file holds what was committed last, which a new file would cut off.
-    fn look(&self, path: &str, log: &str) -> Result<(), TaskFault>
-        ensures { IfErr result IsUnopened }
-    {
+    fn look(&self, path: &str, log: &str) -> Result<(), FileFault> {
         let length = match fs::metadata(self.rt, path) {
             Ok(found) if !found.is_file() => {
-                return Err(TaskFault::File(FileFault::NotADeskFile));
+                return Err(FileFault::NotADeskFile);
             }
             Ok(found) => found.len(),
             Err(_) => 0,
@@ -91,31 +103,27 @@ impl<'a> HostShelf<'a> {
     }
 
     // Looks at the first bytes of a file. The store looks at the rest, and leaves what isn't its own.
-    fn look_inside(&self, path: &str) -> Result<(), TaskFault>
-        ensures { IfErr result IsUnopened }
-    {
+    fn look_inside(&self, path: &str) -> Result<(), FileFault> {
         if self.is_unfinished(path)? {
             return Ok(());
         }
         let mut first = [0u8; 16];
         let Ok(mut file) = File::open(self.rt, path) else {
-            return Err(TaskFault::File(FileFault::Storage));
+            return Err(FileFault::Storage);
         };
         match file.read_exact(&mut first) {
             Ok(()) if first == *HEADER => Ok(()),
-            Ok(()) => Err(TaskFault::File(FileFault::NotADeskFile)),
+            Ok(()) => Err(FileFault::NotADeskFile),
             Err(error) if error.kind() == ErrorKind::UnexpectedEof => {
-                Err(TaskFault::File(FileFault::NotADeskFile))
+                Err(FileFault::NotADeskFile)
             }
-            Err(_) => Err(TaskFault::File(FileFault::Storage)),
+            Err(_) => Err(FileFault::Storage),
         }
     }
 
     // Whether a file begins with a byte of 0, as one does whose making was cut off: the first byte of
     // a database is written last, and it is 0 until then.
-    fn is_unfinished(&self, path: &str) -> Result<bool, TaskFault>
-        ensures { IfErr result IsUnopened }
-    {
+    fn is_unfinished(&self, path: &str) -> Result<bool, FileFault> {
         let mut first = [1u8];
         let Ok(mut file) = File::open(self.rt, path) else {
             return Ok(false);
@@ -123,17 +131,15 @@ impl<'a> HostShelf<'a> {
         match file.read_exact(&mut first) {
             Ok(()) => Ok(first == [0]),
             Err(error) if error.kind() == ErrorKind::UnexpectedEof => Ok(false),
-            Err(_) => Err(TaskFault::File(FileFault::Storage)),
+            Err(_) => Err(FileFault::Storage),
         }
     }
 
     // Prepares a path for a new file. The file and its log are made where they aren't there, and may be
     // read by their owner alone. What the system refuses here it refuses again where the file is opened.
-    fn prepare(&self, path: &str, log: &str) -> Result<(), TaskFault>
-        ensures { IfErr result IsUnopened }
-    {
+    fn prepare(&self, path: &str, log: &str) -> Result<(), FileFault> {
         if fs::metadata(self.rt, log).is_ok_and(|found| found.len() >= SHORTEST_LOG) {
-            return Err(TaskFault::File(FileFault::Storage));
+            return Err(FileFault::Storage);
         }
         self.make(path);
         self.make(log);
@@ -147,12 +153,10 @@ impl<'a> HostShelf<'a> {
     }
 
     // The log of a file wants random words.
-    fn draw(&self) -> Result<(), TaskFault>
-        ensures { IfErr result IsUnopened }
-    {
+    fn draw(&self) -> Result<(), OpenFault> {
         match SysRng::new(self.rt).try_next_u64() {
             Ok(_) => Ok(()),
-            Err(_) => Err(TaskFault::Server(ServerFault::Read)),
+            Err(_) => Err(OpenFault::Drawing),
         }
     }
 }
@@ -164,10 +168,15 @@ fn log_path(alloc: Global, path: &str) -> Result<String, AllocError> {
     Ok(log)
 }
 
-impl<'a> Shelf for HostShelf<'a> {
-    type Disk = FileStore<FileFrom<Wary>>;
+impl<'a, S: Supposed> Shelf for HostShelf<'a, S> {
+    ghost use Rattle.sqlite_wal.specs.Files.{image_at};
+    ghost use Rattle.lab_program_shelves.specs.Files.{AreHeldIn};
 
-    fn has(&self, path: &str) -> Result<bool, TaskFault> {
+    type Disk = FileStore<FileFrom<S>>;
+
+    ghost holds = { λ shelf path. AreHeldIn (image_at S.Start) };
+
+    fn has(&self, path: &str) -> Result<bool, FileFault> {
         match fs::metadata(self.rt, path) {
             Ok(found) if found.is_file() && found.len() > 0 => Ok(!self.is_unfinished(path)?),
             Ok(found) => Ok(!found.is_file()),
@@ -179,21 +188,21 @@ impl<'a> Shelf for HostShelf<'a> {
         &mut self,
         alloc: Global,
         path: &str,
-    ) -> Result<Connection<FileStore<FileFrom<Wary>>>, TaskFault> {
+    ) -> Result<Connection<FileStore<FileFrom<S>>>, OpenFault> {
         self.draw()?;
         let Ok(log) = log_path(alloc, path) else {
-            return Err(TaskFault::File(FileFault::Memory));
+            return Err(OpenFault::File(FileFault::Memory));
         };
         self.had_log = fs::metadata(self.rt, log.as_str()).is_ok();
         self.look(path, log.as_str())?;
-        match Connection::open_from(self.rt, path, false, Wary) {
+        match Connection::open_from(self.rt, path, false, self.start.again()) {
             Ok(conn) => {
                 self.connected = Some(self.pair(path, log.as_str()));
                 Ok(conn)
             }
             Err((error, _)) => {
                 self.tidy(alloc, path);
-                Err(TaskFault::File(FileFault::from(error)))
+                Err(OpenFault::File(FileFault::from(error)))
             }
         }
     }
@@ -217,6 +226,10 @@ impl<'a> Shelf for HostShelf<'a> {
 
     fn note(&mut self, alloc: Global, body: &[u8]) {
         self.spot = Some(Spot::of(alloc, body));
+    }
+
+    fn remark(&mut self, path: &str, additions: Additions) {
+        let _ = additions.write(&mut self.rt.stderr(), path);
     }
 
     fn advise(&mut self, trouble: Trouble<'_>) {
@@ -269,10 +282,13 @@ impl<'a> SystemChance<'a> {
 
 impl<'a> Chance for SystemChance<'a> {
     fn words(&mut self) -> Result<[u64; 8], DrawFault> {
+        let mut bytes = [0u8; 64];
         let mut source = SysRng::new(self.rt);
+        source.try_fill_bytes(&mut bytes).map_err(|_| DrawFault)?;
+        let (parts, _) = bytes.as_chunks::<8>();
         let mut words = [0u64; 8];
-        for word in &mut words {
-            *word = source.try_next_u64().map_err(|_| DrawFault)?;
+        for (word, part) in words.iter_mut().zip(parts) {
+            *word = u64::from_le_bytes(*part);
         }
         Ok(words)
     }

@@ -3,6 +3,7 @@
 //! error.
 #![tactic(auto)]
 
+mod additions;
 mod advice;
 mod faults;
 mod files;
@@ -10,10 +11,11 @@ mod hosts;
 mod shelves;
 mod telling;
 
+pub use crate::additions::Additions;
 pub use crate::advice::Trouble;
-pub use crate::faults::TaskFault;
+pub use crate::faults::{FoundingFault, OpenFault};
 pub use crate::files::{make_file, open_file};
-pub use crate::hosts::{HostShelf, SystemChance, SystemClock, TerminalProgress};
+pub use crate::hosts::{HostShelf, Supposed, SystemChance, SystemClock, TerminalProgress};
 pub use crate::shelves::{Closing, Shelf};
-pub use crate::telling::decline;
+pub use crate::telling::{decline, decline_to_open};
 pub use lab_records_walks::{Progress, Unheard};

@@ -1,13 +1,16 @@
 //! Where the files of laboratories lie, and who is advised where a task over one stops.
 
-ghost use Rattle.std.specs.Prelude.{IfOk, IfErr};
+ghost use Rattle.std.specs.Prelude.{IfOk, ℕ, List};
+ghost use Rattle.sqlite_trees.specs.Tree.{Trees};
 ghost use Rattle.sqlite.specs.Held.{state};
 ghost use Rattle.lab_store_tables.specs.Ready.{IsAtRest};
-ghost use Rattle.lab_program_shelves.specs.Faults.{IsUnopened};
+ghost use Rattle.lab_program_shelves.specs.Files.{Finds};
 
+use crate::additions::Additions;
 use crate::advice::Trouble;
-use crate::faults::TaskFault;
-use sqlite::{Alter, Connection, Error, FileFrom, FileStore, MemStore, Wary};
+use crate::faults::OpenFault;
+use lab_store_files::FileFault;
+use sqlite::{Alter, Connection, Error, FileFrom, FileStore, MemStore, Start};
 use std::alloc::Global;
 
 /// Where files lie, each at a path, and who is advised where a task over one stops.
@@ -15,22 +18,24 @@ pub trait Shelf {
     /// What keeps a file.
     type Disk: Alter + Drop;
 
+    /// What the file at a path holds.
+    ghost holds: { Self → List ℕ → Trees → Type 0 };
+
     /// Whether there is a file at the path, and not an empty one, nor one whose making was cut off.
     ///
     /// # Errors
     /// The file couldn't be read.
-    fn has(&self, path: &str) -> Result<bool, TaskFault>
-        ensures fault { IfErr result IsUnopened };
+    fn has(&self, path: &str) -> Result<bool, FileFault>;
 
-    /// A connection to the file at the path, which is made, without a table, where there is none or an
-    /// empty one. What is refused stays as it is.
+    /// A connection to the file at the path, which shows what the file held. The file is made,
+    /// without a table, where there is none or an empty one. What is refused stays as it is.
     ///
     /// # Errors
     /// The file is no database, the source of random words failed, the store refused, a log is there
     /// without its file, or memory ran out.
-    fn connect(&mut self, alloc: Global, path: &str) -> Result<Connection<Self::Disk>, TaskFault>
+    fn connect(&mut self, alloc: Global, path: &str) -> Result<Connection<Self::Disk>, OpenFault>
         ensures at_rest { IfOk result (λ conn. IsAtRest (state Self.Disk.Store conn)) }
-        ensures fault { IfErr result IsUnopened };
+        ensures found { IfOk result (Finds Self.Disk.Store (holds self.old path.now)) };
 
     /// Whether the file that was connected to last still lies at the path, and its log beside it.
     fn is_there(&mut self, alloc: Global, path: &str) -> bool;
@@ -41,6 +46,9 @@ pub trait Shelf {
 
     /// Notes bytes that are no founding, for the advice.
     fn note(&mut self, alloc: Global, body: &[u8]);
+
+    /// Prints, in a line on standard error, what another program added to the file at the path.
+    fn remark(&mut self, path: &str, additions: Additions);
 
     /// Advises a person at a terminal, in a line, what to do about the trouble.
     fn advise(&mut self, trouble: Trouble<'_>);
@@ -53,7 +61,7 @@ pub trait Closing {
     fn close_whole(self) -> Result<(), Error>;
 }
 
-impl Closing for Connection<FileStore<FileFrom<Wary>>> {
+impl<S: Start> Closing for Connection<FileStore<FileFrom<S>>> {
     fn close_whole(self) -> Result<(), Error> {
         self.close()
     }

@@ -1,52 +1,71 @@
-//! How a task's fault is told on standard error.
+//! How it is told on standard error why a task stopped.
 
-ghost use Rattle.std.specs.Prelude.{◌⊎◌, Some};
-ghost use Rattle.lab_forms_texts.specs.Faults.{memory_entry};
-ghost use Rattle.lab_program_outside.specs.Faults.{IsTold, told_line};
-ghost use Rattle.lab_program_shelves.specs.Faults.{Declines, IsToldOf, valued};
+ghost use Rattle.std.specs.Prelude.{Some};
+ghost use Rattle.lab_program_shelves.specs.Faults.{Declines, TellsValued, TellsWord};
 
-use crate::faults::TaskFault;
+use crate::advice::Trouble;
+use crate::faults::OpenFault;
+use crate::shelves::Shelf;
 use lab_forms_texts::OutOfMemory;
 use lab_program_outside::tell;
 use lab_wire_heads::WriteFault;
 use std::alloc::Global;
 use std::io::Write;
 
-// Tells a word and a value, or, where there is no memory for the line, that it ran out.
-fn tell_valued<E: Write>(
-    alloc: Global,
-    errors: &mut E,
-    word: &str,
-    value: u64,
-) -> Result<(), WriteFault>
-    ensures { IsTold (told_line (valued word.now (Some value))) result
-        (E.contents errors.old) (E.contents errors.new)
-        ⊎ IsTold (told_line memory_entry.word) result
-        (E.contents errors.old) (E.contents errors.new) }
-{
-    match format!(in alloc; "{word} {value}") {
-        Ok(text) => tell(errors, text.as_str()),
-        Err(_) => tell(errors, OutOfMemory.word()),
-    }
-}
-
-// Tells a fault, or, where there is no memory to put a value into its line, that memory ran out.
-fn tell_fault<E: Write>(alloc: Global, errors: &mut E, fault: TaskFault) -> Result<(), WriteFault>
-    ensures { IsToldOf fault result (E.contents errors.old) (E.contents errors.new) }
-{
-    match fault.value() {
-        Some(value) => tell_valued(alloc, errors, fault.word(), value),
-        None => tell(errors, fault.word()),
-    }
-}
-
-/// Tells a fault on standard error, and answers the status 1.
+/// Tells the word of a fault on standard error, advises a person what to do, and answers the
+/// status 1.
 ///
 /// # Errors
 /// Standard error failed before the whole line was told.
-pub fn decline<E: Write>(alloc: Global, errors: &mut E, fault: TaskFault) -> Result<u8, WriteFault>
+pub fn decline<H: Shelf, E: Write>(
+    shelf: &mut H,
+    errors: &mut E,
+    word: &str,
+    trouble: Trouble<'_>,
+) -> Result<u8, WriteFault>
+    ensures { TellsWord word.now result (E.contents errors.old) (E.contents errors.new) }
+{
+    let told = tell(errors, word);
+    shelf.advise(trouble);
+    told?;
+    Ok(1)
+}
+
+// Tells a word and a value, or, where there is no memory for the line, that it ran out.
+fn decline_valued<H: Shelf, E: Write>(
+    alloc: Global,
+    shelf: &mut H,
+    errors: &mut E,
+    word: &str,
+    value: u64,
+    trouble: Trouble<'_>,
+) -> Result<u8, WriteFault>
+    ensures { TellsValued word.now (Some value) result
+        (E.contents errors.old) (E.contents errors.new) }
+{
+    match format!(in alloc; "{word} {value}") {
+        Ok(text) => decline(shelf, errors, text.as_str(), trouble),
+        Err(_) => decline(shelf, errors, OutOfMemory.word(), trouble),
+    }
+}
+
+/// Tells on standard error why nothing was begun over the file at the path, advises a person what
+/// to do, and answers the status 1.
+///
+/// # Errors
+/// Standard error failed before the whole line was told.
+pub fn decline_to_open<H: Shelf, E: Write>(
+    alloc: Global,
+    shelf: &mut H,
+    errors: &mut E,
+    path: &str,
+    fault: OpenFault,
+) -> Result<u8, WriteFault>
     ensures { Declines fault result (E.contents errors.old) (E.contents errors.new) }
 {
-    tell_fault(alloc, errors, fault)?;
-    Ok(1)
+    let trouble = Trouble::Opening(path, fault);
+    match fault.value() {
+        Some(value) => decline_valued(alloc, shelf, errors, fault.word(), value, trouble),
+        None => decline(shelf, errors, fault.word(), trouble),
+    }
 }

@@ -1,11 +1,12 @@
 //! What is decided on a part of a laboratory.
 ghost use Rattle.std.specs.Prelude.{◌≡◌, [], None, IfOk, IsTrue, OnErr};
 ghost use Rattle.lab_records_laws.specs.Asking.{IsCommandFormed};
+ghost use Rattle.lab_people_access.specs.Sessions.{touched_session};
 ghost use Rattle.lab_records_machine.specs.Done.{done_of};
 ghost use Rattle.lab_records_machine.specs.Machine.{passage};
 ghost use Rattle.lab_records_machine.specs.Policy.{rule_of};
 ghost use Rattle.lab_records_outcomes.specs.Deciding.{outcome, end_on, touch_changes, decided_in, decided_by, decided};
-ghost use Rattle.lab_records.specs.Makings.{is_made_in, is_made_by, is_made};
+ghost use Rattle.lab_records.specs.Makings.{is_made_in, is_made_by, is_made, MakesOnceNoted};
 
 use crate::{done_of, opening_done};
 use lab_forms_texts::{Moment, OutOfMemory, PersonCode, Series, Tick};
@@ -212,7 +213,15 @@ fn decide_opening(
     }
 }
 
-// A command that its session may give: its request is taken note of before all, in any case. The only error is out of memory.
+// A command whose coming was noted by these changes: its session, as it is after them, and its person.
+struct Arrival {
+    session: Session,
+    caller: Person,
+    changes: Series<Change>,
+}
+
+// A command that its session may give: its request is taken note of before all, and its person is copied, in any case. The
+// only error is out of memory.
 fn decide_allowed(
     alloc: Global,
     slice: &mut Slice,
@@ -224,46 +233,91 @@ fn decide_allowed(
     ensures { IfOk result (λ outcome. outcome
         ≡ decided_in slice.old tick.now command (Passage.Passes session caller.now)) }
 {
-    let mut session = session;
-    match touch_changes(alloc, tick.moment, &session) {
-        Ok(before) => {
-            session.touch(tick.moment);
-            decide_noted(alloc, slice, tick, session, caller, command, before)
-        }
+    match arrival_of(alloc, tick.moment, session, caller) {
+        Ok(arrival) => decide_noted(alloc, slice, tick, &caller.code, arrival, command),
         Err(fault) => {
-            drop(session);
             drop(command);
             Err(fault)
         }
     }
 }
 
-// A command in a session whose request was noted by these changes. The only error is out of memory: the caller is copied in any case.
+// That a request came by the session, and its person. The only error is out of memory: all is made in any case.
+fn arrival_of(
+    alloc: Global,
+    moment: Moment,
+    session: Session,
+    caller: &Person,
+) -> Result<Arrival, OutOfMemory>
+    ensures { IfOk result (λ arrived. arrived ≡ record {
+      session = touched_session moment session;
+      caller = caller.now;
+      changes = touch_changes moment session;
+    }) }
+{
+    let mut session = session;
+    match touch_changes(alloc, moment, &session) {
+        Ok(changes) => {
+            session.touch(moment);
+            with_caller(session, caller, changes)
+        }
+        Err(fault) => {
+            drop(session);
+            Err(fault)
+        }
+    }
+}
+
+// The same, of which the person is to be copied.
+fn with_caller(
+    session: Session,
+    caller: &Person,
+    changes: Series<Change>,
+) -> Result<Arrival, OutOfMemory>
+    ensures { IfOk result (λ arrived. arrived
+        ≡ record { session = session; caller = caller.now; changes = changes }) }
+{
+    match caller.copy() {
+        Ok(caller) => Ok(Arrival {
+            session,
+            caller,
+            changes,
+        }),
+        Err(fault) => {
+            drop(session);
+            drop(changes);
+            Err(fault)
+        }
+    }
+}
+
+// A command in a session whose request was noted. The only error is out of memory, where the command makes something, or
+// where something is written of what it comes to: what is refused is told as it is.
 fn decide_noted(
     alloc: Global,
     slice: &mut Slice,
     tick: &Tick,
-    session: Session,
-    caller: &Person,
+    giver: &PersonCode,
+    arrival: Arrival,
     command: SessionCommand,
-    before: Series<Change>,
 ) -> Result<Outcome, OutOfMemory>
-    ensures { IfOk result (λ outcome. outcome
-        ≡ end_on slice.old tick.now.moment caller.now.code before
-        (done_of slice.old tick.now session caller.now command)) }
+    ensures decided { IfOk result (λ outcome. outcome
+        ≡ end_on slice.old tick.now.moment giver.now arrival.changes
+        (done_of slice.old tick.now arrival.session arrival.caller command)) }
+    ensures memory { OnErr result
+        (MakesOnceNoted slice.old tick.now arrival.session arrival.caller command) }
 {
+    let Arrival {
+        session,
+        caller,
+        changes,
+    } = arrival;
     let rows = slice.counts.trail;
     let strays = slice.strays;
-    let Ok(giver) = caller.copy() else {
-        drop(session);
-        drop(command);
-        drop(before);
-        return Err(OutOfMemory);
-    };
-    match done_of(alloc, slice, tick, session, giver, command) {
-        Ok(done) => end(alloc, before, rows, strays, tick.moment, &caller.code, done),
+    match done_of(alloc, slice, tick, session, caller, command) {
+        Ok(done) => end(alloc, changes, rows, strays, tick.moment, giver, done),
         Err(fault) => {
-            drop(before);
+            drop(changes);
             Err(fault)
         }
     }

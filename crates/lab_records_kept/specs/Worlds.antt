@@ -1,6 +1,6 @@
 -- What is known of a keeper of laboratories at a moment, and the words for what a call of it makes
 -- and passes on.
-use Rattle.std.specs.Prelude.{◌≡◌, ◌≢◌, ◌⊎◌, ℕ, List, Option, Some, None, Result, Ok, Err}
+use Rattle.std.specs.Prelude.{◌≡◌, ◌≢◌, ◌⊎◌, ◌+◌, ◌-◌, ◌^◌, ◌≤◌, ℕ, min, List, Option, Some, None, Result, Ok, Err}
 use Rattle.lab_records_kept.specs.declared.labs.Lab.{Lab}
 use Rattle.lab_records_kept.specs.declared.changes.Change.{Change}
 use Rattle.lab_forms_texts.specs.declared.refusals.Fault.{Fault}
@@ -21,6 +21,8 @@ pub record World : Type 1 where
   pub is_honest : Type 0
   -- no fault has shut the keeper
   pub is_live : Type 0
+  -- how often its store has failed or refused; contracts alone see it
+  pub faults : ℕ
   -- the tables are well kept
   pub is_reached : Type 0
   -- the keeper may refuse a call for a cause of its store; contracts alone see it
@@ -62,6 +64,16 @@ pub record Passes (old new : World) : Type 0 where
   pub honest : new.is_honest → old.is_honest
   pub live : new.is_honest → new.is_live → old.is_live
   pub refusing : new.may_refuse → old.may_refuse
+
+-- the count of faults rose, unless it is at the top of a `u64`
+abbrev pub HasFaulted : ℕ → ℕ → Type 0
+HasFaulted old new = min (old + 1) (2 ^ 64 - 1) ≤ new
+
+-- however a call ended, also for want of memory and refused by the store: a keeper that was live is
+-- live, or its store had a fault in this call; and no fault is forgotten
+pub record Shuts (old new : World) : Type 0 where
+  pub counts : old.faults ≤ new.faults
+  pub cause : old.is_live → new.is_live ⊎ HasFaulted old.faults new.faults
 
 -- the premises of a call: the keeper is honest at its end, and its tables were well kept at its
 -- start

@@ -10,7 +10,7 @@ ghost use Rattle.lab_records_kept.specs.declared.faults.PlacingFault.TheVariants
 ghost use Rattle.lab_records_kept.specs.Births.{newborn_lab};
 ghost use Rattle.lab_records_kept.specs.Parts.{part_of};
 ghost use Rattle.lab_records_kept.specs.Changes.{ChangesFit};
-ghost use Rattle.lab_records_kept.specs.Worlds.{World, Meaning as AnyMeaning, Changes, Places, Passes, Given, Lives, Leaves, Quiet, CommitsAs, IsDurable, StaysSafe, KeeperFaultFits, PlacingFaultFits, OnPlaced};
+ghost use Rattle.lab_records_kept.specs.Worlds.{World, Meaning as AnyMeaning, Changes, Places, Passes, Given, Lives, Leaves, Quiet, CommitsAs, IsDurable, Shuts, StaysSafe, KeeperFaultFits, PlacingFaultFits, OnPlaced};
 
 use crate::births::Newborn;
 use crate::changes::Change;
@@ -48,6 +48,8 @@ pub trait Keeper {
         ensures safe { Given (world self.old) (world self.new)
             (StaysSafe (world self.old) (world self.new)) }
         ensures reached { Given (world self.old) (world self.new) (world self.new).is_reached }
+        ensures shuts { Given (world self.old) (world self.new)
+            (Shuts (world self.old) (world self.new)) }
         ensures passes { Passes (world self.old) (world self.new) };
 
     /// Makes changes of one laboratory, all or none, by one commit; by none where there is no
@@ -85,6 +87,8 @@ pub trait Keeper {
             Given (world self.old) (world self.new) (Quiet (world self.old) (world self.new)) }
         ensures reached_err { Given (world self.old) (world self.new)
             (OnErr result (world self.new).is_reached) }
+        ensures shuts { Given (world self.old) (world self.new)
+            (Shuts (world self.old) (world self.new)) }
         ensures passes { Passes (world self.old) (world self.new) };
 
     /// Founds a laboratory by one commit, where there is none of that code.
@@ -113,6 +117,8 @@ pub trait Keeper {
         ensures quiet { result ≡ Err LabExists →
             Given (world self.old) (world self.new) (Quiet (world self.old) (world self.new)) }
         ensures reached { Given (world self.old) (world self.new) (world self.new).is_reached }
+        ensures shuts { Given (world self.old) (world self.new)
+            (Shuts (world self.old) (world self.new)) }
         ensures passes { Passes (world self.old) (world self.new) };
 
     /// A laboratory is kept under its own code.

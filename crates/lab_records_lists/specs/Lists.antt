@@ -28,6 +28,7 @@ world_of labs = record {
   meaning = lab_of labs;
   is_honest = Unit {0};
   is_live = Unit {0};
+  faults = 0;
   is_reached = Unit {0};
   may_refuse = ⊥;
   may_leave = λ held. SameMeaning (lab_of labs) held;

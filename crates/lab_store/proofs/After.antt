@@ -9,6 +9,7 @@ use Rattle.lab_store_tables.specs.Meaning.{has_code}
 use Rattle.lab_store_tables.specs.Changes.{InTurn}
 use Rattle.lab_store_tables.specs.Held.{IsTyped}
 use Rattle.lab_store_tables.specs.Ready.{IsReady, PassesBy, IsMadeBy, tables_of}
+use Rattle.lab_store_tables.proofs.Shutting.{shuts_on}
 use Rattle.lab_store_read_records.specs.declared.heads.LabHead.{LabHead}
 use Rattle.lab_store_read_records.specs.Heads.{lab_head}
 use Rattle.lab_store_laws.specs.Steps.{StepsBy, AreMade, AreMadeIfAny}
@@ -50,6 +51,7 @@ module _ (code : List ℕ) (changes : List Change) (old middle new : State) (rea
     made = λ clean. let did = ends.made clean in (passes.live (ends.clean clean) did.0, did.1, made_after new.now (ends.clean clean) did.2);
     rows = λ clean opened. tt;
     crash = crash_after {A = A} {E = E} (Ok a) ends;
+    shuts = shuts_on old middle new ends.clean passes.shuts ends.shuts;
   }
 
   pub ends_err : {A E F : Type 0} (B : Type 0) (e : E) (f : F) → Ends (InTurn (StepsBy id) changes) {A = A} {E = E} (Err e) middle new → Ends (AreMadeIfAny code changes) {A = B} {E = F} (Err f) old new
@@ -60,6 +62,7 @@ module _ (code : List ℕ) (changes : List Change) (old middle new : State) (rea
     made = λ clean. tt;
     rows = λ clean opened. ends.rows clean opened ∙ (same (ends.clean clean)).0.now_is;
     crash = crash_after {A = A} {E = E} (Err e) ends;
+    shuts = shuts_on old middle new ends.clean passes.shuts ends.shuts;
   }
 
 -- the row of the laboratory that a look-up answered

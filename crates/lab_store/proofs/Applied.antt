@@ -52,7 +52,7 @@ ends_given g code list changes inside self new r same is ends ready =
 
 -- a founding ends as changes do
 pub as_committed : {A E : Type 0} (step : Tables → Tables → Type 0) (r : Result A E) (old new : State) → founding.Ends step r old new → Ends step r old new
-as_committed step r old new it = record { at_rest = it.at_rest; clean = it.clean; live = it.live; made = it.made; rows = it.rows; crash = it.crash }
+as_committed step r old new it = record { at_rest = it.at_rest; clean = it.clean; live = it.live; made = it.made; rows = it.rows; crash = it.crash; shuts = it.shuts }
 
 -- and said of the keeper
 pub founding_given : {S A E : Type 0} (g : Ghosts S) (newborn : Newborn) (inside self : Held S) (new : State) (r : Result A E) → inside ≡ self

@@ -10,6 +10,7 @@ use Rattle.sqlite.specs.State.{State, IsRolledBack, KeepsCommit, Survives, HasCl
 use Rattle.sqlite.proofs.Callers.{survives_begin}
 use Rattle.lab_store_tables.specs.Rows.{Tables}
 use Rattle.lab_store_tables.specs.Ready.{IsAtRest, IsMadeBy}
+use Rattle.lab_store_tables.proofs.Shutting.{shuts_by, shuts_on}
 use Rattle.lab_store_write.specs.Calls.{Steps}
 use Rattle.lab_store_write.proofs.Inside.{none_then}
 use Rattle.lab_store.specs.Commits.{Ends}
@@ -50,6 +51,7 @@ module _ {S : Type 0} (g : Ghosts S) (old begun last : Held S) (end : State) (st
       made = λ clean. tt;
       rows = λ clean opened. (undone_rows (late clean) (undone clean) opened).0;
       crash = λ clean opened trees left. elim ((none_then (state g old) (state g last) end so_far three).crash clean trees left) [ inl before ↦ inl before | inr none ↦ absurd none ];
+      shuts = shuts_on (state g old) (state g last) end late (shuts_by (state g old) (state g last) (λ _. ⊥) so_far) (shuts_by (state g last) end (λ _. ⊥) three);
     }
 
   module _ (inside : HasCleanDisk (state g last) → IsTrue (state g last).in_transaction) (did : HasCleanDisk (state g last) → IsTrue (state g old).is_open → Steps step (state g begun) (state g last)) (three : Survives (state g last) end (λ db. db ≡ (state g last).now.trees)) where
@@ -80,6 +82,7 @@ module _ {S : Type 0} (g : Ghosts S) (old begun last : Held S) (end : State) (st
         made = λ clean. (open_old clean, (ok clean).is_open, subst (IsMadeBy step (state g old)) (sym (ok clean).now_is) (made_last (late_clean clean) (open_old clean)));
         rows = λ clean opened. tt;
         crash = crashes;
+        shuts = shuts_on (state g old) (state g last) end late_clean (shuts_by (state g old) (state g last) (λ _. ⊥) so_far) (shuts_by (state g last) end (λ db. db ≡ (state g last).now.trees) three);
       }
 
     -- one whose commit failed
@@ -96,6 +99,7 @@ module _ {S : Type 0} (g : Ghosts S) (old begun last : Held S) (end : State) (st
         made = λ clean. tt;
         rows = λ clean opened. (undone_rows (late_clean clean) (back clean (err clean)) opened).0;
         crash = crashes;
+        shuts = shuts_on (state g old) (state g last) end late_clean (shuts_by (state g old) (state g last) (λ _. ⊥) so_far) (shuts_by (state g last) end (λ db. db ≡ (state g last).now.trees) three);
       }
 
     -- whichever of the two

@@ -7,6 +7,7 @@ use Rattle.lab_store_tables.specs.Rows.{LabRow, Tables, tables_in}
 use Rattle.lab_store_tables.specs.Held.{IsTyped}
 use Rattle.lab_store_tables.specs.Meaning.{has_code}
 use Rattle.lab_store_tables.specs.Ready.{IsReady, PassesBy, IsMadeBy, tables_of}
+use Rattle.lab_store_tables.proofs.Shutting.{shuts_on}
 use Rattle.lab_store_read_records.specs.Shown.{lab_shown, labs_shown}
 use Rattle.lab_store.specs.Commits.{Ends}
 
@@ -31,6 +32,7 @@ refused step fault old new ready passed kept = record {
       (passed.at_rest ready.at_rest).settled clean opened ∙ (kept clean).committed opened
       ∙ sym (ready.at_rest.settled (passed.clean clean) ((kept clean).was_open opened));
   crash = λ clean opened trees left. inl (passed.crash ready clean opened trees left);
+  shuts = passed.shuts;
 }
 
 -- what was made of the rows that stayed as they were
@@ -69,6 +71,7 @@ ends_after first second r old mid new ready passed same weaker ends = record {
         | inl before ↦ inl (passed.crash ready early opened trees before)
         | inr made ↦ inr (made.0, moved first second old mid made.0 (same early).0.now_is (weaker early) made.1, made.2)
       ];
+  shuts = shuts_on old mid new ends.clean passed.shuts ends.shuts;
 }
 
 pub none_found : {A : Type 0} (o : Option A) → is_some o ≡ false → o ≡ None

@@ -5,6 +5,7 @@ use Rattle.sqlite.specs.State.{State, HasCleanDisk}
 use Rattle.lab_store_tables.specs.Rows.{Tables}
 use Rattle.lab_store_tables.specs.Held.{IsTyped}
 use Rattle.lab_store_tables.specs.Ready.{IsAtRest}
+use Rattle.lab_store_tables.proofs.Shutting.{shuts_none}
 use Rattle.lab_store.specs.Commits.{Ends}
 
 -- whatever was to be made, a call that failed and left the connection as it was has ended so
@@ -17,6 +18,7 @@ known_failed step fault s rest = record {
   made = λ clean. tt;
   rows = λ clean open_still. refl;
   crash = λ clean was_open trees left. inl left;
+  shuts = shuts_none s;
 }
 
 -- none that made its step has ended so on a connection that was shut

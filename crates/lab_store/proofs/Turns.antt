@@ -4,8 +4,8 @@ use Rattle.sqlite.specs.State.{State, HasCleanDisk, IsUnchanged}
 use Rattle.lab_forms_texts.specs.declared.refusals.Fault.{Fault}
 use Rattle.lab_records_kept.specs.declared.faults.BadStore.{BadStore}
 use Rattle.lab_forms_texts.specs.declared.refusals.Fault.TheVariants.{Refused, Memory}
-use Rattle.lab_records_kept.specs.Worlds.{Passes, Quiet, StaysSafe, Lives, KeeperFaultFits}
-use Rattle.lab_store_tables.specs.Ready.{IsReady, PassesBy}
+use Rattle.lab_records_kept.specs.Worlds.{Passes, Quiet, Shuts, StaysSafe, Lives, KeeperFaultFits}
+use Rattle.lab_store_tables.specs.Ready.{IsReady, PassesBy, Shuts as ShutsBy}
 use Rattle.lab_store.specs.StoreWorlds.{world_of}
 
 -- ---- a call that reads
@@ -19,6 +19,10 @@ module _ (old new : State) (passes : PassesBy old new) where
 
   pub safe_by : HasCleanDisk new → IsReady old → StaysSafe (world_of old) (world_of new)
   safe_by clean ready opened safe trees left = safe trees (passes.crash ready clean opened trees left)
+
+-- a fault alone shuts the keeper
+pub world_shuts : (old new : State) → HasCleanDisk new → ShutsBy old new → Shuts (world_of old) (world_of new)
+world_shuts old new clean shuts = record { counts = shuts.counts; cause = shuts.cause clean }
 
 pub lives_by : {A E : Type 0} (old new : State) (r : Result A E) → OnOk r (IsUnchanged old new) → OnOk r (Lives (world_of old) (world_of new))
 lives_by old new (Ok a) same = (same.0.was_open, same.0.is_open)

@@ -4,7 +4,7 @@ use Rattle.sqlite_trees.specs.Tree.{Trees}
 use Rattle.sqlite.specs.Effect.{Database}
 use Rattle.sqlite.specs.State.{State, HasCleanDisk}
 use Rattle.lab_store_tables.specs.Rows.{Tables}
-use Rattle.lab_store_tables.specs.Ready.{IsAtRest, WhereShown, IsMadeBy}
+use Rattle.lab_store_tables.specs.Ready.{IsAtRest, WhereShown, IsMadeBy, Shuts}
 
 -- by a step of the tables: what is kept, what a crash may leave, and what a failure leaves
 pub record Ends (step : Tables → Tables → Type 0) {A E : Type 0} (result : Result A E)
@@ -20,3 +20,5 @@ pub record Ends (step : Tables → Tables → Type 0) {A E : Type 0} (result : R
   -- a crash may leave what it could leave before, or what the commit makes
   pub crash : HasCleanDisk new → IsTrue old.is_open → (trees : Trees) → new.may_leave trees
       → old.may_leave trees ⊎ ((db : Database) × IsMadeBy step old db × (trees ≡ db.trees))
+  -- only a fault of the disk shuts the connection, also where the call failed
+  pub shuts : Shuts old new

@@ -24,6 +24,7 @@ world_of s = record {
   meaning = meaning (tables_of s);
   is_honest = HasCleanDisk s;
   is_live = IsTrue s.is_open;
+  faults = s.faults;
   is_reached = IsReady s;
   may_refuse = Unit {0};
   may_leave = MayLeave s;

@@ -22,6 +22,7 @@ use Rattle.sqlite.specs.State.{State, HasCleanDisk, IsUnchanged, IsRolledBack, I
 use Rattle.lab_forms_texts.specs.declared.refusals.Fault.{Fault}
 use Rattle.lab_records_kept.specs.declared.faults.BadStore.{BadStore}
 use Rattle.lab_store_tables.specs.Ready.{IsAtRest, IsKept, PassesBy}
+use Rattle.lab_store_tables.proofs.Shutting.{shuts_by}
 use Rattle.lab_store_columns.specs.Reads.{FailsToAsk}
 
 -- ---- the text is a query without RETURNING, under any schema
@@ -146,6 +147,7 @@ module _ (sql : List ℕ) (read : IsRead (first sql)) (params : Row) (old new : 
       kept = λ clean opened. subst IsKept (sym (kept_rows old new before ready.at_rest clean opened (ended clean))) (ready.kept (before clean) (kept_open old new opened (ended clean)));
     };
     crash = λ _ clean opened trees left. elim (survives.crash clean trees left) [ inl was ↦ was | inr commits ↦ absurd (never_commits sql read params old trees commits) ];
+    shuts = shuts_by old new (CommitsShowing sql params old) survives;
   }
     where
       ended : HasCleanDisk new → IsUnchanged old new ⊎ IsRolledBack old new

@@ -10,6 +10,7 @@ use Rattle.sqlite.specs.State.{State, HasCleanDisk, IsUnchanged, IsRolledBack, K
 use Rattle.sqlite_resolve.specs.Compile.{first}
 use Rattle.lab_store_tables.specs.Rows.{Tables, tables_in}
 use Rattle.lab_store_tables.specs.Ready.{IsKept, PassesBy, tables_of}
+use Rattle.lab_store_tables.proofs.Shutting.{shuts_none, shuts_on}
 use Rattle.lab_store_columns.specs.Reads.{Asks, Reads, MayRead}
 use Rattle.lab_store_columns.proofs.Queries.{IsRead, shown_open, passes, same, ends, if_then}
 
@@ -51,6 +52,7 @@ passes_none s = record {
   live = λ clean opened. opened;
   ready = λ ready. ready;
   crash = λ ready clean opened trees left. left;
+  shuts = shuts_none s;
 }
 
 pub unchanged_none : (s : State) → IsTrue s.is_open → IsUnchanged s s
@@ -75,6 +77,7 @@ passes_on a b c p q same = record {
   crash = λ ready clean opened trees left.
       let mid = q.clean clean in
       p.crash ready mid opened trees (q.crash (p.ready ready) clean (same mid opened).0.is_open trees left);
+  shuts = shuts_on a b c q.clean p.shuts q.shuts;
 }
 
 pub unchanged_then : (a b c : State) → IsUnchanged a b → IsUnchanged b c → IsUnchanged a c

@@ -40,6 +40,7 @@ use Rattle.lab_store_tables.specs.Schema.{schema_number, lab_schema}
 use Rattle.lab_store_tables.specs.Rows.{DeskRow, desk_row, desk_id, tables_in, number}
 use Rattle.lab_store_tables.specs.WellKept.{is_desk}
 use Rattle.lab_store_tables.specs.Ready.{IsAtRest, IsReady, IsKept, LeavesNoMore, PassesBy, WhereShown}
+use Rattle.lab_store_tables.proofs.Shutting.{shuts_by, shuts_none}
 use Rattle.lab_store_files.specs.declared.faults.FileFault.{FileFault}
 use Rattle.lab_store_files.specs.Schemas.{is_whole, has_number}
 use Rattle.lab_store_files.specs.Verdicts.{number_query, number_shown, shown_verdict, file_verdict}
@@ -176,11 +177,12 @@ module _ (old new : State) (before : HasCleanDisk new → HasCleanDisk old) (alo
         kept = λ clean opened. subst IsKept (sym (kept_rows ready.at_rest clean opened)) (ready.kept (before clean) (was_open clean opened));
       };
       crash = λ _. kept_crash;
+      shuts = shuts_by old new (CommitsShowing number_query [] old) survives;
     }
 
 -- a call that asked nothing
 pub passes_none : (s : State) → PassesBy s s
-passes_none s = record { at_rest = λ rest. rest; clean = λ clean. clean; live = λ _ opened. opened; ready = λ ready. ready; crash = λ _ clean opened trees left. left }
+passes_none s = record { at_rest = λ rest. rest; clean = λ clean. clean; live = λ _ opened. opened; ready = λ ready. ready; crash = λ _ clean opened trees left. left; shuts = shuts_none s }
 
 pub asked_kept : (old new : State) (r : Result (Vec Row Global) Error) → (HasCleanDisk new → IfOk r (λ rows. Shown number_query [] old new rows.items)) → (HasCleanDisk new → IfErr r (FailsToQuery number_query [] old new))
     → HasCleanDisk new → IsUnchanged old new ⊎ IsRolledBack old new

@@ -14,6 +14,7 @@ use Rattle.sqlite.specs.State.{State, HasCleanDisk, IsUnchanged, IsRolledBack, I
 use Rattle.sqlite.proofs.Callers.{IsPlain, never_commits}
 use Rattle.lab_store_tables.specs.Schema.{lab_schema}
 use Rattle.lab_store_tables.specs.Ready.{IsAtRest, IsKept, IsReady, PassesBy}
+use Rattle.lab_store_tables.proofs.Shutting.{shuts_by}
 
 -- ---- whatever the file is
 
@@ -102,6 +103,7 @@ module _ (sql : List ℕ) (params : Row) (plain : IsPlain (understood lab_schema
           (ready.kept (before clean) (opens r (ok clean) (err clean) opened));
     };
     crash = λ ready clean opened db left. elim (survives.crash clean db left) [ inl was ↦ was | inr commits ↦ absurd (never_commits sql params old db (plain_here ready clean opened) commits) ];
+    shuts = shuts_by old new (CommitsShowing sql params old) survives;
   }
     where
       rests : IsAtRest old → IsAtRest new

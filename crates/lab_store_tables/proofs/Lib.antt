@@ -9,3 +9,4 @@ pub mod KnownChanges
 pub mod KnownPlacing
 pub mod KnownKept
 pub mod KnownRefusals
+pub mod Shutting

@@ -2,10 +2,11 @@
 -- reads, one inside a transaction, and one that commits. What a connection shows says something
 -- only while no fault of the disk went unseen (a clean disk, as the kit has it) and none has shut
 -- it.
-use Rattle.std.specs.Prelude.{◌≡◌, ◌⊎◌, false, IsTrue}
+use Rattle.std.specs.Prelude.{◌≡◌, ◌⊎◌, ◌≤◌, false, IsTrue}
 use Rattle.sqlite_trees.specs.Tree.{Trees}
 use Rattle.sqlite.specs.Effect.{Database}
 use Rattle.sqlite.specs.State.{State, HasCleanDisk}
+use Rattle.lab_records_kept.specs.Worlds.{HasFaulted}
 use Rattle.lab_store_tables.specs.Rows.{Tables, tables_in}
 use Rattle.lab_store_tables.specs.Held.{IsTyped}
 use Rattle.lab_store_tables.specs.WellKept.{IsWellKept}
@@ -40,6 +41,12 @@ LeavesNoMore old new =
     HasCleanDisk new → IsTrue old.is_open → (trees : Trees) → new.may_leave trees
     → old.may_leave trees
 
+-- no fault of the disk is forgotten, and a fault alone shuts the connection
+pub record Shuts (old new : State) : Type 0 where
+  pub counts : old.faults ≤ new.faults
+  pub cause : HasCleanDisk new → IsTrue old.is_open
+      → IsTrue new.is_open ⊎ HasFaulted old.faults new.faults
+
 -- ---- a call that reads, however it ends
 
 pub record PassesBy (old new : State) : Type 0 where
@@ -48,6 +55,7 @@ pub record PassesBy (old new : State) : Type 0 where
   pub live : HasCleanDisk new → IsTrue new.is_open → IsTrue old.is_open
   pub ready : IsReady old → IsReady new
   pub crash : IsReady old → LeavesNoMore old new
+  pub shuts : Shuts old new
 
 -- ---- what a step makes of the tables
 

@@ -35,6 +35,7 @@ impl Keeper for Moody {
       meaning = λ _. None;
       is_honest = ⊥;
       is_live = ⊥;
+      faults = 0;
       is_reached = ⊥;
       may_refuse = Unit {0};
       may_leave = λ _. ⊥;

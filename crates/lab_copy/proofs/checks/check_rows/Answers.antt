@@ -1,14 +1,15 @@
 -- each row is taken, or told; at the end of the input stands what is kept
-use Rattle.std.proofs.Common.{◌≡◌, ◌∙◌, Bool, true, false, List, ℕ, Some, Err, sym, ap, subst, inl}
+use Rattle.std.proofs.Common.{◌∙◌, Bool, true, Err, sym, ap, subst, inl, arith}
 use Rattle.std.proofs.lemmas.Result.{err_from_is_err_and}
-use Rattle.csv.specs.Reading.{ReadRecord}
+use Rattle.csv.specs.Reading.{ReadRecord, reader_state, source_of}
 use Rattle.csv.specs.Records.{fields_of}
 use Rattle.lab_copy_lines.specs.Lines.{IsRead, line_at}
-use Rattle.lab_copy.proofs.CheckLemmas.{next_none, next_unread, next_taken, next_fault}
+use Rattle.lab_copy.proofs.CheckLemmas.{few_rows, next_none, next_unread, next_taken, next_fault}
+use Rattle.lab_copy.proofs.ReadLemmas.{record_reads, rows_next}
 use Rattle.lab_copy.proofs.checks.check_rows.Goals as goal
 
-pub returns-then-not-branch : goal.returns-then-not-branch
-returns-then-not-branch g c = λ found all.
+pub returns-then-not-branch-clause-verdict : goal.returns-then-not-branch-clause-verdict
+returns-then-not-branch-clause-verdict g c = λ found all.
     let before = c.loop-number.invariant in
     let read =
     subst (λ (was : Bool). ReadRecord g.R.Read.remaining c.loop-number.rows c.read_row.new.rows was (fields_of c.read_row.new.row))
@@ -16,8 +17,17 @@ returns-then-not-branch g c = λ found all.
     next_none g.R.Read.remaining found c.loop-number.rows c.read_row.new.rows (fields_of c.read_row.new.row) c.loop-number.kept
     c.loop-number.number before.config (before.left found all) read c.finish.result c.finish.ensures.value
 
-pub returns-in_err-take-in-Ok : goal.returns-in_err-take-in-Ok
-returns-in_err-take-in-Ok g c =
+pub returns-then-not-branch-clause-rows : goal.returns-then-not-branch-clause-rows
+returns-then-not-branch-clause-rows g c = λ total all.
+    let before = c.loop-number.invariant in
+    let read =
+    subst (λ (was : Bool). ReadRecord g.R.Read.remaining c.loop-number.rows c.read_row.new.rows was (fields_of c.read_row.new.row))
+    c.if-not-branch.true (c.in_ok-read_row.ensures.reads before.trim before.ready) in
+    few_rows g.R.Read.remaining c.loop-number.rows c.read_row.new.rows (fields_of c.read_row.new.row) total c.loop-number.number
+    before.config (before.rows total all) read (omega arith) c.finish.result
+
+pub returns-in_err-take-in-Ok-clause-verdict : goal.returns-in_err-take-in-Ok-clause-verdict
+returns-in_err-take-in-Ok-clause-verdict g c =
     let p =
     err_from_is_err_and c.from_residual-in_err-take-in-Ok.result c.from_residual-in_err-take-in-Ok.ensures.1 in
     rw (p.1, p.2) (λ found all.
@@ -30,8 +40,8 @@ returns-in_err-take-in-Ok g c =
     c.loop-number.number before.config (before.left found all) read c.in-Ok.line is_line c.take.new.self
     c.in_err-take-in-Ok.field-0.0 c.in_err-take-in-Ok.ensures)
 
-pub returns-in-Err : goal.returns-in-Err
-returns-in-Err g c = λ found all.
+pub returns-in-Err-clause-verdict : goal.returns-in-Err-clause-verdict
+returns-in-Err-clause-verdict g c = λ found all.
     let before = c.loop-number.invariant in
     let read =
     subst (λ (was : Bool). ReadRecord g.R.Read.remaining c.loop-number.rows c.read_row.new.rows was (fields_of c.read_row.new.row))
@@ -57,4 +67,9 @@ loop-number-preserved g c =
           next_taken g.R.Read.remaining found c.loop-number.rows c.read_row.new.rows (fields_of c.read_row.new.row)
           c.loop-number.kept c.loop-number.number before.config (before.left found all) read c.in-Ok.line is_line
           c.take.new.self c.in_ok-take-in-Ok.ensures;
+      rows = λ total all.
+          rows_next total c.loop-number.number (reader_state c.loop-number.rows) (reader_state c.read_row.new.rows)
+          (source_of g.R.Read.remaining c.loop-number.rows) (source_of g.R.Read.remaining c.read_row.new.rows)
+          (fields_of c.read_row.new.row) (before.rows total all)
+          (record_reads g.R.Read.remaining c.loop-number.rows c.read_row.new.rows true (fields_of c.read_row.new.row) before.config read);
     }

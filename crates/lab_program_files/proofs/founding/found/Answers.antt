@@ -3,12 +3,22 @@ use Rattle.std.proofs.Common.{refl}
 use Rattle.std.proofs.KnownBytes.{Keeps-refl}
 use Rattle.lab_program_files.proofs.founding.found.Goals as goal
 
-pub returns-in-Ok : goal.returns-in-Ok
-returns-in-Ok g c = record {
+pub returns-in-Ok-Ok : goal.returns-in-Ok-Ok
+returns-in-Ok-Ok g c = record {
   ending = c.found_in_file.result;
   ends = c.found_in_file.ensures.ends;
   prints = c.found_in_file.ensures.prints;
-  told = rw c.in-Ok.is (refl, Keeps-refl _);
+  unbegun = c.found_in_file.ensures.unbegun;
+  told = rw (c.in-Ok-Ok.is, c.in-Ok-Ok.field-0-is) (refl, Keeps-refl _);
+}
+
+pub returns-in-Ok-Err : goal.returns-in-Ok-Err
+returns-in-Ok-Err g c = record {
+  ending = c.found_in_file.result;
+  ends = c.found_in_file.ensures.ends;
+  prints = c.found_in_file.ensures.prints;
+  unbegun = c.found_in_file.ensures.unbegun;
+  told = rw (c.in-Ok-Err.is, c.in-Ok-Err.field-0-is) (rw c.word.ensures at c.decline.ensures);
 }
 
 pub returns-in-Err : goal.returns-in-Err
@@ -16,5 +26,6 @@ returns-in-Err g c = record {
   ending = c.found_in_file.result;
   ends = c.found_in_file.ensures.ends;
   prints = c.found_in_file.ensures.prints;
-  told = rw c.in-Err.is c.decline-status.ensures;
+  unbegun = c.found_in_file.ensures.unbegun;
+  told = rw c.in-Err.is c.decline_to_open.ensures;
 }

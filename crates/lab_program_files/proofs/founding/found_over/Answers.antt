@@ -3,47 +3,20 @@ use Rattle.std.proofs.Common.{◌∙◌, sym}
 use Rattle.std.proofs.KnownBytes.{Keeps-refl}
 use Rattle.std.proofs.lemmas.Result.{err_from_is_err_and}
 use Rattle.lab_desk_foundings.specs.Foundings.{founded_line}
-use Rattle.lab_program_outside.specs.declared.faults.ServerFault.TheVariants.{Memory, Read}
-use Rattle.lab_program_files.proofs.FoundingLemmas.{ends_founded, ends_idle, ends_refused, prints_idle, undrawn}
+use Rattle.lab_program_files.proofs.FoundingLemmas.{ends_founded, ends_idle, ends_refused, prints_idle}
 use Rattle.lab_program_files.proofs.founding.found_over.Goals as goal
 
-pub returns-in_err-line-clause-ends : goal.returns-in_err-line-clause-ends
-returns-in_err-line-clause-ends g c =
+pub returns-in_err-intake-clause-ends : goal.returns-in_err-intake-clause-ends
+returns-in_err-intake-clause-ends g c =
     let fault = err_from_is_err_and c.from_residual.result c.from_residual.ensures.1 in
-    rw (fault.1, fault.2) (ends_idle g.S.Keeper undrawn c.args.lab.now
-    (g.B.Read.remaining c.args.body.now) c.args.desk.now.keeper Memory tt)
-
-pub returns-in_err-line-clause-prints : goal.returns-in_err-line-clause-prints
-returns-in_err-line-clause-prints g c =
-    let fault = err_from_is_err_and c.from_residual.result c.from_residual.ensures.1 in
-    rw (fault.1, fault.2) (Keeps-refl _)
-
-pub returns-in_err-bytes-clause-ends : goal.returns-in_err-bytes-clause-ends
-returns-in_err-bytes-clause-ends g c =
-    let fault = err_from_is_err_and c.from_residual-in_err-bytes.result
-    c.from_residual-in_err-bytes.ensures.1 in
     rw (fault.1, fault.2) (ends_idle g.S.Keeper _ c.args.lab.now
-    (g.B.Read.remaining c.args.body.now) c.args.desk.now.keeper _ c.in_err-bytes.ensures.fault)
+    (g.B.Read.remaining c.args.body.now) c.args.desk.now.keeper _ c.in_err-intake.ensures.fault)
 
-pub returns-in_err-bytes-clause-prints : goal.returns-in_err-bytes-clause-prints
-returns-in_err-bytes-clause-prints g c =
-    let fault = err_from_is_err_and c.from_residual-in_err-bytes.result
-    c.from_residual-in_err-bytes.ensures.1 in
+pub returns-in_err-intake-clause-prints : goal.returns-in_err-intake-clause-prints
+returns-in_err-intake-clause-prints g c =
+    let fault = err_from_is_err_and c.from_residual.result c.from_residual.ensures.1 in
     rw (fault.1, fault.2) (prints_idle (founded_line c.args.lab.now) _
-    (g.W.Write.contents c.args.output.now) c.in_err-bytes.ensures.fault (Keeps-refl _))
-
-pub returns-in_err-tick-clause-ends : goal.returns-in_err-tick-clause-ends
-returns-in_err-tick-clause-ends g c =
-    let fault = err_from_is_err_and c.from_residual-in_err-tick.result
-    c.from_residual-in_err-tick.ensures.1 in
-    rw (fault.1, fault.2) (ends_idle g.S.Keeper undrawn c.args.lab.now
-    (g.B.Read.remaining c.args.body.now) c.args.desk.now.keeper Read tt)
-
-pub returns-in_err-tick-clause-prints : goal.returns-in_err-tick-clause-prints
-returns-in_err-tick-clause-prints g c =
-    let fault = err_from_is_err_and c.from_residual-in_err-tick.result
-    c.from_residual-in_err-tick.ensures.1 in
-    rw (fault.1, fault.2) (Keeps-refl _)
+    (g.W.Write.contents c.args.output.now) c.in_err-intake.ensures.fault (Keeps-refl _))
 
 pub returns-in_err-noted-clause-ends : goal.returns-in_err-noted-clause-ends
 returns-in_err-noted-clause-ends g c =
@@ -51,10 +24,10 @@ returns-in_err-noted-clause-ends g c =
     c.from_residual-in_err-noted.ensures.1 in
     let refused = sym c.in_err-noted.ensures in
     rw (fault.1, fault.2) (ends_refused g.S.Keeper _ c.args.lab.now
-    (g.B.Read.remaining c.args.body.now) c.as_slice.result.now c.in_ok-bytes.bytes.items
-    c.args.desk.now.keeper c.found-founded.new.self.keeper c.in_ok-tick.tick _
-    (c.in_ok-tick.ensures.moment, c.in_ok-tick.ensures.words) c.as_slice.ensures.value
-    c.in_ok-bytes.ensures.bytes (rw refused at c.found-founded.ensures.fault)
+    (g.B.Read.remaining c.args.body.now) c.as_slice.result.now c.in_ok-intake.intake.bytes.items
+    c.args.desk.now.keeper c.found-founded.new.self.keeper c.in_ok-intake.intake.tick _
+    c.in_ok-intake.ensures.tick c.as_slice.ensures.value
+    c.in_ok-intake.ensures.body (rw refused at c.found-founded.ensures.fault)
     (rw refused at c.found-founded.ensures.err))
 
 pub returns-in_err-noted-clause-prints : goal.returns-in_err-noted-clause-prints
@@ -67,13 +40,13 @@ pub returns-clause-ends : goal.returns-clause-ends
 returns-clause-ends g c =
     let founded = sym c.in_ok-noted.ensures in
     ends_founded g.S.Keeper _ c.args.lab.now
-    (g.B.Read.remaining c.args.body.now) c.as_slice.result.now c.in_ok-bytes.bytes.items
-    c.args.desk.now.keeper c.found-founded.new.self.keeper c.in_ok-tick.tick _
-    (c.in_ok-tick.ensures.moment, c.in_ok-tick.ensures.words) c.as_slice.ensures.value
-    c.in_ok-bytes.ensures.bytes c.print.ensures.fault (rw founded at c.found-founded.ensures.founded)
+    (g.B.Read.remaining c.args.body.now) c.as_slice.result.now c.in_ok-intake.intake.bytes.items
+    c.args.desk.now.keeper c.found-founded.new.self.keeper c.in_ok-intake.intake.tick _
+    c.in_ok-intake.ensures.tick c.as_slice.ensures.value
+    c.in_ok-intake.ensures.body c.print.ensures.fault (rw founded at c.found-founded.ensures.founded)
     (rw founded at c.found-founded.ensures.durable)
 
 pub returns-clause-prints : goal.returns-clause-prints
 returns-clause-prints g c =
-    let line = c.as_slice-3.ensures.value ∙ c.in_ok-line.ensures in
+    let line = c.as_slice-3.ensures.value ∙ c.in_ok-intake.ensures.line in
     rw line at c.print.ensures.printed

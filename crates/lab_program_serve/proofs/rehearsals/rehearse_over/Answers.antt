@@ -96,7 +96,7 @@ returns-in_err-serve_connection-clause-served g c = λ within honest reached.
       (
         c.args.desk.now.keeper,
         c.serve_connection.new.desk.keeper,
-        inl refl,
+        refl,
         record {
           within = within;
           honest = honest;
@@ -132,7 +132,7 @@ returns-clause-served g c = λ within honest reached.
       (
         c.args.desk.now.keeper,
         c.serve_connection.new.desk.keeper,
-        inl refl,
+        refl,
         record {
           within = within;
           honest = honest;

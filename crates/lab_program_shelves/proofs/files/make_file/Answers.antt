@@ -7,9 +7,12 @@ use Rattle.lab_program_shelves.proofs.files.make_file.Goals as goal
 
 pub returns-else-is_empty-clause-opened : goal.returns-else-is_empty-clause-opened
 returns-else-is_empty-clause-opened g c =
-    subst (λ answer. IfOk answer (IsOpened g.H.Disk.Store)) (sym c.kept_tidy.ensures)
-    (ours_is_opened g.H.Disk.Store c.opened.result c.opened.ensures.ours)
+    let held = g.H.Shelf.holds c.args.shelf.now c.args.path.now in
+    subst (λ answer. IfOk answer (IsOpened g.H.Disk.Store held)) (sym c.kept_tidy.ensures)
+    (ours_is_opened g.H.Disk.Store held c.in_ok-conn.conn c.in_ok-conn.ensures.found c.opened.result
+    c.opened.ensures.ours)
 
 pub returns-then-is_empty-clause-opened : goal.returns-then-is_empty-clause-opened
 returns-then-is_empty-clause-opened g c =
-    new_is_opened g.H.Disk.Store c.made.result c.made.ensures.made
+    new_is_opened g.H.Disk.Store (g.H.Shelf.holds c.args.shelf.now c.args.path.now)
+    c.in_ok-conn.conn c.in_ok-conn.ensures.found c.made.result c.made.ensures.made

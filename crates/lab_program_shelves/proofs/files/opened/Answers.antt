@@ -1,6 +1,10 @@
 -- What is handed out was asked for its schema, and unchanged by that.
+use Rattle.lab_program_shelves.proofs.FileLemmas.{leaves_shown}
 use Rattle.lab_program_shelves.proofs.files.opened.Goals as goal
 
 pub returns-in-Ok-clause-ours : goal.returns-in-Ok-clause-ours
-returns-in-Ok-clause-ours g c = λ clean.
-    (c.args.conn, c.in-Ok.ensures.same clean, c.in-Ok.ensures.answer clean)
+returns-in-Ok-clause-ours g c = (
+  leaves_shown g.S.Store g.met.S.Store.settled c.open.new.conn (c.in-Ok.ensures.passes.at_rest c.requires),
+  λ clean.
+      (c.in-Ok.ensures.passes.clean clean, c.in-Ok.ensures.same clean, c.in-Ok.ensures.answer clean),
+)

@@ -1,24 +1,12 @@
--- The status is 1 where the fault was told whole.
-use Rattle.std.proofs.Common.{inl, inr, refl}
+-- The status is 1 where the word was told whole.
+use Rattle.std.proofs.Common.{refl}
 use Rattle.std.proofs.lemmas.Result.{err_from_is_err_and}
 use Rattle.lab_program_shelves.proofs.telling.decline.Goals as goal
 
-pub returns-in_err-tell_fault : goal.returns-in_err-tell_fault
-returns-in_err-tell_fault g c =
+pub returns-in_err-told : goal.returns-in_err-told
+returns-in_err-told g c =
     let fault = err_from_is_err_and c.from_residual.result c.from_residual.ensures.1 in
-    rw (fault.1, fault.2) (
-      tt,
-      elim c.in_err-tell_fault.ensures [
-        | inl told ↦ inl told
-        | inr told ↦ inr told
-      ],
-    )
+    rw (fault.1, fault.2) (tt, rw c.in_err-told.was at c.tell-told.ensures)
 
 pub returns : goal.returns
-returns g c = (
-  refl,
-  elim c.in_ok-tell_fault.ensures [
-    | inl told ↦ inl told
-    | inr told ↦ inr told
-  ],
-)
+returns g c = (refl, rw c.in_ok-told.was at c.tell-told.ensures)

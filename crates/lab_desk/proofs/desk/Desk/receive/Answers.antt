@@ -13,10 +13,10 @@ use Rattle.lab_desk.proofs.desk.Desk.receive.Goals as goal
 
 pub returns-in-Ok-clause-serves : goal.returns-in-Ok-clause-serves
 returns-in-Ok-clause-serves g c =
-    let are : AreAsked (g.R.Read.remaining c.args.reader.now) (asked c.as_slice.result.now) =
-    subst (λ bytes. AreAsked (g.R.Read.remaining c.args.reader.now) (asked bytes))
+    let are : AreAsked (g.R.ByteSource.remaining c.args.reader.now) (asked c.as_slice.result.now) =
+    subst (λ bytes. AreAsked (g.R.ByteSource.remaining c.args.reader.now) (asked bytes))
     (sym c.as_slice.ensures)
-    (asked_as (g.R.Read.remaining c.args.reader.now) c.in-Ok.request c.in-Ok.ensures.exact) in
+    (asked_as (g.R.ByteSource.remaining c.args.reader.now) c.in-Ok.request c.in-Ok.ensures.exact) in
     record {
       handled = record {
         asks = asked c.as_slice.result.now;
@@ -32,15 +32,15 @@ pub returns-in-Err-Refused-clause-serves : goal.returns-in-Err-Refused-clause-se
 returns-in-Err-Refused-clause-serves g c =
     let kept = c.args.self.now.keeper in
     subst (λ keeper. Serves g.S.Keeper kept keeper (record {
-      known = g.R.Read.remaining c.args.reader.now;
+      known = g.R.ByteSource.remaining c.args.reader.now;
       tick = c.args.tick.now;
       reply = c.refuse.new.self.reply;
     }) (Ok tt))
     (sym c.refuse.ensures.keeper) (record {
       handled = record {
         asks = Err (Head c.in-Err-Refused.refusal);
-        asked_are = refused_as (g.R.Read.remaining c.args.reader.now) c.in-Err-Refused.refusal
-            (subst (λ result. IfSome (g.R.Read.remaining c.args.reader.now)
+        asked_are = refused_as (g.R.ByteSource.remaining c.args.reader.now) c.in-Err-Refused.refusal
+            (subst (λ result. IfSome (g.R.ByteSource.remaining c.args.reader.now)
             (λ bytes. IsReception bytes result))
             (c.in-Err-Refused.is ∙ ap Err c.in-Err-Refused.field-0-is)
             c.read_request.ensures.exact);
@@ -56,9 +56,9 @@ returns-in-Err-Refused-clause-serves g c =
 pub returns-in-Err-Memory-clause-serves : goal.returns-in-Err-Memory-clause-serves
 returns-in-Err-Memory-clause-serves g c =
     let kept = c.args.self.now.keeper in
-    let some = some_asked (g.R.Read.remaining c.args.reader.now) in
+    let some = some_asked (g.R.ByteSource.remaining c.args.reader.now) in
     subst (λ keeper. Serves g.S.Keeper kept keeper (record {
-      known = g.R.Read.remaining c.args.reader.now;
+      known = g.R.ByteSource.remaining c.args.reader.now;
       tick = c.args.tick.now;
       reply = c.exhaust.new.self.reply;
     }) (Ok tt))

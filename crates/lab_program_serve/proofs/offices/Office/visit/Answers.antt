@@ -1,5 +1,5 @@
 -- The desk that is there serves, or the one for requests that are refused.
-use Rattle.std.proofs.Common.{◌≡◌, Some, None, ap, rules, subst, sym}
+use Rattle.std.proofs.Common.{◌≡◌, Some, None, ap, refl, rules, subst, sym}
 use Rattle.lab_program_serve.specs.Times.{IsMended, IsNext}
 use Rattle.lab_program_serve.proofs.TimeLemmas.{mended_none}
 use Rattle.lab_program_serve.proofs.VisitLemmas.{unserved}
@@ -14,14 +14,17 @@ returns-in-Some g c =
         start = Some c.in-Some.desk;
         mended = subst (IsMended g.S.Keeper g.O.Opener.opened c.args.self.now) there
             c.mend.ensures;
-        met = record {
-          handled = served.handled;
-          untouched = unserved c.serve_connection-ending.result (ap (λ desk. desk.keeper))
-              served.untouched;
-          sent = served.written;
-          stays = served.stays;
-          passes = served.passes;
-        };
+        met = (
+          record {
+            handled = served.handled;
+            untouched = unserved c.serve_connection-ending.result (ap (λ desk. desk.keeper))
+                served.untouched;
+            sent = served.written;
+            stays = served.stays;
+            passes = served.passes;
+          },
+          refl,
+        );
       },
     )
 

@@ -6,6 +6,7 @@ use Rattle.lab_store_laws.specs.Steps.{AreMadeIfAny}
 use Rattle.lab_store.proofs.Settled.{durable_now}
 use Rattle.lab_store.proofs.Committed.{crashes, stays_safe, made_means, reached}
 use Rattle.lab_store.proofs.Applied.{changes_as, changes_law, ends_given}
+use Rattle.lab_store.proofs.Turns.{world_shuts}
 use Rattle.lab_store.proofs.store.StoreKeeper.apply.Goals as goal
 
 pub returns-in_err-apply-clause-crash : goal.returns-in_err-apply-clause-crash
@@ -71,3 +72,17 @@ returns-clause-reached g c fit clean ready =
     let ends = ends_given g.S.Store code c.as_slice.result.now changes c.self.inside.tables.conn c.args.self.now (state g.S.Store c.apply.new.tables.conn) _ c.as_slice.ensures c.self.view_is c.in_ok-apply.ensures.ends ready in
     reached (AreMadeIfAny code changes) (Changes code changes) old (state g.S.Store c.apply.new.tables.conn) ready (changes_law code changes (tables_of old) fit) (Ok c.in_ok-apply.field-0)
     ends
+
+pub returns-in_err-apply-clause-shuts : goal.returns-in_err-apply-clause-shuts
+returns-in_err-apply-clause-shuts g c clean ready =
+    let code = c.args.code.now in
+    let changes = c.args.changes in
+    let ends = ends_given g.S.Store code c.as_slice.result.now changes c.self.inside.tables.conn c.args.self.now (state g.S.Store c.apply.new.tables.conn) _ c.as_slice.ensures c.self.view_is c.in_err-apply.ensures.ends ready in
+    world_shuts (state g.S.Store c.args.self.now) (state g.S.Store c.apply.new.tables.conn) clean ends.shuts
+
+pub returns-clause-shuts : goal.returns-clause-shuts
+returns-clause-shuts g c clean ready =
+    let code = c.args.code.now in
+    let changes = c.args.changes in
+    let ends = ends_given g.S.Store code c.as_slice.result.now changes c.self.inside.tables.conn c.args.self.now (state g.S.Store c.apply.new.tables.conn) _ c.as_slice.ensures c.self.view_is c.in_ok-apply.ensures.ends ready in
+    world_shuts (state g.S.Store c.args.self.now) (state g.S.Store c.apply.new.tables.conn) clean ends.shuts

@@ -7,6 +7,7 @@ use Rattle.lab_store.specs.Founding.{IsPlacedBy}
 use Rattle.lab_store.proofs.Settled.{durable_now}
 use Rattle.lab_store.proofs.Committed.{crashes, stays_safe, made_means, reached, on_lives}
 use Rattle.lab_store.proofs.Applied.{places_as, founding_law, founding_given}
+use Rattle.lab_store.proofs.Turns.{world_shuts}
 use Rattle.lab_store.proofs.store.StoreKeeper.found.Goals as goal
 
 pub returns-clause-founded : goal.returns-clause-founded
@@ -47,3 +48,9 @@ returns-clause-reached g c clean ready =
     let newborn = c.args.newborn in
     let ends = founding_given g.S.Store newborn c.self.inside.tables.conn c.args.self.now (state g.S.Store c.found.new.tables.conn) c.found.result c.self.view_is c.found.ensures.ends ready in
     reached (IsPlacedBy newborn) (Places (newborn_lab newborn)) old (state g.S.Store c.found.new.tables.conn) ready (founding_law newborn (tables_of old)) c.found.result ends
+
+pub returns-clause-shuts : goal.returns-clause-shuts
+returns-clause-shuts g c clean ready =
+    let newborn = c.args.newborn in
+    let ends = founding_given g.S.Store newborn c.self.inside.tables.conn c.args.self.now (state g.S.Store c.found.new.tables.conn) c.found.result c.self.view_is c.found.ensures.ends ready in
+    world_shuts (state g.S.Store c.args.self.now) (state g.S.Store c.found.new.tables.conn) clean ends.shuts

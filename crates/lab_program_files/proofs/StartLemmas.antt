@@ -1,0 +1,167 @@
+-- What the next start finds, and that a file without a byte is found empty.
+use Rattle.std.proofs.Common.{◌≡◌, ◌∙◌, ◌≤◌, ℕ, List, [], ◌∷◌, ◌++◌, Bool, ap, arith, inl, inr, refl, subst, sym}
+use Rattle.std.specs.Prelude.{IsTrue, Option, Some, None, Result, Ok, Err, ℤ, false}
+use Rattle.std.specs.List.{AllZip}
+use Rattle.sqlite_trees.specs.Tree.{Trees}
+use Rattle.sqlite_trees.specs.Objects.{catalog_tree}
+use Rattle.sqlite_trees.specs.declared.store.Store.{Ghosts}
+use Rattle.sqlite_schema.specs.declared.schema.Schema.{Schema}
+use Rattle.sqlite_catalog.specs.Listing.{IsIndexRow, IsTableRow, IsViewRow, Lists}
+use Rattle.sqlite_wal.specs.Recovery.{Image}
+use Rattle.sqlite.specs.Effect.{Database}
+use Rattle.sqlite.specs.Files.{IsEmpty}
+use Rattle.sqlite.specs.Held.{Held, state}
+use Rattle.sqlite.specs.State.{HasCleanDisk, State}
+use Rattle.lab_records_kept.specs.Worlds.{Meaning, SameMeaning}
+use Rattle.lab_store_tables.specs.Meaning.{meaning}
+use Rattle.lab_store_tables.specs.Rows.{tables_in}
+use Rattle.lab_store_files.specs.NewFiles.{IsBlank, IsNewFile, new_tables, no_schema}
+use Rattle.lab_store_files.specs.declared.faults.FileFault.{FileFault}
+use Rattle.lab_store_files.specs.declared.faults.FileFault.TheVariants.{Memory, NotADeskFile, Storage}
+use Rattle.lab_store_files.specs.Verdicts.{Answers, file_verdict, number_shown, number_verdict, shown_verdict, whole_verdict}
+use Rattle.lab_desk_runs.specs.declared.events.Event.{Event}
+use Rattle.lab_desk_runs.specs.Starts.{AreStarts, IsAnswered, IsStopped, Start, left_by}
+use Rattle.lab_program_shelves.specs.Files.{AreHeldIn, IsFound, IsNew, IsOpened, IsOurs}
+use Rattle.lab_program_files.specs.FileWorlds.{file_world}
+use Rattle.lab_program_files.specs.Starts.{AreSoFar, IsRunOver, start_of}
+
+-- ---- starts
+
+-- of a file that was opened a crash at once leaves what was found
+module _ {S : Type 0} (disk : Ghosts S) (IsHeld : Trees → Type 0) (conn : Held S)
+    (ours : IsOurs disk IsHeld conn) (clean : HasCleanDisk (state disk conn)) where
+  pub leaves_found : (held : Meaning) → (file_world disk conn).may_leave held →
+      SameMeaning (file_world disk conn).meaning held
+  leaves_found held left code = left.2 code
+      ∙ ap (λ (trees : Trees). meaning (tables_in trees) code)
+      (ours.2.0 clean (ours.2.1 clean).1.0.is_open left.0 left.1)
+
+module _ {S : Type 0} (disk : Ghosts S) (opened last : Held S) (events : List Event)
+    (taken : List Bool) (run : IsRunOver disk opened last events taken) (left : Meaning) where
+  -- what was answered is what each laboratory's machine alone answers
+  answered_so : IsAnswered (file_world disk opened).meaning
+      (start_of events taken (file_world disk opened).meaning left)
+  answered_so = record {
+    handled = run.handled;
+    told = run.told;
+    alone = run.run.alone (file_world disk opened).meaning (λ live code. refl);
+    keeps = run.run.keeps (file_world disk opened).meaning (λ live code. refl);
+  }
+
+  -- what a crash at the stop left, where one at the start could leave what was found alone
+  stopped_so : ((held : Meaning) → (file_world disk opened).may_leave held →
+      SameMeaning (file_world disk opened).meaning held) → (file_world disk last).may_leave left →
+      IsStopped (start_of events taken (file_world disk opened).meaning left)
+  stopped_so only may = record {
+    handled = run.leaves.handled;
+    told = run.leaves.told;
+    left = elim (run.leaves.left run.lives left may) [
+      | inl whole ↦ inl whole
+      | inr other ↦ elim other [
+        | inl front ↦ inr (inl front)
+        | inr early ↦ inr (inr (only left early.0, early.1))
+      ]
+    ];
+  }
+
+-- one start more
+starts_and : (first : Meaning) (starts : List Start) (one : Start) → AreStarts first starts →
+    SameMeaning (left_by first starts) one.found → IsAnswered one.found one → IsStopped one →
+    AreStarts first (starts ++ one ∷ [])
+starts_and first [] one are same answered stopped = (same, answered, stopped, tt)
+starts_and first (early ∷ others) one are same answered stopped =
+    (are.0, are.1, are.2, starts_and early.left others one are.3 same answered stopped)
+
+left_by_and : (first : Meaning) (starts : List Start) (one : Start) →
+    left_by first (starts ++ one ∷ []) ≡ one.left
+left_by_and first [] one = refl
+left_by_and first (early ∷ others) one = left_by_and early.left others one
+
+pub one_start_more : {S : Type 0} (disk : Ghosts S) (first : Meaning) (starts : List Start)
+    (opened last : Held S) (events : List Event) (taken : List Bool) (left : Meaning) →
+    AreSoFar first starts (file_world disk opened).meaning →
+    IsRunOver disk opened last events taken →
+    ((held : Meaning) → (file_world disk opened).may_leave held →
+    SameMeaning (file_world disk opened).meaning held) → (file_world disk last).may_leave left →
+    AreSoFar first
+    (starts ++ start_of events taken (file_world disk opened).meaning left ∷ []) left
+one_start_more disk first starts opened last events taken left so_far run only may =
+    let one = start_of events taken (file_world disk opened).meaning left in (
+      starts_and first starts one so_far.0 so_far.1
+          (answered_so disk opened last events taken run left)
+          (stopped_so disk opened last events taken run left only may),
+      λ code. sym (ap (λ (held : Meaning). held code) (left_by_and first starts one)),
+    )
+
+-- ---- an empty file
+
+none_zipped : {A B : Type 0} (R : A → B → Type 0) (others : List B) → AllZip R [] others →
+    others ≡ []
+none_zipped R [] zipped = refl
+none_zipped R (one ∷ others) zipped = absurd zipped
+
+-- no row lists no table
+unlisted : (schema : Schema) → Lists [] schema → schema ≡ no_schema
+unlisted schema lists =
+    let tables : schema.tables ≡ [] = none_zipped IsTableRow schema.tables lists.listed.tables in
+    let indexes : schema.indexes ≡ [] = none_zipped (IsIndexRow schema.tables) schema.indexes lists.listed.indexes in
+    let views : schema.views ≡ [] = none_zipped IsViewRow schema.views lists.listed.views in
+    ap (λ all. record { tables = all; indexes = schema.indexes; views = schema.views }) tables
+    ∙ ap (λ all. record { tables = []; indexes = all; views = schema.views }) indexes
+    ∙ ap (λ all. record { tables = []; indexes = []; views = all }) views
+
+-- a file without a byte shows no schema
+found_blank : (image : Image) → image.db ≡ [] → (s : State) → IsFound (AreHeldIn image) s →
+    IsBlank s.now
+found_blank image none s found = elim found.held.reads [
+  | inl adopts ↦
+      let present : 1 ≤ 0 = rw none at adopts.3.found.present in
+      absurd (omega (arith, present))
+  | inr nothing ↦
+      let sound = (found.live found.opens.is_open).1 in
+      let lists : Lists [] s.committed.schema =
+      subst (λ rows. Lists rows s.committed.schema) nothing.1.1 sound.lists in
+      ap (λ (db : Database). db.schema) found.opens.clean ∙ unlisted s.committed.schema lists
+]
+
+-- which is none of this schema
+ok_is_no_fault : {A E : Type 0} (value : A) (fault : E) → ◌≡◌ {A = Result A E} (Ok value) (Err fault) → ⊥
+ok_is_no_fault value fault is = absurd (cc)
+
+unwhole : (verdict : Result (Unit {0}) FileFault) → ◌≡◌ {A = Result (Unit {0}) FileFault} (Ok tt) (whole_verdict false verdict) → ⊥
+unwhole (Ok done) is = ok_is_no_fault tt NotADeskFile is
+unwhole (Err fault) is = ok_is_no_fault tt fault is
+
+unshown : (shown : Option ℤ) → ◌≡◌ {A = Result (Unit {0}) FileFault} (Ok tt) (shown_verdict false shown) → ⊥
+unshown None is = ok_is_no_fault tt NotADeskFile is
+unshown (Some number) is = unwhole (number_verdict number) is
+
+never_ours : (old new : State) → IsBlank old.now → Answers old new (Ok tt) → ⊥
+never_ours old new blank (inl (inl unnamed)) = ok_is_no_fault tt NotADeskFile unnamed.1
+never_ours old new blank (inl (inr shown)) =
+    unshown (number_shown shown.0)
+    (subst (λ schema. ◌≡◌ {A = Result (Unit {0}) FileFault} (Ok tt) (file_verdict schema shown.0)) blank shown.2)
+never_ours old new blank (inr (inl storage)) = ok_is_no_fault tt Storage storage
+never_ours old new blank (inr (inr memory)) = ok_is_no_fault tt Memory memory
+
+module _ {S : Type 0} (disk : Ghosts S) (image : Image) (none : image.db ≡ []) (conn : Held S)
+    (clean : HasCleanDisk (state disk conn)) where
+  pub blank_refused : IsOurs disk (AreHeldIn image) conn → ⊥
+  blank_refused ours =
+      let it = ours.2.1 clean in
+      never_ours (state disk ours.0) (state disk conn)
+      (found_blank image none (state disk ours.0) (ours.1 it.0)) it.2
+
+  pub blank_is_new : IsNew disk (AreHeldIn image) conn → IsTrue (state disk conn).is_open
+      × ((code : List ℕ) → (file_world disk conn).meaning code ≡ None)
+  blank_is_new new =
+      let made = new.2.2 clean
+      (found_blank image none (state disk new.0) (new.1 (new.2.3.clean clean))) in (
+        made.0,
+        λ code. ap (λ t. meaning t code) made.1.tables,
+      )
+
+  pub blank_is_empty : IsOpened disk (AreHeldIn image) conn → IsTrue (state disk conn).is_open
+      × ((code : List ℕ) → (file_world disk conn).meaning code ≡ None)
+  blank_is_empty (inl ours) = absurd (blank_refused ours)
+  blank_is_empty (inr new) = blank_is_new new

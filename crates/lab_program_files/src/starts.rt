@@ -1,0 +1,62 @@
+//! The laws of the next start over a file. The functions do nothing: their contracts say the laws.
+
+ghost use Rattle.std.specs.Prelude.{◌≡◌, ◌++◌, IsTrue, List, [], ◌∷◌, Bool, None, ℕ};
+ghost use Rattle.sqlite_wal.specs.Recovery.{Image};
+ghost use Rattle.sqlite_store.specs.declared.store.FileStore.{FileStore};
+ghost use Rattle.sqlite_store.specs.FileStore.{recovers, state as pages_of, view};
+ghost use Rattle.sqlite.specs.Files.{file_state, over_files};
+ghost use Rattle.sqlite.specs.Held.{Held, IsConnected, state};
+ghost use Rattle.sqlite.specs.State.{HasCleanDisk};
+ghost use Rattle.lab_records_kept.specs.Worlds.{Meaning, SameMeaning};
+ghost use Rattle.lab_store.specs.StoreWorlds.{world_of};
+ghost use Rattle.lab_desk_runs.specs.declared.events.Event.{Event};
+ghost use Rattle.lab_desk_runs.specs.Starts.{Start};
+ghost use Rattle.lab_program_shelves.specs.Files.{AreHeldIn, IsOpened, IsOurs};
+ghost use Rattle.lab_program_files.specs.Starts.{AreSoFar, IsRunOver, start_of};
+
+use sqlite::Alter;
+use sqlite_disk::Disk;
+
+/// Law: where a file and its log hold at a start what a crash at the end of the last connection may
+/// leave of them, the laboratories that the start finds are among those that this crash may leave
+/// (`left`; the brackets ask for one way to see it, whichever it is). The connection of a start is
+/// live, and a crash at once leaves what was found and nothing else (`found`). The last connection
+/// is any, also one that a fault has shut; `IsConnected` is what is true of each.
+///
+/// So the starts over a file are those of which the law `a_stop_and_a_start_go_on`
+/// (`lab_desk_runs`) speaks: with each stop and the start after it there is one more of them
+/// (`goes_on`). Of the first start nothing is asked but what it found.
+pub fn a_start_finds_what_was_left<D: Disk, S: Alter>()
+    ensures left { (last : Held (FileStore D D.Disk)) (image : Image) (next : Held S) →
+        IsConnected (view last.store) (recovers last.store) last.schema last.saved
+        last.in_transaction →
+        HasCleanDisk (file_state last) → (pages_of last.store).may_leave image →
+        IsOurs S.Store (AreHeldIn image) next → HasCleanDisk (state S.Store next) →
+        ∥ (world_of (file_state last)).may_leave (world_of (state S.Store next)).meaning ∥₁ }
+    ensures found { (image : Image) (next : Held S) → IsOurs S.Store (AreHeldIn image) next →
+        HasCleanDisk (state S.Store next) → IsTrue (state S.Store next).is_open
+        × ((held : Meaning) → (world_of (state S.Store next)).may_leave held →
+        SameMeaning (world_of (state S.Store next)).meaning held) }
+    ensures goes_on { (first : Meaning) (starts : List Start) (before after : Image)
+        (opened last : Held (FileStore D D.Disk)) (next : Held S)
+        (events : List Event) (taken : List Bool) →
+        AreSoFar first starts (world_of (file_state opened)).meaning →
+        IsOurs over_files (AreHeldIn before) opened → IsRunOver over_files opened last events taken →
+        IsConnected (view last.store) (recovers last.store) last.schema last.saved
+        last.in_transaction →
+        HasCleanDisk (file_state last) → (pages_of last.store).may_leave after →
+        IsOurs S.Store (AreHeldIn after) next → HasCleanDisk (state S.Store next) →
+        ∥ AreSoFar first (starts ++ start_of events taken (world_of (file_state opened)).meaning
+        (world_of (state S.Store next)).meaning ∷ []) (world_of (state S.Store next)).meaning ∥₁ }
+{}
+
+/// Law: an empty file, whatever lies in its log, is opened by `make_file` alone, as a new one: no
+/// laboratory is in it.
+pub fn a_new_file_is_empty<S: Alter>()
+    ensures refused { (image : Image) (next : Held S) → image.db ≡ [] →
+        IsOurs S.Store (AreHeldIn image) next → ¬ HasCleanDisk (state S.Store next) }
+    ensures empty { (image : Image) (next : Held S) → image.db ≡ [] →
+        IsOpened S.Store (AreHeldIn image) next → HasCleanDisk (state S.Store next) →
+        IsTrue (state S.Store next).is_open
+        × ((code : List ℕ) → (world_of (state S.Store next)).meaning code ≡ None) }
+{}
