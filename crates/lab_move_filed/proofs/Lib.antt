@@ -1,0 +1,2 @@
+pub mod FormsFound
+pub mod RecordsFound

@@ -1,0 +1,81 @@
+//! Rows that persons entered in a version.
+
+ghost use Rattle.std.specs.Prelude.{◌≡◌, ◌&&◌, map, IfOk};
+ghost use Rattle.lab_store_tables.specs.Meaning.{entries_of};
+ghost use Rattle.lab_move_tables.specs.KeptLabs.{are_kept_entries};
+ghost use Rattle.lab_move_tables.specs.Reading.{ReadsOld};
+ghost use Rattle.lab_move_rows.specs.Checks.{are_numbered, are_owned};
+ghost use Rattle.lab_move_people.specs.Kept.{where_kept};
+ghost use Rattle.lab_move_filed.specs.Records.{entry_read};
+
+use lab_move_people::cells::reason_of;
+use lab_move_rows::{are_numbered, are_owned, entry_rows};
+use lab_seal_versions::{EntryRow, EntryRows};
+use lab_store_columns::cells::{moment_of, text_of};
+use lab_store_columns::{ReadFault, Readable};
+use sqlite::Row;
+use std::alloc::Global;
+
+// The entry that a row shows.
+fn entry_of_row(alloc: Global, row: &Row) -> Result<EntryRow, ReadFault>
+    ensures { IfOk result (λ entry. entry ≡ entry_read row.now) }
+{
+    let moment = moment_of(row, 4)?;
+    let key = text_of(alloc, row, 0)?;
+    let value = text_of(alloc, row, 1)?;
+    let unit = text_of(alloc, row, 2)?;
+    let person = text_of(alloc, row, 3)?;
+    let reason = reason_of(alloc, row, 5)?;
+    Ok(EntryRow {
+        key,
+        value,
+        unit,
+        person,
+        moment,
+        reason,
+    })
+}
+
+// The entries that rows show.
+fn entries_of_rows(alloc: Global, rows: &[Row]) -> Result<Vec<EntryRow>, ReadFault>
+    ensures { IfOk result (λ made. made.items ≡ map entry_read rows.now) }
+{
+    let mut made = Vec::new(alloc);
+    for row in rows {
+        made.push(entry_of_row(alloc, row)?)?;
+    }
+    Ok(made)
+}
+
+// The entries that rows show, where they are numbered and their persons are of the laboratory.
+fn entries_tried(alloc: Global, rows: &[Row], lab: i64) -> Result<Option<EntryRows>, ReadFault>
+    ensures { IfOk result (λ found. found ≡ where_kept
+        (are_numbered 6 rows.now && are_owned 7 lab rows.now) (map entry_read rows.now)) }
+{
+    if !are_numbered(rows, 6)? {
+        return Ok(None);
+    }
+    if !are_owned(rows, 7, lab)? {
+        return Ok(None);
+    }
+    Ok(Some(EntryRows::new(entries_of_rows(alloc, rows)?)))
+}
+
+/// The entries of the version with the id, in the order of their places, where these run from 1 on and their persons are of the
+/// laboratory.
+///
+/// # Errors
+/// The store refused, a row is none that is written, or memory ran out.
+pub(crate) fn entries_at<D: Readable>(
+    alloc: Global,
+    conn: &mut D,
+    lab: i64,
+    version: i64,
+) -> Result<Option<EntryRows>, ReadFault>
+    ensures { ReadsOld (λ t found. found
+        ≡ where_kept (are_kept_entries t lab version) (entries_of t version))
+        (D.state conn.old) (D.state conn.new) result }
+{
+    let rows = entry_rows(conn, version)?;
+    entries_tried(alloc, &rows, lab)
+}

@@ -1,0 +1,6 @@
+pub mod Commits
+mod Faults
+mod Statements
+mod MadeTables
+mod Naming
+pub mod Refusals

@@ -1,0 +1,84 @@
+-- What the row of a person is read as; and whether whoever asked for something is of the
+-- laboratory.
+use Rattle.std.specs.Prelude.{ℕ, ℤ, Bool, List, Option, Some, option_map, unwrap_or}
+use Rattle.sqlite_value.specs.Order.{Row, column, bytes}
+use Rattle.sqlite_rules.specs.Edit.{id_in}
+use Rattle.lab_people_access.specs.declared.persons.Ask.{Ask}
+use Rattle.lab_people_access.specs.declared.persons.Person.{Person}
+use Rattle.lab_store_tables.specs.Rows.{PasswordColumns, AskColumns, Tables, number_in, flag_in, optional_in}
+use Rattle.lab_store_tables.specs.Columns.{roles_in, password_in, verifier_in}
+use Rattle.lab_store_read_people.specs.declared.heads.AskHead.{AskHead}
+use Rattle.lab_store_read_people.specs.declared.heads.PersonHead.{PersonHead}
+use Rattle.lab_store_read_people.specs.Heads.{ask_head}
+use Rattle.lab_move_tables.specs.OldRows.{beside, old_rounds}
+use Rattle.lab_move_tables.specs.KeptLabs.{is_nobody_or_theirs}
+
+abbrev pub password_cells : Row → PasswordColumns
+password_cells row = record {
+  kind = number_in (column row 6);
+  salt = optional_in bytes (column row 7);
+  rounds = optional_in number_in (column row 8);
+  bytes = optional_in bytes (column row 9);
+  salt2 = optional_in bytes (column row 10);
+  rounds2 = beside (optional_in bytes (column row 10)) (optional_in number_in (column row 8));
+  bytes2 = optional_in bytes (column row 11);
+  changed = optional_in number_in (column row 12);
+}
+
+abbrev pub ask_cells : Row → AskColumns
+ask_cells row = record {
+  asker = optional_in id_in (column row 13);
+  asked = optional_in number_in (column row 14);
+  salt = optional_in bytes (column row 15);
+  rounds = option_map (λ _. old_rounds) (optional_in id_in (column row 13));
+  bytes = optional_in bytes (column row 16);
+}
+
+-- what the asker asked for
+abbrev pub ask_by_row : Row → ℤ → AskHead
+ask_by_row row asker = record {
+  asker = asker;
+  asked = unwrap_or (optional_in number_in (column row 14)) 0;
+  first = verifier_in (optional_in bytes (column row 15)) (Some old_rounds)
+      (optional_in bytes (column row 16));
+}
+
+abbrev pub person_read : Row → PersonHead
+person_read row = record {
+  code = bytes (column row 0);
+  name = bytes (column row 1);
+  roles = roles_in (number_in (column row 2));
+  retired = flag_in (column row 3);
+  failures = number_in (column row 4);
+  locked = optional_in number_in (column row 5);
+  password = password_in (password_cells row);
+  ask = ask_head (ask_cells row);
+}
+
+-- ---- with whoever asked
+
+abbrev pub asked_by : AskHead → List ℕ → Option Ask
+asked_by ask asker = Some (record { asker = asker; asked = ask.asked; first = ask.first })
+
+abbrev pub person_with : PersonHead → Option Ask → Person
+person_with head ask = record {
+  code = head.code;
+  name = head.name;
+  roles = head.roles;
+  retired = head.retired;
+  failures = head.failures;
+  locked = head.locked;
+  password = head.password;
+  ask = ask;
+}
+
+-- ---- of the laboratory
+
+abbrev asker_of : AskHead → ℤ
+asker_of ask = ask.asker
+
+abbrev pub is_kept_ask : Tables → ℤ → Option AskHead → Bool
+is_kept_ask t lab ask = is_nobody_or_theirs t lab (option_map asker_of ask)
+
+abbrev pub is_kept_head : Tables → ℤ → PersonHead → Bool
+is_kept_head t lab head = is_kept_ask t lab head.ask

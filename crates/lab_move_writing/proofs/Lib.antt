@@ -1,0 +1,4 @@
+pub mod Turns
+pub mod Whole
+pub mod Carried
+pub mod GivenUp

@@ -1,0 +1,50 @@
+//! Calls without clauses, so that the proof of a test doesn't carry what a connection holds after each.
+use lab_move_files::{finish, make_tables};
+use lab_move_writing::place_lab;
+use lab_records_kept::{BadStore, KeeperFault, Lab};
+use lab_store_files::{FileFault, open};
+use sqlite::{Connection, MemStore};
+use std::process::Abort;
+
+pub(crate) type File = Connection<MemStore>;
+
+/// A database in memory with what these statements make.
+pub(crate) fn database(rt: &(impl Abort + AllocGlobal), statements: &str) -> File {
+    let mut conn = Connection::open_in_memory(rt.alloc()).expect(rt, "a database");
+    conn.execute_batch(statements).expect(rt, "statements");
+    conn
+}
+
+pub(crate) fn made(conn: &mut File) -> Result<(), FileFault> {
+    if !conn.is_autocommit() {
+        return Err(FileFault::Storage);
+    }
+    make_tables(conn)
+}
+
+pub(crate) fn placed(conn: &mut File, lab: &Lab) -> Result<(), KeeperFault> {
+    if !conn.is_autocommit() {
+        return Err(KeeperFault::Refused(BadStore));
+    }
+    place_lab(conn, lab)
+}
+
+pub(crate) fn finished(conn: &mut File) -> Result<(), KeeperFault> {
+    if !conn.is_autocommit() {
+        return Err(KeeperFault::Refused(BadStore));
+    }
+    finish(conn)
+}
+
+pub(crate) fn opened(conn: &mut File) -> Result<(), FileFault> {
+    open(conn)
+}
+
+/// A question shows this text.
+pub(crate) fn assert_shown(rt: &impl Abort, conn: &mut File, question: &str, wanted: &str) {
+    let row = conn.query_row(question, &[]).expect(rt, question);
+    let shown: String = row.get(0).expect(rt, question);
+    drop(row);
+    assert_eq!(rt; shown.as_str(), wanted);
+    drop(shown);
+}
