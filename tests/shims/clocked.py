@@ -38,10 +38,9 @@ int clock_gettime(clockid_t clock, struct timespec *now) {
 }
 int getentropy(void *words, size_t length) {
     if (left < 0) { memset(words, 0, length); return 0; }
-    if (left == 0 || length != sizeof tick.word) return -1;
-    memcpy(words, &tick.word, length);
-    tick.word++;
-    left--;
+    if (length % sizeof tick.word || left < (int)(length / sizeof tick.word)) return -1;
+    for (size_t at = 0; at < length; at += sizeof tick.word, left--, tick.word++)
+        memcpy((char *)words + at, &tick.word, sizeof tick.word);
     return 0;
 }
 """
