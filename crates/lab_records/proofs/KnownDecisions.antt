@@ -18,13 +18,15 @@ pub known_clock : (slice : Slice) (tick : Tick) (command : Command)
     → is_made (record slice { last = 1100 }) (record tick { moment = 1099 }) command ≡ false
 known_clock slice tick command = refl
 
--- so is a stranger; who is barred has come, which is noted; the card is copied, and an unknown code is a stray password,
--- which is counted
+-- so is a stranger; who is barred has come, which is noted, and not twice at one moment; the card is copied, and an unknown code
+-- is a stray password, which is counted
 pub known_makings : (slice : Slice) (tick : Tick) (session : Session) (caller : Person) (password : List ℕ)
-    → (is_made_in Stranger ≡ false)
-    × (is_made_in (Barred session (People LabFull)) ≡ true)
-    × (is_made_in (Passes session caller) ≡ true)
+    → (is_made_in 1100 1100 Stranger ≡ false)
+    × (is_made_in 1099 1100 (Barred session (People LabFull)) ≡ true)
+    × (is_made_in 1100 1100 (Barred (record session { last = 1099 }) (People LabFull)) ≡ true)
+    × (is_made_in 1100 1100 (Barred (record session { last = 1100 }) (People LabFull)) ≡ false)
+    × (is_made_in 1100 1100 (Passes session caller) ≡ true)
     × (is_made_by slice tick Card ≡ true)
     × (is_made_by (record slice { person = None; session = None }) tick (Open (codes "zed") password) ≡ true)
 unfolding opening
-known_makings slice tick session caller password = (refl, refl, refl, refl, refl)
+known_makings slice tick session caller password = (refl, refl, refl, refl, refl, refl, refl)

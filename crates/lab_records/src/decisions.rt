@@ -1,20 +1,20 @@
 //! What is decided on a part of a laboratory.
-ghost use Rattle.std.specs.Prelude.{◌≡◌, [], None, IfOk, IsTrue, OnErr};
+ghost use Rattle.std.specs.Prelude.{◌≡◌, [], None, false, IfOk, IsTrue, OnErr};
 ghost use Rattle.lab_records_laws.specs.Asking.{IsCommandFormed};
 ghost use Rattle.lab_people_access.specs.Sessions.{touched_session};
 ghost use Rattle.lab_records_machine.specs.Done.{done_of};
 ghost use Rattle.lab_records_machine.specs.Machine.{passage};
 ghost use Rattle.lab_records_machine.specs.Policy.{rule_of};
-ghost use Rattle.lab_records_outcomes.specs.Deciding.{outcome, end_on, touch_changes, decided_in, decided_by, decided};
-ghost use Rattle.lab_records.specs.Makings.{is_made_in, is_made_by, is_made, MakesOnceNoted};
+ghost use Rattle.lab_records_outcomes.specs.Deciding.{outcome, end_on, is_noted, noted_end, decided_in, decided_by, decided};
+ghost use Rattle.lab_records.specs.Makings.{is_made_in, is_made_by, is_made, MakesInSession};
 
 use crate::{done_of, opening_done};
 use lab_forms_texts::{Moment, OutOfMemory, PersonCode, Series, Tick};
 use lab_people_access::{PeopleRefusal, Person, Session};
-use lab_records_kept::{Change, Slice};
+use lab_records_kept::Slice;
 use lab_records_machine::{Command, Done, Passage, RecordCommand, Reply, SessionCommand, pass};
 use lab_records_outcomes::{
-    Outcome, end, failed_opening, made_opening, refusal_outcome, touch_changes,
+    Outcome, end, failed_opening, made_opening, noted_end, refusal_outcome,
 };
 use lab_records_rules::{Refusal, Typed};
 use std::alloc::Global;
@@ -105,7 +105,7 @@ fn decide_in(
 ) -> Result<Outcome, OutOfMemory>
     ensures decided { IfOk result (λ outcome. outcome ≡ decided_in slice.old tick.now command
         (passage slice.old.session slice.old.caller tick.now.moment (rule_of command))) }
-    ensures memory { OnErr result (IsTrue (is_made_in
+    ensures memory { OnErr result (IsTrue (is_made_in slice.old.last tick.now.moment
         (passage slice.old.session slice.old.caller tick.now.moment (rule_of command)))) }
 {
     let comer = take_comer(slice);
@@ -123,7 +123,7 @@ fn decide_passed(
 ) -> Result<Outcome, OutOfMemory>
     ensures decided { IfOk result
         (λ outcome. outcome ≡ decided_in slice.old tick.now command reached) }
-    ensures memory { OnErr result (IsTrue (is_made_in reached)) }
+    ensures memory { OnErr result (IsTrue (is_made_in slice.old.last tick.now.moment reached)) }
 {
     match reached {
         Passage::Stranger => {
@@ -133,7 +133,7 @@ fn decide_passed(
         }
         Passage::Barred(session, refusal) => {
             drop(command);
-            barred(alloc, tick.moment, session, refusal)
+            barred(alloc, slice.last, tick.moment, session, refusal)
         }
         Passage::Passes(session, caller) => {
             let outcome = decide_allowed(alloc, slice, tick, session, &caller, command);
@@ -143,25 +143,21 @@ fn decide_passed(
     }
 }
 
-// A command that its session may not give, of which it is noted that it came, in any case. The only error is out of memory.
+// A command that its session may not give: that its request came is noted, where it isn't already.
+// The only error is out of memory, where it is noted.
 fn barred(
     alloc: Global,
+    last: Moment,
     moment: Moment,
     session: Session,
     refusal: Refusal,
 ) -> Result<Outcome, OutOfMemory>
-    ensures { IfOk result
-        (λ told. told ≡ outcome (Reply.Refused refusal) (touch_changes moment session)) }
+    ensures told { IfOk result (λ told. told
+        ≡ noted_end last moment session (outcome (Reply.Refused refusal) [])) }
+    ensures memory { OnErr result (is_noted last moment session [] ≡ false) }
 {
-    let changes = touch_changes(alloc, moment, &session);
-    drop(session);
-    match changes {
-        Ok(changes) => Ok(refusal_outcome(changes, refusal)),
-        Err(fault) => {
-            drop(refusal);
-            Err(fault)
-        }
-    }
+    let refused = refusal_outcome(Series::new(alloc), refusal);
+    noted_end(alloc, last, moment, session, refused)
 }
 
 // The card, of which code and name are copied in any case. The only error is out of memory.
@@ -213,15 +209,14 @@ fn decide_opening(
     }
 }
 
-// A command whose coming was noted by these changes: its session, as it is after them, and its person.
+// What a command in a session is given: the session, as its request leaves it, and its person.
 struct Arrival {
     session: Session,
     caller: Person,
-    changes: Series<Change>,
 }
 
-// A command that its session may give: its request is taken note of before all, and its person is copied, in any case. The
-// only error is out of memory.
+// A command that its session may give: that its request came is noted before what it changes. The
+// only error is out of memory: session and person are copied in any case.
 fn decide_allowed(
     alloc: Global,
     slice: &mut Slice,
@@ -233,34 +228,14 @@ fn decide_allowed(
     ensures { IfOk result (λ outcome. outcome
         ≡ decided_in slice.old tick.now command (Passage.Passes session caller.now)) }
 {
-    match arrival_of(alloc, tick.moment, session, caller) {
-        Ok(arrival) => decide_noted(alloc, slice, tick, &caller.code, arrival, command),
-        Err(fault) => {
-            drop(command);
-            Err(fault)
-        }
-    }
-}
-
-// That a request came by the session, and its person. The only error is out of memory: all is made in any case.
-fn arrival_of(
-    alloc: Global,
-    moment: Moment,
-    session: Session,
-    caller: &Person,
-) -> Result<Arrival, OutOfMemory>
-    ensures { IfOk result (λ arrived. arrived ≡ record {
-      session = touched_session moment session;
-      caller = caller.now;
-      changes = touch_changes moment session;
-    }) }
-{
-    let mut session = session;
-    match touch_changes(alloc, moment, &session) {
-        Ok(changes) => {
-            session.touch(moment);
-            with_caller(session, caller, changes)
-        }
+    let last = slice.last;
+    let Ok(arrival) = arrival_of(tick.moment, &session, caller) else {
+        drop(session);
+        drop(command);
+        return Err(OutOfMemory);
+    };
+    match decide_touched(alloc, slice, tick, &caller.code, arrival, command) {
+        Ok(ended) => noted_end(alloc, last, tick.moment, session, ended),
         Err(fault) => {
             drop(session);
             Err(fault)
@@ -268,32 +243,27 @@ fn arrival_of(
     }
 }
 
-// The same, of which the person is to be copied.
-fn with_caller(
-    session: Session,
-    caller: &Person,
-    changes: Series<Change>,
-) -> Result<Arrival, OutOfMemory>
+// A session as a request at the moment leaves it, and its person. The only error is out of memory:
+// both are copied in any case.
+fn arrival_of(moment: Moment, session: &Session, caller: &Person) -> Result<Arrival, OutOfMemory>
     ensures { IfOk result (λ arrived. arrived
-        ≡ record { session = session; caller = caller.now; changes = changes }) }
+        ≡ record { session = touched_session moment session.now; caller = caller.now }) }
 {
+    let mut session = session.copy()?;
+    session.touch(moment);
     match caller.copy() {
-        Ok(caller) => Ok(Arrival {
-            session,
-            caller,
-            changes,
-        }),
+        Ok(caller) => Ok(Arrival { session, caller }),
         Err(fault) => {
             drop(session);
-            drop(changes);
             Err(fault)
         }
     }
 }
 
-// A command in a session whose request was noted. The only error is out of memory, where the command makes something, or
-// where something is written of what it comes to: what is refused is told as it is.
-fn decide_noted(
+// A command in a session that has the moment of its request, but for the note of that. The only
+// error is out of memory, where the command makes something, or where something is written of what
+// it comes to: what is refused is told as it is.
+fn decide_touched(
     alloc: Global,
     slice: &mut Slice,
     tick: &Tick,
@@ -302,23 +272,16 @@ fn decide_noted(
     command: SessionCommand,
 ) -> Result<Outcome, OutOfMemory>
     ensures decided { IfOk result (λ outcome. outcome
-        ≡ end_on slice.old tick.now.moment giver.now arrival.changes
+        ≡ end_on slice.old tick.now.moment giver.now
         (done_of slice.old tick.now arrival.session arrival.caller command)) }
     ensures memory { OnErr result
-        (MakesOnceNoted slice.old tick.now arrival.session arrival.caller command) }
+        (MakesInSession slice.old tick.now arrival.session arrival.caller command) }
 {
-    let Arrival {
-        session,
-        caller,
-        changes,
-    } = arrival;
+    let Arrival { session, caller } = arrival;
     let rows = slice.counts.trail;
     let strays = slice.strays;
     match done_of(alloc, slice, tick, session, caller, command) {
-        Ok(done) => end(alloc, changes, rows, strays, tick.moment, giver, done),
-        Err(fault) => {
-            drop(changes);
-            Err(fault)
-        }
+        Ok(done) => end(alloc, rows, strays, tick.moment, giver, done),
+        Err(fault) => Err(fault),
     }
 }

@@ -23,28 +23,29 @@ use Rattle.lab_records_machine.specs.declared.done.Done.{Done}
 use Rattle.lab_records_machine.specs.declared.done.Done.TheVariants.{Refused, Failed, Read, Made}
 use Rattle.lab_records_machine.specs.Done.{opened_done, done_of}
 use Rattle.lab_records_outcomes.specs.declared.outcome.Outcome.{Outcome}
-use Rattle.lab_records_outcomes.specs.Deciding.{trail_row, outcome, end_on, opening_end, touch_changes, decided_in, decided_by, decided}
+use Rattle.lab_records_outcomes.specs.Deciding.{trail_row, outcome, end_on, touch_changes, is_noted, noted_end, opening_end, decided_in, decided_by, decided}
 use Rattle.lab_records_laws.specs.TakenSteps.{NotesFirst}
 
 abbrev IsNoted : ℕ → Outcome → Type 0
 IsNoted moment decided = NotesFirst moment decided.changes
 
 -- a full trail refuses last
-made_notes : (full : Bool) (moment : ℕ) (reply refused : Reply) (before more : List Change)
-    → NotesFirst moment before → NotesFirst moment (before ++ more)
-    → IsNoted moment (cond full (outcome refused before) (outcome reply (before ++ more)))
-made_notes true moment reply refused before more first noted = first
-made_notes false moment reply refused before more first noted = noted
+made_notes : (full : Bool) (moment : ℕ) (reply refused : Reply) (changes : List Change)
+    → NotesFirst moment changes
+    → IsNoted moment (cond full (outcome refused []) (outcome reply changes))
+made_notes true moment reply refused changes notes = tt
+made_notes false moment reply refused changes notes = notes
 
--- in a session
-ended_notes : (slice : Slice) (moment : ℕ) (person : List ℕ) (session : Session) (done : Done)
-    → IsNoted moment (end_on slice moment person (touch_changes moment session) done)
-ended_notes slice moment person session (Refused refusal) = refl
-ended_notes slice moment person session (Failed occasion failure) = refl
-ended_notes slice moment person session (Read reply) = refl
-ended_notes slice moment person session (Made reply deed own) =
-    made_notes (nat_le count_limit slice.counts.trail) moment reply (ToldRefused (People LabFull))
-    (touch_changes moment session) (own ++ trail_row slice.counts.trail moment person deed ∷ []) refl refl
+-- in a session: no change, where the request is noted already
+noted_first : (noted : Bool) (moment : ℕ) (session : Session) (own : List Change)
+    → NotesFirst moment (cond noted [] (touch_changes moment session ++ own))
+noted_first true moment session own = tt
+noted_first false moment session own = refl
+
+session_notes : (last moment : ℕ) (session : Session) (ended : Outcome)
+    → IsNoted moment (noted_end last moment session ended)
+session_notes last moment session ended =
+    noted_first (is_noted last moment session ended.changes) moment session ended.changes
 
 -- at an opening
 opening_notes : (slice : Slice) (moment : ℕ) (code : List ℕ) (done : Done)
@@ -54,15 +55,17 @@ opening_notes slice moment code (Failed occasion failure) = refl
 opening_notes slice moment code (Read reply) = tt
 opening_notes slice moment code (Made reply deed own) =
     made_notes (nat_le count_limit slice.counts.trail) moment reply (ToldRefused (People LabFull))
-    [] ((Last moment ∷ own) ++ trail_row slice.counts.trail moment code deed ∷ []) tt refl
+    ((Last moment ∷ own) ++ trail_row slice.counts.trail moment code deed ∷ []) refl
 
 in_notes : (slice : Slice) (tick : Tick) (command : SessionCommand) (reached : Passage)
     → IsNoted tick.moment (decided_in slice tick command reached)
 in_notes slice tick command Stranger = tt
-in_notes slice tick command (Barred session refusal) = refl
+in_notes slice tick command (Barred session refusal) =
+    session_notes slice.last tick.moment session (outcome (ToldRefused refusal) [])
 in_notes slice tick command (Passes session caller) =
-    ended_notes slice tick.moment caller.code session
-    (done_of slice tick (touched_session tick.moment session) caller command)
+    session_notes slice.last tick.moment session
+    (end_on slice tick.moment caller.code
+    (done_of slice tick (touched_session tick.moment session) caller command))
 
 by_notes : (slice : Slice) (tick : Tick) (command : Command)
     → IsNoted tick.moment (decided_by slice tick command)

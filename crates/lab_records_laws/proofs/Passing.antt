@@ -32,12 +32,12 @@ use Rattle.lab_records_laws.proofs.FitAccounts.{own_code}
 use Rattle.lab_records_laws.proofs.LimitParts.{session_set, session_token}
 use Rattle.lab_records_machine.specs.Done.{done_of, opened_done}
 use Rattle.lab_records_outcomes.specs.declared.outcome.Outcome.{Outcome}
-use Rattle.lab_records_outcomes.specs.Deciding.{outcome, end_on, opening_end, touch_changes, decided_in, decided_by, decided}
+use Rattle.lab_records_outcomes.specs.Deciding.{outcome, end_on, noted_end, opening_end, decided_in, decided_by, decided}
 use Rattle.lab_records_laws.proofs.OwnCases.{slice_for, opened_is}
 use Rattle.lab_records_laws.proofs.RuleCases.{own_is}
 use Rattle.lab_records_laws.proofs.RuleFits.{own_fits}
 use Rattle.lab_records_laws.proofs.OpenFits.{open_fits, opened_takes}
-use Rattle.lab_records_laws.proofs.Endings.{Matches, touching_fits, ended_is, opened_ended}
+use Rattle.lab_records_laws.proofs.Endings.{Matches, noted_is, ended_is, opened_ended}
 
 -- no more strays were counted than may be, and a form that is to be made is one
 abbrev Premise : Lab → Command → Type 0
@@ -67,8 +67,8 @@ passed_is lab digest tick command session caller found there =
     let fits = own_fits (Premise lab (In command)) lab digest session tick noted caller command
     (λ given. given.1) (session_set noted session lab.sessions found) there in
     subst (λ case. Matches (Premise lab (In command)) lab (ended now tick.moment caller.code case)
-    (end_on (slice_for lab digest (In command)) tick.moment caller.code
-    (touch_changes tick.moment session) done))
+    (noted_end lab.last tick.moment session
+    (end_on (slice_for lab digest (In command)) tick.moment caller.code done)))
     (sym (own_is lab digest session tick noted caller command))
     (ended_is (Premise lab (In command)) lab digest (In command) tick.moment session caller.code
     done (λ given. given.0) found fits)
@@ -79,11 +79,10 @@ answer_is : (lab : Lab) (digest : Option (List ℕ)) (tick : Tick) (command : Se
     (decided_in (slice_for lab digest (In command)) tick command reached)
 answer_is lab digest tick command Stranger is =
     record { reply = refl; fits = λ given. tt; after = refl }
-answer_is lab digest tick command (Barred session refusal) is = record {
-  reply = refl;
-  fits = λ given. touching_fits lab tick.moment session is;
-  after = refl;
-}
+answer_is lab digest tick command (Barred session refusal) is =
+    noted_is (Premise lab (In command)) lab tick.moment session
+    (stays (touched lab tick.moment session) (Refused refusal)) (outcome (Refused refusal) []) is
+    (record { reply = refl; fits = λ given. tt; after = refl })
 answer_is lab digest tick command (Passes session caller) is =
     passed_is lab digest tick command session caller is.0 is.1
 

@@ -5,15 +5,16 @@ use Rattle.std.specs.Prelude.{⊤}
 use Rattle.lab_people_access.specs.declared.persons.Person.{Person}
 use Rattle.lab_people_access.specs.declared.refusals.Failure.TheVariants.{Counted, Locking, AlreadyLocked, Stray}
 use Rattle.lab_people_access.specs.declared.refusals.PeopleRefusal.TheVariants.{LabFull}
+use Rattle.lab_people_access.specs.declared.sessions.Session.{Session}
 use Rattle.lab_people_access.specs.declared.sessions.Closing.TheVariants.{All}
 use Rattle.lab_records_kept.specs.declared.changes.Change.{Change}
-use Rattle.lab_records_kept.specs.declared.changes.Change.TheVariants.{Strays, PersonSet, SessionsClosed, TrailAdded}
+use Rattle.lab_records_kept.specs.declared.changes.Change.TheVariants.{Last, Strays, PersonSet, SessionSet, SessionsClosed, TrailAdded}
 use Rattle.lab_records_kept.specs.declared.trails.Deed.TheVariants.{Open, Refuse, Lock}
 use Rattle.lab_records_kept.specs.declared.trails.Occasion.TheVariants.{Opening}
 use Rattle.lab_records_kept.specs.Trails.{row_of}
 use Rattle.lab_records_rules.specs.declared.refusals.Refusal.TheVariants.{People}
 use Rattle.lab_records_machine.specs.declared.replies.Reply.TheVariants.{Refused, Closed}
-use Rattle.lab_records_outcomes.specs.Deciding.{IsFailureWritten, failure_changes, outcome, made_end}
+use Rattle.lab_records_outcomes.specs.Deciding.{IsFailureWritten, failure_changes, outcome, made_end, touch_changes, noted_changes}
 
 -- the row of that number, that the person's password was refused, or that the account was locked
 abbrev refused_row : ℕ → Person → Change
@@ -51,10 +52,20 @@ pub known_writings : (person : Person)
 known_writings person = (refl, refl, refl)
 
 -- what is made is told, and refused where the trail is full
-pub known_ends : (before own : Change)
-    → (made_end (before ∷ []) 999999999 500 (codes "dan") (Closed 3) (Open 3) (own ∷ [])
+pub known_ends : (own : Change)
+    → (made_end 999999999 500 (codes "dan") (Closed 3) (Open 3) (own ∷ [])
     ≡ outcome (Closed 3)
-    (before ∷ own ∷ TrailAdded (row_of 1000000000 500 (Some (codes "dan")) (Open 3)) ∷ []))
-    × (made_end (before ∷ []) 1000000000 500 (codes "dan") (Closed 3) (Open 3) (own ∷ [])
-    ≡ outcome (Refused (People LabFull)) (before ∷ []))
-known_ends before own = (refl, refl)
+    (own ∷ TrailAdded (row_of 1000000000 500 (Some (codes "dan")) (Open 3)) ∷ []))
+    × (made_end 1000000000 500 (codes "dan") (Closed 3) (Open 3) (own ∷ [])
+    ≡ outcome (Refused (People LabFull)) [])
+known_ends own = (refl, refl)
+
+-- that a request came is noted before what it changes; not where laboratory and session have the moment and it changes nothing
+pub known_notes : (session : Session) (own : Change)
+    → (noted_changes 499 500 session [] ≡ touch_changes 500 session)
+    × (noted_changes 500 500 (record session { last = 499 }) []
+    ≡ touch_changes 500 (record session { last = 499 }))
+    × (noted_changes 500 500 (record session { last = 500 }) [] ≡ [])
+    × (noted_changes 500 500 (record session { last = 500 }) (own ∷ [])
+    ≡ Last 500 ∷ SessionSet (record session { last = 500 }) ∷ own ∷ [])
+known_notes session own = (refl, refl, refl, refl)

@@ -1,6 +1,6 @@
 -- What is decided on a part of a laboratory: the reply, and the changes that are to be made, in
 -- order. That this is the step of the whole laboratory is a law (`what_is_decided`), not said here.
-use Rattle.std.specs.Prelude.{◌≡◌, ℕ, ◌+◌, false, nat_le, nat_lt, List, [], ◌∷◌, ◌++◌, Some, if◌then◌else◌, ⊤}
+use Rattle.std.specs.Prelude.{◌≡◌, ℕ, ◌+◌, Bool, false, ◌&&◌, ◌==◌, nat_le, nat_lt, List, [], ◌∷◌, ◌++◌, length, Some, if◌then◌else◌, ⊤}
 use Rattle.lab_forms_texts.specs.declared.tick.Tick.{Tick}
 use Rattle.lab_people_access.specs.declared.sessions.Session.{Session}
 use Rattle.lab_people_access.specs.declared.sessions.Closing.TheVariants.{All}
@@ -67,21 +67,20 @@ abbrev pub outcome : Reply → List Change → Outcome
 outcome reply changes = record { reply = reply; changes = changes }
 
 -- a full trail refuses last; else the deed is told
-abbrev pub made_end : List Change → ℕ → ℕ → List ℕ → Reply → Deed → List Change → Outcome
-made_end before rows moment person reply deed own =
-    if nat_le count_limit rows then outcome (ToldRefused (People LabFull)) before
-    else outcome reply (before ++ own ++ trail_row rows moment person deed ∷ [])
+abbrev pub made_end : ℕ → ℕ → List ℕ → Reply → Deed → List Change → Outcome
+made_end rows moment person reply deed own =
+    if nat_le count_limit rows then outcome (ToldRefused (People LabFull)) []
+    else outcome reply (own ++ trail_row rows moment person deed ∷ [])
 
--- in a session, where the trail has so many rows and so many strays were counted; `before` notes
--- that the request came
-abbrev pub end_by : ℕ → ℕ → ℕ → List ℕ → List Change → Done → Outcome
-end_by rows strays moment person before (Refused refusal) = outcome (ToldRefused refusal) before
-end_by rows strays moment person before (Failed occasion failure) =
+-- in a session, where the trail has so many rows and so many strays were counted
+abbrev pub end_by : ℕ → ℕ → ℕ → List ℕ → Done → Outcome
+end_by rows strays moment person (Refused refusal) = outcome (ToldRefused refusal) []
+end_by rows strays moment person (Failed occasion failure) =
     outcome (ToldRefused (People Credentials))
-    (before ++ failure_changes rows strays moment occasion failure)
-end_by rows strays moment person before (Read reply) = outcome reply before
-end_by rows strays moment person before (Made reply deed own) =
-    made_end before rows moment person reply deed own
+    (failure_changes rows strays moment occasion failure)
+end_by rows strays moment person (Read reply) = outcome reply []
+end_by rows strays moment person (Made reply deed own) =
+    made_end rows moment person reply deed own
 
 -- a failed password changes something, so that memory may be asked for: of a locked account where
 -- the trail has room for its row, and else in any case
@@ -99,13 +98,30 @@ IsWritten rows (Failed occasion failure) = IsFailureWritten rows failure
 IsWritten rows (Read reply) = ⊥
 IsWritten rows (Made reply deed own) = nat_le count_limit rows ≡ false
 
-abbrev pub end_on : Slice → ℕ → List ℕ → List Change → Done → Outcome
-end_on slice moment person before done =
-    end_by slice.counts.trail slice.strays moment person before done
+abbrev pub end_on : Slice → ℕ → List ℕ → Done → Outcome
+end_on slice moment person done = end_by slice.counts.trail slice.strays moment person done
 
--- what notes a request by the session at the moment
+-- ---- the note that a request came by the session at the moment
+
+-- what notes it
 abbrev pub touch_changes : ℕ → Session → List Change
 touch_changes moment session = Last moment ∷ SessionSet (touched_session moment session) ∷ []
+
+-- it is noted already: laboratory and session have the moment, and the request changes nothing else
+abbrev pub is_noted : ℕ → ℕ → Session → List Change → Bool
+is_noted last moment session own =
+    (length own == 0) && (last == moment) && (session.last == moment)
+
+-- the note, and then what else the request changes; no change, where it is noted already
+abbrev pub noted_changes : ℕ → ℕ → Session → List Change → List Change
+noted_changes last moment session own =
+    if is_noted last moment session own then [] else touch_changes moment session ++ own
+
+abbrev pub noted_end : ℕ → ℕ → Session → Outcome → Outcome
+noted_end last moment session ended =
+    outcome ended.reply (noted_changes last moment session ended.changes)
+
+-- ---- what is decided
 
 -- at an opening, whose moment is noted where it is accepted, and where the password fails
 abbrev pub opening_end : Slice → ℕ → List ℕ → Done → Outcome
@@ -115,16 +131,17 @@ opening_end slice moment code (Failed occasion failure) =
     (Last moment ∷ failure_changes slice.counts.trail slice.strays moment occasion failure)
 opening_end slice moment code (Read reply) = outcome reply []
 opening_end slice moment code (Made reply deed own) =
-    made_end [] slice.counts.trail moment code reply deed (Last moment ∷ own)
+    made_end slice.counts.trail moment code reply deed (Last moment ∷ own)
 
 -- a command in a session, by how far it gets
 abbrev pub decided_in : Slice → Tick → SessionCommand → Passage → Outcome
 decided_in slice tick command Stranger = outcome (ToldRefused (People NoSession)) []
 decided_in slice tick command (Barred session refusal) =
-    outcome (ToldRefused refusal) (touch_changes tick.moment session)
+    noted_end slice.last tick.moment session (outcome (ToldRefused refusal) [])
 decided_in slice tick command (Passes session caller) =
-    end_on slice tick.moment caller.code (touch_changes tick.moment session)
-    (done_of slice tick (touched_session tick.moment session) caller command)
+    noted_end slice.last tick.moment session
+    (end_on slice tick.moment caller.code
+    (done_of slice tick (touched_session tick.moment session) caller command))
 
 -- by the command; for an opening, the part brings the session that has its token
 abbrev pub decided_by : Slice → Tick → Command → Outcome

@@ -3,7 +3,7 @@
 ghost use Rattle.std.specs.Prelude.{◌≡◌, ◌++◌, ◌∷◌, [], Some, false, nat_le, IfOk, OnErr};
 ghost use Rattle.lab_records_kept.specs.Limits.{count_limit};
 ghost use Rattle.lab_records_kept.specs.Trails.{row_of};
-ghost use Rattle.lab_records_outcomes.specs.Deciding.{IsWritten, failure_changes, outcome, made_end, end_by, touch_changes};
+ghost use Rattle.lab_records_outcomes.specs.Deciding.{IsWritten, failure_changes, outcome, made_end, end_by, touch_changes, is_noted, noted_changes, noted_end};
 
 use crate::outcome::Outcome;
 use crate::telling::{deed_changes, failure_outcome, refusal_outcome};
@@ -15,18 +15,76 @@ use lab_records_machine::{Done, Reply, joined, pair, single};
 use lab_records_rules::Refusal;
 use std::alloc::Global;
 
-/// That a request came by the session at the moment. The only error is out of memory: two changes are made in any case.
+/// The end of a request by the session at the moment: that it came is noted before what else it
+/// changes. Where it changes nothing else, and laboratory and session have the moment already, there
+/// is no change. The only error is out of memory, where there is one.
 ///
 /// # Errors
 /// Memory ran out.
-pub fn touch_changes(
+pub fn noted_end(
+    alloc: Global,
+    last: Moment,
+    moment: Moment,
+    session: Session,
+    ended: Outcome,
+) -> Result<Outcome, OutOfMemory>
+    ensures noted { IfOk result (λ told. told ≡ noted_end last moment session ended) }
+    ensures memory { OnErr result (is_noted last moment session ended.changes ≡ false) }
+{
+    let Outcome { reply, changes } = ended;
+    match noted_changes(alloc, last, moment, session, changes) {
+        Ok(changes) => Ok(Outcome { reply, changes }),
+        Err(fault) => {
+            drop(reply);
+            Err(fault)
+        }
+    }
+}
+
+// The note of a request by the session, and then what else it changes; no change, where it is noted
+// already. The only error is out of memory, where it isn't.
+fn noted_changes(
+    alloc: Global,
+    last: Moment,
+    moment: Moment,
+    session: Session,
+    own: Series<Change>,
+) -> Result<Series<Change>, OutOfMemory>
+    ensures noted { IfOk result (λ changes. changes ≡ noted_changes last moment session own) }
+    ensures memory { OnErr result (is_noted last moment session own ≡ false) }
+{
+    if is_noted(last, moment, &session, &own) {
+        drop(session);
+        drop(own);
+        return Ok(Series::new(alloc));
+    }
+    match touch_changes(alloc, moment, session) {
+        Ok(before) => joined(before, own),
+        Err(fault) => {
+            drop(own);
+            Err(fault)
+        }
+    }
+}
+
+// Whether a request by the session is noted already: it changes nothing else, and laboratory and
+// session have the moment.
+fn is_noted(last: Moment, moment: Moment, session: &Session, own: &Series<Change>) -> bool
+    ensures { result ≡ is_noted last moment session.now own.now }
+{
+    own.as_slice().is_empty() && last == moment && session.last == moment
+}
+
+// That a request came by the session at the moment. The only error is out of memory: two changes are
+// made in any case.
+fn touch_changes(
     alloc: Global,
     moment: Moment,
-    session: &Session,
+    session: Session,
 ) -> Result<Series<Change>, OutOfMemory>
-    ensures { IfOk result (λ changes. changes ≡ touch_changes moment session.now) }
+    ensures { IfOk result (λ changes. changes ≡ touch_changes moment session) }
 {
-    let mut touched = session.copy()?;
+    let mut touched = session;
     touched.touch(moment);
     pair(alloc, Change::Last(moment), Change::SessionSet(touched))
 }
@@ -72,7 +130,7 @@ pub fn made_opening(
     own: Series<Change>,
 ) -> Result<Outcome, OutOfMemory>
     ensures made { IfOk result (λ outcome. outcome
-        ≡ made_end [] rows moment code.now reply deed (Change.Last moment ∷ own)) }
+        ≡ made_end rows moment code.now reply deed (Change.Last moment ∷ own)) }
     ensures memory { OnErr result (nat_le count_limit rows ≡ false) }
 {
     let Some(number) = next_number(rows) else {
@@ -83,10 +141,7 @@ pub fn made_opening(
         return Ok(refusal_outcome(Series::new(alloc), refusal));
     };
     match with_moment(alloc, moment, own) {
-        Ok(own) => {
-            let before = Series::new(alloc);
-            told_end(alloc, before, number, moment, code, reply, deed, own)
-        }
+        Ok(own) => told_end(alloc, number, moment, code, reply, deed, own),
         Err(fault) => {
             drop(reply);
             drop(deed);
@@ -112,42 +167,39 @@ fn with_moment(
     }
 }
 
-/// The end of a command in a session. The only error is out of memory, where something is written of it.
+/// The end of a command in a session, but for the note that its request came. The only error is out
+/// of memory, where something is written of it.
 ///
 /// # Errors
 /// Memory ran out.
 pub fn end(
     alloc: Global,
-    before: Series<Change>,
     rows: u64,
     strays: u64,
     moment: Moment,
     person: &PersonCode,
     done: Done,
 ) -> Result<Outcome, OutOfMemory>
-    ensures ended { IfOk result
-        (λ outcome. outcome ≡ end_by rows strays moment person.now before done) }
+    ensures ended { IfOk result (λ outcome. outcome ≡ end_by rows strays moment person.now done) }
     ensures memory { OnErr result (IsWritten rows done) }
 {
     match done {
-        Done::Refused(refusal) => Ok(refusal_outcome(before, refusal)),
+        Done::Refused(refusal) => Ok(refusal_outcome(Series::new(alloc), refusal)),
         Done::Failed(occasion, failure) => {
-            failure_outcome(alloc, before, rows, strays, moment, occasion, failure)
+            let own = Series::new(alloc);
+            failure_outcome(alloc, own, rows, strays, moment, occasion, failure)
         }
         Done::Read(reply) => Ok(Outcome {
             reply,
-            changes: before,
+            changes: Series::new(alloc),
         }),
-        Done::Made(reply, deed, own) => {
-            made_end(alloc, before, rows, moment, person, reply, deed, own)
-        }
+        Done::Made(reply, deed, own) => made_end(alloc, rows, moment, person, reply, deed, own),
     }
 }
 
 // Something is made: a full trail refuses last; else the deed is told. The only error is out of memory, where the trail has room.
 fn made_end(
     alloc: Global,
-    before: Series<Change>,
     rows: u64,
     moment: Moment,
     person: &PersonCode,
@@ -156,22 +208,22 @@ fn made_end(
     own: Series<Change>,
 ) -> Result<Outcome, OutOfMemory>
     ensures made { IfOk result (λ outcome. outcome
-        ≡ made_end before rows moment person.now reply deed own) }
+        ≡ made_end rows moment person.now reply deed own) }
     ensures memory { OnErr result (nat_le count_limit rows ≡ false) }
 {
     let Some(number) = next_number(rows) else {
         drop(reply);
         drop(deed);
         drop(own);
-        return Ok(refusal_outcome(before, Refusal::People(PeopleRefusal::LabFull)));
+        let full = Refusal::People(PeopleRefusal::LabFull);
+        return Ok(refusal_outcome(Series::new(alloc), full));
     };
-    told_end(alloc, before, number, moment, person, reply, deed, own)
+    told_end(alloc, number, moment, person, reply, deed, own)
 }
 
 // What was made is told, by the number that the trail gives it. The only error is out of memory: its row is made in any case.
 fn told_end(
     alloc: Global,
-    before: Series<Change>,
     number: Ordinal,
     moment: Moment,
     person: &PersonCode,
@@ -179,10 +231,10 @@ fn told_end(
     deed: Deed,
     own: Series<Change>,
 ) -> Result<Outcome, OutOfMemory>
-    ensures { IfOk result (λ made. made ≡ outcome reply (before ++ own
-        ++ Change.TrailAdded (row_of number moment (Some person.now) deed) ∷ [])) }
+    ensures { IfOk result (λ made. made ≡ outcome reply
+        (own ++ Change.TrailAdded (row_of number moment (Some person.now) deed) ∷ [])) }
 {
-    let changes = deed_changes(alloc, before, own, number, moment, person, &deed);
+    let changes = deed_changes(alloc, own, number, moment, person, &deed);
     drop(deed);
     match changes {
         Ok(changes) => Ok(Outcome { reply, changes }),

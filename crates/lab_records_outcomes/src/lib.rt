@@ -7,7 +7,7 @@ mod outcome;
 mod telling;
 mod trail_rows;
 
-pub use endings::{end, failed_opening, made_opening, touch_changes};
+pub use endings::{end, failed_opening, made_opening, noted_end};
 pub use outcome::Outcome;
 pub use telling::{deed_changes, failure_outcome, refusal_outcome};
 pub use trail_rows::next_number;

@@ -8,7 +8,7 @@ use crate::trail_rows::{fail, row_of};
 use lab_forms_texts::{Moment, Ordinal, OutOfMemory, PersonCode, Series};
 use lab_people_access::{Failure, PeopleRefusal};
 use lab_records_kept::{Change, Deed, Occasion};
-use lab_records_machine::{Reply, joined};
+use lab_records_machine::Reply;
 use lab_records_rules::Refusal;
 use std::alloc::Global;
 
@@ -51,18 +51,17 @@ pub fn failure_outcome(
 /// Memory ran out.
 pub fn deed_changes(
     alloc: Global,
-    before: Series<Change>,
     own: Series<Change>,
     number: Ordinal,
     moment: Moment,
     person: &PersonCode,
     deed: &Deed,
 ) -> Result<Series<Change>, OutOfMemory>
-    ensures { IfOk result (λ changes. changes ≡ before ++ own
-        ++ Change.TrailAdded (row_of number moment (Some person.now) deed.now) ∷ []) }
+    ensures { IfOk result (λ changes. changes
+        ≡ own ++ Change.TrailAdded (row_of number moment (Some person.now) deed.now) ∷ []) }
 {
     let row = row_of(alloc, number, moment, person, deed)?;
-    let mut changes = joined(before, own)?;
+    let mut changes = own;
     changes.push(Change::TrailAdded(row))?;
     Ok(changes)
 }
