@@ -1,5 +1,6 @@
 pub mod KnownValues
 pub mod Queries
+pub mod Unread
 pub mod Readers
 pub mod Loops
 pub mod Texts
@@ -9,4 +10,6 @@ pub mod Orders
 pub mod Keys
 pub mod Exact
 pub mod Finds
+pub mod Causes
+pub mod CodeCauses
 pub mod Found

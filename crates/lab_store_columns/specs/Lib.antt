@@ -1,3 +1,5 @@
+pub mod Causes
+pub mod Cells
 pub mod Faults
 pub mod Reads
 pub mod Shown

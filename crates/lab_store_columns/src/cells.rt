@@ -1,12 +1,18 @@
-//! One column of a row, as the type that stands in it. What is none of that type is a fault of the store.
+//! One column of a row, as the type that stands in it. What is none of that type is a fault of the store, and nothing else is;
+//! memory runs out for texts alone.
 
-ghost use Rattle.std.specs.Prelude.{◌≡◌, IfOk};
+ghost use Rattle.std.specs.Prelude.{◌≡◌, ◌&&◌, IfOk, IfErr, IsTrue, slice_get};
+ghost use Rattle.std.specs.Str.{is_utf8};
+ghost use Rattle.sqlite_value.specs.declared.value.Value.TheVariants.{Int, Text as StoredText, Blob};
 ghost use Rattle.sqlite_value.specs.Order.{column, bytes};
 ghost use Rattle.sqlite_value.specs.Value.{owned};
 ghost use Rattle.sqlite_rules.specs.Edit.{id_in};
-ghost use Rattle.lab_store_tables.specs.Rows.{number_in, flag_in, optional_in};
+ghost use Rattle.lab_forms_texts.specs.Moment.{is_moment};
+ghost use Rattle.lab_forms_texts.specs.Ordinals.{is_ordinal};
+ghost use Rattle.lab_store_tables.specs.Rows.{number, optional, number_in, flag_in, optional_in};
+ghost use Rattle.lab_store_columns.specs.Cells.{storage, is_id, is_number, is_small, is_text, is_digest, is_optional, stands, IsNotRead, IsNotMade};
 
-use crate::faults::{ReadFault, name_fault, read_fault};
+use crate::faults::{ReadFault, name_fault};
 use lab_forms_texts::{Moment, Ordinal, Rule, Text};
 use lab_records_kept::BadStore;
 use lab_seal_hashes::Digest;
@@ -17,39 +23,46 @@ use std::alloc::Global;
 /// What stands there.
 ///
 /// # Errors
-/// The store refused, or memory ran out.
+/// The row has no such column.
 pub fn cell_of(row: &Row, at: usize) -> Result<ValueRef<'_>, ReadFault>
-    ensures { IfOk result (λ value. owned value ≡ column row.now at) }
+    ensures value { IfOk result (λ value. owned value ≡ column row.now at) }
+    ensures shown { IfOk result (λ value. slice_get row.now at ≡ Some (owned value)) }
+    ensures fault { IfErr result (λ fault.
+        (slice_get row.now at ≡ None) × (fault ≡ storage)) }
 {
     match row.get_ref(at) {
         Ok(value) => Ok(value),
-        Err(error) => Err(read_fault(error)),
+        Err(_) => Err(ReadFault::Refused(BadStore)),
     }
 }
 
 /// An id.
 ///
 /// # Errors
-/// The store refused, a row is none that this program writes, or memory ran out.
+/// No id stands there.
 pub fn id_of(row: &Row, at: usize) -> Result<i64, ReadFault>
-    ensures { IfOk result (λ id. id ≡ id_in (column row.now at)) }
+    ensures value { IfOk result (λ id. id ≡ id_in (column row.now at)) }
+    ensures shown { IfOk result (λ id. slice_get row.now at ≡ Some (Int id)) }
+    ensures fault { IfErr result (IsNotRead (stands is_id row.now at)) }
 {
-    match row.get::<i64>(at) {
-        Ok(id) => Ok(id),
-        Err(error) => Err(read_fault(error)),
+    match cell_of(row, at)? {
+        ValueRef::Int(id) => Ok(id),
+        _ => Err(ReadFault::Refused(BadStore)),
     }
 }
 
 /// An id, or none.
 ///
 /// # Errors
-/// The store refused, a row is none that this program writes, or memory ran out.
+/// Neither NULL nor an id stands there.
 pub fn id_if(row: &Row, at: usize) -> Result<Option<i64>, ReadFault>
-    ensures { IfOk result (λ id. id ≡ optional_in id_in (column row.now at)) }
+    ensures value { IfOk result (λ id. id ≡ optional_in id_in (column row.now at)) }
+    ensures shown { IfOk result (λ id. slice_get row.now at ≡ Some (optional Int id)) }
+    ensures fault { IfErr result (IsNotRead (stands (is_optional is_id) row.now at)) }
 {
     match cell_of(row, at)? {
         ValueRef::Null => Ok(None),
-        ValueRef::Int(_) => Ok(Some(id_of(row, at)?)),
+        ValueRef::Int(id) => Ok(Some(id)),
         _ => Err(ReadFault::Refused(BadStore)),
     }
 }
@@ -57,22 +70,26 @@ pub fn id_if(row: &Row, at: usize) -> Result<Option<i64>, ReadFault>
 /// A number of at most 32 bits.
 ///
 /// # Errors
-/// The store refused, a row is none that this program writes, or memory ran out.
+/// No such number stands there.
 pub fn small_of(row: &Row, at: usize) -> Result<u32, ReadFault>
-    ensures { IfOk result (λ count. count ≡ number_in (column row.now at)) }
+    ensures value { IfOk result (λ count. count ≡ number_in (column row.now at)) }
+    ensures shown { IfOk result (λ count. slice_get row.now at ≡ Some (number count)) }
+    ensures fault { IfErr result (IsNotRead (stands (is_number is_small) row.now at)) }
 {
-    match row.get::<u32>(at) {
+    match u32::try_from(id_of(row, at)?) {
         Ok(count) => Ok(count),
-        Err(error) => Err(read_fault(error)),
+        Err(_) => Err(ReadFault::Refused(BadStore)),
     }
 }
 
 /// A number by which something is counted.
 ///
 /// # Errors
-/// The store refused, a row is none that this program writes, or memory ran out.
+/// No such number stands there.
 pub fn ordinal_of(row: &Row, at: usize) -> Result<Ordinal, ReadFault>
-    ensures { IfOk result (λ number. number ≡ number_in (column row.now at)) }
+    ensures value { IfOk result (λ number. number ≡ number_in (column row.now at)) }
+    ensures shown { IfOk result (λ count. slice_get row.now at ≡ Some (number count)) }
+    ensures fault { IfErr result (IsNotRead (stands (is_number is_ordinal) row.now at)) }
 {
     match Ordinal::new(small_of(row, at)?) {
         Some(number) => Ok(number),
@@ -83,9 +100,11 @@ pub fn ordinal_of(row: &Row, at: usize) -> Result<Ordinal, ReadFault>
 /// A moment.
 ///
 /// # Errors
-/// The store refused, a row is none that this program writes, or memory ran out.
+/// No moment stands there.
 pub fn moment_of(row: &Row, at: usize) -> Result<Moment, ReadFault>
-    ensures { IfOk result (λ moment. moment ≡ number_in (column row.now at)) }
+    ensures value { IfOk result (λ moment. moment ≡ number_in (column row.now at)) }
+    ensures shown { IfOk result (λ moment. slice_get row.now at ≡ Some (number moment)) }
+    ensures fault { IfErr result (IsNotRead (stands (is_number is_moment) row.now at)) }
 {
     match Moment::from_seconds(id_of(row, at)?) {
         Ok(moment) => Ok(moment),
@@ -95,7 +114,8 @@ pub fn moment_of(row: &Row, at: usize) -> Result<Moment, ReadFault>
 
 // The bytes of a text, which may be another one.
 fn parsed<R: Rule>(alloc: Global, text: &[u8]) -> Result<Text<R>, ReadFault>
-    ensures { IfOk result (λ read. read ≡ text.now) }
+    ensures value { IfOk result (λ read. read ≡ text.now) }
+    ensures fault { IfErr result (IsNotMade (is_utf8 text.now && R.admits text.now)) }
 {
     match std::str::from_utf8(text) {
         Ok(text) => match Text::<R>::parse(alloc, text) {
@@ -109,9 +129,11 @@ fn parsed<R: Rule>(alloc: Global, text: &[u8]) -> Result<Text<R>, ReadFault>
 /// A text that its rule admits.
 ///
 /// # Errors
-/// The store refused, a row is none that this program writes, or memory ran out.
+/// No such text stands there, or memory ran out for it.
 pub fn text_of<R: Rule>(alloc: Global, row: &Row, at: usize) -> Result<Text<R>, ReadFault>
-    ensures { IfOk result (λ text. text ≡ bytes (column row.now at)) }
+    ensures value { IfOk result (λ text. text ≡ bytes (column row.now at)) }
+    ensures shown { IfOk result (λ text. slice_get row.now at ≡ Some (StoredText text)) }
+    ensures fault { IfErr result (IsNotMade (stands (is_text R.admits) row.now at)) }
 {
     match cell_of(row, at)? {
         ValueRef::Text(text) => parsed(alloc, text),
@@ -122,9 +144,11 @@ pub fn text_of<R: Rule>(alloc: Global, row: &Row, at: usize) -> Result<Text<R>, 
 /// Yes or no.
 ///
 /// # Errors
-/// The store refused, a row is none that this program writes, or memory ran out.
+/// No number of at most 32 bits stands there.
 pub fn flag_of(row: &Row, at: usize) -> Result<bool, ReadFault>
-    ensures { IfOk result (λ flag. flag ≡ flag_in (column row.now at)) }
+    ensures value { IfOk result (λ flag. flag ≡ flag_in (column row.now at)) }
+    ensures shown { IfOk result (λ _. IsTrue (stands (is_number is_small) row.now at)) }
+    ensures fault { IfErr result (IsNotRead (stands (is_number is_small) row.now at)) }
 {
     Ok(small_of(row, at)? != 0)
 }
@@ -132,9 +156,12 @@ pub fn flag_of(row: &Row, at: usize) -> Result<bool, ReadFault>
 /// A number of at most 32 bits, or none.
 ///
 /// # Errors
-/// The store refused, a row is none that this program writes, or memory ran out.
+/// Neither NULL nor such a number stands there.
 pub fn small_if(row: &Row, at: usize) -> Result<Option<u32>, ReadFault>
-    ensures { IfOk result (λ count. count ≡ optional_in number_in (column row.now at)) }
+    ensures value { IfOk result (λ count. count ≡ optional_in number_in (column row.now at)) }
+    ensures shown { IfOk result (λ count. slice_get row.now at ≡ Some (optional number count)) }
+    ensures fault { IfErr result
+        (IsNotRead (stands (is_optional (is_number is_small)) row.now at)) }
 {
     match cell_of(row, at)? {
         ValueRef::Null => Ok(None),
@@ -146,9 +173,11 @@ pub fn small_if(row: &Row, at: usize) -> Result<Option<u32>, ReadFault>
 /// A text that its rule admits, or none.
 ///
 /// # Errors
-/// The store refused, a row is none that this program writes, or memory ran out.
+/// Neither NULL nor such a text stands there, or memory ran out for it.
 pub fn text_if<R: Rule>(alloc: Global, row: &Row, at: usize) -> Result<Option<Text<R>>, ReadFault>
-    ensures { IfOk result (λ text. text ≡ optional_in bytes (column row.now at)) }
+    ensures value { IfOk result (λ text. text ≡ optional_in bytes (column row.now at)) }
+    ensures shown { IfOk result (λ text. slice_get row.now at ≡ Some (optional StoredText text)) }
+    ensures fault { IfErr result (IsNotMade (stands (is_optional (is_text R.admits)) row.now at)) }
 {
     match cell_of(row, at)? {
         ValueRef::Null => Ok(None),
@@ -160,9 +189,11 @@ pub fn text_if<R: Rule>(alloc: Global, row: &Row, at: usize) -> Result<Option<Te
 /// A digest of 32 bytes.
 ///
 /// # Errors
-/// The store refused, a row is none that this program writes, or memory ran out.
+/// No 32 bytes stand there.
 pub fn digest_of(row: &Row, at: usize) -> Result<Digest, ReadFault>
-    ensures { IfOk result (λ digest. digest ≡ bytes (column row.now at)) }
+    ensures value { IfOk result (λ digest. digest ≡ bytes (column row.now at)) }
+    ensures shown { IfOk result (λ digest. slice_get row.now at ≡ Some (Blob digest)) }
+    ensures fault { IfErr result (IsNotRead (stands is_digest row.now at)) }
 {
     match cell_of(row, at)? {
         ValueRef::Blob(blob) => match <[u8; 32]>::try_from(blob) {

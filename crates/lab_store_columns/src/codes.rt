@@ -1,9 +1,12 @@
 //! Codes of persons, by the ids of their rows.
 
-ghost use Rattle.std.specs.Prelude.{◌≡◌, Some, option_map, slice_get, IfOk};
+ghost use Rattle.std.specs.Prelude.{◌≡◌, Some, option_map, slice_get, IfOk, IfErr, IsTrue, true};
+ghost use Rattle.std.specs.Option.{option_map_or};
 ghost use Rattle.lab_store_tables.specs.Meaning.{code_of};
+ghost use Rattle.lab_store_columns.specs.Causes.{HasItsCause};
+ghost use Rattle.lab_store_columns.specs.Cells.{IsNotMade};
 ghost use Rattle.lab_store_columns.specs.Reads.{Reads, MayRead};
-ghost use Rattle.lab_store_columns.specs.Shown.{codes_shown, code_read};
+ghost use Rattle.lab_store_columns.specs.Shown.{codes_shown, code_read, shows_code};
 
 use crate::asking::rows_by_one;
 use crate::cells::text_of;
@@ -16,15 +19,18 @@ use std::alloc::Global;
 
 // The code of the person with the id, as a row.
 fn code_rows<D: Readable>(conn: &mut D, id: i64) -> Result<Vec<Row>, ReadFault>
-    ensures { Reads (λ t rows. rows.items ≡ codes_shown t id)
+    ensures reads { Reads (λ t rows. rows.items ≡ codes_shown t id)
         (D.state conn.old) (D.state conn.new) result }
+    ensures cause { HasItsCause (λ t. Unit {0}) (D.state conn.old) (D.state conn.new) result }
 {
     rows_by_one(conn, "SELECT code FROM persons WHERE id = ?1", id)
 }
 
 // The code that the first row shows. That there is no row is a fault of the store.
 fn first_code(alloc: Global, rows: &[Row]) -> Result<PersonCode, ReadFault>
-    ensures { IfOk result (λ code. Some code ≡ option_map code_read (slice_get rows.now 0)) }
+    ensures value { IfOk result (λ code.
+        Some code ≡ option_map code_read (slice_get rows.now 0)) }
+    ensures fault { IfErr result (IsNotMade (shows_code rows.now)) }
 {
     match rows.first() {
         Some(row) => text_of(alloc, row, 0),
@@ -37,7 +43,10 @@ fn first_code(alloc: Global, rows: &[Row]) -> Result<PersonCode, ReadFault>
 /// # Errors
 /// The store refused, a row is none that this program writes, or memory ran out.
 pub fn code_at<D: Readable>(alloc: Global, conn: &mut D, id: i64) -> Result<PersonCode, ReadFault>
-    ensures { Reads (λ t code. code ≡ code_of t id) (D.state conn.old) (D.state conn.new) result }
+    ensures reads { Reads (λ t code. code ≡ code_of t id)
+        (D.state conn.old) (D.state conn.new) result }
+    ensures cause { HasItsCause (λ t. IsTrue (shows_code (codes_shown t id)))
+        (D.state conn.old) (D.state conn.new) result }
 {
     let rows = code_rows(conn, id)?;
     first_code(alloc, &rows)
@@ -52,7 +61,10 @@ pub fn code_if<D: Readable>(
     conn: &mut D,
     id: Option<i64>,
 ) -> Result<Option<PersonCode>, ReadFault>
-    ensures { MayRead (λ t code. code ≡ option_map (code_of t) id)
+    ensures reads { MayRead (λ t code. code ≡ option_map (code_of t) id)
+        (D.state conn.old) (D.state conn.new) result }
+    ensures cause { HasItsCause
+        (λ t. IsTrue (option_map_or (λ one. shows_code (codes_shown t one)) id true))
         (D.state conn.old) (D.state conn.new) result }
 {
     match id {

@@ -1,10 +1,13 @@
+pub mod Below
 pub mod ByCodeExact
 pub mod ByCodeKeys
 pub mod ByCodeTexts
+pub mod Causes
 pub mod Exact
 pub mod FiledFound
 pub mod FormsByCodeFound
 pub mod FormsFound
+pub mod FormsMade
 pub mod Keys
 pub mod KindKeys
 pub mod KindTexts
@@ -14,3 +17,4 @@ pub mod KnownForms
 pub mod KnownLookups
 pub mod Lists
 pub mod Texts
+pub mod Values

@@ -1,8 +1,11 @@
-//! One column of a row, as the type that stands in it. What is none of that type is a fault of the store.
+//! One column of a row, as the type that stands in it. What is none of that type is a fault of the store, and nothing else is.
 
-ghost use Rattle.std.specs.Prelude.{◌≡◌, IfOk};
+ghost use Rattle.std.specs.Prelude.{◌≡◌, IfOk, IfErr};
 ghost use Rattle.sqlite_value.specs.Order.{column, bytes};
+ghost use Rattle.sqlite_value.specs.declared.value.Value.TheVariants.{Text as StoredText};
 ghost use Rattle.lab_store_tables.specs.Rows.{optional_in};
+ghost use Rattle.lab_store_columns.specs.Cells.{is_text, is_optional, stands, IsNotMade};
+ghost use Rattle.lab_store_read_forms.specs.Readable.{is_any};
 
 use lab_forms::Bound;
 use lab_store_columns::cells::cell_of;
@@ -13,7 +16,8 @@ use std::alloc::Global;
 
 // The bytes of a text, which may be a bound.
 fn bound_of(alloc: Global, text: &[u8]) -> Result<Bound, ReadFault>
-    ensures { IfOk result (λ bound. bound ≡ text.now) }
+    ensures value { IfOk result (λ bound. bound ≡ text.now) }
+    ensures fault { IfErr result (IsNotMade (is_text is_any (StoredText text.now))) }
 {
     match std::str::from_utf8(text) {
         Ok(text) => Ok(Bound::new(String::from_str(alloc, text)?)),
@@ -24,9 +28,10 @@ fn bound_of(alloc: Global, text: &[u8]) -> Result<Bound, ReadFault>
 /// The least or the greatest amount of a number, or none.
 ///
 /// # Errors
-/// The store refused, a row is none that this program writes, or memory ran out.
+/// Neither NULL nor a text stands there, or memory ran out for it.
 pub(crate) fn bound_if(alloc: Global, row: &Row, at: usize) -> Result<Option<Bound>, ReadFault>
-    ensures { IfOk result (λ bound. bound ≡ optional_in bytes (column row.now at)) }
+    ensures value { IfOk result (λ bound. bound ≡ optional_in bytes (column row.now at)) }
+    ensures fault { IfErr result (IsNotMade (stands (is_optional (is_text is_any)) row.now at)) }
 {
     match cell_of(row, at)? {
         ValueRef::Null => Ok(None),

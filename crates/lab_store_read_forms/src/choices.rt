@@ -1,9 +1,12 @@
 //! Names among which a value is chosen.
 
-ghost use Rattle.std.specs.Prelude.{◌≡◌, [], map, IfOk, if◌then◌else◌};
+ghost use Rattle.std.specs.Prelude.{◌≡◌, [], map, All, IfOk, IfErr, if◌then◌else◌};
 ghost use Rattle.lab_store_tables.specs.Meaning.{names_of};
+ghost use Rattle.lab_store_columns.specs.Causes.{HasItsCause};
+ghost use Rattle.lab_store_columns.specs.Cells.{storage};
 ghost use Rattle.lab_store_columns.specs.Reads.{Reads, MayRead};
 ghost use Rattle.lab_store_read_forms.specs.KindsShown.{names_shown, name_read};
+ghost use Rattle.lab_store_read_forms.specs.Readable.{HasName, HasNames};
 
 use lab_forms_texts::Name;
 use lab_store_columns::asking::rows_by_one;
@@ -14,8 +17,9 @@ use std::alloc::Global;
 
 // The names of the choice with the id, in the order of their places.
 fn name_rows<D: Readable>(conn: &mut D, field: i64) -> Result<Vec<Row>, ReadFault>
-    ensures { Reads (λ t rows. rows.items ≡ names_shown t field)
+    ensures reads { Reads (λ t rows. rows.items ≡ names_shown t field)
         (D.state conn.old) (D.state conn.new) result }
+    ensures cause { HasItsCause (λ t. Unit {0}) (D.state conn.old) (D.state conn.new) result }
 {
     rows_by_one(
         conn,
@@ -26,7 +30,8 @@ fn name_rows<D: Readable>(conn: &mut D, field: i64) -> Result<Vec<Row>, ReadFaul
 
 // The names that rows show.
 fn names_of_rows(alloc: Global, rows: &[Row]) -> Result<Vec<Name>, ReadFault>
-    ensures { IfOk result (λ made. made.items ≡ map name_read rows.now) }
+    ensures value { IfOk result (λ made. made.items ≡ map name_read rows.now) }
+    ensures fault { IfErr result (λ fault. fault ≡ storage → ¬ All HasName rows.now) }
 {
     let mut made = Vec::new(alloc);
     for row in rows {
@@ -44,7 +49,9 @@ pub fn names_at<D: Readable>(
     conn: &mut D,
     field: i64,
 ) -> Result<Vec<Name>, ReadFault>
-    ensures { Reads (λ t made. made.items ≡ names_of t field)
+    ensures reads { Reads (λ t made. made.items ≡ names_of t field)
+        (D.state conn.old) (D.state conn.new) result }
+    ensures cause { HasItsCause (λ t. All HasName (names_shown t field))
         (D.state conn.old) (D.state conn.new) result }
 {
     let rows = name_rows(conn, field)?;
@@ -61,7 +68,9 @@ pub fn names_if<D: Readable>(
     field: i64,
     wanted: bool,
 ) -> Result<Vec<Name>, ReadFault>
-    ensures { MayRead (λ t made. made.items ≡ (if wanted then names_of t field else []))
+    ensures reads { MayRead (λ t made. made.items ≡ (if wanted then names_of t field else []))
+        (D.state conn.old) (D.state conn.new) result }
+    ensures cause { HasItsCause (λ t. HasNames t field wanted)
         (D.state conn.old) (D.state conn.new) result }
 {
     if !wanted {

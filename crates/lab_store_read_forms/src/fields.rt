@@ -1,10 +1,15 @@
 //! The fields of a version of a form, with their choices.
 
-ghost use Rattle.std.specs.Prelude.{◌≡◌, [], ◌∷◌, ◌++◌, map, IfOk};
+ghost use Rattle.std.specs.Prelude.{◌≡◌, [], ◌∷◌, ◌++◌, map, All, IfOk, IfErr};
 ghost use Rattle.lab_store_tables.specs.Meaning.{fields_of};
+ghost use Rattle.lab_store_columns.specs.Causes.{HasItsCause};
+ghost use Rattle.lab_store_columns.specs.Cells.{storage};
 ghost use Rattle.lab_store_columns.specs.Reads.{Reads, MayRead};
 ghost use Rattle.lab_store_read_forms.specs.Forms.{field_heads_of, field_by};
+ghost use Rattle.lab_store_read_forms.specs.Readable.{HasField, HasWholeField, HasNames};
 ghost use Rattle.lab_store_read_forms.specs.Shown.{fields_shown, field_read};
+ghost use Rattle.lab_store_read_forms.specs.Kinds.{is_choice};
+ghost use Rattle.lab_store_read_forms.specs.declared.heads.FieldHead.{FieldHead};
 
 use crate::choices::names_if;
 use crate::heads::FieldHead;
@@ -18,8 +23,9 @@ use std::alloc::Global;
 
 // The fields of the version of a form with the id, in the order of their places.
 fn field_rows<D: Readable>(conn: &mut D, form: i64) -> Result<Vec<Row>, ReadFault>
-    ensures { Reads (λ t rows. rows.items ≡ fields_shown t form)
+    ensures reads { Reads (λ t rows. rows.items ≡ fields_shown t form)
         (D.state conn.old) (D.state conn.new) result }
+    ensures cause { HasItsCause (λ t. Unit {0}) (D.state conn.old) (D.state conn.new) result }
 {
     rows_by_one(
         conn,
@@ -30,7 +36,8 @@ fn field_rows<D: Readable>(conn: &mut D, form: i64) -> Result<Vec<Row>, ReadFaul
 
 // The field that a row shows.
 fn field_of_row(alloc: Global, row: &Row) -> Result<FieldHead, ReadFault>
-    ensures { IfOk result (λ field. field ≡ field_read row.now) }
+    ensures value { IfOk result (λ field. field ≡ field_read row.now) }
+    ensures fault { IfErr result (λ fault. fault ≡ storage → ¬ HasField row.now) }
 {
     let id = id_of(row, 0)?;
     let required = flag_of(row, 3)?;
@@ -48,7 +55,8 @@ fn field_of_row(alloc: Global, row: &Row) -> Result<FieldHead, ReadFault>
 
 // The fields that rows show.
 fn fields_of_rows(alloc: Global, rows: &[Row]) -> Result<Vec<FieldHead>, ReadFault>
-    ensures { IfOk result (λ made. made.items ≡ map field_read rows.now) }
+    ensures value { IfOk result (λ made. made.items ≡ map field_read rows.now) }
+    ensures fault { IfErr result (λ fault. fault ≡ storage → ¬ All HasField rows.now) }
 {
     let mut made = Vec::new(alloc);
     for row in rows {
@@ -63,7 +71,9 @@ fn field_heads_at<D: Readable>(
     conn: &mut D,
     form: i64,
 ) -> Result<Vec<FieldHead>, ReadFault>
-    ensures { Reads (λ t made. made.items ≡ field_heads_of t form)
+    ensures reads { Reads (λ t made. made.items ≡ field_heads_of t form)
+        (D.state conn.old) (D.state conn.new) result }
+    ensures cause { HasItsCause (λ t. All HasField (fields_shown t form))
         (D.state conn.old) (D.state conn.new) result }
 {
     let rows = field_rows(conn, form)?;
@@ -76,7 +86,9 @@ fn field_whole<D: Readable>(
     conn: &mut D,
     head: FieldHead,
 ) -> Result<Field, ReadFault>
-    ensures { MayRead (λ t field. field ≡ field_by t head)
+    ensures reads { MayRead (λ t field. field ≡ field_by t head)
+        (D.state conn.old) (D.state conn.new) result }
+    ensures cause { HasItsCause (λ t. HasNames t head.id (is_choice head.kind))
         (D.state conn.old) (D.state conn.new) result }
 {
     let names = names_if(alloc, conn, head.id, is_choice(&head.kind))?;
@@ -95,7 +107,9 @@ fn add_field<D: Readable>(
     made: &mut Vec<Field>,
     head: FieldHead,
 ) -> Result<(), ReadFault>
-    ensures { MayRead (λ t _. made.new.items ≡ made.old.items ++ field_by t head ∷ [])
+    ensures reads { MayRead (λ t _. made.new.items ≡ made.old.items ++ field_by t head ∷ [])
+        (D.state conn.old) (D.state conn.new) result }
+    ensures cause { HasItsCause (λ t. HasNames t head.id (is_choice head.kind))
         (D.state conn.old) (D.state conn.new) result }
 {
     let field = field_whole(alloc, conn, head)?;
@@ -110,7 +124,10 @@ fn add_fields<D: Readable>(
     made: &mut Vec<Field>,
     heads: Vec<FieldHead>,
 ) -> Result<(), ReadFault>
-    ensures { MayRead (λ t _. made.new.items ≡ made.old.items ++ map (field_by t) heads.items)
+    ensures reads { MayRead (λ t _. made.new.items ≡ made.old.items ++ map (field_by t) heads.items)
+        (D.state conn.old) (D.state conn.new) result }
+    ensures cause { HasItsCause (λ t. All (λ (head : FieldHead).
+        HasNames t head.id (is_choice head.kind)) heads.items)
         (D.state conn.old) (D.state conn.new) result }
 {
     for head in heads {
@@ -128,7 +145,9 @@ pub fn fields_at<D: Readable>(
     conn: &mut D,
     form: i64,
 ) -> Result<Vec<Field>, ReadFault>
-    ensures { Reads (λ t made. made.items ≡ fields_of t form)
+    ensures reads { Reads (λ t made. made.items ≡ fields_of t form)
+        (D.state conn.old) (D.state conn.new) result }
+    ensures cause { HasItsCause (λ t. All (HasWholeField t) (fields_shown t form))
         (D.state conn.old) (D.state conn.new) result }
 {
     let heads = field_heads_at(alloc, conn, form)?;

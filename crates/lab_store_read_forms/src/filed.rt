@@ -1,10 +1,14 @@
 //! Records, whole, by what a request names.
 
-ghost use Rattle.std.specs.Prelude.{◌≡◌, [], ◌∷◌, ◌++◌, map, option_map};
+ghost use Rattle.std.specs.Prelude.{◌≡◌, [], ◌∷◌, ◌++◌, map, option_map, All, IfSome};
 ghost use Rattle.lab_records_kept.specs.Lookups.{record_of, record_about};
 ghost use Rattle.lab_records_kept.specs.Lookups.{records_within};
 ghost use Rattle.lab_store_tables.specs.Meaning.{records_of};
+ghost use Rattle.lab_store_columns.specs.Causes.{HasItsCause, HasFirst};
 ghost use Rattle.lab_store_columns.specs.Reads.{Reads, MayRead};
+ghost use Rattle.lab_store_read_records.specs.Retrieved.{abouts_shown, within_shown};
+ghost use Rattle.lab_store_read_records.specs.Shown.{records_shown};
+ghost use Rattle.lab_store_read_forms.specs.Readable.{HasParts, HasWholeRecord};
 ghost use Rattle.lab_store_read_forms.specs.Wholes.{record_by};
 
 use crate::wholes::record_whole;
@@ -21,7 +25,9 @@ fn record_if<D: Readable>(
     code: &LabCode,
     head: Option<RecordHead>,
 ) -> Result<Option<Record>, ReadFault>
-    ensures { MayRead (λ t kept. kept ≡ option_map (record_by t code.now) head)
+    ensures reads { MayRead (λ t kept. kept ≡ option_map (record_by t code.now) head)
+        (D.state conn.old) (D.state conn.new) result }
+    ensures cause { HasItsCause (λ t. IfSome head (HasParts t))
         (D.state conn.old) (D.state conn.new) result }
 {
     match head {
@@ -44,7 +50,9 @@ pub fn numbered_at<D: Readable>(
     lab: i64,
     number: Ordinal,
 ) -> Result<Option<Record>, ReadFault>
-    ensures { Reads (λ t kept. kept ≡ record_of (records_of t code.now lab) number)
+    ensures reads { Reads (λ t kept. kept ≡ record_of (records_of t code.now lab) number)
+        (D.state conn.old) (D.state conn.new) result }
+    ensures cause { HasItsCause (λ t. HasFirst (HasWholeRecord t) (records_shown t lab number))
         (D.state conn.old) (D.state conn.new) result }
 {
     let head = record_at(alloc, conn, lab, number)?;
@@ -63,7 +71,11 @@ pub fn about_at<D: Readable>(
     form: &Key,
     sample: &Name,
 ) -> Result<Option<Record>, ReadFault>
-    ensures { Reads (λ t kept. kept ≡ record_about (records_of t code.now lab) form.now sample.now)
+    ensures reads { Reads (λ t kept. kept
+        ≡ record_about (records_of t code.now lab) form.now sample.now)
+        (D.state conn.old) (D.state conn.new) result }
+    ensures cause { HasItsCause
+        (λ t. HasFirst (HasWholeRecord t) (abouts_shown t lab form.now sample.now))
         (D.state conn.old) (D.state conn.new) result }
 {
     let head = record_about(alloc, conn, lab, form, sample)?;
@@ -78,7 +90,9 @@ fn add_record<D: Readable>(
     made: &mut Vec<Record>,
     head: RecordHead,
 ) -> Result<(), ReadFault>
-    ensures { Reads (λ t _. made.new.items ≡ made.old.items ++ record_by t code.now head ∷ [])
+    ensures reads { Reads (λ t _. made.new.items ≡ made.old.items ++ record_by t code.now head ∷ [])
+        (D.state conn.old) (D.state conn.new) result }
+    ensures cause { HasItsCause (λ t. HasParts t head)
         (D.state conn.old) (D.state conn.new) result }
 {
     let kept = record_whole(alloc, conn, code, head)?;
@@ -94,8 +108,10 @@ fn add_records<D: Readable>(
     made: &mut Vec<Record>,
     heads: Vec<RecordHead>,
 ) -> Result<(), ReadFault>
-    ensures { MayRead (λ t _. made.new.items
+    ensures reads { MayRead (λ t _. made.new.items
         ≡ made.old.items ++ map (record_by t code.now) heads.items)
+        (D.state conn.old) (D.state conn.new) result }
+    ensures cause { HasItsCause (λ t. All (HasParts t) heads.items)
         (D.state conn.old) (D.state conn.new) result }
 {
     for head in heads {
@@ -117,7 +133,10 @@ pub fn filed_within<D: Readable>(
     from: Ordinal,
     to: Ordinal,
 ) -> Result<Vec<Record>, ReadFault>
-    ensures { Reads (λ t made. made.items ≡ records_within from to (records_of t code.now lab))
+    ensures reads { Reads (λ t made. made.items
+        ≡ records_within from to (records_of t code.now lab))
+        (D.state conn.old) (D.state conn.new) result }
+    ensures cause { HasItsCause (λ t. All (HasWholeRecord t) (within_shown t lab from to))
         (D.state conn.old) (D.state conn.new) result }
 {
     let heads = records_within(alloc, conn, lab, from, to)?;

@@ -1,11 +1,15 @@
 //! Versions of forms, with their fields.
 
-ghost use Rattle.std.specs.Prelude.{◌≡◌, option_map, slice_get, IfOk, IfSome};
+ghost use Rattle.std.specs.Prelude.{◌≡◌, option_map, slice_get, IfOk, IfErr, IsTrue};
 ghost use Rattle.sqlite_keyed.specs.Keyed.{get_by};
 ghost use Rattle.lab_store_tables.specs.Rows.{form_id};
 ghost use Rattle.lab_store_tables.specs.Meaning.{form_at};
+ghost use Rattle.lab_store_columns.specs.Causes.{HasItsCause, HasFirst};
+ghost use Rattle.lab_store_columns.specs.Cells.{storage};
 ghost use Rattle.lab_store_columns.specs.Reads.{Reads};
+ghost use Rattle.lab_forms.specs.Forms.{is_form};
 ghost use Rattle.lab_store_read_forms.specs.Forms.{form_head, form_by};
+ghost use Rattle.lab_store_read_forms.specs.Readable.{HasForm, HasFields, HasFormAt};
 ghost use Rattle.lab_store_read_forms.specs.Shown.{forms_shown, form_read};
 
 use crate::fields::fields_at;
@@ -20,8 +24,9 @@ use std::alloc::Global;
 
 // The row of the version of a form with the id.
 fn form_rows<D: Readable>(conn: &mut D, id: i64) -> Result<Vec<Row>, ReadFault>
-    ensures { Reads (λ t rows. rows.items ≡ forms_shown t id)
+    ensures reads { Reads (λ t rows. rows.items ≡ forms_shown t id)
         (D.state conn.old) (D.state conn.new) result }
+    ensures cause { HasItsCause (λ t. Unit {0}) (D.state conn.old) (D.state conn.new) result }
 {
     rows_by_one(
         conn,
@@ -35,7 +40,8 @@ fn form_rows<D: Readable>(conn: &mut D, id: i64) -> Result<Vec<Row>, ReadFault>
 /// # Errors
 /// The store refused, a row is none that this program writes, or memory ran out.
 pub fn form_of_row(alloc: Global, row: &Row) -> Result<FormHead, ReadFault>
-    ensures { IfOk result (λ form. form ≡ form_read row.now) }
+    ensures value { IfOk result (λ form. form ≡ form_read row.now) }
+    ensures fault { IfErr result (λ fault. fault ≡ storage → ¬ HasForm row.now) }
 {
     let id = id_of(row, 0)?;
     let version = ordinal_of(row, 2)?;
@@ -54,7 +60,8 @@ pub fn form_of_row(alloc: Global, row: &Row) -> Result<FormHead, ReadFault>
 /// # Errors
 /// The store refused, a row is none that this program writes, or memory ran out.
 pub fn first_form(alloc: Global, rows: &[Row]) -> Result<Option<FormHead>, ReadFault>
-    ensures { IfOk result (λ form. form ≡ option_map form_read (slice_get rows.now 0)) }
+    ensures value { IfOk result (λ form. form ≡ option_map form_read (slice_get rows.now 0)) }
+    ensures fault { IfErr result (λ fault. fault ≡ storage → ¬ HasFirst HasForm rows.now) }
 {
     match rows.first() {
         Some(row) => Ok(Some(form_of_row(alloc, row)?)),
@@ -68,21 +75,24 @@ fn form_head_at<D: Readable>(
     conn: &mut D,
     id: i64,
 ) -> Result<Option<FormHead>, ReadFault>
-    ensures { Reads (λ t form. form ≡ option_map form_head (get_by form_id t.forms id))
+    ensures reads { Reads (λ t form. form ≡ option_map form_head (get_by form_id t.forms id))
+        (D.state conn.old) (D.state conn.new) result }
+    ensures cause { HasItsCause (λ t. HasFirst HasForm (forms_shown t id))
         (D.state conn.old) (D.state conn.new) result }
 {
     let rows = form_rows(conn, id)?;
     first_form(alloc, &rows)
 }
 
-// The form of the fields. There may be none.
-fn form_made(fields: Vec<Field>, approval: bool) -> Option<Form>
-    ensures { IfSome result
+// The form of the fields. That they make none is a fault of the store.
+fn form_made(fields: Vec<Field>, approval: bool) -> Result<Form, ReadFault>
+    ensures value { IfOk result
         (λ form. form ≡ record { fields = fields.items; approval = approval }) }
+    ensures fault { IfErr result (λ fault. fault ≡ storage → ¬ IsTrue (is_form fields.items)) }
 {
     match Form::make(fields, approval) {
-        Ok(form) => Some(form),
-        Err(_) => None,
+        Ok(form) => Ok(form),
+        Err(_) => Err(ReadFault::Refused(BadStore)),
     }
 }
 
@@ -95,10 +105,13 @@ pub fn form_whole<D: Readable>(
     conn: &mut D,
     head: FormHead,
 ) -> Result<FormVersion, ReadFault>
-    ensures { Reads (λ t form. form ≡ form_by t head) (D.state conn.old) (D.state conn.new) result }
+    ensures reads { Reads (λ t form. form ≡ form_by t head)
+        (D.state conn.old) (D.state conn.new) result }
+    ensures cause { HasItsCause (λ t. HasFields t head.id)
+        (D.state conn.old) (D.state conn.new) result }
 {
     let fields = fields_at(alloc, conn, head.id)?;
-    let form = form_made(fields, head.approval).ok_or(ReadFault::Refused(BadStore))?;
+    let form = form_made(fields, head.approval)?;
     Ok(FormVersion {
         code: head.code,
         version: head.version,
@@ -111,7 +124,9 @@ pub fn form_whole<D: Readable>(
 /// # Errors
 /// The store refused, a row is none that this program writes, or memory ran out.
 pub fn form_at<D: Readable>(alloc: Global, conn: &mut D, id: i64) -> Result<FormVersion, ReadFault>
-    ensures { Reads (λ t form. form ≡ form_at t id) (D.state conn.old) (D.state conn.new) result }
+    ensures reads { Reads (λ t form. form ≡ form_at t id)
+        (D.state conn.old) (D.state conn.new) result }
+    ensures cause { HasItsCause (λ t. HasFormAt t id) (D.state conn.old) (D.state conn.new) result }
 {
     let Some(head) = form_head_at(alloc, conn, id)? else {
         return Err(ReadFault::Refused(BadStore));

@@ -1,11 +1,15 @@
 //! Versions of forms, by the codes of the forms.
 
-ghost use Rattle.std.specs.Prelude.{◌≡◌, option_map, IfOk};
+ghost use Rattle.std.specs.Prelude.{◌≡◌, option_map, IfOk, IfErr, IfSome};
 ghost use Rattle.lab_records_kept.specs.Lookups.{last_of, last_form, exact_form};
 ghost use Rattle.lab_store_tables.specs.Meaning.{forms_of};
+ghost use Rattle.lab_store_columns.specs.Causes.{HasItsCause, HasFirst};
+ghost use Rattle.lab_store_columns.specs.Cells.{storage};
 ghost use Rattle.lab_store_columns.specs.Reads.{Reads, MayRead};
 ghost use Rattle.lab_store_read_forms.specs.Forms.{form_by};
+ghost use Rattle.lab_store_read_forms.specs.Readable.{HasForm, HasFields, HasWholeForm};
 ghost use Rattle.lab_store_read_forms.specs.Shown.{form_read};
+ghost use Rattle.lab_store_read_forms.specs.declared.heads.FormHead.{FormHead};
 ghost use Rattle.lab_store_read_forms.specs.FormsByCode.{exact_shown, form_versions_shown};
 
 use crate::asking::rows_by_version;
@@ -24,8 +28,9 @@ fn exact_rows<D: Readable>(
     code: &str,
     version: u32,
 ) -> Result<Vec<Row>, ReadFault>
-    ensures { Reads (λ t rows. rows.items ≡ exact_shown t lab code.now version)
+    ensures reads { Reads (λ t rows. rows.items ≡ exact_shown t lab code.now version)
         (D.state conn.old) (D.state conn.new) result }
+    ensures cause { HasItsCause (λ t. Unit {0}) (D.state conn.old) (D.state conn.new) result }
 {
     rows_by_version(
         conn,
@@ -38,8 +43,9 @@ fn exact_rows<D: Readable>(
 
 // The rows of the versions of the form, in the laboratory with the id, in the order of their numbers.
 fn form_version_rows<D: Readable>(conn: &mut D, lab: i64, code: &str) -> Result<Vec<Row>, ReadFault>
-    ensures { Reads (λ t rows. rows.items ≡ form_versions_shown t lab code.now)
+    ensures reads { Reads (λ t rows. rows.items ≡ form_versions_shown t lab code.now)
         (D.state conn.old) (D.state conn.new) result }
+    ensures cause { HasItsCause (λ t. Unit {0}) (D.state conn.old) (D.state conn.new) result }
 {
     rows_by_code(
         conn,
@@ -51,7 +57,8 @@ fn form_version_rows<D: Readable>(conn: &mut D, lab: i64, code: &str) -> Result<
 
 // The version of a form that the last row shows.
 fn last_form_of(alloc: Global, rows: &[Row]) -> Result<Option<FormHead>, ReadFault>
-    ensures { IfOk result (λ form. form ≡ option_map form_read (last_of rows.now)) }
+    ensures value { IfOk result (λ form. form ≡ option_map form_read (last_of rows.now)) }
+    ensures fault { IfErr result (λ fault. fault ≡ storage → ¬ IfSome (last_of rows.now) HasForm) }
 {
     match rows.last() {
         Some(row) => Ok(Some(form_of_row(alloc, row)?)),
@@ -65,7 +72,9 @@ fn form_if<D: Readable>(
     conn: &mut D,
     head: Option<FormHead>,
 ) -> Result<Option<FormVersion>, ReadFault>
-    ensures { MayRead (λ t form. form ≡ option_map (form_by t) head)
+    ensures reads { MayRead (λ t form. form ≡ option_map (form_by t) head)
+        (D.state conn.old) (D.state conn.new) result }
+    ensures cause { HasItsCause (λ t. IfSome head (λ (one : FormHead). HasFields t one.id))
         (D.state conn.old) (D.state conn.new) result }
 {
     match head {
@@ -88,7 +97,10 @@ pub fn exact_form_at<D: Readable>(
     code: &Key,
     version: Ordinal,
 ) -> Result<Option<FormVersion>, ReadFault>
-    ensures { Reads (λ t form. form ≡ exact_form (forms_of t lab) code.now version)
+    ensures reads { Reads (λ t form. form ≡ exact_form (forms_of t lab) code.now version)
+        (D.state conn.old) (D.state conn.new) result }
+    ensures cause { HasItsCause
+        (λ t. HasFirst (HasWholeForm t) (exact_shown t lab code.now version))
         (D.state conn.old) (D.state conn.new) result }
 {
     let rows = exact_rows(conn, lab, code.as_str(), version.get())?;
@@ -106,7 +118,10 @@ pub fn last_form_at<D: Readable>(
     lab: i64,
     code: &Key,
 ) -> Result<Option<FormVersion>, ReadFault>
-    ensures { Reads (λ t form. form ≡ last_form (forms_of t lab) code.now)
+    ensures reads { Reads (λ t form. form ≡ last_form (forms_of t lab) code.now)
+        (D.state conn.old) (D.state conn.new) result }
+    ensures cause { HasItsCause (λ t.
+        IfSome (last_of (form_versions_shown t lab code.now)) (HasWholeForm t))
         (D.state conn.old) (D.state conn.new) result }
 {
     let rows = form_version_rows(conn, lab, code.as_str())?;

@@ -1,10 +1,12 @@
 //! What a field takes, from the columns of its row.
 
-ghost use Rattle.std.specs.Prelude.{◌≡◌, [], IfOk, unwrap_or};
+ghost use Rattle.std.specs.Prelude.{◌≡◌, [], IfOk, IfErr, unwrap_or};
 ghost use Rattle.lab_store_tables.specs.Columns.{kind_in};
 ghost use Rattle.lab_forms.specs.declared.kinds.Kind.TheVariants.{Text as text_kind};
 ghost use Rattle.lab_store_read_forms.specs.Kinds.{number_kind, is_choice, kind_with};
 ghost use Rattle.lab_store_read_forms.specs.KindsShown.{kind_cells};
+ghost use Rattle.lab_store_columns.specs.Cells.{storage};
+ghost use Rattle.lab_store_read_forms.specs.Readable.{HasNumber, HasSize, IsOfKind, HasKind};
 
 use crate::cells::bound_if;
 use lab_forms::{Choices, Kind};
@@ -16,7 +18,8 @@ use std::alloc::Global;
 
 // A number.
 fn number_of_row(alloc: Global, row: &Row) -> Result<Kind, ReadFault>
-    ensures { IfOk result (λ kind. kind ≡ number_kind (kind_cells row.now)) }
+    ensures value { IfOk result (λ kind. kind ≡ number_kind (kind_cells row.now)) }
+    ensures fault { IfErr result (λ fault. fault ≡ storage → ¬ HasNumber row.now) }
 {
     let Some(decimals) = small_if(row, 6)? else {
         return Err(ReadFault::Refused(BadStore));
@@ -36,7 +39,8 @@ fn number_of_row(alloc: Global, row: &Row) -> Result<Kind, ReadFault>
 
 // A text.
 fn text_of_row(row: &Row) -> Result<Kind, ReadFault>
-    ensures { IfOk result (λ kind. kind ≡ text_kind (unwrap_or (kind_cells row.now).size 0)) }
+    ensures value { IfOk result (λ kind. kind ≡ text_kind (unwrap_or (kind_cells row.now).size 0)) }
+    ensures fault { IfErr result (λ fault. fault ≡ storage → ¬ HasSize row.now) }
 {
     match small_if(row, 9)? {
         Some(size) => Ok(Kind::Text { size }),
@@ -46,8 +50,9 @@ fn text_of_row(row: &Row) -> Result<Kind, ReadFault>
 
 // What a field takes, by its word and the other columns. A word that none is written as is a fault of the store.
 fn kind_by(alloc: Global, row: &Row, word: &str) -> Result<Kind, ReadFault>
-    ensures { IfOk result
+    ensures value { IfOk result
         (λ kind. kind ≡ kind_in (record (kind_cells row.now) { word = word.now }) []) }
+    ensures fault { IfErr result (λ fault. fault ≡ storage → ¬ IsOfKind word.now row.now) }
 {
     match word {
         "number" => number_of_row(alloc, row),
@@ -66,7 +71,8 @@ fn kind_by(alloc: Global, row: &Row, word: &str) -> Result<Kind, ReadFault>
 /// # Errors
 /// The store refused, a row is none that this program writes, or memory ran out.
 pub fn kind_of_row(alloc: Global, row: &Row) -> Result<Kind, ReadFault>
-    ensures { IfOk result (λ kind. kind ≡ kind_in (kind_cells row.now) []) }
+    ensures value { IfOk result (λ kind. kind ≡ kind_in (kind_cells row.now) []) }
+    ensures fault { IfErr result (λ fault. fault ≡ storage → ¬ HasKind row.now) }
 {
     let word: Text<Keys> = text_of(alloc, row, 4)?;
     kind_by(alloc, row, word.as_str())

@@ -1,9 +1,13 @@
 //! Records, with their forms and all their versions.
 
-ghost use Rattle.std.specs.Prelude.{◌≡◌, map, IfOk};
+ghost use Rattle.std.specs.Prelude.{◌≡◌, map, false, IfOk, IfErr};
 ghost use Rattle.lab_store_read_records.specs.Leaves.{leaf_of};
 ghost use Rattle.lab_store_read_forms.specs.Wholes.{record_with, record_by};
+ghost use Rattle.lab_store_columns.specs.Causes.{HasItsCause};
+ghost use Rattle.lab_store_columns.specs.Cells.{storage};
 ghost use Rattle.lab_store_columns.specs.Reads.{Reads};
+ghost use Rattle.lab_store_read_records.specs.Readable.{ArePlaced};
+ghost use Rattle.lab_store_read_forms.specs.Readable.{HasParts};
 
 use crate::form_at;
 use lab_forms_texts::{LabCode, Series};
@@ -20,8 +24,10 @@ fn record_with(
     form: FormVersion,
     leaves: Vec<VersionLeaf>,
 ) -> Result<Record, ReadFault>
-    ensures { IfOk result
+    ensures value { IfOk result
         (λ kept. kept ≡ record_with lab.now head form (map leaf_of leaves.items)) }
+    ensures fault { IfErr result
+        (λ fault. fault ≡ storage → ¬ ArePlaced false (map leaf_of leaves.items)) }
 {
     let mut cover = Record {
         number: head.number,
@@ -43,7 +49,9 @@ pub fn record_whole<D: Readable>(
     lab: &LabCode,
     head: RecordHead,
 ) -> Result<Record, ReadFault>
-    ensures { Reads (λ t kept. kept ≡ record_by t lab.now head)
+    ensures reads { Reads (λ t kept. kept ≡ record_by t lab.now head)
+        (D.state conn.old) (D.state conn.new) result }
+    ensures cause { HasItsCause (λ t. HasParts t head)
         (D.state conn.old) (D.state conn.new) result }
 {
     let form = form_at(alloc, conn, head.form)?;

@@ -1,5 +1,6 @@
 pub mod KnownPersons
 pub mod KnownSessions
+pub mod PersonCauses
 pub mod PersonKeys
 pub mod PersonLists
 pub mod PersonTexts
@@ -8,5 +9,6 @@ pub mod PersonsFound
 pub mod SessionKeys
 pub mod SessionLists
 pub mod SessionTexts
+pub mod SessionCauses
 pub mod SessionsExact
 pub mod SessionsFound

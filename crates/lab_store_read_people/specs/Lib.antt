@@ -1,3 +1,4 @@
 pub mod Heads
+pub mod PersonsReadable
 pub mod PersonsShown
 pub mod SessionsShown

@@ -1,11 +1,15 @@
 -- The rows that each query shows of the tables, in its order, and what such a row is read as.
-use Rattle.std.specs.Prelude.{ℕ, ℤ, List, [], ◌∷◌, map, filter}
+use Rattle.std.specs.Prelude.{ℕ, ℤ, List, [], ◌∷◌, map, filter, IsTrue}
 use Rattle.sqlite_value.specs.declared.value.Value.TheVariants.{Text, Blob}
 use Rattle.sqlite_value.specs.Order.{Row, column, bytes}
+use Rattle.lab_forms_texts.specs.Moment.{is_moment}
+use Rattle.lab_forms_texts.specs.Names.{is_person_code}
+use Rattle.lab_forms_texts.specs.Ordinals.{is_ordinal}
 use Rattle.lab_people_access.specs.declared.sessions.Session.{Session}
 use Rattle.lab_store_tables.specs.Rows.{SessionRow, Tables, number, flag, number_in, flag_in}
 use Rattle.lab_store_tables.specs.Changes.{is_session}
 use Rattle.lab_store_tables.specs.Meaning.{code_of}
+use Rattle.lab_store_columns.specs.Cells.{is_number, is_small, is_text, is_digest, stands}
 
 abbrev pub session_shown : Tables → SessionRow → Row
 session_shown t one =
@@ -25,3 +29,13 @@ session_read row = record {
   closed = flag_in (column row 5);
   signed = flag_in (column row 6);
 }
+
+-- each column of the row has a value of its type
+pub record HasSession (row : Row) : Type 0 where
+  pub number : IsTrue (stands (is_number is_ordinal) row 0)
+  pub person : IsTrue (stands (is_text is_person_code) row 1)
+  pub token : IsTrue (stands is_digest row 2)
+  pub opened : IsTrue (stands (is_number is_moment) row 3)
+  pub last : IsTrue (stands (is_number is_moment) row 4)
+  pub closed : IsTrue (stands (is_number is_small) row 5)
+  pub signed : IsTrue (stands (is_number is_small) row 6)

@@ -1,8 +1,11 @@
-//! One column of a row, as the type that stands in it. What is none of that type is a fault of the store.
+//! One column of a row, as the type that stands in it. What is none of that type is a fault of the store, and nothing else is.
 
-ghost use Rattle.std.specs.Prelude.{◌≡◌, [], IfOk, unwrap_or};
+ghost use Rattle.std.specs.Prelude.{◌≡◌, Some, [], IfOk, IfErr, unwrap_or, slice_get};
 ghost use Rattle.sqlite_value.specs.Order.{column, bytes};
-ghost use Rattle.lab_store_tables.specs.Rows.{number_in, optional_in};
+ghost use Rattle.lab_forms_texts.specs.Moment.{is_moment};
+ghost use Rattle.lab_store_tables.specs.Rows.{number, optional, number_in, optional_in};
+ghost use Rattle.lab_store_columns.specs.Cells.{is_number, is_small, is_digest, is_optional, stands, IsNotRead};
+ghost use Rattle.lab_store_read_people.specs.PersonsReadable.{is_salt};
 
 use lab_forms_texts::Moment;
 use lab_store_columns::cells::{cell_of, moment_of, small_if};
@@ -13,9 +16,12 @@ use sqlite::types::ValueRef;
 /// A moment, or none.
 ///
 /// # Errors
-/// The store refused, a row is none that this program writes, or memory ran out.
+/// Neither NULL nor a moment stands there.
 pub(crate) fn moment_if(row: &Row, at: usize) -> Result<Option<Moment>, ReadFault>
-    ensures { IfOk result (λ moment. moment ≡ optional_in number_in (column row.now at)) }
+    ensures value { IfOk result (λ moment. moment ≡ optional_in number_in (column row.now at)) }
+    ensures shown { IfOk result (λ moment. slice_get row.now at ≡ Some (optional number moment)) }
+    ensures fault { IfErr result
+        (IsNotRead (stands (is_optional (is_number is_moment)) row.now at)) }
 {
     match cell_of(row, at)? {
         ValueRef::Null => Ok(None),
@@ -27,10 +33,11 @@ pub(crate) fn moment_if(row: &Row, at: usize) -> Result<Option<Moment>, ReadFaul
 /// A moment that this row has to have.
 ///
 /// # Errors
-/// The store refused, a row is none that this program writes, or memory ran out.
+/// No moment stands there.
 pub(crate) fn moment_due(row: &Row, at: usize) -> Result<Moment, ReadFault>
-    ensures { IfOk result
+    ensures value { IfOk result
         (λ moment. moment ≡ unwrap_or (optional_in number_in (column row.now at)) 0) }
+    ensures fault { IfErr result (IsNotRead (stands (is_number is_moment) row.now at)) }
 {
     match moment_if(row, at)? {
         Some(moment) => Ok(moment),
@@ -41,10 +48,12 @@ pub(crate) fn moment_due(row: &Row, at: usize) -> Result<Moment, ReadFault>
 /// A number that this row has to have.
 ///
 /// # Errors
-/// The store refused, a row is none that this program writes, or memory ran out.
+/// No number of at most 32 bits stands there.
 pub(crate) fn small_due(row: &Row, at: usize) -> Result<u32, ReadFault>
-    ensures { IfOk result
+    ensures value { IfOk result
         (λ count. count ≡ unwrap_or (optional_in number_in (column row.now at)) 0) }
+    ensures shown { IfOk result (λ count. slice_get row.now at ≡ Some (number count)) }
+    ensures fault { IfErr result (IsNotRead (stands (is_number is_small) row.now at)) }
 {
     match small_if(row, at)? {
         Some(count) => Ok(count),
@@ -55,10 +64,11 @@ pub(crate) fn small_due(row: &Row, at: usize) -> Result<u32, ReadFault>
 /// A salt that this row has to have.
 ///
 /// # Errors
-/// The store refused, a row is none that this program writes, or memory ran out.
+/// No 16 bytes stand there.
 pub(crate) fn salt_due(row: &Row, at: usize) -> Result<[u8; 16], ReadFault>
-    ensures { IfOk result
+    ensures value { IfOk result
         (λ salt. salt ≡ unwrap_or (optional_in bytes (column row.now at)) []) }
+    ensures fault { IfErr result (IsNotRead (stands is_salt row.now at)) }
 {
     match cell_of(row, at)? {
         ValueRef::Blob(blob) => match <[u8; 16]>::try_from(blob) {
@@ -72,10 +82,11 @@ pub(crate) fn salt_due(row: &Row, at: usize) -> Result<[u8; 16], ReadFault>
 /// 32 bytes that this row has to have.
 ///
 /// # Errors
-/// The store refused, a row is none that this program writes, or memory ran out.
+/// No 32 bytes stand there.
 pub(crate) fn bytes_due(row: &Row, at: usize) -> Result<[u8; 32], ReadFault>
-    ensures { IfOk result
+    ensures value { IfOk result
         (λ made. made ≡ unwrap_or (optional_in bytes (column row.now at)) []) }
+    ensures fault { IfErr result (IsNotRead (stands is_digest row.now at)) }
 {
     match cell_of(row, at)? {
         ValueRef::Blob(blob) => match <[u8; 32]>::try_from(blob) {

@@ -1,12 +1,14 @@
 //! What is kept of a password, what was asked for, and roles, from the columns of a person's row.
 
-ghost use Rattle.std.specs.Prelude.{◌≡◌, true, IfOk, unwrap_or};
+ghost use Rattle.std.specs.Prelude.{◌≡◌, true, IfOk, IfErr, unwrap_or};
 ghost use Rattle.sqlite_value.specs.Order.{column, bytes};
 ghost use Rattle.lab_people_access.specs.declared.passwords.Password.TheVariants.{Chosen, OneTime};
 ghost use Rattle.lab_people_access.specs.Passwords.{are_rounds};
 ghost use Rattle.lab_store_tables.specs.Rows.{number_in, optional_in};
 ghost use Rattle.lab_store_tables.specs.Columns.{roles_in, verifier_in, password_in};
+ghost use Rattle.lab_store_columns.specs.Cells.{storage};
 ghost use Rattle.lab_store_read_people.specs.Heads.{ask_head};
+ghost use Rattle.lab_store_read_people.specs.PersonsReadable.{HasVerifier, HasChosen, HasOneTime, HasPassword, HasAsk};
 ghost use Rattle.lab_store_read_people.specs.PersonsShown.{password_cells, ask_cells};
 
 use crate::cells::{bytes_due, moment_due, salt_due, small_due};
@@ -37,6 +39,8 @@ fn verifier_of(row: &Row, salt: usize, rounds: usize, made: usize) -> Result<Ver
         ≡ verifier_in (optional_in bytes (column row.now salt))
         (optional_in number_in (column row.now rounds))
         (optional_in bytes (column row.now made))) }
+    ensures fault { IfErr result (λ fault.
+        fault ≡ storage → ¬ HasVerifier row.now salt rounds made) }
 {
     let salt = salt_due(row, salt)?;
     let rounds = small_due(row, rounds)?;
@@ -49,8 +53,9 @@ fn verifier_of(row: &Row, salt: usize, rounds: usize, made: usize) -> Result<Ver
 
 // A password that was chosen.
 fn chosen_of_row(row: &Row) -> Result<Password, ReadFault>
-    ensures { let cells = password_cells row.now in IfOk result (λ password. password
+    ensures value { let cells = password_cells row.now in IfOk result (λ password. password
         ≡ Chosen (verifier_in cells.salt cells.rounds cells.bytes) (unwrap_or cells.changed 0)) }
+    ensures fault { IfErr result (λ fault. fault ≡ storage → ¬ HasChosen row.now) }
 {
     let verifier = verifier_of(row, 7, 8, 9)?;
     let changed = moment_due(row, 13)?;
@@ -59,9 +64,10 @@ fn chosen_of_row(row: &Row) -> Result<Password, ReadFault>
 
 // A one-time word.
 fn one_time_of_row(row: &Row) -> Result<Password, ReadFault>
-    ensures { let cells = password_cells row.now in IfOk result (λ password. password
+    ensures value { let cells = password_cells row.now in IfOk result (λ password. password
         ≡ OneTime (verifier_in cells.salt cells.rounds cells.bytes)
         (verifier_in cells.salt2 cells.rounds2 cells.bytes2) (unwrap_or cells.changed 0)) }
+    ensures fault { IfErr result (λ fault. fault ≡ storage → ¬ HasOneTime row.now) }
 {
     let first = verifier_of(row, 7, 8, 9)?;
     let second = verifier_of(row, 10, 11, 12)?;
@@ -78,7 +84,8 @@ fn one_time_of_row(row: &Row) -> Result<Password, ReadFault>
 /// # Errors
 /// The store refused, a row is none that this program writes, or memory ran out.
 pub(crate) fn password_of_row(row: &Row) -> Result<Password, ReadFault>
-    ensures { IfOk result (λ password. password ≡ password_in (password_cells row.now)) }
+    ensures value { IfOk result (λ password. password ≡ password_in (password_cells row.now)) }
+    ensures fault { IfErr result (λ fault. fault ≡ storage → ¬ HasPassword row.now) }
 {
     let kind = small_of(row, 6)?;
     if kind == 0 {
@@ -97,7 +104,8 @@ pub(crate) fn password_of_row(row: &Row) -> Result<Password, ReadFault>
 /// # Errors
 /// The store refused, a row is none that this program writes, or memory ran out.
 pub(crate) fn ask_of_row(row: &Row) -> Result<Option<AskHead>, ReadFault>
-    ensures { IfOk result (λ ask. ask ≡ ask_head (ask_cells row.now)) }
+    ensures value { IfOk result (λ ask. ask ≡ ask_head (ask_cells row.now)) }
+    ensures fault { IfErr result (λ fault. fault ≡ storage → ¬ HasAsk row.now) }
 {
     match id_if(row, 14)? {
         Some(asker) => {

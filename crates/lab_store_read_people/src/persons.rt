@@ -1,10 +1,13 @@
 //! Persons, with their accounts.
 
-ghost use Rattle.std.specs.Prelude.{◌≡◌, [], ◌∷◌, ◌++◌, map, length, option_map, slice_get, IfOk};
+ghost use Rattle.std.specs.Prelude.{◌≡◌, [], ◌∷◌, ◌++◌, map, length, option_map, slice_get, All, IfOk, IfErr, IfSome};
 ghost use Rattle.lab_people_access.specs.Persons.{person_of};
 ghost use Rattle.lab_store_tables.specs.Meaning.{persons_of};
+ghost use Rattle.lab_store_columns.specs.Causes.{HasItsCause, HasFirst};
+ghost use Rattle.lab_store_columns.specs.Cells.{storage};
 ghost use Rattle.lab_store_columns.specs.Reads.{Reads, MayRead};
 ghost use Rattle.lab_store_read_people.specs.Heads.{ask_by, person_by, person_heads_of};
+ghost use Rattle.lab_store_read_people.specs.PersonsReadable.{HasPerson, HasCode, HasAsker, HasWholePerson};
 ghost use Rattle.lab_store_read_people.specs.PersonsShown.{person_shown_by, persons_shown, all_codes_shown, person_read};
 
 use crate::cells::moment_if;
@@ -20,8 +23,9 @@ use std::alloc::Global;
 
 // The row of the person with the code, in the laboratory with the id.
 fn person_rows<D: Readable>(conn: &mut D, lab: i64, code: &str) -> Result<Vec<Row>, ReadFault>
-    ensures { Reads (λ t rows. rows.items ≡ person_shown_by t lab code.now)
+    ensures reads { Reads (λ t rows. rows.items ≡ person_shown_by t lab code.now)
         (D.state conn.old) (D.state conn.new) result }
+    ensures cause { HasItsCause (λ t. Unit {0}) (D.state conn.old) (D.state conn.new) result }
 {
     rows_by_code(
         conn,
@@ -33,8 +37,9 @@ fn person_rows<D: Readable>(conn: &mut D, lab: i64, code: &str) -> Result<Vec<Ro
 
 // The rows of the persons of the laboratory with the id, in the order of their codes.
 fn persons_rows<D: Readable>(conn: &mut D, lab: i64) -> Result<Vec<Row>, ReadFault>
-    ensures { Reads (λ t rows. rows.items ≡ persons_shown t lab)
+    ensures reads { Reads (λ t rows. rows.items ≡ persons_shown t lab)
         (D.state conn.old) (D.state conn.new) result }
+    ensures cause { HasItsCause (λ t. Unit {0}) (D.state conn.old) (D.state conn.new) result }
 {
     rows_by_one(
         conn,
@@ -45,8 +50,9 @@ fn persons_rows<D: Readable>(conn: &mut D, lab: i64) -> Result<Vec<Row>, ReadFau
 
 // The codes of the persons of the laboratory with the id, in order.
 fn all_code_rows<D: Readable>(conn: &mut D, lab: i64) -> Result<Vec<Row>, ReadFault>
-    ensures { Reads (λ t rows. rows.items ≡ all_codes_shown t lab)
+    ensures reads { Reads (λ t rows. rows.items ≡ all_codes_shown t lab)
         (D.state conn.old) (D.state conn.new) result }
+    ensures cause { HasItsCause (λ t. Unit {0}) (D.state conn.old) (D.state conn.new) result }
 {
     rows_by_one(
         conn,
@@ -57,7 +63,8 @@ fn all_code_rows<D: Readable>(conn: &mut D, lab: i64) -> Result<Vec<Row>, ReadFa
 
 // The person whom a row shows.
 fn person_of_row(alloc: Global, row: &Row) -> Result<PersonHead, ReadFault>
-    ensures { IfOk result (λ person. person ≡ person_read row.now) }
+    ensures value { IfOk result (λ person. person ≡ person_read row.now) }
+    ensures fault { IfErr result (λ fault. fault ≡ storage → ¬ HasPerson row.now) }
 {
     let roles = roles_of(small_of(row, 2)?);
     let retired = flag_of(row, 3)?;
@@ -81,7 +88,9 @@ fn person_of_row(alloc: Global, row: &Row) -> Result<PersonHead, ReadFault>
 
 // The person whom the first row shows.
 fn first_person(alloc: Global, rows: &[Row]) -> Result<Option<PersonHead>, ReadFault>
-    ensures { IfOk result (λ person. person ≡ option_map person_read (slice_get rows.now 0)) }
+    ensures value { IfOk result (λ person.
+        person ≡ option_map person_read (slice_get rows.now 0)) }
+    ensures fault { IfErr result (λ fault. fault ≡ storage → ¬ HasFirst HasPerson rows.now) }
 {
     match rows.first() {
         Some(row) => Ok(Some(person_of_row(alloc, row)?)),
@@ -91,7 +100,8 @@ fn first_person(alloc: Global, rows: &[Row]) -> Result<Option<PersonHead>, ReadF
 
 // The persons whom rows show.
 fn persons_of_rows(alloc: Global, rows: &[Row]) -> Result<Vec<PersonHead>, ReadFault>
-    ensures { IfOk result (λ made. made.items ≡ map person_read rows.now) }
+    ensures value { IfOk result (λ made. made.items ≡ map person_read rows.now) }
+    ensures fault { IfErr result (λ fault. fault ≡ storage → ¬ All HasPerson rows.now) }
 {
     let mut made = Vec::new(alloc);
     for row in rows {
@@ -106,7 +116,9 @@ fn ask_whole<D: Readable>(
     conn: &mut D,
     ask: Option<AskHead>,
 ) -> Result<Option<Ask>, ReadFault>
-    ensures { MayRead (λ t whole. whole ≡ option_map (ask_by t) ask)
+    ensures reads { MayRead (λ t whole. whole ≡ option_map (ask_by t) ask)
+        (D.state conn.old) (D.state conn.new) result }
+    ensures cause { HasItsCause (λ t. IfSome ask (HasCode t))
         (D.state conn.old) (D.state conn.new) result }
 {
     match ask {
@@ -128,7 +140,9 @@ fn person_whole<D: Readable>(
     conn: &mut D,
     head: PersonHead,
 ) -> Result<Person, ReadFault>
-    ensures { MayRead (λ t person. person ≡ person_by t head)
+    ensures reads { MayRead (λ t person. person ≡ person_by t head)
+        (D.state conn.old) (D.state conn.new) result }
+    ensures cause { HasItsCause (λ t. HasAsker t head)
         (D.state conn.old) (D.state conn.new) result }
 {
     let ask = ask_whole(alloc, conn, head.ask)?;
@@ -150,7 +164,9 @@ fn person_if<D: Readable>(
     conn: &mut D,
     head: Option<PersonHead>,
 ) -> Result<Option<Person>, ReadFault>
-    ensures { MayRead (λ t person. person ≡ option_map (person_by t) head)
+    ensures reads { MayRead (λ t person. person ≡ option_map (person_by t) head)
+        (D.state conn.old) (D.state conn.new) result }
+    ensures cause { HasItsCause (λ t. IfSome head (HasAsker t))
         (D.state conn.old) (D.state conn.new) result }
 {
     match head {
@@ -169,7 +185,9 @@ fn add_person<D: Readable>(
     made: &mut Vec<Person>,
     head: PersonHead,
 ) -> Result<(), ReadFault>
-    ensures { MayRead (λ t _. made.new.items ≡ made.old.items ++ person_by t head ∷ [])
+    ensures reads { MayRead (λ t _. made.new.items ≡ made.old.items ++ person_by t head ∷ [])
+        (D.state conn.old) (D.state conn.new) result }
+    ensures cause { HasItsCause (λ t. HasAsker t head)
         (D.state conn.old) (D.state conn.new) result }
 {
     let person = person_whole(alloc, conn, head)?;
@@ -184,7 +202,10 @@ fn add_persons<D: Readable>(
     made: &mut Vec<Person>,
     heads: Vec<PersonHead>,
 ) -> Result<(), ReadFault>
-    ensures { MayRead (λ t _. made.new.items ≡ made.old.items ++ map (person_by t) heads.items)
+    ensures reads { MayRead
+        (λ t _. made.new.items ≡ made.old.items ++ map (person_by t) heads.items)
+        (D.state conn.old) (D.state conn.new) result }
+    ensures cause { HasItsCause (λ t. All (HasAsker t) heads.items)
         (D.state conn.old) (D.state conn.new) result }
 {
     for head in heads {
@@ -199,7 +220,9 @@ fn person_heads_at<D: Readable>(
     conn: &mut D,
     lab: i64,
 ) -> Result<Vec<PersonHead>, ReadFault>
-    ensures { Reads (λ t made. made.items ≡ person_heads_of t lab)
+    ensures reads { Reads (λ t made. made.items ≡ person_heads_of t lab)
+        (D.state conn.old) (D.state conn.new) result }
+    ensures cause { HasItsCause (λ t. All HasPerson (persons_shown t lab))
         (D.state conn.old) (D.state conn.new) result }
 {
     let rows = persons_rows(conn, lab)?;
@@ -216,7 +239,9 @@ pub fn person_at<D: Readable>(
     lab: i64,
     code: &PersonCode,
 ) -> Result<Option<Person>, ReadFault>
-    ensures { Reads (λ t person. person ≡ person_of (persons_of t lab) code.now)
+    ensures reads { Reads (λ t person. person ≡ person_of (persons_of t lab) code.now)
+        (D.state conn.old) (D.state conn.new) result }
+    ensures cause { HasItsCause (λ t. HasFirst (HasWholePerson t) (person_shown_by t lab code.now))
         (D.state conn.old) (D.state conn.new) result }
 {
     let rows = person_rows(conn, lab, code.as_str())?;
@@ -233,7 +258,9 @@ pub fn persons_at<D: Readable>(
     conn: &mut D,
     lab: i64,
 ) -> Result<Vec<Person>, ReadFault>
-    ensures { Reads (λ t made. made.items ≡ persons_of t lab)
+    ensures reads { Reads (λ t made. made.items ≡ persons_of t lab)
+        (D.state conn.old) (D.state conn.new) result }
+    ensures cause { HasItsCause (λ t. All (HasWholePerson t) (persons_shown t lab))
         (D.state conn.old) (D.state conn.new) result }
 {
     let heads = person_heads_at(alloc, conn, lab)?;
@@ -247,8 +274,9 @@ pub fn persons_at<D: Readable>(
 /// # Errors
 /// The store refused, a row is none that this program writes, or memory ran out.
 pub fn person_count<D: Readable>(conn: &mut D, lab: i64) -> Result<u64, ReadFault>
-    ensures { Reads (λ t count. count ≡ length (persons_of t lab))
+    ensures reads { Reads (λ t count. count ≡ length (persons_of t lab))
         (D.state conn.old) (D.state conn.new) result }
+    ensures cause { HasItsCause (λ t. Unit {0}) (D.state conn.old) (D.state conn.new) result }
 {
     let rows = all_code_rows(conn, lab)?;
     Ok(rows.len() as u64)

@@ -1,10 +1,12 @@
 //! Sessions, by the digests of their tokens.
 
-ghost use Rattle.std.specs.Prelude.{◌≡◌, option_map, slice_get, IfOk};
+ghost use Rattle.std.specs.Prelude.{◌≡◌, option_map, slice_get, IfOk, IfErr};
 ghost use Rattle.lab_people_access.specs.Sessions.{session_of};
 ghost use Rattle.lab_store_tables.specs.Meaning.{sessions_of};
+ghost use Rattle.lab_store_columns.specs.Causes.{HasItsCause, HasFirst};
+ghost use Rattle.lab_store_columns.specs.Cells.{storage};
 ghost use Rattle.lab_store_columns.specs.Reads.{Reads};
-ghost use Rattle.lab_store_read_people.specs.SessionsShown.{sessions_shown, session_read};
+ghost use Rattle.lab_store_read_people.specs.SessionsShown.{sessions_shown, session_read, HasSession};
 
 use crate::asking::rows_by_token;
 use lab_people_access::Session;
@@ -16,8 +18,9 @@ use std::alloc::Global;
 
 // The row of the session whose token has the digest, in the laboratory with the id.
 fn session_rows<D: Readable>(conn: &mut D, lab: i64, token: &[u8]) -> Result<Vec<Row>, ReadFault>
-    ensures { Reads (λ t rows. rows.items ≡ sessions_shown t lab token.now)
+    ensures reads { Reads (λ t rows. rows.items ≡ sessions_shown t lab token.now)
         (D.state conn.old) (D.state conn.new) result }
+    ensures cause { HasItsCause (λ t. Unit {0}) (D.state conn.old) (D.state conn.new) result }
 {
     rows_by_token(
         conn,
@@ -29,7 +32,8 @@ fn session_rows<D: Readable>(conn: &mut D, lab: i64, token: &[u8]) -> Result<Vec
 
 // The session that a row shows.
 fn session_of_row(alloc: Global, row: &Row) -> Result<Session, ReadFault>
-    ensures { IfOk result (λ session. session ≡ session_read row.now) }
+    ensures value { IfOk result (λ session. session ≡ session_read row.now) }
+    ensures fault { IfErr result (λ fault. fault ≡ storage → ¬ HasSession row.now) }
 {
     let number = ordinal_of(row, 0)?;
     let token = digest_of(row, 2)?;
@@ -51,8 +55,9 @@ fn session_of_row(alloc: Global, row: &Row) -> Result<Session, ReadFault>
 
 // The session that the first row shows.
 fn first_session(alloc: Global, rows: &[Row]) -> Result<Option<Session>, ReadFault>
-    ensures { IfOk result
+    ensures value { IfOk result
         (λ session. session ≡ option_map session_read (slice_get rows.now 0)) }
+    ensures fault { IfErr result (λ fault. fault ≡ storage → ¬ HasFirst HasSession rows.now) }
 {
     match rows.first() {
         Some(row) => Ok(Some(session_of_row(alloc, row)?)),
@@ -70,7 +75,9 @@ pub fn session_at<D: Readable>(
     lab: i64,
     token: &Digest,
 ) -> Result<Option<Session>, ReadFault>
-    ensures { Reads (λ t session. session ≡ session_of (sessions_of t lab) token.now)
+    ensures reads { Reads (λ t session. session ≡ session_of (sessions_of t lab) token.now)
+        (D.state conn.old) (D.state conn.new) result }
+    ensures cause { HasItsCause (λ t. HasFirst HasSession (sessions_shown t lab token.now))
         (D.state conn.old) (D.state conn.new) result }
 {
     let bytes = token.bytes();

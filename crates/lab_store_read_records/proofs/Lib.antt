@@ -1,3 +1,5 @@
+pub mod Below
+pub mod Causes
 pub mod ChainTurns
 pub mod Exact
 pub mod Found

@@ -2,6 +2,7 @@ pub mod Chains
 pub mod Heads
 pub mod Laboratories
 pub mod Leaves
+pub mod Readable
 pub mod Retrieved
 pub mod Shown
 pub mod Sought

@@ -1,21 +1,25 @@
-//! One column of a row, as the type that stands in it. What is none of that type is a fault of the store.
+//! One column of a row, as the type that stands in it. What is none of that type is a fault of the store, and nothing else is.
 
-ghost use Rattle.std.specs.Prelude.{◌≡◌, IfOk};
+ghost use Rattle.std.specs.Prelude.{◌≡◌, IfOk, IfErr};
 ghost use Rattle.sqlite_value.specs.Order.{column};
 ghost use Rattle.lab_store_tables.specs.Rows.{number_in};
+ghost use Rattle.lab_store_columns.specs.Cells.{is_number, stands, IsNotRead};
+ghost use Rattle.lab_store_read_records.specs.Readable.{is_count};
 
-use lab_store_columns::{ReadFault, read_fault};
+use lab_store_columns::cells::id_of;
+use lab_store_columns::{BadStore, ReadFault};
 use sqlite::Row;
 
 /// A number that is never below zero.
 ///
 /// # Errors
-/// The store refused, a row is none that this program writes, or memory ran out.
+/// No such number stands there.
 pub(crate) fn count_of(row: &Row, at: usize) -> Result<u64, ReadFault>
-    ensures { IfOk result (λ count. count ≡ number_in (column row.now at)) }
+    ensures value { IfOk result (λ count. count ≡ number_in (column row.now at)) }
+    ensures fault { IfErr result (IsNotRead (stands (is_number is_count) row.now at)) }
 {
-    match row.get::<u64>(at) {
+    match u64::try_from(id_of(row, at)?) {
         Ok(count) => Ok(count),
-        Err(error) => Err(read_fault(error)),
+        Err(_) => Err(ReadFault::Refused(BadStore)),
     }
 }

@@ -1,10 +1,12 @@
 //! Versions of a record, each of which amends the one before it as that is now.
 
-ghost use Rattle.std.specs.Prelude.{◌≡◌, None, [], ◌∷◌, ◌++◌, map, IfOk, IfSome, OnOk};
+ghost use Rattle.std.specs.Prelude.{◌≡◌, ◌≢◌, None, [], ◌∷◌, ◌++◌, map, false, is_some, IfOk, IfErr, IfSome, IfNone, IsFalse, IsTrue, OnOk};
 ghost use Rattle.lab_store_tables.specs.Columns.{format_in};
 ghost use Rattle.lab_store_tables.specs.Meaning.{version_after, chained};
 ghost use Rattle.lab_store_read_records.specs.Leaves.{leaf_of};
+ghost use Rattle.lab_store_columns.specs.Cells.{storage};
 ghost use Rattle.lab_store_read_records.specs.Chains.{origin_after, before_next};
+ghost use Rattle.lab_store_read_records.specs.Readable.{is_placed, ArePlaced};
 
 use crate::VersionLeaf;
 use lab_forms_texts::{LabCode, Note, Ordinal, Series};
@@ -28,7 +30,8 @@ fn format_of(number: u32, approval: bool) -> Format
 // Where a version comes from, whose number and reason these are, behind one of the digest or none. A first version of a
 // later number, and a later one without a reason or of the first number, come from nowhere.
 fn origin_after(number: Ordinal, reason: Option<Note>, before: Option<Digest>) -> Option<Origin>
-    ensures { IfSome result (λ origin. origin ≡ origin_after number reason before) }
+    ensures value { IfSome result (λ origin. origin ≡ origin_after number reason before) }
+    ensures none { IfNone result (IsFalse (is_placed (is_some before) number reason)) }
 {
     match before {
         None => {
@@ -45,9 +48,11 @@ fn origin_after(number: Ordinal, reason: Option<Note>, before: Option<Digest>) -
 }
 
 /// The version that its rows make, behind a version of the digest, or as the first one. Only the parts of the record are read
-/// that aren't versions. `None` where version 1 has a version before it or a reason, or a later version lacks either.
+/// that aren't versions. `None` where version 1 has a version before it, or a later one has none or lacks a reason.
 pub fn version_after(cover: &Record, before: Option<Digest>, leaf: VersionLeaf) -> Option<Version>
-    ensures { IfSome result (λ version. version ≡ version_after cover.now before (leaf_of leaf)) }
+    ensures value { IfSome result
+        (λ version. version ≡ version_after cover.now before (leaf_of leaf)) }
+    ensures none { IfNone result (IsFalse (is_placed (is_some before) leaf.number leaf.reason)) }
 {
     let origin = origin_after(leaf.number, leaf.reason, before)?;
     Some(Version {
@@ -67,7 +72,8 @@ fn before_next(
     cover: &Record,
     made: &Series<Version>,
 ) -> Result<Option<Digest>, ReadFault>
-    ensures { IfOk result (λ digest. digest ≡ before_next lab.now cover.now made.now) }
+    ensures value { IfOk result (λ digest. digest ≡ before_next lab.now cover.now made.now) }
+    ensures fault { IfErr result (λ fault. fault ≢ storage) }
 {
     match made.last() {
         Some(version) => Ok(Some(cover.digest_of(alloc, lab, version)?)),
@@ -83,8 +89,10 @@ fn add_version(
     made: &mut Series<Version>,
     leaf: VersionLeaf,
 ) -> Result<(), ReadFault>
-    ensures { OnOk result (made.new ≡ made.old
+    ensures value { OnOk result (made.new ≡ made.old
         ++ version_after cover.now (before_next lab.now cover.now made.old) (leaf_of leaf) ∷ []) }
+    ensures fault { IfErr result (λ fault. fault ≡ storage → ¬ IsTrue (is_placed
+        (is_some (before_next lab.now cover.now made.old)) leaf.number leaf.reason)) }
 {
     let before = before_next(alloc, lab, cover, made)?;
     let version = version_after(cover, before, leaf).ok_or(ReadFault::Refused(BadStore))?;
@@ -100,9 +108,11 @@ fn add_versions(
     made: &mut Series<Version>,
     leaves: Vec<VersionLeaf>,
 ) -> Result<(), ReadFault>
-    ensures { OnOk result (made.new ≡ made.old
+    ensures value { OnOk result (made.new ≡ made.old
         ++ chained lab.now cover.now (before_next lab.now cover.now made.old)
         (map leaf_of leaves.items)) }
+    ensures fault { IfErr result (λ fault. fault ≡ storage → ¬ ArePlaced
+        (is_some (before_next lab.now cover.now made.old)) (map leaf_of leaves.items)) }
 {
     for leaf in leaves {
         add_version(alloc, lab, cover, made, leaf)?;
@@ -121,8 +131,10 @@ pub fn chain(
     cover: &Record,
     leaves: Vec<VersionLeaf>,
 ) -> Result<Series<Version>, ReadFault>
-    ensures { IfOk result
+    ensures value { IfOk result
         (λ made. made ≡ chained lab.now cover.now None (map leaf_of leaves.items)) }
+    ensures fault { IfErr result
+        (λ fault. fault ≡ storage → ¬ ArePlaced false (map leaf_of leaves.items)) }
 {
     let mut made = Series::new(alloc);
     add_versions(alloc, lab, cover, &mut made, leaves)?;

@@ -1,8 +1,11 @@
 //! Rows that persons entered in a version.
 
-ghost use Rattle.std.specs.Prelude.{◌≡◌, map, IfOk};
+ghost use Rattle.std.specs.Prelude.{◌≡◌, map, All, IfOk, IfErr};
 ghost use Rattle.lab_store_tables.specs.Meaning.{entries_of};
+ghost use Rattle.lab_store_columns.specs.Causes.{HasItsCause};
+ghost use Rattle.lab_store_columns.specs.Cells.{storage};
 ghost use Rattle.lab_store_columns.specs.Reads.{Reads};
+ghost use Rattle.lab_store_read_records.specs.Readable.{HasEntry};
 ghost use Rattle.lab_store_read_records.specs.Shown.{entries_shown, entry_read};
 
 use lab_seal_versions::EntryRow;
@@ -14,8 +17,9 @@ use std::alloc::Global;
 
 // The entries of the version with the id, in the order of their places.
 fn entry_rows<D: Readable>(conn: &mut D, version: i64) -> Result<Vec<Row>, ReadFault>
-    ensures { Reads (λ t rows. rows.items ≡ entries_shown t version)
+    ensures reads { Reads (λ t rows. rows.items ≡ entries_shown t version)
         (D.state conn.old) (D.state conn.new) result }
+    ensures cause { HasItsCause (λ t. Unit {0}) (D.state conn.old) (D.state conn.new) result }
 {
     rows_by_one(
         conn,
@@ -26,7 +30,8 @@ fn entry_rows<D: Readable>(conn: &mut D, version: i64) -> Result<Vec<Row>, ReadF
 
 // The entry that a row shows.
 fn entry_of_row(alloc: Global, row: &Row) -> Result<EntryRow, ReadFault>
-    ensures { IfOk result (λ entry. entry ≡ entry_read row.now) }
+    ensures value { IfOk result (λ entry. entry ≡ entry_read row.now) }
+    ensures fault { IfErr result (λ fault. fault ≡ storage → ¬ HasEntry row.now) }
 {
     let moment = moment_of(row, 4)?;
     let key = text_of(alloc, row, 0)?;
@@ -46,7 +51,8 @@ fn entry_of_row(alloc: Global, row: &Row) -> Result<EntryRow, ReadFault>
 
 // The entries that rows show.
 fn entries_of_rows(alloc: Global, rows: &[Row]) -> Result<Vec<EntryRow>, ReadFault>
-    ensures { IfOk result (λ made. made.items ≡ map entry_read rows.now) }
+    ensures value { IfOk result (λ made. made.items ≡ map entry_read rows.now) }
+    ensures fault { IfErr result (λ fault. fault ≡ storage → ¬ All HasEntry rows.now) }
 {
     let mut made = Vec::new(alloc);
     for row in rows {
@@ -64,7 +70,9 @@ pub fn entries_at<D: Readable>(
     conn: &mut D,
     version: i64,
 ) -> Result<Vec<EntryRow>, ReadFault>
-    ensures { Reads (λ t made. made.items ≡ entries_of t version)
+    ensures reads { Reads (λ t made. made.items ≡ entries_of t version)
+        (D.state conn.old) (D.state conn.new) result }
+    ensures cause { HasItsCause (λ t. All HasEntry (entries_shown t version))
         (D.state conn.old) (D.state conn.new) result }
 {
     let rows = entry_rows(conn, version)?;

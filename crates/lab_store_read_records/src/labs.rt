@@ -1,10 +1,13 @@
 //! Laboratories, by their codes.
 
-ghost use Rattle.std.specs.Prelude.{◌≡◌, find, option_map, slice_get, IfOk};
+ghost use Rattle.std.specs.Prelude.{◌≡◌, find, option_map, slice_get, IfOk, IfErr};
 ghost use Rattle.sqlite.specs.State.{HasCleanDisk, KeepsCommit};
 ghost use Rattle.lab_store_tables.specs.Meaning.{has_code};
+ghost use Rattle.lab_store_columns.specs.Causes.{HasItsCause, HasFirst};
+ghost use Rattle.lab_store_columns.specs.Cells.{storage};
 ghost use Rattle.lab_store_columns.specs.Reads.{Reads};
 ghost use Rattle.lab_store_read_records.specs.Heads.{lab_head};
+ghost use Rattle.lab_store_read_records.specs.Readable.{HasLab};
 ghost use Rattle.lab_store_read_records.specs.Shown.{labs_shown, lab_read};
 
 use crate::cells::count_of;
@@ -25,6 +28,7 @@ pub fn lab_rows<D: Readable>(conn: &mut D, code: &str) -> Result<Vec<Row>, ReadF
         KeepsCommit (D.state conn.old) (D.state conn.new) }
     ensures reads { Reads (λ t rows. rows.items ≡ labs_shown t code.now)
         (D.state conn.old) (D.state conn.new) result }
+    ensures cause { HasItsCause (λ t. Unit {0}) (D.state conn.old) (D.state conn.new) result }
 {
     rows_by_text(
         conn,
@@ -35,7 +39,8 @@ pub fn lab_rows<D: Readable>(conn: &mut D, code: &str) -> Result<Vec<Row>, ReadF
 
 // The laboratory that a row shows.
 fn lab_of_row(alloc: Global, row: &Row) -> Result<LabHead, ReadFault>
-    ensures { IfOk result (λ lab. lab ≡ lab_read row.now) }
+    ensures value { IfOk result (λ lab. lab ≡ lab_read row.now) }
+    ensures fault { IfErr result (λ fault. fault ≡ storage → ¬ HasLab row.now) }
 {
     let id = id_of(row, 0)?;
     let last = moment_of(row, 3)?;
@@ -59,7 +64,8 @@ fn lab_of_row(alloc: Global, row: &Row) -> Result<LabHead, ReadFault>
 
 // The laboratory that the first row shows.
 fn first_lab(alloc: Global, rows: &[Row]) -> Result<Option<LabHead>, ReadFault>
-    ensures { IfOk result (λ lab. lab ≡ option_map lab_read (slice_get rows.now 0)) }
+    ensures value { IfOk result (λ lab. lab ≡ option_map lab_read (slice_get rows.now 0)) }
+    ensures fault { IfErr result (λ fault. fault ≡ storage → ¬ HasFirst HasLab rows.now) }
 {
     match rows.first() {
         Some(row) => Ok(Some(lab_of_row(alloc, row)?)),
@@ -76,7 +82,9 @@ pub fn lab_at<D: Readable>(
     conn: &mut D,
     code: &LabCode,
 ) -> Result<Option<LabHead>, ReadFault>
-    ensures { Reads (λ t lab. lab ≡ option_map lab_head (find (has_code code.now) t.labs))
+    ensures reads { Reads (λ t lab. lab ≡ option_map lab_head (find (has_code code.now) t.labs))
+        (D.state conn.old) (D.state conn.new) result }
+    ensures cause { HasItsCause (λ t. HasFirst HasLab (labs_shown t code.now))
         (D.state conn.old) (D.state conn.new) result }
 {
     let rows = lab_rows(conn, code.as_str())?;

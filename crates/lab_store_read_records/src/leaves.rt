@@ -2,6 +2,8 @@
 
 ghost use Rattle.std.specs.Prelude.{◌≡◌};
 ghost use Rattle.lab_store_read_records.specs.Leaves.{leaf_of, leaf_by};
+ghost use Rattle.lab_store_read_records.specs.Readable.{HasLeaf};
+ghost use Rattle.lab_store_columns.specs.Causes.{HasItsCause};
 ghost use Rattle.lab_store_columns.specs.Reads.{Reads};
 
 use crate::entries::entries_at;
@@ -41,7 +43,9 @@ pub fn leaf_at<D: Readable>(
     conn: &mut D,
     head: VersionHead,
 ) -> Result<VersionLeaf, ReadFault>
-    ensures { Reads (λ t leaf. leaf_of leaf ≡ leaf_by t head)
+    ensures reads { Reads (λ t leaf. leaf_of leaf ≡ leaf_by t head)
+        (D.state conn.old) (D.state conn.new) result }
+    ensures cause { HasItsCause (λ t. HasLeaf t head.id)
         (D.state conn.old) (D.state conn.new) result }
 {
     let rows = entries_at(alloc, conn, head.id)?;

@@ -1,9 +1,13 @@
 //! All versions of a record, each as its own rows tell it.
 
-ghost use Rattle.std.specs.Prelude.{◌≡◌, [], ◌∷◌, ◌++◌, map};
+ghost use Rattle.std.specs.Prelude.{◌≡◌, [], ◌∷◌, ◌++◌, map, All};
 ghost use Rattle.lab_store_tables.specs.Meaning.{leaves_of};
+ghost use Rattle.lab_store_columns.specs.Causes.{HasItsCause};
 ghost use Rattle.lab_store_columns.specs.Reads.{Reads, MayRead};
 ghost use Rattle.lab_store_read_records.specs.Leaves.{leaf_of, leaf_by};
+ghost use Rattle.lab_store_read_records.specs.Readable.{HasLeaf, HasWholeVersion};
+ghost use Rattle.lab_store_read_records.specs.Shown.{versions_shown};
+ghost use Rattle.lab_store_read_records.specs.declared.heads.VersionHead.{VersionHead};
 
 use crate::{VersionHead, VersionLeaf, leaf_at, versions_at};
 use lab_store_columns::{ReadFault, Readable};
@@ -16,8 +20,10 @@ fn add_leaf<D: Readable>(
     made: &mut Vec<VersionLeaf>,
     head: VersionHead,
 ) -> Result<(), ReadFault>
-    ensures { Reads (λ t _. map leaf_of made.new.items
+    ensures reads { Reads (λ t _. map leaf_of made.new.items
         ≡ map leaf_of made.old.items ++ leaf_by t head ∷ [])
+        (D.state conn.old) (D.state conn.new) result }
+    ensures cause { HasItsCause (λ t. HasLeaf t head.id)
         (D.state conn.old) (D.state conn.new) result }
 {
     let leaf = leaf_at(alloc, conn, head)?;
@@ -32,8 +38,11 @@ fn add_leaves<D: Readable>(
     made: &mut Vec<VersionLeaf>,
     heads: Vec<VersionHead>,
 ) -> Result<(), ReadFault>
-    ensures { MayRead (λ t _. map leaf_of made.new.items
+    ensures reads { MayRead (λ t _. map leaf_of made.new.items
         ≡ map leaf_of made.old.items ++ map (leaf_by t) heads.items)
+        (D.state conn.old) (D.state conn.new) result }
+    ensures cause { HasItsCause
+        (λ t. All (λ (head : VersionHead). HasLeaf t head.id) heads.items)
         (D.state conn.old) (D.state conn.new) result }
 {
     for head in heads {
@@ -51,7 +60,9 @@ pub fn leaves_at<D: Readable>(
     conn: &mut D,
     kept: i64,
 ) -> Result<Vec<VersionLeaf>, ReadFault>
-    ensures { Reads (λ t made. map leaf_of made.items ≡ leaves_of t kept)
+    ensures reads { Reads (λ t made. map leaf_of made.items ≡ leaves_of t kept)
+        (D.state conn.old) (D.state conn.new) result }
+    ensures cause { HasItsCause (λ t. All (HasWholeVersion t) (versions_shown t kept))
         (D.state conn.old) (D.state conn.new) result }
 {
     let heads = versions_at(alloc, conn, kept)?;

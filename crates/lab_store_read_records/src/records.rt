@@ -1,8 +1,11 @@
 //! Records, each by its own row.
 
-ghost use Rattle.std.specs.Prelude.{◌≡◌, find, option_map, slice_get, IfOk};
+ghost use Rattle.std.specs.Prelude.{◌≡◌, find, option_map, slice_get, IfOk, IfErr};
 ghost use Rattle.lab_store_read_records.specs.Heads.{is_record, record_head};
+ghost use Rattle.lab_store_read_records.specs.Readable.{HasRecord};
 ghost use Rattle.lab_store_read_records.specs.Shown.{records_shown, record_read};
+ghost use Rattle.lab_store_columns.specs.Causes.{HasItsCause, HasFirst};
+ghost use Rattle.lab_store_columns.specs.Cells.{storage};
 ghost use Rattle.lab_store_columns.specs.Reads.{Reads};
 
 use crate::asking::rows_by_two;
@@ -15,8 +18,9 @@ use std::alloc::Global;
 
 // The row of the record with the number, in the laboratory with the id.
 fn record_rows<D: Readable>(conn: &mut D, lab: i64, number: u32) -> Result<Vec<Row>, ReadFault>
-    ensures { Reads (λ t rows. rows.items ≡ records_shown t lab number)
+    ensures reads { Reads (λ t rows. rows.items ≡ records_shown t lab number)
         (D.state conn.old) (D.state conn.new) result }
+    ensures cause { HasItsCause (λ t. Unit {0}) (D.state conn.old) (D.state conn.new) result }
 {
     rows_by_two(
         conn,
@@ -31,7 +35,8 @@ fn record_rows<D: Readable>(conn: &mut D, lab: i64, number: u32) -> Result<Vec<R
 /// # Errors
 /// The store refused, a row is none that this program writes, or memory ran out.
 pub(crate) fn record_of_row(alloc: Global, row: &Row) -> Result<RecordHead, ReadFault>
-    ensures { IfOk result (λ found. found ≡ record_read row.now) }
+    ensures value { IfOk result (λ found. found ≡ record_read row.now) }
+    ensures fault { IfErr result (λ fault. fault ≡ storage → ¬ HasRecord row.now) }
 {
     let id = id_of(row, 0)?;
     let number = ordinal_of(row, 1)?;
@@ -54,7 +59,8 @@ pub(crate) fn record_of_row(alloc: Global, row: &Row) -> Result<RecordHead, Read
 /// # Errors
 /// The store refused, a row is none that this program writes, or memory ran out.
 pub(crate) fn first_record(alloc: Global, rows: &[Row]) -> Result<Option<RecordHead>, ReadFault>
-    ensures { IfOk result (λ found. found ≡ option_map record_read (slice_get rows.now 0)) }
+    ensures value { IfOk result (λ found. found ≡ option_map record_read (slice_get rows.now 0)) }
+    ensures fault { IfErr result (λ fault. fault ≡ storage → ¬ HasFirst HasRecord rows.now) }
 {
     match rows.first() {
         Some(row) => Ok(Some(record_of_row(alloc, row)?)),
@@ -72,8 +78,10 @@ pub fn record_at<D: Readable>(
     lab: i64,
     number: Ordinal,
 ) -> Result<Option<RecordHead>, ReadFault>
-    ensures { Reads (λ t found. found
+    ensures reads { Reads (λ t found. found
         ≡ option_map record_head (find (is_record lab number) t.records))
+        (D.state conn.old) (D.state conn.new) result }
+    ensures cause { HasItsCause (λ t. HasFirst HasRecord (records_shown t lab number))
         (D.state conn.old) (D.state conn.new) result }
 {
     let rows = record_rows(conn, lab, number.get())?;

@@ -1,10 +1,13 @@
 //! Records, each by its own row.
 
-ghost use Rattle.std.specs.Prelude.{◌≡◌, map, find, option_map, IfOk};
+ghost use Rattle.std.specs.Prelude.{◌≡◌, map, find, option_map, All, IfOk, IfErr};
 ghost use Rattle.lab_store_read_records.specs.Heads.{record_head};
 ghost use Rattle.lab_store_read_records.specs.Shown.{record_read};
 ghost use Rattle.lab_store_read_records.specs.Sought.{is_about, heads_within};
+ghost use Rattle.lab_store_read_records.specs.Readable.{HasRecord};
 ghost use Rattle.lab_store_read_records.specs.Retrieved.{abouts_shown, within_shown};
+ghost use Rattle.lab_store_columns.specs.Causes.{HasItsCause, HasFirst};
+ghost use Rattle.lab_store_columns.specs.Cells.{storage};
 ghost use Rattle.lab_store_columns.specs.Reads.{Reads};
 
 use crate::RecordHead;
@@ -23,8 +26,9 @@ fn about_rows<D: Readable>(
     form: &str,
     sample: &str,
 ) -> Result<Vec<Row>, ReadFault>
-    ensures { Reads (λ t rows. rows.items ≡ abouts_shown t lab form.now sample.now)
+    ensures reads { Reads (λ t rows. rows.items ≡ abouts_shown t lab form.now sample.now)
         (D.state conn.old) (D.state conn.new) result }
+    ensures cause { HasItsCause (λ t. Unit {0}) (D.state conn.old) (D.state conn.new) result }
 {
     rows_by_key(
         conn,
@@ -46,8 +50,10 @@ pub fn record_about<D: Readable>(
     form: &Key,
     sample: &Name,
 ) -> Result<Option<RecordHead>, ReadFault>
-    ensures { Reads (λ t found. found
+    ensures reads { Reads (λ t found. found
         ≡ option_map record_head (find (is_about lab form.now sample.now) t.records))
+        (D.state conn.old) (D.state conn.new) result }
+    ensures cause { HasItsCause (λ t. HasFirst HasRecord (abouts_shown t lab form.now sample.now))
         (D.state conn.old) (D.state conn.new) result }
 {
     let rows = about_rows(conn, lab, form.as_str(), sample.as_str())?;
@@ -61,8 +67,9 @@ fn within_rows<D: Readable>(
     from: u32,
     to: u32,
 ) -> Result<Vec<Row>, ReadFault>
-    ensures { Reads (λ t rows. rows.items ≡ within_shown t lab from to)
+    ensures reads { Reads (λ t rows. rows.items ≡ within_shown t lab from to)
         (D.state conn.old) (D.state conn.new) result }
+    ensures cause { HasItsCause (λ t. Unit {0}) (D.state conn.old) (D.state conn.new) result }
 {
     rows_by_range(
         conn,
@@ -75,7 +82,8 @@ fn within_rows<D: Readable>(
 
 // The records that rows show.
 fn records_of_rows(alloc: Global, rows: &[Row]) -> Result<Vec<RecordHead>, ReadFault>
-    ensures { IfOk result (λ made. made.items ≡ map record_read rows.now) }
+    ensures value { IfOk result (λ made. made.items ≡ map record_read rows.now) }
+    ensures fault { IfErr result (λ fault. fault ≡ storage → ¬ All HasRecord rows.now) }
 {
     let mut made = Vec::new(alloc);
     for row in rows {
@@ -95,7 +103,9 @@ pub fn records_within<D: Readable>(
     from: Ordinal,
     to: Ordinal,
 ) -> Result<Vec<RecordHead>, ReadFault>
-    ensures { Reads (λ t made. made.items ≡ heads_within t lab from to)
+    ensures reads { Reads (λ t made. made.items ≡ heads_within t lab from to)
+        (D.state conn.old) (D.state conn.new) result }
+    ensures cause { HasItsCause (λ t. All HasRecord (within_shown t lab from to))
         (D.state conn.old) (D.state conn.new) result }
 {
     let rows = within_rows(conn, lab, from.get(), to.get())?;

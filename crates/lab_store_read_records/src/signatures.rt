@@ -1,12 +1,15 @@
 //! Signatures of a version.
 
-ghost use Rattle.std.specs.Prelude.{◌≡◌, map, IfOk, IfSome};
+ghost use Rattle.std.specs.Prelude.{◌≡◌, map, All, IfOk, IfErr, IfSome, IfNone, IsFalse};
 ghost use Rattle.lab_store_tables.specs.Columns.{meaning_in};
 ghost use Rattle.lab_store_tables.specs.Meaning.{signatures_of};
 ghost use Rattle.lab_store_read_records.specs.Shown.{signatures_shown, signature_read};
 ghost use Rattle.sqlite_value.specs.Order.{column, bytes};
 ghost use Rattle.lab_store_tables.specs.Rows.{optional_in};
+ghost use Rattle.lab_store_columns.specs.Causes.{HasItsCause};
+ghost use Rattle.lab_store_columns.specs.Cells.{storage};
 ghost use Rattle.lab_store_columns.specs.Reads.{Reads};
+ghost use Rattle.lab_store_read_records.specs.Readable.{is_meaning, HasMeaning, HasSignature};
 
 use lab_forms_texts::{Keys, Note, Text};
 use lab_records_kept::Signature;
@@ -19,8 +22,9 @@ use std::alloc::Global;
 
 // The signatures of the version with the id, in the order of their places.
 fn signature_rows<D: Readable>(conn: &mut D, version: i64) -> Result<Vec<Row>, ReadFault>
-    ensures { Reads (λ t rows. rows.items ≡ signatures_shown t version)
+    ensures reads { Reads (λ t rows. rows.items ≡ signatures_shown t version)
         (D.state conn.old) (D.state conn.new) result }
+    ensures cause { HasItsCause (λ t. Unit {0}) (D.state conn.old) (D.state conn.new) result }
 {
     rows_by_one(
         conn,
@@ -32,7 +36,8 @@ fn signature_rows<D: Readable>(conn: &mut D, version: i64) -> Result<Vec<Row>, R
 // What a version was signed as, by its word and its reason. `None` where no meaning is stored with this word and reason: only
 // a rejection has a reason.
 fn meaning_by(word: &str, reason: Option<Note>) -> Option<Meaning>
-    ensures { IfSome result (λ meaning. meaning ≡ meaning_in word.now reason) }
+    ensures value { IfSome result (λ meaning. meaning ≡ meaning_in word.now reason) }
+    ensures none { IfNone result (IsFalse (is_meaning word.now reason)) }
 {
     match word {
         "authorship" => Some(Meaning::Authorship),
@@ -48,8 +53,9 @@ fn meaning_by(word: &str, reason: Option<Note>) -> Option<Meaning>
 
 // What the version was signed as, which stands in two columns of a row.
 fn meaning_of(alloc: Global, row: &Row) -> Result<Meaning, ReadFault>
-    ensures { IfOk result (λ meaning. meaning
+    ensures value { IfOk result (λ meaning. meaning
         ≡ meaning_in (bytes (column row.now 2)) (optional_in bytes (column row.now 3))) }
+    ensures fault { IfErr result (λ fault. fault ≡ storage → ¬ HasMeaning row.now) }
 {
     let word: Text<Keys> = text_of(alloc, row, 2)?;
     let reason = text_if(alloc, row, 3)?;
@@ -58,7 +64,8 @@ fn meaning_of(alloc: Global, row: &Row) -> Result<Meaning, ReadFault>
 
 // The signature that a row shows.
 fn signature_of_row(alloc: Global, row: &Row) -> Result<Signature, ReadFault>
-    ensures { IfOk result (λ signature. signature ≡ signature_read row.now) }
+    ensures value { IfOk result (λ signature. signature ≡ signature_read row.now) }
+    ensures fault { IfErr result (λ fault. fault ≡ storage → ¬ HasSignature row.now) }
 {
     let moment = moment_of(row, 4)?;
     let digest = digest_of(row, 5)?;
@@ -78,7 +85,8 @@ fn signature_of_row(alloc: Global, row: &Row) -> Result<Signature, ReadFault>
 
 // The signatures that rows show.
 fn signatures_of_rows(alloc: Global, rows: &[Row]) -> Result<Vec<Signature>, ReadFault>
-    ensures { IfOk result (λ made. made.items ≡ map signature_read rows.now) }
+    ensures value { IfOk result (λ made. made.items ≡ map signature_read rows.now) }
+    ensures fault { IfErr result (λ fault. fault ≡ storage → ¬ All HasSignature rows.now) }
 {
     let mut made = Vec::new(alloc);
     for row in rows {
@@ -96,7 +104,9 @@ pub fn signatures_at<D: Readable>(
     conn: &mut D,
     version: i64,
 ) -> Result<Vec<Signature>, ReadFault>
-    ensures { Reads (λ t made. made.items ≡ signatures_of t version)
+    ensures reads { Reads (λ t made. made.items ≡ signatures_of t version)
+        (D.state conn.old) (D.state conn.new) result }
+    ensures cause { HasItsCause (λ t. All HasSignature (signatures_shown t version))
         (D.state conn.old) (D.state conn.new) result }
 {
     let rows = signature_rows(conn, version)?;

@@ -1,8 +1,11 @@
 //! Versions of a record, each by its own row.
 
-ghost use Rattle.std.specs.Prelude.{◌≡◌, map, IfOk};
+ghost use Rattle.std.specs.Prelude.{◌≡◌, map, All, IfOk, IfErr};
 ghost use Rattle.lab_store_read_records.specs.Heads.{versions_of};
+ghost use Rattle.lab_store_read_records.specs.Readable.{HasVersion};
 ghost use Rattle.lab_store_read_records.specs.Shown.{versions_shown, version_read};
+ghost use Rattle.lab_store_columns.specs.Causes.{HasItsCause};
+ghost use Rattle.lab_store_columns.specs.Cells.{storage};
 ghost use Rattle.lab_store_columns.specs.Reads.{Reads};
 
 use crate::heads::VersionHead;
@@ -14,8 +17,9 @@ use std::alloc::Global;
 
 // The versions of the record with the id, in the order of their numbers.
 fn version_rows<D: Readable>(conn: &mut D, kept: i64) -> Result<Vec<Row>, ReadFault>
-    ensures { Reads (λ t rows. rows.items ≡ versions_shown t kept)
+    ensures reads { Reads (λ t rows. rows.items ≡ versions_shown t kept)
         (D.state conn.old) (D.state conn.new) result }
+    ensures cause { HasItsCause (λ t. Unit {0}) (D.state conn.old) (D.state conn.new) result }
 {
     rows_by_one(
         conn,
@@ -26,7 +30,8 @@ fn version_rows<D: Readable>(conn: &mut D, kept: i64) -> Result<Vec<Row>, ReadFa
 
 // The version that a row shows.
 fn version_of_row(alloc: Global, row: &Row) -> Result<VersionHead, ReadFault>
-    ensures { IfOk result (λ version. version ≡ version_read row.now) }
+    ensures value { IfOk result (λ version. version ≡ version_read row.now) }
+    ensures fault { IfErr result (λ fault. fault ≡ storage → ¬ HasVersion row.now) }
 {
     let id = id_of(row, 0)?;
     let number = ordinal_of(row, 1)?;
@@ -46,7 +51,8 @@ fn version_of_row(alloc: Global, row: &Row) -> Result<VersionHead, ReadFault>
 
 // The versions that rows show.
 fn versions_of_rows(alloc: Global, rows: &[Row]) -> Result<Vec<VersionHead>, ReadFault>
-    ensures { IfOk result (λ made. made.items ≡ map version_read rows.now) }
+    ensures value { IfOk result (λ made. made.items ≡ map version_read rows.now) }
+    ensures fault { IfErr result (λ fault. fault ≡ storage → ¬ All HasVersion rows.now) }
 {
     let mut made = Vec::new(alloc);
     for row in rows {
@@ -64,7 +70,9 @@ pub fn versions_at<D: Readable>(
     conn: &mut D,
     kept: i64,
 ) -> Result<Vec<VersionHead>, ReadFault>
-    ensures { Reads (λ t made. made.items ≡ versions_of t kept)
+    ensures reads { Reads (λ t made. made.items ≡ versions_of t kept)
+        (D.state conn.old) (D.state conn.new) result }
+    ensures cause { HasItsCause (λ t. All HasVersion (versions_shown t kept))
         (D.state conn.old) (D.state conn.new) result }
 {
     let rows = version_rows(conn, kept)?;

@@ -13,8 +13,8 @@ returns-in-Ok-clause-ends g c ready =
     let new = state g.S.Store c.commit_all.new.conn in
     let fits : SFits w64 c.in-Some.head.id = search rules in
     ends_ok c.args.code.now c.args.changes.now old middle new ready
-    c.in_ok-found.ensures.passes c.in_ok-found.ensures.same (to_z w64 (of_z w64 c.in-Some.head.id))
-    (λ clean. let row = found_row _ c.in-Some.head (sym c.in-Some.is ∙ c.in_ok-found.ensures.answer ready clean) in
+    c.in_ok-found.ensures.reads.passes c.in_ok-found.ensures.reads.same (to_z w64 (of_z w64 c.in-Some.head.id))
+    (λ clean. let row = found_row _ c.in-Some.head (sym c.in-Some.is ∙ c.in_ok-found.ensures.reads.answer ready clean) in
     (row.0, row.1, row.2 ∙ sym (to_z-of_z w64 c.in-Some.head.id fits)))
     (Fault BadStore) _ tt c.in-Ok.ensures.ends
 
@@ -25,7 +25,7 @@ returns-clause-ends g c ready =
     let new = state g.S.Store c.commit_all.new.conn in
     let fits : SFits w64 c.in-Some.head.id = search rules in
     ends_err c.args.code.now c.args.changes.now old middle new ready
-    c.in_ok-found.ensures.passes c.in_ok-found.ensures.same (to_z w64 (of_z w64 c.in-Some.head.id))
-    (λ clean. let row = found_row _ c.in-Some.head (sym c.in-Some.is ∙ c.in_ok-found.ensures.answer ready clean) in
+    c.in_ok-found.ensures.reads.passes c.in_ok-found.ensures.reads.same (to_z w64 (of_z w64 c.in-Some.head.id))
+    (λ clean. let row = found_row _ c.in-Some.head (sym c.in-Some.is ∙ c.in_ok-found.ensures.reads.answer ready clean) in
     (row.0, row.1, row.2 ∙ sym (to_z-of_z w64 c.in-Some.head.id fits)))
     _ c.in-Err.error c.read_fault.result c.in-Err.ensures.ends

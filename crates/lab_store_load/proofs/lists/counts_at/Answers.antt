@@ -9,5 +9,5 @@ pub returns : goal.returns
 returns g c =
     let lab = c.args.lab.now in
     let fits : SFits w64 lab.id = search rules in
-    reads_and (rw (to_z-of_z w64 lab.id fits) at c.in_ok-persons.ensures) (λ kept persons.
+    reads_and (rw (to_z-of_z w64 lab.id fits) at c.in_ok-persons.ensures.reads) (λ kept persons.
     λ i. record (counts_by (tables_of (g.D.Readable.state c.args.conn.now)) lab) { persons = persons i })

@@ -8,4 +8,4 @@ pub returns : goal.returns
 returns g c =
     let id = c.args.lab.now.id in
     let fits : SFits w64 id = search rules in
-    reads_and (rw (to_z-of_z w64 id fits) at c.in_ok-persons.ensures) (λ kept found. same_listed _ _ (c.from_vec.ensures ∙ found) c.new.ensures c.new-2.ensures)
+    reads_and (rw (to_z-of_z w64 id fits) at c.in_ok-persons.ensures.reads) (λ kept found. same_listed _ _ (c.from_vec.ensures ∙ found) c.new.ensures c.new-2.ensures)

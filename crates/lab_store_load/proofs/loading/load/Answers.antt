@@ -9,5 +9,5 @@ pub returns : goal.returns
 returns g c =
     let t = tables_of (g.D.Readable.state c.args.conn.now) in
     let need = c.args.need.now in
-    reads_then c.in_ok-head.ensures c.slice_if.ensures
+    reads_then c.in_ok-head.ensures.reads c.slice_if.ensures
     (λ kept found slice is. is ∙ ap (option_map (slice_by t need)) found ∙ loaded t kept.rows need c.args.code.now)

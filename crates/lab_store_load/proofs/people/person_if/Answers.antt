@@ -11,5 +11,5 @@ returns-in-Some g c =
     let t = tables_of (g.D.Readable.state c.args.conn.now) in
     let lab = c.args.lab.now in
     let fits : SFits w64 lab.id = search rules in
-    may_read (reads_as (rw (to_z-of_z w64 lab.id fits) at c.person_at.ensures)
+    may_read (reads_as (rw (to_z-of_z w64 lab.id fits) at c.person_at.ensures.reads)
     (λ person is. is ∙ ap (option_and_then (person_at (lab_by t lab))) (sym c.in-Some.is)))

@@ -11,11 +11,11 @@ returns-in-Numbered g c =
     let t = tables_of (g.D.Readable.state c.args.conn.now) in
     let lab = c.args.lab.now in
     let fits : SFits w64 lab.id = search rules in
-    reads_as (rw (to_z-of_z w64 lab.id fits) at c.numbered_at.ensures) (λ filed is. is ∙ ap (record_meant (lab_by t lab)) (sym c.in-Numbered.is))
+    reads_as (rw (to_z-of_z w64 lab.id fits) at c.numbered_at.ensures.reads) (λ filed is. is ∙ ap (record_meant (lab_by t lab)) (sym c.in-Numbered.is))
 
 pub returns-in-About : goal.returns-in-About
 returns-in-About g c =
     let t = tables_of (g.D.Readable.state c.args.conn.now) in
     let lab = c.args.lab.now in
     let fits : SFits w64 lab.id = search rules in
-    reads_as (rw (to_z-of_z w64 lab.id fits) at c.about_at.ensures) (λ filed is. is ∙ ap (record_meant (lab_by t lab)) (sym c.in-About.is))
+    reads_as (rw (to_z-of_z w64 lab.id fits) at c.about_at.ensures.reads) (λ filed is. is ∙ ap (record_meant (lab_by t lab)) (sym c.in-About.is))

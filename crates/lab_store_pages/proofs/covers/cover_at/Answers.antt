@@ -9,4 +9,4 @@ pub returns : goal.returns
 returns g c =
     let head = c.args.head in
     let fits : SFits w64 head.form = search rules in
-    reads_and (rw (to_z-of_z w64 head.form fits) at c.in_ok-form.ensures) (λ kept form. c.cover_of.ensures ∙ ap (cover_of head) form)
+    reads_and (rw (to_z-of_z w64 head.form fits) at c.in_ok-form.ensures.reads) (λ kept form. c.cover_of.ensures ∙ ap (cover_of head) form)

@@ -17,5 +17,5 @@ returns-in_err-give_version-clause-text g c =
     (g.W.Write.contents c.give_version.new.writer)
     (page_rows lab cover c.in-Some.version)
     (page_rows lab cover (version_after cover c.args.before (leaf_of c.args.leaf)))
-    (ap (page_rows lab cover) c.in-Some.ensures)
+    (ap (page_rows lab cover) c.in-Some.ensures.value)
     c.in_err-give_version.ensures.text)

@@ -13,7 +13,7 @@ returns-in-Ok-clause-text g c ready clean =
     c.give_leaf.result
     (ap (λ (leaf : Leaf).
     page_rows c.args.lab.now cover (version_after cover c.args.before leaf))
-    (c.in-Ok.ensures.answer ready clean)) c.give_leaf.ensures.text
+    (c.in-Ok.ensures.reads.answer ready clean)) c.give_leaf.ensures.text
 
 pub returns-in-Err-clause-text : goal.returns-in-Err-clause-text
 returns-in-Err-clause-text g c ready clean = none_went _ _

@@ -12,29 +12,29 @@ use Rattle.lab_store_pages.proofs.pages.give_versions.Goals as goal
 pub returns-in-Ok-clause-text : goal.returns-in-Ok-clause-text
 returns-in-Ok-clause-text g c ready clean =
     let was = c.give_pages.ensures.passes.clean clean in
-    let same = c.in-Ok.ensures.same was in
+    let same = c.in-Ok.ensures.reads.same was in
     let given = rw (to_z-of_z w64 c.args.kept c.ranges.kept) at
-    (c.in-Ok.ensures.answer ready was) in
+    (c.in-Ok.ensures.reads.answer ready was) in
     sends_as (g.W.Write.contents c.args.writer.now) (g.W.Write.contents c.give_pages.new.writer) _ _
     c.give_pages.result
     (leaves_as (tables_of (g.D.Readable.state c.args.conn.now))
     (tables_of (g.D.Readable.state c.versions_at.new.conn))
     (ap (λ (db : Database). tables_in db.trees) same.0.now_is) c.args.lab.now c.args.cover.now
     c.args.kept c.in-Ok.heads.items given)
-    (c.give_pages.ensures.text (c.versions_at.ensures.passes.ready ready) clean same.0.is_open)
+    (c.give_pages.ensures.text (c.versions_at.ensures.reads.passes.ready ready) clean same.0.is_open)
 
 pub returns-in-Ok-clause-counts : goal.returns-in-Ok-clause-counts
 returns-in-Ok-clause-counts g c ready clean =
     let was = c.give_pages.ensures.passes.clean clean in
-    let same = c.in-Ok.ensures.same was in
+    let same = c.in-Ok.ensures.reads.same was in
     let given = rw (to_z-of_z w64 c.args.kept c.ranges.kept) at
-    (c.in-Ok.ensures.answer ready was) in
+    (c.in-Ok.ensures.reads.answer ready was) in
     given_as c.args.out.now c.give_pages.new.out _ _ c.give_pages.result
     (leaves_as (tables_of (g.D.Readable.state c.args.conn.now))
     (tables_of (g.D.Readable.state c.versions_at.new.conn))
     (ap (λ (db : Database). tables_in db.trees) same.0.now_is) c.args.lab.now c.args.cover.now
     c.args.kept c.in-Ok.heads.items given)
-    (c.give_pages.ensures.counts (c.versions_at.ensures.passes.ready ready) clean same.0.is_open)
+    (c.give_pages.ensures.counts (c.versions_at.ensures.reads.passes.ready ready) clean same.0.is_open)
 
 pub returns-in-Err-clause-text : goal.returns-in-Err-clause-text
 returns-in-Err-clause-text g c ready clean = none_went _ _

@@ -3,9 +3,15 @@ use Rattle.std.proofs.lemmas.Int.{to_z-of_z}
 use Rattle.lab_store_columns.proofs.Readers.{rows_read}
 use Rattle.lab_store_read_forms.proofs.ByCodeTexts.{exact_means}
 use Rattle.lab_store_read_forms.proofs.ByCodeExact.{exact_read}
+use Rattle.lab_store_columns.proofs.Causes.{asks_so}
+use Rattle.lab_store_read_forms.proofs.Causes.{exact_fits}
 use Rattle.lab_store_read_forms.proofs.forms_by_code.exact_rows.Goals as goal
 
-pub returns : goal.returns
-returns g c =
+pub returns-clause-reads : goal.returns-clause-reads
+returns-clause-reads g c =
     rows_read exact_means.read (rw (to_z-of_z w64 c.args.lab c.ranges.lab) at c.rows_by_version.ensures)
     (λ rows. exact_read _ _ c.args.lab c.args.code.now c.args.version rows.items)
+
+pub returns-clause-cause : goal.returns-clause-cause
+returns-clause-cause g c =
+    asks_so exact_means (exact_fits c.args.lab c.args.code.now c.args.version) _ _ (rw (to_z-of_z w64 c.args.lab c.ranges.lab) at c.rows_by_version.ensures)

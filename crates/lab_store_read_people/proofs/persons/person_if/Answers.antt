@@ -4,15 +4,15 @@ use Rattle.lab_store_columns.proofs.Readers.{none_read, may_end, may_and}
 use Rattle.lab_store_read_people.specs.Heads.{person_by}
 use Rattle.lab_store_read_people.proofs.persons.person_if.Goals as goal
 
-pub returns-in_err-person-in-Some : goal.returns-in_err-person-in-Some
-returns-in_err-person-in-Some g c = may_end c.in_err-person-in-Some.ensures c.from_residual.result _ c.from_residual.ensures.1
+pub returns-in_err-person-in-Some-clause-reads : goal.returns-in_err-person-in-Some-clause-reads
+returns-in_err-person-in-Some-clause-reads g c = may_end c.in_err-person-in-Some.ensures.reads c.from_residual.result _ c.from_residual.ensures.1
 
-pub returns-in_ok-person-in-Some : goal.returns-in_ok-person-in-Some
-returns-in_ok-person-in-Some g c =
+pub returns-in_ok-person-in-Some-clause-reads : goal.returns-in_ok-person-in-Some-clause-reads
+returns-in_ok-person-in-Some-clause-reads g c =
     let t = tables_of (g.D.Readable.state c.args.conn.now) in
-    may_and c.in_ok-person-in-Some.ensures (λ is. ap Some is ∙ sym (ap (option_map (person_by t)) c.in-Some.is))
+    may_and c.in_ok-person-in-Some.ensures.reads (λ is. ap Some is ∙ sym (ap (option_map (person_by t)) c.in-Some.is))
 
-pub returns-in-None : goal.returns-in-None
-returns-in-None g c =
+pub returns-in-None-clause-reads : goal.returns-in-None-clause-reads
+returns-in-None-clause-reads g c =
     let t = tables_of (g.D.Readable.state c.args.conn.now) in
     none_read (sym (ap (option_map (person_by t)) c.in-None.is))

@@ -1,8 +1,11 @@
-use Rattle.std.proofs.Common.{◌≡◌, [], ◌∷◌, length, map, sym, ap, ◌∙◌, arith, rules}
+use Rattle.std.proofs.Common.{◌≡◌, ◌∷◌, length, map, sym, ap, ◌∙◌, arith, rules}
 use Rattle.std.specs.Vec.Iter.{into_iter_items}
 use Rattle.lab_store_columns.proofs.Readers.{may_read}
 use Rattle.lab_store_columns.proofs.Loops.{none_left, none_put, one_put, all_put, put_fails}
 use Rattle.lab_store_read_records.specs.Leaves.{leaf_of, leaf_by}
+use Rattle.lab_store_read_records.specs.Readable.{HasLeaf}
+use Rattle.lab_store_read_records.specs.declared.heads.VersionHead.{VersionHead}
+use Rattle.lab_store_columns.proofs.Causes.{none_asked, one_asked, asked_fails, passed_on, none_told}
 use Rattle.lab_store_read_records.proofs.record_leaves.add_leaves.Goals as goal
 
 pub loop-head-init : goal.loop-head-init
@@ -10,6 +13,7 @@ loop-head-init g c =
     let all : into_iter_items c.into_iter-head-iterator.result ≡ c.args.heads.items = search rules in
     record {
       put = none_put leaf_by (map leaf_of c.args.made.now.items) c.args.heads.items _ (g.D.Readable.state c.args.conn.now) all;
+      asked = none_asked (λ t (head : VersionHead). HasLeaf t head.id) c.args.heads.items _ (g.D.Readable.state c.args.conn.now) all;
       counted = search rules;
     }
 
@@ -17,7 +21,8 @@ pub loop-head-preserved : goal.loop-head-preserved
 loop-head-preserved g c =
     let steps : into_iter_items c.loop-head.head-iterator ≡ c.in-Some.head ∷ into_iter_items c.next.new.self = c.in-Some.ensures.steps.0 in
     record {
-      put = one_put c.loop-head.invariant.put steps (may_read c.in_ok-add_leaf.ensures);
+      put = one_put c.loop-head.invariant.put steps (may_read c.in_ok-add_leaf.ensures.reads);
+      asked = one_asked c.loop-head.invariant.asked steps c.in_ok-add_leaf.ensures.cause.limit;
       counted =
           let was = c.loop-head.invariant.counted in
           let less = c.in-Some.ensures.steps.1 in
@@ -25,8 +30,16 @@ loop-head-preserved g c =
           omega arith;
     }
 
-pub returns-in_err-add_leaf : goal.returns-in_err-add_leaf
-returns-in_err-add_leaf g c = put_fails c.loop-head.invariant.put (may_read c.in_err-add_leaf.ensures) c.from_residual.result _ c.from_residual.ensures.1
+pub returns-in_err-add_leaf-clause-reads : goal.returns-in_err-add_leaf-clause-reads
+returns-in_err-add_leaf-clause-reads g c = put_fails c.loop-head.invariant.put (may_read c.in_err-add_leaf.ensures.reads) c.from_residual.result _ c.from_residual.ensures.1
 
-pub returns : goal.returns
-returns g c = all_put c.loop-head.invariant.put (none_left _ (sym c.loop-head.invariant.counted ∙ c.in-None.ensures.steps.0))
+pub returns-clause-reads : goal.returns-clause-reads
+returns-clause-reads g c = all_put c.loop-head.invariant.put (none_left _ (sym c.loop-head.invariant.counted ∙ c.in-None.ensures.steps.0))
+
+pub returns-in_err-add_leaf-clause-cause : goal.returns-in_err-add_leaf-clause-cause
+returns-in_err-add_leaf-clause-cause g c =
+    passed_on (asked_fails c.loop-head.invariant.asked c.loop-head.invariant.put c.in-Some.ensures.steps.0 (may_read c.in_err-add_leaf.ensures.reads) c.in_err-add_leaf.ensures.cause)
+    (λ has. has) c.from_residual.result c.from_residual.ensures.1
+
+pub returns-clause-cause : goal.returns-clause-cause
+returns-clause-cause g c = none_told c.loop-head.invariant.asked.limit

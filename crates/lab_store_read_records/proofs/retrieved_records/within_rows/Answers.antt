@@ -3,9 +3,15 @@ use Rattle.std.proofs.lemmas.Int.{to_z-of_z}
 use Rattle.lab_store_columns.proofs.Readers.{rows_read}
 use Rattle.lab_store_read_records.proofs.RetrievalTexts.{within_means}
 use Rattle.lab_store_read_records.proofs.RetrievalExact.{within_read}
+use Rattle.lab_store_columns.proofs.Causes.{asks_so}
+use Rattle.lab_store_read_records.proofs.Causes.{within_fits}
 use Rattle.lab_store_read_records.proofs.retrieved_records.within_rows.Goals as goal
 
-pub returns : goal.returns
-returns g c =
+pub returns-clause-reads : goal.returns-clause-reads
+returns-clause-reads g c =
     rows_read within_means.read (rw (to_z-of_z w64 c.args.lab c.ranges.lab) at c.rows_by_range.ensures)
     (λ rows. within_read _ _ c.args.lab c.args.from c.args.to rows.items)
+
+pub returns-clause-cause : goal.returns-clause-cause
+returns-clause-cause g c =
+    asks_so within_means (within_fits c.args.lab c.args.from c.args.to) _ _ (rw (to_z-of_z w64 c.args.lab c.ranges.lab) at c.rows_by_range.ensures)
