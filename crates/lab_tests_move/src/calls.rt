@@ -1,4 +1,5 @@
 //! Calls without clauses, so that the proof of a test doesn't carry what a connection holds after each.
+use lab_move::{MoveFault, OldFile, Unwatched, migrate};
 use lab_move_files::{finish, make_tables};
 use lab_move_writing::place_lab;
 use lab_records_kept::{BadStore, KeeperFault, Lab};
@@ -40,11 +41,29 @@ pub(crate) fn opened(conn: &mut File) -> Result<(), FileFault> {
     open(conn)
 }
 
+pub(crate) fn moved(
+    rt: &(impl Abort + AllocGlobal),
+    conn: File,
+    new: &mut File,
+) -> Result<u64, MoveFault> {
+    let mut old = OldFile { conn };
+    if !new.is_autocommit() {
+        return Err(MoveFault::File(FileFault::Storage));
+    }
+    migrate(rt.alloc(), &mut old, new, &mut Unwatched)
+}
+
+/// The text that a question shows.
+pub(crate) fn shown(rt: &impl Abort, conn: &mut File, question: &str) -> String {
+    let row = conn.query_row(question, &[]).expect(rt, question);
+    let shown = row.get(0).expect(rt, question);
+    drop(row);
+    shown
+}
+
 /// A question shows this text.
 pub(crate) fn assert_shown(rt: &impl Abort, conn: &mut File, question: &str, wanted: &str) {
-    let row = conn.query_row(question, &[]).expect(rt, question);
-    let shown: String = row.get(0).expect(rt, question);
-    drop(row);
+    let shown = shown(rt, conn, question);
     assert_eq!(rt; shown.as_str(), wanted);
     drop(shown);
 }

@@ -1,4 +1,4 @@
-//! Tests of `lab_move_files` and `lab_move_writing` over databases in memory: they stand apart, so that the crates aren't proved
+//! Tests of `lab_move_files`, `lab_move_writing` and `lab_move` over databases in memory: they stand apart, so that the crates aren't proved
 //! once more with them.
 #![tactic(auto)]
 
@@ -6,6 +6,12 @@
 mod calls;
 #[cfg(test)]
 mod making_tests;
+#[cfg(test)]
+mod moving_tests;
+#[cfg(test)]
+mod old_files;
+#[cfg(test)]
+mod old_texts;
 #[cfg(test)]
 mod parts;
 #[cfg(test)]

@@ -31,7 +31,7 @@ pub(crate) fn person(rt: &(impl Abort + AllocGlobal), code: &str, asker: Option<
     let ask = match asker {
         Some(asker) => Some(Ask {
             asked: moment(rt, 900),
-            first: Verifier::make(b"half", [7; 16], 1),
+            first: Verifier::from_parts([7; 16], 10_000, [8; 32]),
             asker: text(rt, asker),
         }),
         None => None,
@@ -94,7 +94,8 @@ fn entry(rt: &(impl Abort + AllocGlobal)) -> EntryRow {
     }
 }
 
-fn signature(rt: &(impl Abort + AllocGlobal)) -> Signature {
+/// A signature of another digest than the version's.
+pub(crate) fn signature(rt: &(impl Abort + AllocGlobal)) -> Signature {
     Signature {
         meaning: Meaning::Authorship,
         moment: moment(rt, 1200),
@@ -105,7 +106,7 @@ fn signature(rt: &(impl Abort + AllocGlobal)) -> Signature {
     }
 }
 
-fn version(rt: &(impl Abort + AllocGlobal)) -> Version {
+fn version(rt: &(impl Abort + AllocGlobal), signatures: Series<Signature>) -> Version {
     let mut rows = Vec::new(rt.alloc());
     rows.push(entry(rt)).expect(rt, "a row");
     Version {
@@ -113,18 +114,18 @@ fn version(rt: &(impl Abort + AllocGlobal)) -> Version {
         origin: Origin::first(),
         opened: moment(rt, 1050),
         rows: EntryRows::new(rows),
-        signatures: alone(rt, signature(rt)),
+        signatures,
         opener: text(rt, "dan"),
     }
 }
 
-/// The first record, of one version with one row and one signature.
-pub(crate) fn record(rt: &(impl Abort + AllocGlobal)) -> Record {
+/// The first record, of one version with one row and these signatures.
+pub(crate) fn record(rt: &(impl Abort + AllocGlobal), signatures: Series<Signature>) -> Record {
     Record {
         number: Ordinal::FIRST,
         form: form(rt),
         sample: text(rt, "S1"),
-        versions: alone(rt, version(rt)),
+        versions: alone(rt, version(rt, signatures)),
     }
 }
 

@@ -1,0 +1,64 @@
+-- All laboratories of an old file, moved, and the new file finished.
+use Rattle.std.proofs.Common.{◌≡◌, inl, inr, ℕ, List, length, Ok, Err, Result, IfOk, IfErr, sym, subst}
+use Rattle.std.specs.Prelude.{All}
+use Rattle.sqlite.specs.Effect.{Database}
+use Rattle.sqlite.specs.State.{State, HasCleanDisk}
+use Rattle.lab_store_tables.specs.Rows.{Tables}
+use Rattle.lab_store_columns.proofs.Queries.{if_then}
+use Rattle.lab_move_tables.specs.OldRows.{IsOldFile, old_tables}
+use Rattle.lab_move_tables.specs.Reading.{ReadsOld, old_tables_of}
+use Rattle.lab_move_rows.proofs.OldReaders.{may_and, may_then}
+use Rattle.lab_move_files.specs.Commits.{MakesAtOnce}
+use Rattle.lab_move_files.specs.Unfinished.{Finishes}
+use Rattle.lab_move_labs.specs.Laboratories.{codes_of}
+use Rattle.lab_move.specs.declared.faults.MoveFault.{MoveFault}
+use Rattle.lab_move.specs.Moving.{AreCounted, BlamesFirst, BlamesFirstOfAll, Fills, FillsAll, HasThese, IsFirstUnsound, IsSoundIn, IsWhole, IsWholeOf}
+use Rattle.lab_move.proofs.FilledFiles.{finished, whole_is}
+use Rattle.lab_move.proofs.OneLab.{errs_as}
+use Rattle.lab_move.proofs.Steps.{step_more, steps_as, steps_fail}
+
+-- ---- finished behind the last one
+
+pub counted : {E F : Type 0} (codes : List (List ℕ)) {old new : State} (r : Result ℕ F)
+    → ReadsOld {T = Unit {0}} {E = E} (λ t _. All (IsSoundIn t) codes) old new (Ok tt)
+    → IfOk r (λ count. count ≡ length codes) → ReadsOld (AreCounted codes) old new r
+counted codes {old} r read count = may_and read (λ file all. if_then r (λ n is. (sym is, all)) count)
+
+pub finishes_all : {B E F : Type 0} (codes : List (List ℕ)) {before after old mid new : State} {r : Result B F}
+    → Fills {A = Unit {0}} {E = E} (HasThese before after codes) (Ok tt) old mid
+    → MakesAtOnce (Finishes mid.now) r mid new → FillsAll (IsWholeOf before after codes) r old new
+finishes_all codes {before} {after} {old} {mid} p q =
+    step_more (steps_as (Ok tt) p (λ db h begun. inl (h begun)) (λ db h. h)) q (λ h begun. (h begun).file)
+    (λ db h next begun. inr (finished before after codes mid.now db next (h begun)))
+    (λ db h next begun. finished before after codes mid.now db next (h begun))
+
+pub fails_all : {A B E F : Type 0} (codes : List (List ℕ)) {before after old new : State} {e : E} (f : F)
+    → Fills {A = A} (HasThese before after codes) (Err e) old new
+    → FillsAll {A = B} (IsWholeOf before after codes) (Err f) old new
+fails_all codes f p = steps_fail f p (λ db h begun. inl (h begun))
+
+-- ---- of the codes that were read
+
+module _ {E : Type 0} (codes : List (List ℕ)) (before mid after : State) (read : ReadsOld {E = E} (λ t made. made ≡ codes_of t) before mid (Ok codes)) where
+  pub all_counted : {F : Type 0} {r : Result ℕ F} → ReadsOld (AreCounted codes) mid after r → ReadsOld (λ t. AreCounted (codes_of t) t) before after r
+  all_counted next = may_then read next (λ file is count it. subst (λ l. AreCounted l (old_tables_of before) count) is it)
+
+  module _ (clean : HasCleanDisk after → HasCleanDisk mid) where
+    pub all_filled : {B F : Type 0} (r : Result B F) {old new : State} → FillsAll (IsWholeOf mid after codes) r old new
+        → FillsAll (IsWhole before after) r old new
+    all_filled r it =
+        steps_as r it (λ db h begun. elim (h begun) [ inl filling ↦ inl filling | inr whole ↦ inr (whole_is before mid after codes db read clean whole) ])
+        (λ db h begun. whole_is before mid after codes db read clean (h begun))
+
+    pub all_blamed : {A : Type 0} (r : Result A MoveFault) → IfErr r (BlamesFirst mid after codes) → IfErr r (BlamesFirstOfAll before after)
+    all_blamed r it = errs_as r (λ one first so.
+        let late = clean so.1 in
+        let here : IsFirstUnsound (old_tables_of before) codes one =
+        subst (λ (db : Database). IsOldFile db → IsFirstUnsound (old_tables db.trees) codes one) (read.shows late) (λ file. first (file, so.1)) so.0 in
+        subst (λ l. IsFirstUnsound (old_tables_of before) l one) (read.answer so.0 late) here) it
+
+-- after a call that read nothing of the tables
+pub read_on : {A B E F : Type 0} {Is : Tables → B → Type 0} {old mid new : State} {a : A} {r : Result B F}
+    → ReadsOld {E = E} (λ t x. Unit {0}) old mid (Ok a) → ReadsOld Is mid new r
+    → ReadsOld Is old new r
+read_on p q = may_then p q (λ file it b is. is)

@@ -1,0 +1,117 @@
+-- Why a move was refused, and that it did nothing to the new file where it was refused early.
+use Rattle.std.proofs.Common.{◌≡◌, ◌≢◌, ◌⊎◌, inl, inr, ℕ, false, Ok, Err, Result, IfOk, IfErr, OnOk, IsTrue, refl, sym, ap, subst, ◌∙◌}
+use Rattle.sqlite.specs.Effect.{Database}
+use Rattle.sqlite.specs.State.{State, HasCleanDisk}
+use Rattle.lab_store_tables.specs.Ready.{tables_of}
+use Rattle.lab_store_files.specs.declared.faults.FileFault.{FileFault}
+use Rattle.lab_store_files.specs.declared.faults.FileFault.TheVariants.{NotADeskFile, SchemaOld, SchemaNew, Storage, NotEmpty, Memory}
+use Rattle.lab_store_files.specs.Faults.{FailedInStore}
+use Rattle.lab_store_files.specs.Schemas.{is_taken}
+use Rattle.lab_move_tables.specs.OldRows.{IsOldFile, old_tables}
+use Rattle.lab_move_tables.specs.Reading.{old_tables_of}
+use Rattle.lab_move_labs.specs.Laboratories.{codes_of}
+use Rattle.lab_move.specs.declared.faults.MoveFault.{MoveFault}
+use Rattle.lab_move.specs.declared.faults.MoveFault.TheVariants.{File, NotSound}
+use Rattle.lab_move.specs.Faults.{IsOfStore, is_early}
+use Rattle.lab_move.specs.OldFiles.{IsNamedOldFile, IsOldVerdict, IsNoneOfOld, OldAnswers}
+use Rattle.lab_move.specs.Moving.{AreCounted, BlamesFirstOfAll, HasCause, IsFirstUnsound, IsMoved, IsRead, IsWhole}
+use Rattle.lab_move.proofs.Codes.{as_many}
+
+-- ---- the verdict on the old file
+
+abbrev NeverRefused : State → FileFault → Type 0
+NeverRefused old fault = IsNamedOldFile old.now → ◌≡◌ {A = Result (Unit {0}) FileFault} (Err fault) (Ok tt) ⊎ FailedInStore {A = Unit {0}} (Err fault)
+
+none_of_old : (old new : State) (fault : FileFault) → fault ≢ Storage → fault ≢ Memory → OldAnswers old new (Err fault) → NeverRefused old fault
+    → IsNoneOfOld old new fault
+none_of_old old new fault stored remembered answers ours = record { verdict = told answers; other = λ named. never (ours named) }
+  where
+    apart : ◌≡◌ {A = Result (Unit {0}) FileFault} (Err fault) (Err Storage) ⊎ ◌≡◌ {A = Result (Unit {0}) FileFault} (Err fault) (Err Memory) → ⊥
+    apart (inl e) = stored (let same : fault ≡ Storage = cc in same)
+    apart (inr e) = remembered (let same : fault ≡ Memory = cc in same)
+
+    told : OldAnswers old new (Err fault) → IsOldVerdict old new (Err fault)
+    told (inl it) = it
+    told (inr failed) = absurd (apart failed)
+
+    never : ◌≡◌ {A = Result (Unit {0}) FileFault} (Err fault) (Ok tt) ⊎ FailedInStore {A = Unit {0}} (Err fault) → ⊥
+    never (inl e) = cc
+    never (inr failed) = apart failed
+
+pub old_cause : (old new fresh : State) (fault : FileFault) → (HasCleanDisk new → OldAnswers old new (Err fault)) → (HasCleanDisk new → NeverRefused old fault)
+    → ◌≢◌ {A = Result (Unit {0}) FileFault} (Err fault) (Err NotEmpty) → HasCause old new fresh (File fault)
+old_cause old new fresh NotADeskFile answers ours empty = λ clean. none_of_old old new NotADeskFile (λ e. cc) (λ e. cc) (answers clean) (ours clean)
+old_cause old new fresh (SchemaOld number) answers ours empty = λ clean. none_of_old old new (SchemaOld number) (λ e. cc) (λ e. cc) (answers clean) (ours clean)
+old_cause old new fresh (SchemaNew number) answers ours empty = λ clean. none_of_old old new (SchemaNew number) (λ e. cc) (λ e. cc) (answers clean) (ours clean)
+old_cause old new fresh Storage answers ours empty = tt
+old_cause old new fresh NotEmpty answers ours empty = absurd (empty refl)
+old_cause old new fresh Memory answers ours empty = tt
+
+-- ---- the new file's tables
+
+abbrev IsOfMaking : FileFault → Type 0
+IsOfMaking fault = (fault ≡ NotEmpty) ⊎ ((fault ≡ Storage) ⊎ (fault ≡ Memory))
+
+module _ {Same : Type 0} (old new fresh : State) (r : Result (Unit {0}) FileFault) (of : IfErr r IsOfMaking)
+    (empty : r ≡ Err NotEmpty → IsTrue (is_taken fresh.now.schema) × Same) where
+  pub made_cause : IfErr r (λ fault. HasCause old new fresh (File fault))
+  made_cause = go r of (λ e. (empty e).0)
+    where
+      by : (fault : FileFault) → IsOfMaking fault → (◌≡◌ {A = Result (Unit {0}) FileFault} (Err fault) (Err NotEmpty) → IsTrue (is_taken fresh.now.schema))
+          → HasCause old new fresh (File fault)
+      by fault (inl e) taken = subst (λ it. HasCause old new fresh (File it)) (sym e) (taken (ap Err e))
+      by fault (inr (inl e)) taken = subst (λ it. HasCause old new fresh (File it)) (sym e) tt
+      by fault (inr (inr e)) taken = subst (λ it. HasCause old new fresh (File it)) (sym e) tt
+
+      go : (end : Result (Unit {0}) FileFault) → IfErr end IsOfMaking → (end ≡ Err NotEmpty → IsTrue (is_taken fresh.now.schema))
+          → IfErr end (λ fault. HasCause old new fresh (File fault))
+      go (Ok a) is taken = tt
+      go (Err fault) is taken = by fault is taken
+
+  pub made_untouched : IfErr r (λ fault. IsTrue (is_early (File fault)) → Same)
+  made_untouched = go r of (λ e. (empty e).1)
+    where
+      by : (fault : FileFault) → IsOfMaking fault → (◌≡◌ {A = Result (Unit {0}) FileFault} (Err fault) (Err NotEmpty) → Same)
+          → IsTrue (is_early (File fault)) → Same
+      by fault (inl e) same early = same (ap Err e)
+      by fault (inr (inl e)) same early = absurd (let late : is_early (File fault) ≡ false = ap (λ it. is_early (File it)) e in cc)
+      by fault (inr (inr e)) same early = absurd (let late : is_early (File fault) ≡ false = ap (λ it. is_early (File it)) e in cc)
+
+      go : (end : Result (Unit {0}) FileFault) → IfErr end IsOfMaking → (end ≡ Err NotEmpty → Same) → IfErr end (λ fault. IsTrue (is_early (File fault)) → Same)
+      go (Ok a) is same = tt
+      go (Err fault) is same = by fault is same
+
+-- ---- a laboratory that isn't sound, and the store
+
+store_cause : (old new fresh : State) (fault : FileFault) → IsOfStore fault → HasCause old new fresh (File fault)
+store_cause old new fresh fault (inl e) = subst (λ it. HasCause old new fresh (File it)) (sym e) tt
+store_cause old new fresh fault (inr e) = subst (λ it. HasCause old new fresh (File it)) (sym e) tt
+
+pub filled_cause : {A : Type 0} (before mid after fresh : State) (r : Result A MoveFault) → (HasCleanDisk after → mid.now ≡ before.now)
+    → IfErr r (BlamesFirstOfAll mid after)
+    → IfErr r (HasCause before after fresh)
+filled_cause before mid after fresh (Ok a) same h = tt
+filled_cause before mid after fresh (Err (File fault)) same h = store_cause before after fresh fault h
+filled_cause before mid after fresh (Err (NotSound lab)) same h = λ so.
+    subst (λ (db : Database). IsOldFile db → IsFirstUnsound (old_tables db.trees) (codes_of (old_tables db.trees)) lab) (same so.1) (λ file. h (file, so.1)) so.0
+
+store_late : (Same : Type 0) (fault : FileFault) → IsOfStore fault → IsTrue (is_early (File fault)) → Same
+store_late Same fault (inl e) early = absurd (let late : is_early (File fault) ≡ false = ap (λ it. is_early (File it)) e in cc)
+store_late Same fault (inr e) early = absurd (let late : is_early (File fault) ≡ false = ap (λ it. is_early (File it)) e in cc)
+
+pub filled_late : {A : Type 0} (Same : Type 0) (mid after : State) (r : Result A MoveFault) → IfErr r (BlamesFirstOfAll mid after)
+    → IfErr r (λ fault. IsTrue (is_early fault) → Same)
+filled_late Same mid after (Ok a) h = tt
+filled_late Same mid after (Err (File fault)) h = store_late Same fault h
+filled_late Same mid after (Err (NotSound lab)) h = λ early. absurd cc
+
+-- ---- what was moved
+
+pub all_moved : {F : Type 0} (before after new : State) (r : Result ℕ F) → IsRead before after
+    → IfOk r (AreCounted (codes_of (old_tables_of before)) (old_tables_of before))
+    → OnOk r (IsTrue new.is_open × IsWhole before after new.now) → IfOk r (IsMoved (old_tables_of before) (tables_of new))
+all_moved before after new (Ok count) read counted whole = record { count = as_many (old_tables_of before) ∙ counted.0; sound = counted.1; same = whole.1.same read }
+all_moved before after new (Err e) read counted whole = tt
+
+pub made_taken : {P Same : Type 0} (r : Result (Unit {0}) FileFault) → r ≡ Err NotEmpty → (r ≡ Err NotEmpty → P × Same) → OnOk r ⊥ × Same
+made_taken r is empty = (subst (λ (it : Result (Unit {0}) FileFault). OnOk it ⊥) (sym is) tt, (empty is).1)

@@ -1,0 +1,103 @@
+-- What a new file has, laboratory by laboratory, and once it is finished.
+use Rattle.std.proofs.Common.{◌≡◌, ◌≢◌, ℕ, Bool, true, false, List, [], ◌∷◌, ◌++◌, Option, Some, None, Ok, refl, sym, ap, subst, ◌∙◌, bytes_eq}
+use Rattle.sqlite.specs.Effect.{Database}
+use Rattle.sqlite.specs.State.{State, HasCleanDisk}
+use Rattle.lab_records_kept.specs.declared.labs.Lab.{Lab}
+use Rattle.lab_records_kept.specs.Worlds.{Meaning, SameMeaning, Places}
+use Rattle.lab_records_laws.specs.Stepping.{WhereThere}
+use Rattle.lab_store_tables.specs.Rows.{tables_in}
+use Rattle.lab_store_tables.specs.Meaning.{meaning}
+use Rattle.lab_store_columns.proofs.Lists.{text_is, text_alike}
+use Rattle.lab_move_tables.specs.OldRows.{IsOldFile, old_tables}
+use Rattle.lab_move_tables.specs.Reading.{ReadsOld, old_tables_of}
+use Rattle.lab_move_files.specs.Unfinished.{Finishes}
+use Rattle.lab_move_labs.specs.Laboratories.{codes_of, IsLabOf}
+use Rattle.lab_move.specs.Moving.{IsSoundLab, AreAll, IsRead, IsBegun, HasCarried, HasThese, IsWholeOf, IsWhole, CarriesFrom, meaning_among}
+use Rattle.lab_move.proofs.Codes.{all_among, lab_means, among_more}
+
+-- ---- facts on every laboratory
+
+all_of : (Holds : Lab → Type 0) (was now : Meaning) → SameMeaning was now → AreAll Holds was → AreAll Holds now
+all_of Holds was now same all code = subst (WhereThere Holds) (sym (same code)) (all code)
+
+pub all_weaker : (P Q : Lab → Type 0) (held : Meaning) → ((lab : Lab) → P lab → Q lab) → AreAll P held → AreAll Q held
+all_weaker P Q held f all code = go (held code) (all code)
+  where
+    go : (o : Option Lab) → WhereThere P o → WhereThere Q o
+    go None h = tt
+    go (Some lab) h = f lab h
+
+none_of : (Holds : Lab → Type 0) (held : Meaning) → ((code : List ℕ) → held code ≡ None) → AreAll Holds held
+none_of Holds held none code = subst (WhereThere Holds) (sym (none code)) tt
+
+placed_of : (Holds : Lab → Type 0) (was now : Meaning) (lab : Lab) → Holds lab → Places lab was now → AreAll Holds was → AreAll Holds now
+placed_of Holds was now lab is places all other = go (bytes_eq lab.code other) refl
+  where
+    go : (b : Bool) → bytes_eq lab.code other ≡ b → WhereThere Holds (now other)
+    go true e = let same : lab.code ≡ other = text_is lab.code other e in subst (WhereThere Holds) (sym (ap now (sym same) ∙ places.placed.here)) is
+    go false e =
+        let apart : other ≢ lab.code = λ same. let alike : bytes_eq lab.code other ≡ true = text_alike lab.code other (sym same) in cc in
+        subst (WhereThere Holds) (sym (places.placed.others other apart)) (all other)
+
+-- ---- from one moment of the old file to another
+
+-- what was said of a later moment of the old file is said of an earlier one, where nothing changed between
+pub carried_from : {IsFile : Database → Type 0} {among : Meaning → Meaning} {early before after : State} (db : Database)
+    → (HasCleanDisk after → before.now ≡ early.now)
+    → HasCarried IsFile before after among db → HasCarried IsFile early after among db
+carried_from {IsFile} {among} {early} {before} {after} db same it = record {
+  file = it.file;
+  sound = it.sound;
+  same = λ read.
+      subst (λ (was : Database). IsOldFile was → SameMeaning (among (meaning (old_tables was.trees))) (meaning (tables_in db.trees))) (same read.1) (λ file. it.same (file, read.1)) read.0;
+}
+
+-- in other words
+pub carried_as : {IsFile : Database → Type 0} {among other : Meaning → Meaning} {before after : State} (db : Database)
+    → (IsRead before after → SameMeaning (other (meaning (old_tables_of before))) (among (meaning (old_tables_of before))))
+    → HasCarried IsFile before after among db
+    → HasCarried IsFile before after other db
+carried_as db same it = record { file = it.file; sound = it.sound; same = λ read code. it.same read code ∙ same read code }
+
+-- ---- laboratory by laboratory
+
+pub none_carried : (before after : State) (db : Database) → IsBegun db → HasThese before after [] db
+none_carried before after db begun = record { file = begun.filling; sound = none_of IsSoundLab (meaning (tables_in db.trees)) begun.empty; same = λ read code. begun.empty code }
+
+pub one_carried : (early before after : State) (done : List (List ℕ)) (code : List ℕ) (was db : Database) → (HasCleanDisk after → HasCleanDisk before)
+    → (HasCleanDisk before → before.now ≡ early.now)
+    → CarriesFrom before after code was db → HasThese early before done was → HasThese early after (done ++ code ∷ []) db
+one_carried early before after done code was db clean same it so =
+    let lab = it.0 in
+    let placed = it.2 so.file in
+    record {
+      file = placed.0;
+      sound = placed_of IsSoundLab (meaning (tables_in was.trees)) (meaning (tables_in db.trees)) lab it.1 placed.1 so.sound;
+      same = λ read.
+          let mid = clean read.1 in
+          let here : IsOldFile before.now = subst IsOldFile (sym (same mid)) read.0 in
+          let there = subst (λ (old : Database). IsLabOf (old_tables old.trees) code (Some lab)) (same mid) (it.3 (here, read.1)) in
+          let means = lab_means (old_tables_of early) code lab there in
+          among_more done code (meaning (old_tables_of early)) (meaning (tables_in was.trees)) (meaning (tables_in db.trees)) lab means.0 means.1 placed.1
+          (so.same (read.0, mid));
+    }
+
+-- ---- finished
+
+pub finished : (before after : State) (codes : List (List ℕ)) (was db : Database) → Finishes was db → HasThese before after codes was
+    → IsWholeOf before after codes db
+finished before after codes was db it so =
+    let whole = it so.file in
+    record { file = whole.0; sound = all_of IsSoundLab (meaning (tables_in was.trees)) (meaning (tables_in db.trees)) whole.1 so.sound; same = λ read code. whole.1 code ∙ so.same read code }
+
+-- of all codes that were read
+pub whole_is : {E : Type 0} (early before after : State) (codes : List (List ℕ)) (db : Database)
+    → ReadsOld {E = E} (λ t made. made ≡ codes_of t) early before (Ok codes)
+    → (HasCleanDisk after → HasCleanDisk before) → IsWholeOf before after codes db → IsWhole early after db
+whole_is early before after codes db read clean it =
+    let was = carried_from db (λ late. read.shows (clean late)) it in
+    carried_as db
+    (λ so code.
+    let all : codes ≡ codes_of (old_tables_of early) = read.answer so.0 (clean so.1) in
+    ap (λ l. meaning_among l (meaning (old_tables_of early)) code) all ∙ sym (all_among (old_tables_of early) code))
+    was

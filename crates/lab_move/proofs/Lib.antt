@@ -1,0 +1,9 @@
+pub mod OldVerdicts
+pub mod Codes
+pub mod Steps
+pub mod FilledFiles
+pub mod Ends
+pub mod OneLab
+pub mod EachLab
+pub mod AllLabs
+pub mod Causes

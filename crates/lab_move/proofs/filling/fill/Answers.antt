@@ -1,0 +1,31 @@
+use Rattle.std.proofs.Common.{Err}
+use Rattle.sqlite.specs.Held.{state}
+use Rattle.lab_move_rows.proofs.OldReaders.{may_end}
+use Rattle.lab_move.proofs.AllLabs.{all_counted, all_filled, all_blamed}
+use Rattle.lab_move.proofs.OldVerdicts.{of_store_by}
+use Rattle.lab_move.proofs.Steps.{nothing_by_steps}
+use Rattle.lab_move.proofs.filling.fill.Goals as goal
+
+pub returns-in-Ok-clause-reads : goal.returns-in-Ok-clause-reads
+returns-in-Ok-clause-reads g c =
+    all_counted c.in-Ok.codes (g.D.Readable.state c.args.old.now) (g.D.Readable.state c.codes.new.conn) (g.D.Readable.state c.move_all.new.old)
+    c.in-Ok.ensures (rw c.as_slice.ensures at c.move_all.ensures.reads)
+
+pub returns-in-Ok-clause-fills : goal.returns-in-Ok-clause-fills
+returns-in-Ok-clause-fills g c =
+    all_filled c.in-Ok.codes (g.D.Readable.state c.args.old.now) (g.D.Readable.state c.codes.new.conn) (g.D.Readable.state c.move_all.new.old) c.in-Ok.ensures
+    c.move_all.ensures.reads.passes.clean c.move_all.result (rw c.as_slice.ensures at c.move_all.ensures.fills)
+
+pub returns-in-Ok-clause-fault : goal.returns-in-Ok-clause-fault
+returns-in-Ok-clause-fault g c =
+    all_blamed c.in-Ok.codes (g.D.Readable.state c.args.old.now) (g.D.Readable.state c.codes.new.conn) (g.D.Readable.state c.move_all.new.old) c.in-Ok.ensures
+    c.move_all.ensures.reads.passes.clean c.move_all.result (rw c.as_slice.ensures at c.move_all.ensures.fault)
+
+pub returns-in-Err-clause-reads : goal.returns-in-Err-clause-reads
+returns-in-Err-clause-reads g c = may_end c.in-Err.ensures (Err _) (λ e. Unit {0}) tt
+
+pub returns-in-Err-clause-fills : goal.returns-in-Err-clause-fills
+returns-in-Err-clause-fills g c = nothing_by_steps _ (state g.T.Store c.args.new.now) c.requires.at_rest
+
+pub returns-in-Err-clause-fault : goal.returns-in-Err-clause-fault
+returns-in-Err-clause-fault g c = of_store_by c.in-Err.fault c.store_fault.result c.store_fault.ensures

@@ -1,0 +1,12 @@
+use Rattle.lab_move_files.proofs.Commits.{told_ok, told_err}
+use Rattle.lab_move.proofs.OldVerdicts.{of_store_by}
+use Rattle.lab_move.proofs.filling.finish_with.Goals as goal
+
+pub returns-in-Ok-clause-finished : goal.returns-in-Ok-clause-finished
+returns-in-Ok-clause-finished g c = told_ok tt _ c.in-Ok.ensures.finished
+
+pub returns-in-Err-clause-finished : goal.returns-in-Err-clause-finished
+returns-in-Err-clause-finished g c = told_err _ _ c.in-Err.ensures.finished
+
+pub returns-in-Err-clause-fault : goal.returns-in-Err-clause-fault
+returns-in-Err-clause-fault g c = of_store_by c.in-Err.fault c.store_fault.result c.store_fault.ensures

@@ -1,0 +1,61 @@
+use Rattle.std.proofs.Common.{Err}
+use Rattle.sqlite.specs.Held.{state}
+use Rattle.lab_move_rows.proofs.OldReaders.{may_then, may_end}
+use Rattle.lab_move.proofs.AllLabs.{read_on}
+use Rattle.lab_move.proofs.Ends.{unbegun, left_unfinished, started, whole_now}
+use Rattle.lab_move.proofs.Causes.{filled_cause, filled_late, all_moved}
+use Rattle.lab_move.proofs.moving.migrate.Goals as goal
+
+pub returns-in-Ok-clause-moved : goal.returns-in-Ok-clause-moved
+returns-in-Ok-clause-moved g c blank clean file read =
+    let before = state g.S.Store c.args.old.now.conn in
+    let mid = state g.S.Store c.begin.new.old.conn in
+    let after = state g.S.Store c.fill.new.old.conn in
+    let new = state g.T.Store c.fill.new.new in
+    all_moved before after new c.fill.result (file, read)
+    ((read_on c.in-Ok.ensures.reads c.fill.ensures.reads).answer file read)
+    (whole_now g.T.Store blank c.in-Ok.ensures.begun before mid after (λ late. c.in-Ok.ensures.reads.shows (c.fill.ensures.reads.passes.clean late)) c.fill.ensures.fills clean)
+
+pub returns-in-Ok-clause-ready : goal.returns-in-Ok-clause-ready
+returns-in-Ok-clause-ready g c blank clean =
+    let before = state g.S.Store c.args.old.now.conn in
+    let mid = state g.S.Store c.begin.new.old.conn in
+    let after = state g.S.Store c.fill.new.old.conn in
+    started g.T.Store blank c.in-Ok.ensures.begun before mid after (λ late. c.in-Ok.ensures.reads.shows (c.fill.ensures.reads.passes.clean late))
+    c.fill.ensures.fills clean
+
+pub returns-in-Ok-clause-refused : goal.returns-in-Ok-clause-refused
+returns-in-Ok-clause-refused g c =
+    let before = state g.S.Store c.args.old.now.conn in
+    let mid = state g.S.Store c.begin.new.old.conn in
+    let after = state g.S.Store c.fill.new.old.conn in
+    filled_cause before mid after (state g.T.Store c.args.new.now) c.fill.result
+    (λ late. c.in-Ok.ensures.reads.shows (c.fill.ensures.reads.passes.clean late)) c.fill.ensures.fault
+
+pub returns-in-Ok-clause-old_same : goal.returns-in-Ok-clause-old_same
+returns-in-Ok-clause-old_same g c = may_then c.in-Ok.ensures.reads c.fill.ensures.reads (λ file it count counted. tt)
+
+pub returns-in-Ok-clause-unfinished : goal.returns-in-Ok-clause-unfinished
+returns-in-Ok-clause-unfinished g c blank =
+    let before = state g.S.Store c.args.old.now.conn in
+    let mid = state g.S.Store c.begin.new.old.conn in
+    let after = state g.S.Store c.fill.new.old.conn in
+    left_unfinished g.T.Store blank c.in-Ok.ensures.begun before mid after (λ late. c.in-Ok.ensures.reads.shows (c.fill.ensures.reads.passes.clean late))
+    c.fill.ensures.fills
+
+pub returns-in-Ok-clause-untouched : goal.returns-in-Ok-clause-untouched
+returns-in-Ok-clause-untouched g c =
+    filled_late _ (state g.S.Store c.begin.new.old.conn) (state g.S.Store c.fill.new.old.conn) c.fill.result c.fill.ensures.fault
+
+pub returns-in-Ok-clause-taken : goal.returns-in-Ok-clause-taken
+returns-in-Ok-clause-taken g c taken = absurd (c.in-Ok.ensures.taken taken).0
+
+pub returns-in-Err-clause-old_same : goal.returns-in-Err-clause-old_same
+returns-in-Err-clause-old_same g c = may_end c.in-Err.ensures.reads (Err _) (λ e. Unit {0}) tt
+
+pub returns-in-Err-clause-unfinished : goal.returns-in-Err-clause-unfinished
+returns-in-Err-clause-unfinished g c blank =
+    unbegun g.T.Store blank _ (state g.S.Store c.args.old.now.conn) (state g.S.Store c.begin.new.old.conn) c.in-Err.ensures.begun
+
+pub fill-requires : goal.fill-requires
+fill-requires g c = record { at_rest = c.in-Ok.ensures.begun.once.at_rest }

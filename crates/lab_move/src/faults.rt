@@ -1,0 +1,71 @@
+//! Why a file was not moved.
+
+ghost use Rattle.std.specs.Prelude.{◌≡◌, Some};
+ghost use Rattle.lab_move.specs.Faults.{move_fault_entry, read_told};
+
+use lab_forms_texts::LabCode;
+use lab_store_columns::ReadFault;
+use lab_store_files::FileFault;
+use std::fmt;
+use thiserror::Error;
+
+/// Why a file was not moved. The old file is as it was. Its text is its word.
+#[derive(Debug, Drop, Error)]
+pub enum MoveFault {
+    /// The old file is none of schema 2, the new one isn't empty, one of the two refused, or memory
+    /// ran out.
+    File(FileFault),
+    /// The rows of a laboratory of the old file aren't well kept, or it isn't bound or not under
+    /// dual control.
+    NotSound {
+        /// The laboratory, the first such one in the order of the codes' bytes.
+        lab: LabCode,
+    },
+}
+
+impl MoveFault {
+    fn entry(&self) -> (Option<u32>, &'static str)
+        ensures number { result.0 ≡ Some (move_fault_entry self.now).number }
+        ensures word { result.1.now ≡ (move_fault_entry self.now).word }
+    {
+        match self {
+            MoveFault::File(fault) => (fault.number(), fault.word()),
+            MoveFault::NotSound { .. } => (Some(66), "not_sound"),
+        }
+    }
+
+    /// The number by which the fault is known.
+    pub fn number(&self) -> Option<u32>
+        ensures { result ≡ Some (move_fault_entry self.now).number }
+    {
+        self.entry().0
+    }
+
+    /// The word by which the fault is known.
+    pub fn word(&self) -> &'static str
+        ensures { result.now ≡ (move_fault_entry self.now).word }
+    {
+        self.entry().1
+    }
+}
+
+impl fmt::Display for MoveFault {
+    ghost use Rattle.std.specs.Prelude.{Some};
+    ghost use Rattle.lab_move.specs.Faults.{move_fault_entry};
+
+    ghost output = { λ fault. Some (move_fault_entry fault).word };
+
+    fn fmt<W: fmt::Write>(&self, f: &mut fmt::Formatter<W>) -> fmt::Result {
+        f.write_str(self.word())
+    }
+}
+
+/// What a fault of reading or writing rows is told as.
+pub(crate) fn store_fault(fault: ReadFault) -> FileFault
+    ensures { result ≡ read_told fault }
+{
+    match fault {
+        ReadFault::Refused(_) => FileFault::Storage,
+        ReadFault::Memory => FileFault::Memory,
+    }
+}

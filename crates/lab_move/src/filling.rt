@@ -1,0 +1,200 @@
+//! The laboratories of an old file, carried into a new one, one after the other, and the new file
+//! finished.
+
+ghost use Rattle.std.specs.Prelude.{◌≡◌, length, All, OnOk, IfOk, IfErr, Some};
+ghost use Rattle.sqlite.specs.Held.{state};
+ghost use Rattle.lab_records_kept.specs.declared.labs.Lab.{Lab as AnyLab};
+ghost use Rattle.lab_records_kept.specs.Bound.{IsBound};
+ghost use Rattle.lab_records_kept.specs.Dual.{IsDual};
+ghost use Rattle.lab_store_tables.specs.Ready.{IsAtRest};
+ghost use Rattle.lab_move_tables.specs.Reading.{ReadsOld, old_tables_of};
+ghost use Rattle.lab_move_files.specs.Commits.{MakesAtOnce};
+ghost use Rattle.lab_move_files.specs.Unfinished.{Finishes};
+ghost use Rattle.lab_move_writing.specs.Carrying.{Carries};
+ghost use Rattle.lab_move_labs.specs.declared.faults.WholeFault.TheVariants.{NotKept};
+ghost use Rattle.lab_move_labs.specs.Laboratories.{codes_of};
+ghost use Rattle.lab_move.specs.Moving.{Blames, BlamesFirst, BlamesFirstOfAll, CarriesFrom, Fills, FillsAll, HasThese, AreCounted, IsRead, IsSoundIn, IsSoundLab, IsUnsoundIn, IsWhole, IsWholeOf};
+
+use crate::faults::{MoveFault, store_fault};
+use crate::progress::MoveProgress;
+use crate::testing::{not_sound, test_lab};
+use lab_forms_texts::LabCode;
+use lab_move_files::finish;
+use lab_move_labs::{WholeFault, codes, whole};
+use lab_move_writing::place_lab;
+use lab_records_kept::Lab;
+use lab_store_columns::Readable;
+use lab_store_files::FileFault;
+use sqlite::{Alter, Connection};
+use std::alloc::Global;
+
+// Places a laboratory that was tried.
+fn place_tried<T: Alter>(new: &mut Connection<T>, lab: &Lab) -> Result<(), MoveFault>
+    requires at_rest { IsAtRest (state T.Store new.old) }
+    ensures placed { IsSoundLab lab.now → MakesAtOnce
+        (Carries lab.now (state T.Store new.old).now) result
+        (state T.Store new.old) (state T.Store new.new) }
+    ensures fault { IfErr result (Blames (λ _. ⊥)) }
+{
+    match place_lab(new, lab) {
+        Ok(()) => Ok(()),
+        Err(fault) => Err(MoveFault::File(store_fault(fault))),
+    }
+}
+
+// Tries a laboratory that was read, and places it.
+fn place_sound<T: Alter>(
+    alloc: Global,
+    new: &mut Connection<T>,
+    code: &LabCode,
+    lab: &Lab,
+) -> Result<(), MoveFault>
+    requires at_rest { IsAtRest (state T.Store new.old) }
+    ensures placed { MakesAtOnce
+        (λ db. IsSoundLab lab.now × Carries lab.now (state T.Store new.old).now db) result
+        (state T.Store new.old) (state T.Store new.new) }
+    ensures sound { OnOk result (IsSoundLab lab.now) }
+    ensures fault { IfErr result
+        (Blames (λ one. (one ≡ code.now) × ¬ (IsBound lab.now × IsDual lab.now))) }
+{
+    match test_lab(alloc, code, lab) {
+        Ok(()) => place_tried(new, lab),
+        Err(fault) => Err(fault),
+    }
+}
+
+// Places a laboratory that was read, where there is one.
+fn place_found<T: Alter>(
+    alloc: Global,
+    new: &mut Connection<T>,
+    code: &LabCode,
+    found: Option<Lab>,
+) -> Result<(), MoveFault>
+    requires at_rest { IsAtRest (state T.Store new.old) }
+    ensures placed { MakesAtOnce (λ db. (lab : AnyLab) × (found ≡ Some lab) × IsSoundLab lab
+        × Carries lab (state T.Store new.old).now db) result
+        (state T.Store new.old) (state T.Store new.new) }
+    ensures sound { OnOk result ((lab : AnyLab) × (found ≡ Some lab) × IsSoundLab lab) }
+    ensures fault { IfErr result (Blames (λ one. (one ≡ code.now)
+        × (lab : AnyLab) × (found ≡ Some lab) × ¬ (IsBound lab × IsDual lab))) }
+{
+    match found {
+        Some(lab) => place_sound(alloc, new, code, &lab),
+        None => Err(MoveFault::File(FileFault::Storage)),
+    }
+}
+
+// Why a laboratory was not read.
+fn unread(code: &LabCode, fault: WholeFault) -> MoveFault
+    ensures { Blames (λ one. (one ≡ code.now) × (fault ≡ NotKept)) result }
+{
+    match fault {
+        WholeFault::NotKept => not_sound(code),
+        WholeFault::Storage => MoveFault::File(FileFault::Storage),
+        WholeFault::Memory => MoveFault::File(FileFault::Memory),
+    }
+}
+
+// Reads the laboratory of the code, and places it.
+fn move_lab<D: Readable, T: Alter>(
+    alloc: Global,
+    old: &mut D,
+    new: &mut Connection<T>,
+    code: &LabCode,
+) -> Result<(), MoveFault>
+    requires at_rest { IsAtRest (state T.Store new.old) }
+    ensures reads { ReadsOld (λ t _. IsSoundIn t code.now)
+        (D.state old.old) (D.state old.new) result }
+    ensures carries { MakesAtOnce (CarriesFrom (D.state old.old) (D.state old.new) code.now
+        (state T.Store new.old).now) result (state T.Store new.old) (state T.Store new.new) }
+    ensures fault { IfErr result (Blames (λ one. (one ≡ code.now)
+        × (IsRead (D.state old.old) (D.state old.new) →
+        IsUnsoundIn (old_tables_of (D.state old.old)) code.now))) }
+{
+    match whole(alloc, old, code) {
+        Ok(found) => place_found(alloc, new, code, found),
+        Err(fault) => Err(unread(code, fault)),
+    }
+}
+
+// Moves the laboratories of the codes, one after the other.
+fn move_each<D: Readable, T: Alter, P: MoveProgress>(
+    alloc: Global,
+    old: &mut D,
+    new: &mut Connection<T>,
+    codes: &[LabCode],
+    progress: &mut P,
+) -> Result<(), MoveFault>
+    requires at_rest { IsAtRest (state T.Store new.old) }
+    ensures reads { ReadsOld (λ t _. All (IsSoundIn t) codes.now)
+        (D.state old.old) (D.state old.new) result }
+    ensures fills { Fills (HasThese (D.state old.old) (D.state old.new) codes.now) result
+        (state T.Store new.old) (state T.Store new.new) }
+    ensures fault { IfErr result (BlamesFirst (D.state old.old) (D.state old.new) codes.now) }
+{
+    for place in 0..codes.len() {
+        let code = &codes[place];
+        progress.told(code, place, codes.len());
+        move_lab(alloc, old, new, code)?;
+    }
+    Ok(())
+}
+
+// Names the schema of the new file, and counts the laboratories.
+fn finish_with<T: Alter>(new: &mut Connection<T>, codes: &[LabCode]) -> Result<u64, MoveFault>
+    requires at_rest { IsAtRest (state T.Store new.old) }
+    ensures finished { MakesAtOnce (Finishes (state T.Store new.old).now) result
+        (state T.Store new.old) (state T.Store new.new) }
+    ensures count { IfOk result (λ count. count ≡ length codes.now) }
+    ensures fault { IfErr result (Blames (λ _. ⊥)) }
+{
+    match finish(new) {
+        Ok(()) => Ok(codes.len() as u64),
+        Err(fault) => Err(MoveFault::File(store_fault(fault))),
+    }
+}
+
+// Moves the laboratories of the codes, and finishes the new file.
+fn move_all<D: Readable, T: Alter, P: MoveProgress>(
+    alloc: Global,
+    old: &mut D,
+    new: &mut Connection<T>,
+    codes: &[LabCode],
+    progress: &mut P,
+) -> Result<u64, MoveFault>
+    requires at_rest { IsAtRest (state T.Store new.old) }
+    ensures reads { ReadsOld (AreCounted codes.now) (D.state old.old) (D.state old.new) result }
+    ensures fills { FillsAll (IsWholeOf (D.state old.old) (D.state old.new) codes.now) result
+        (state T.Store new.old) (state T.Store new.new) }
+    ensures fault { IfErr result (BlamesFirst (D.state old.old) (D.state old.new) codes.now) }
+{
+    match move_each(alloc, old, new, codes, progress) {
+        Ok(()) => finish_with(new, codes),
+        Err(fault) => Err(fault),
+    }
+}
+
+/// Fills a new file with all laboratories of an old one, by a commit for each, and finishes it by
+/// one more. Answers how many they are.
+///
+/// # Errors
+/// The first laboratory that isn't sound, in the order of the codes' bytes; a refusal of the store
+/// of either; or out of memory.
+pub(crate) fn fill<D: Readable, T: Alter, P: MoveProgress>(
+    alloc: Global,
+    old: &mut D,
+    new: &mut Connection<T>,
+    progress: &mut P,
+) -> Result<u64, MoveFault>
+    requires at_rest { IsAtRest (state T.Store new.old) }
+    ensures reads { ReadsOld (λ t. AreCounted (codes_of t) t)
+        (D.state old.old) (D.state old.new) result }
+    ensures fills { FillsAll (IsWhole (D.state old.old) (D.state old.new)) result
+        (state T.Store new.old) (state T.Store new.new) }
+    ensures fault { IfErr result (BlamesFirstOfAll (D.state old.old) (D.state old.new)) }
+{
+    match codes(alloc, old) {
+        Ok(codes) => move_all(alloc, old, new, codes.as_slice(), progress),
+        Err(fault) => Err(MoveFault::File(store_fault(fault))),
+    }
+}

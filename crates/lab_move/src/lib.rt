@@ -1,0 +1,20 @@
+//! A file of schema 2, carried into a new one of today's schema: all of its laboratories, or a new
+//! file that is never taken for a whole one (21 CFR 11.10(c), "protection of records to enable
+//! their accurate and ready retrieval throughout the records retention period"; ISO/IEC 17025:2017,
+//! 8.4.2).
+#![tactic(auto)]
+
+mod faults;
+mod filling;
+mod legible;
+mod moving;
+mod old_tables;
+mod opening;
+mod progress;
+mod schemas;
+mod testing;
+
+pub use faults::MoveFault;
+pub use moving::{an_unfinished_file_is_refused, migrate};
+pub use opening::{OldFile, open_old};
+pub use progress::{MoveProgress, Unwatched};

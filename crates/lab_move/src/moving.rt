@@ -1,0 +1,102 @@
+//! A file of schema 2, moved.
+
+ghost use Rattle.std.specs.Prelude.{◌≡◌, Err, IfErr, IfOk, OnOk, IsTrue, Result};
+ghost use Rattle.sqlite.specs.Effect.{Database};
+ghost use Rattle.sqlite.specs.Held.{state};
+ghost use Rattle.sqlite.specs.State.{HasCleanDisk};
+ghost use Rattle.lab_store_tables.specs.Ready.{IsAtRest, tables_of};
+ghost use Rattle.lab_store_files.specs.NewFiles.{IsBlank};
+ghost use Rattle.lab_store_files.specs.Schemas.{is_taken};
+ghost use Rattle.lab_move_tables.specs.OldRows.{IsOldFile};
+ghost use Rattle.lab_move_tables.specs.Reading.{ReadsOld, old_tables_of};
+ghost use Rattle.lab_move_files.specs.Commits.{MakesAtOnce};
+ghost use Rattle.lab_move_files.specs.Unfinished.{Begins, IsBeingFilled};
+ghost use Rattle.lab_move.specs.declared.faults.MoveFault.TheVariants.{File};
+ghost use Rattle.lab_move.specs.Faults.{is_early};
+ghost use Rattle.lab_move.specs.Moving.{HasCause, IsMoved, IsRefused, IsStart, LeavesUnfinished};
+
+use crate::faults::MoveFault;
+use crate::filling::fill;
+use crate::opening::{OldFile, open_old};
+use crate::progress::MoveProgress;
+use lab_move_files::make_tables;
+use lab_store_files::FileFault;
+use sqlite::{Alter, Connection};
+use std::alloc::Global;
+
+/// Law: a file that was left while it was being filled is none in which laboratories are kept, and
+/// neither is an empty one: `open` of `lab_store_files` says so, or that the store refused.
+pub fn an_unfinished_file_is_refused<S: Alter>()
+    ensures filling { (db : Database) → IsBeingFilled db → IsRefused S.Store db }
+    ensures blank { (db : Database) → IsBlank db → IsRefused S.Store db }
+{}
+
+// Looks at the old file, and makes the tables of the new one.
+fn begin<S: Alter, T: Alter>(old: &mut OldFile<S>, new: &mut Connection<T>) -> Result<(), FileFault>
+    requires at_rest { IsAtRest (state T.Store new.old) }
+    ensures reads { ReadsOld (λ _ _. Unit {0})
+        (state S.Store old.old.conn) (state S.Store old.new.conn) result }
+    ensures begun { MakesAtOnce (Begins (state T.Store new.old).now) result
+        (state T.Store new.old) (state T.Store new.new) }
+    ensures cause { IfErr result (λ fault. HasCause (state S.Store old.old.conn)
+        (state S.Store old.new.conn) (state T.Store new.old) (File fault)) }
+    ensures untouched { IfErr result (λ fault. IsTrue (is_early (File fault)) → new.new ≡ new.old) }
+    ensures taken { IsTrue (is_taken (state T.Store new.old).now.schema) →
+        OnOk result ⊥ × (new.new ≡ new.old) }
+{
+    match open_old(old) {
+        Ok(()) => make_tables(new),
+        Err(fault) => Err(fault),
+    }
+}
+
+/// Moves an old file, which is one of schema 2, into a new one, which is empty: the tables are made
+/// first, by one commit, each laboratory is placed by one more, in the order of the codes' bytes,
+/// and the row that names the schema comes last, so that the new file is taken for none in which
+/// laboratories are kept until it is whole. Answers how many laboratories there are. Nothing is
+/// written to the old file.
+///
+/// # Errors
+/// The old file is none of schema 2, or has an older or a newer schema; the new one has a table of
+/// a name that is wanted; the rows of a laboratory aren't well kept, or it isn't bound or not under
+/// dual control; the store refused, or a row is none that is written; or memory ran out.
+pub fn migrate<S: Alter, T: Alter, P: MoveProgress>(
+    alloc: Global,
+    old: &mut OldFile<S>,
+    new: &mut Connection<T>,
+    progress: &mut P,
+) -> Result<u64, MoveFault>
+    requires at_rest { IsAtRest (state T.Store new.old) }
+    // Where it answers a number, the old file has so many laboratories, and the new one has each as
+    // the old one means it, and no other. So each version keeps its text, its digest and its
+    // signatures:
+    ensures moved { IsBlank (state T.Store new.old).now → HasCleanDisk (state T.Store new.new) →
+        IsOldFile (state S.Store old.old.conn).now → HasCleanDisk (state S.Store old.new.conn) →
+        IfOk result (IsMoved (old_tables_of (state S.Store old.old.conn))
+        (tables_of (state T.Store new.new))) }
+    // The new file is then all that a start asks, whoever wrote the old one:
+    ensures ready { IsBlank (state T.Store new.old).now → HasCleanDisk (state T.Store new.new) →
+        OnOk result (IsStart (state T.Store new.new)) }
+    // A fault has this cause:
+    ensures refused { IfErr result (HasCause (state S.Store old.old.conn)
+        (state S.Store old.new.conn) (state T.Store new.old)) }
+    // However it ends, the old rows are as they were, and a crash leaves no more of the old file
+    // than before:
+    ensures old_same { ReadsOld (λ _ _. Unit {0})
+        (state S.Store old.old.conn) (state S.Store old.new.conn) result }
+    // However it ends, what is left of a new file that was empty is as before, is refused by `open`
+    // of `lab_store_files`, or is the whole one; and where it failed, the new file is refused:
+    ensures unfinished { IsBlank (state T.Store new.old).now → LeavesUnfinished T.Store
+        (state S.Store old.old.conn) (state S.Store old.new.conn) result
+        (state T.Store new.old) (state T.Store new.new) }
+    // The new file is untouched where the old one is none of schema 2, and where it has such a
+    // table itself:
+    ensures untouched { IfErr result (λ fault. IsTrue (is_early fault) → new.new ≡ new.old) }
+    ensures taken { IsTrue (is_taken (state T.Store new.old).now.schema) →
+        OnOk result ⊥ × (new.new ≡ new.old) }
+{
+    match begin(old, new) {
+        Ok(()) => fill(alloc, old, new, progress),
+        Err(fault) => Err(MoveFault::File(fault)),
+    }
+}

@@ -1,0 +1,141 @@
+//! An old file is opened, where it is one of schema 2.
+
+ghost use Rattle.std.specs.Prelude.{◌≡◌, ◌≢◌, ◌⊎◌, [], Ok, Err, IfOk, IfErr};
+ghost use Rattle.sqlite_value.specs.Order.{column};
+ghost use Rattle.sqlite.specs.Held.{state};
+ghost use Rattle.sqlite.specs.State.{HasCleanDisk, Shown};
+ghost use Rattle.lab_store_files.specs.declared.faults.FileFault.TheVariants.{NotEmpty};
+ghost use Rattle.lab_store_files.specs.Faults.{FailedInStore};
+ghost use Rattle.lab_store_files.specs.Verdicts.{integer_in, number_query, number_shown};
+ghost use Rattle.lab_move_tables.specs.Reading.{ReadsOld};
+ghost use Rattle.lab_move.specs.Faults.{IsOfStore};
+ghost use Rattle.lab_move.specs.OldFiles.{whole_verdict, number_verdict, old_verdict, OldAnswers, IsNamedOldFile};
+
+use crate::faults::store_fault;
+use crate::schemas::{has_number, is_whole};
+use lab_store_columns::{ReadFault, Readable, read_fault};
+use lab_store_files::FileFault;
+use sqlite::types::ValueRef;
+use sqlite::{Alter, Connection, Row};
+use sqlite_schema::schema::Schema;
+
+/// The number of the schema of an old file.
+const SCHEMA: i64 = 2;
+
+/// A file that is to be moved, over a connection to it.
+#[derive(Drop)]
+pub struct OldFile<S: Alter> {
+    /// The connection.
+    pub conn: Connection<S>,
+}
+
+impl<S: Alter> Readable for OldFile<S> {
+    ghost use Rattle.sqlite.specs.Held.{state as state_held};
+
+    ghost state = { λ file. state_held S.Store file.conn };
+
+    fn query_all(&mut self, sql: &str, params: &[ValueRef<'_>]) -> Result<Vec<Row>, ReadFault> {
+        match self.conn.query_all(sql, params) {
+            Ok(rows) => Ok(rows),
+            Err(error) => Err(read_fault(error)),
+        }
+    }
+}
+
+// The whole number that a row shows first.
+fn integer_in(row: &Row) -> Option<i64>
+    ensures { result ≡ integer_in (column row.now 0) }
+{
+    match row.get_ref(0) {
+        Ok(ValueRef::Int(number)) => Some(number),
+        Ok(ValueRef::Null | ValueRef::Real(_) | ValueRef::Text(_) | ValueRef::Blob(_)) => None,
+        Err(_) => None,
+    }
+}
+
+// The number that the rows show, where one row alone shows one.
+fn shown_number(rows: &[Row]) -> Option<i64>
+    ensures { result ≡ number_shown rows.now }
+{
+    if rows.len() != 1 {
+        return None;
+    }
+    integer_in(&rows[0])
+}
+
+// What a file is that may have all tables of schema 2.
+fn whole_verdict(whole: bool) -> Result<(), FileFault>
+    ensures { result ≡ whole_verdict whole }
+{
+    if whole {
+        Ok(())
+    } else {
+        Err(FileFault::NotADeskFile)
+    }
+}
+
+// What the file is, by the number of its schema.
+fn number_verdict(whole: bool, number: i64) -> Result<(), FileFault>
+    ensures { result ≡ number_verdict whole number }
+{
+    if number < 1 {
+        return Err(FileFault::NotADeskFile);
+    }
+    if number < SCHEMA {
+        return Err(FileFault::SchemaOld(number.unsigned_abs()));
+    }
+    if number > SCHEMA {
+        return Err(FileFault::SchemaNew(number.unsigned_abs()));
+    }
+    whole_verdict(whole)
+}
+
+// What the file is, by its schema and by what the question for the number shows.
+fn verdict(schema: &Schema, rows: &[Row]) -> Result<(), FileFault>
+    ensures { result ≡ old_verdict schema.now rows.now }
+{
+    match shown_number(rows) {
+        Some(number) => number_verdict(is_whole(schema), number),
+        None => Err(FileFault::NotADeskFile),
+    }
+}
+
+// The rows that the question for the number shows.
+fn number_rows<D: Readable>(tables: &mut D) -> Result<Vec<Row>, FileFault>
+    ensures reads { ReadsOld (λ _ _. Unit {0}) (D.state tables.old) (D.state tables.new) result }
+    ensures shown { HasCleanDisk (D.state tables.new) → IfOk result (λ rows.
+        Shown number_query [] (D.state tables.old) (D.state tables.new) rows.items) }
+    ensures fault { IfErr result IsOfStore }
+{
+    match tables.query_all("SELECT schema FROM desk", &[]) {
+        Ok(rows) => Ok(rows),
+        Err(fault) => Err(store_fault(fault)),
+    }
+}
+
+/// Looks whether a file is one of schema 2, by the one row of the table `desk`, and by whether each
+/// table and column is there. Nothing is written. What the rows say isn't looked at.
+///
+/// # Errors
+/// None of these files, an older or a newer schema with its number, a refusal of the store, or out
+/// of memory.
+pub fn open_old<S: Alter>(file: &mut OldFile<S>) -> Result<(), FileFault>
+    // The answer is the verdict on the file, or the store gave none:
+    ensures answer { HasCleanDisk (state S.Store file.new.conn) →
+        OldAnswers (state S.Store file.old.conn) (state S.Store file.new.conn) result }
+    // A file of schema 2 is never refused as another one:
+    ensures ours { HasCleanDisk (state S.Store file.new.conn) →
+        IsNamedOldFile (state S.Store file.old.conn).now → (result ≡ Ok tt) ⊎ FailedInStore result }
+    // However it ends, the rows are as they were, and a crash leaves no more than before:
+    ensures reads { ReadsOld (λ _ _. Unit {0})
+        (state S.Store file.old.conn) (state S.Store file.new.conn) result }
+    ensures fault { result ≢ Err NotEmpty }
+{
+    if !has_number(file.conn.schema()) {
+        return Err(FileFault::NotADeskFile);
+    }
+    match number_rows(file) {
+        Ok(rows) => verdict(file.conn.schema(), &rows),
+        Err(fault) => Err(fault),
+    }
+}

@@ -1,0 +1,17 @@
+//! How far a move is, for whoever waits for it.
+
+use lab_forms_texts::LabCode;
+
+/// Who hears how far a move is.
+pub trait MoveProgress {
+    /// The laboratory is the next to be carried along, behind so many of so many.
+    fn told(&mut self, lab: &LabCode, done: usize, all: usize);
+}
+
+/// Nobody hears of it.
+#[derive(Clone, Copy, Debug, PartialEq, Eq)]
+pub struct Unwatched;
+
+impl MoveProgress for Unwatched {
+    fn told(&mut self, _lab: &LabCode, _done: usize, _all: usize) {}
+}

@@ -1,0 +1,2 @@
+pub mod WholesFound
+pub mod KnownWholes
