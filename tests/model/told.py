@@ -32,6 +32,7 @@ Commands:
   found     Found a laboratory in a file, from the body of standard input
   serve     Serve the laboratories of a file, on a port of this machine
   copy      Write the inspection copy of a laboratory's records to standard output
+  migrate   Move the laboratories of a file of schema 2 into a new file
   check     Check the inspection copy of standard input, and tell what is found
   replay    Run the events of standard input, and write their answers to standard output
   rehearse  Found a laboratory from the body of standard input, and ask for its card
@@ -95,6 +96,24 @@ It writes the inspection copy of the laboratory's records of these numbers to st
 A copy is described in docs/COPIES.md. An example:
 
     labdesk copy --file laboratories --lab aqua --from 1 --to 100 > copy.csv
+""",
+    "migrate": """\
+Move the laboratories of a file of schema 2 into a new file
+
+Usage: labdesk migrate --old <F> --new <G>
+
+Options:
+      --old <F>  Path of the old file
+      --new <G>  Path of the new file
+  -h, --help     Print help
+
+It moves every laboratory of an old file, one of schema 2, into a new file, and prints
+`migrated` and how many they were. Versions keep their texts, digests and signatures. The old file
+is read with its log, and stays as it is, byte for byte. The new file is made; one that is there has
+to be empty. If the move fails, the new file stays, and no command opens it. It is described in
+docs/FORMATS.md. An example:
+
+    labdesk migrate --old laboratories --new laboratories-3
 """,
     "check": """\
 Check the inspection copy of standard input, and tell what is found
@@ -163,8 +182,9 @@ def invalid(value, name, why):
     return f"error: invalid value '{value}' for '{name}': {why}\n{TRY}"
 
 
-NONE = ("error: 'labdesk' requires a subcommand but one was not provided\n  [subcommands: found, serve, copy, check, replay, rehearse, help]"
+NONE = ("error: 'labdesk' requires a subcommand but one was not provided\n  [subcommands: found, serve, copy, migrate, check, replay, rehearse, help]"
         f"\n\nUsage: labdesk <COMMAND>\n{TRY}")
+MIGRATE = "labdesk migrate --old <F> --new <G>"
 REHEARSE = "labdesk rehearse --lab <L> --moment <S>"
 BACKWARDS = ("error: the number of '--from <A>' is above that of '--to <B>'\n\nUsage: labdesk copy --file <F> --lab <L> --from <A> --to <B>\n"
              + TRY)
@@ -178,6 +198,8 @@ WRONG = [
     ("--file", unexpected("--file", "labdesk <COMMAND>")),
     ("replay twice", unexpected("twice", "labdesk replay")), ("check copy.csv", unexpected("copy.csv", "labdesk check")),
     ("found --file laboratories", missing("labdesk found --file <F> --lab <L>", "--lab <L>")),
+    ("migrate --old laboratories", missing(MIGRATE, "--new <G>")), ("migrate", missing(MIGRATE, "--old <F>", "--new <G>")),
+    ("migrate laboratories laboratories-3", unexpected("laboratories", MIGRATE)),
     ("rehearse", missing(REHEARSE, "--lab <L>", "--moment <S>")), ("rehearse --lab=aqua --moment", NO_VALUE),
     ("rehearse aqua", unexpected("aqua", REHEARSE)), ("rehearse --lab=aqua --moment=5 --lab=brick", TWICE),
     *((f"rehearse --lab=aqua --moment={value}", invalid(value, "--moment <S>", why)) for value, why in (

@@ -5,6 +5,7 @@ use Rattle.std.specs.Io.KnownBytes.{Keeps}
 use Rattle.std.proofs.lemmas.List.Elements.{All-nil}
 use Rattle.clap.specs.declared.error.kind.ErrorKind.TheVariants.{OutOfMemory}
 use Rattle.sqlite_trees.specs.Tree.{Trees}
+use Rattle.sqlite.specs.Held.{Held}
 use Rattle.sqlite_trees.specs.declared.store.Store.{Ghosts}
 use Rattle.lab_forms_texts.specs.Faults.{memory_entry}
 use Rattle.lab_forms_texts.specs.Names.{is_lab_code}
@@ -20,16 +21,17 @@ use Rattle.lab_program_check.specs.declared.faults.StopFault.TheVariants.{Memory
 use Rattle.lab_program_check.specs.Verdicts.{IsCheck}
 use Rattle.lab_program_shelves.specs.Faults.{unopened_fault}
 use Rattle.lab_program_files.specs.FileWorlds.{file_keeper}
-use Rattle.lab_program_shelves.specs.Files.{IsOpened, IsOurs, IsOursAnywhere}
+use Rattle.lab_program_shelves.specs.Files.{IsBlankAt, IsOpened, IsOurs, IsOursAnywhere}
 use Rattle.lab_program_outside.specs.Sources.{Drawing}
 use Rattle.lab_program_files.specs.Copying.{CopyTask}
 use Rattle.lab_program_replay.specs.Replays.{IsReplay, ReplaysFromNothing}
 use Rattle.lab_program_files.specs.Serving.{ServesFile}
+use Rattle.lab_program_moves.specs.Moves.{IsMigration}
 use Rattle.lab_program.specs.CommandLine.{IsDone}
 use Rattle.lab_program_app.specs.Explaining.{Stopped}
 use Rattle.lab_program.specs.Laboratories.{IsCopiedIf, body_in}
 use Rattle.lab_program.proofs.UnbegunLemmas.{IsUnbegun, declines_task, never_begun, no_copying, no_founding, no_rehearsal, printed_none, seen}
-use Rattle.lab_program_words.specs.Tasks.{Asked, founds, serves, copies, checks, replays, rehearses}
+use Rattle.lab_program_words.specs.Tasks.{Asked, founds, serves, copies, migrates, checks, replays, rehearses}
 
 -- ---- each task, not begun
 
@@ -39,6 +41,15 @@ module _ (before after told_before told_after : Option (List ℕ)) (status : Res
       → ServesFile keeper found opened drawing count (seen before after told_before told_after status)
   no_serving keeper found opened drawing count told =
       inr (inl (told.0, (unopened_fault, declines_task before after told_before told_after status told)))
+
+  no_migration : {S : Type 0} (disk : Ghosts S) (IsHeld : Trees → Type 0) (IsNew : Held S → Type 0)
+      → IsUnbegun before after told_before told_after status
+      → IsMigration disk IsHeld IsNew (seen before after told_before told_after status)
+  no_migration disk IsHeld IsNew told = record {
+    ending = Err unopened_fault;
+    moves = tt;
+    told = (told.0, declines_task before after told_before told_after status told);
+  }
 
   -- the input may have anything
   begins_none : (input : Option (List ℕ)) →
@@ -115,6 +126,8 @@ module _ {S Shelf : Type 0} (disk : Ghosts S) (holds : Shelf → List ℕ → Tr
     from = from;
     to = to;
   }) (nat_le from to) told
+  never_done (migrates old new) input told =
+      no_migration before after told_before told_after status disk (holds shelf old) (IsBlankAt disk holds new) told
   never_done checks input told = no_check input before after told_before told_after status told
   never_done replays input told = no_replay input before after told_before told_after status told
   never_done (rehearses lab moment) input told = never_begun before after told_before told_after status _

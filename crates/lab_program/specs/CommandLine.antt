@@ -8,11 +8,12 @@ use Rattle.lab_program_check.specs.Verdicts.{IsCheck}
 use Rattle.lab_program_outside.specs.Sources.{Drawing}
 use Rattle.lab_program_outside.specs.TaskEnds.{TaskEnd}
 use Rattle.lab_program_files.specs.FileWorlds.{file_keeper}
-use Rattle.lab_program_shelves.specs.Files.{IsOurs, IsOursAnywhere}
+use Rattle.lab_program_shelves.specs.Files.{IsBlankAt, IsOurs, IsOursAnywhere}
 use Rattle.lab_program_replay.specs.Replays.{IsReplay}
 use Rattle.lab_program_files.specs.Serving.{ServesFile}
+use Rattle.lab_program_moves.specs.Moves.{IsMigration}
 use Rattle.lab_program.specs.Laboratories.{IsCopiedIf, IsFounded, IsRehearsed, body_in}
-use Rattle.lab_program_words.specs.Tasks.{Asked, founds, serves, copies, checks, replays, rehearses}
+use Rattle.lab_program_words.specs.Tasks.{Asked, founds, serves, copies, migrates, checks, replays, rehearses}
 
 -- what is asked for is done, from this input, at the moment and with the words that were drawn,
 -- over files that held what the shelf says of their paths. Who is at a port can't be said here
@@ -31,6 +32,8 @@ IsDone disk holds shelf drawing (copies file lab from to) input end =
       from = from;
       to = to;
     }) (nat_le from to) end
+IsDone disk holds shelf drawing (migrates old new) input end =
+    IsMigration disk (holds shelf old) (IsBlankAt disk holds new) end
 IsDone disk holds shelf drawing checks input end = IfSome input (λ bytes.
     IsCheck (verdict (rows_of bytes)) end.status end.before end.after end.told_before
     end.told_after)

@@ -12,6 +12,7 @@ use crate::laboratories::{copy_for, found_for, rehearse_for};
 use lab_program_app::explain;
 use lab_program_check::check;
 use lab_program_files::{Closing, Progress, Shelf, serve};
+use lab_program_moves::migrate;
 use lab_program_outside::{Chance, Clock, Host};
 use lab_program_replay::replay;
 use lab_program_words::{Task, task_of};
@@ -51,6 +52,7 @@ where
             from,
             to,
         } => copy_for(host, file, lab, from, to, output, errors),
+        Task::Migrate { old, new } => migrate(host, old, new, output, errors),
         Task::Check => check(host.alloc, input, output, errors),
         Task::Replay => replay(host.alloc, input, output, errors),
         Task::Rehearse { lab, seconds } => rehearse_for(host, lab, seconds, input, output, errors),

@@ -63,3 +63,7 @@ module _ (program : List ℕ) where
       ≡ ValueValidation ∷ []
   unfolding clap_on_literals
   a_moment_past_the_last = refl
+
+  a_move_to_no_file : fault_of labdesk_app (program ∷ codes "migrate" ∷ codes "--old=labs.db" ∷ []) ≡ MissingRequiredArgument ∷ []
+  unfolding clap_on_literals
+  a_move_to_no_file = refl

@@ -67,6 +67,11 @@ with_port_and_count app = with_rule (with_rule app port_rule) count_rule
 abbrev pub with_range : App → App
 with_range app = with_rule (with_rule app (number_rule (codes "from"))) (number_rule (codes "to"))
 
+-- with an old file and a new one, each by its path
+abbrev pub with_old_and_new : App → App
+with_old_and_new app =
+    with_rule (with_rule app (wanted_rule (codes "old"))) (wanted_rule (codes "new"))
+
 abbrev pub found_app : App
 found_app = with_file_and_lab (new_app (codes "found"))
 
@@ -75,6 +80,9 @@ serve_app = with_port_and_count (with_rule (new_app (codes "serve")) file_rule)
 
 abbrev pub copy_app : App
 copy_app = with_range (with_file_and_lab (new_app (codes "copy")))
+
+abbrev pub migrate_app : App
+migrate_app = with_old_and_new (new_app (codes "migrate"))
 
 abbrev pub check_app : App
 check_app = new_app (codes "check")
@@ -97,8 +105,8 @@ bare_app = told_app (new_app (codes "labdesk"))
 
 -- with the subcommands of a file
 abbrev pub with_files : App → App
-with_files app = with_subcommand (with_subcommand (with_subcommand app found_app.top)
-    serve_app.top) copy_app.top
+with_files app = with_subcommand (with_subcommand (with_subcommand (with_subcommand app
+    found_app.top) serve_app.top) copy_app.top) migrate_app.top
 
 -- with those of no file: the two that have no arguments
 abbrev pub with_plain : App → App

@@ -2,7 +2,7 @@
 
 ghost use Rattle.std.specs.Prelude.{◌≡◌, IfOk, false};
 ghost use Rattle.clap.specs.Words.{app_of, new_app, rule_of, with_rule};
-ghost use Rattle.lab_program_app.specs.Apps.{check_app, copy_app, count_rule, file_rule, found_app, lab_rule, moment_rule, named_rule, number_rule, port_rule, rehearse_app, replay_app, serve_app, wanted_rule, with_file_and_lab, with_port_and_count, with_range};
+ghost use Rattle.lab_program_app.specs.Apps.{check_app, copy_app, count_rule, file_rule, found_app, lab_rule, migrate_app, moment_rule, named_rule, number_rule, port_rule, rehearse_app, replay_app, serve_app, wanted_rule, with_file_and_lab, with_old_and_new, with_port_and_count, with_range};
 
 use clap::{Arg, Command, value_parser};
 use std::alloc::{AllocError, Global};
@@ -29,6 +29,16 @@ const COPYING: &str =
 A copy is described in docs/COPIES.md. An example:
 
     labdesk copy --file laboratories --lab aqua --from 1 --to 100 > copy.csv";
+
+/// What help says of a move.
+const MIGRATING: &str =
+    "It moves every laboratory of an old file, one of schema 2, into a new file, and prints
+`migrated` and how many they were. Versions keep their texts, digests and signatures. The old file
+is read with its log, and stays as it is, byte for byte. The new file is made; one that is there has
+to be empty. If the move fails, the new file stays, and no command opens it. It is described in
+docs/FORMATS.md. An example:
+
+    labdesk migrate --old laboratories --new laboratories-3";
 
 /// What help says of the check of a copy.
 const CHECKING: &str =
@@ -183,6 +193,15 @@ fn with_range<'a>(alloc: Global, bare: Command<'a>) -> Result<Command<'a>, Alloc
     with(first, number_argument(alloc, "to", "B", help))
 }
 
+// A command with an old file, and a new one.
+fn with_old_and_new<'a>(alloc: Global, bare: Command<'a>) -> Result<Command<'a>, AllocError>
+    ensures { IfOk result (λ more. app_of more ≡ with_old_and_new (app_of bare.entry)) }
+{
+    let old = wanted(alloc, "old", "F", "Path of the old file");
+    let first = with(bare, old)?;
+    with(first, wanted(alloc, "new", "G", "Path of the new file"))
+}
+
 /// `found`, of a laboratory in a file.
 ///
 /// # Errors
@@ -219,6 +238,18 @@ pub fn copy_command<'a>(alloc: Global) -> Result<Command<'a>, AllocError>
     let bare = command(alloc, "copy", about, COPYING);
     let first = with_file_and_lab(alloc, bare)?;
     with_range(alloc, first)
+}
+
+/// `migrate`, of the laboratories of an old file into a new one.
+///
+/// # Errors
+/// Memory ran out.
+pub fn migrate_command<'a>(alloc: Global) -> Result<Command<'a>, AllocError>
+    ensures { IfOk result (λ command. app_of command ≡ migrate_app) }
+{
+    let about = "Move the laboratories of a file of schema 2 into a new file";
+    let bare = command(alloc, "migrate", about, MIGRATING);
+    with_old_and_new(alloc, bare)
 }
 
 /// `rehearse`, of a laboratory at a moment.

@@ -6,7 +6,8 @@ mod commands;
 mod explaining;
 
 pub use commands::{
-    check_command, copy_command, found_command, rehearse_command, replay_command, serve_command,
+    check_command, copy_command, found_command, migrate_command, rehearse_command, replay_command,
+    serve_command,
 };
 pub use explaining::{explain, explain_order};
 pub use lab_wire_heads::WriteFault;

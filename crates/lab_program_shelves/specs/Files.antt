@@ -53,7 +53,11 @@ module _ {S : Type 0} (disk : Ghosts S) where
     abbrev pub Finds : Held S → Type 0
     Finds old = HasCleanDisk (state disk old) → IsFound IsHeld (state disk old)
 
-    -- and is one of this schema, whose rows are as they were
+    -- and nothing was in it
+    abbrev pub IsBlankFile : Held S → Type 0
+    IsBlankFile old = Finds old × IsBlank (state disk old).now
+
+    -- or it is one of this schema, whose rows are as they were
     abbrev pub IsOurs : Held S → Type 0
     IsOurs conn = (old : Held S) × Finds old × IsOursFrom old conn
 
@@ -70,3 +74,8 @@ module _ {S : Type 0} (disk : Ghosts S) where
       Type 0
   IsOursAnywhere {Shelf} holds conn =
       (shelf : Shelf) × (path : List ℕ) × IsOurs (holds shelf path) conn
+
+  -- nothing was in the file at the path, whenever it was opened
+  abbrev pub IsBlankAt : {Shelf : Type 0} → (Shelf → List ℕ → Trees → Type 0) → List ℕ →
+      Held S → Type 0
+  IsBlankAt {Shelf} holds path conn = (shelf : Shelf) × IsBlankFile (holds shelf path) conn

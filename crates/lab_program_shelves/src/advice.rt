@@ -1,5 +1,6 @@
 //! What a person at a terminal is advised to do, below the line that says why a task stopped.
 
+use crate::asides::ASIDE;
 use crate::faults::{FoundingFault, OpenFault};
 use lab_program_outside::{FoundFault, ServerFault};
 use lab_records_kept::PlacingFault;
@@ -10,6 +11,12 @@ use std::alloc::Global;
 use std::fs::{self, File};
 use std::io::{self, Write};
 
+/// The schema whose files are moved.
+const MOVED: u64 = 2;
+
+/// The schema whose files are served.
+const OWN: u64 = 3;
+
 /// What stopped a task, with what its words said.
 #[derive(Clone, Copy, Debug, PartialEq, Eq)]
 pub enum Trouble<'a> {
@@ -19,6 +26,15 @@ pub enum Trouble<'a> {
     Founding(&'a str, FoundingFault),
     /// Of the file at the path no copy went out whole.
     Copying(&'a str, CopyOutFault),
+    /// The old file at the first path was not opened, to move it to the second.
+    Old(&'a str, &'a str, OpenFault),
+    /// The new file at the path was not opened.
+    New(&'a str, OpenFault),
+    /// Not all of the old file at the first path came into the new one at the second.
+    Moving(&'a str, &'a str, FileFault),
+    /// In the old file at the path a laboratory of this code isn't sound, so the new one at the last
+    /// has a part alone.
+    Unsound(&'a str, &'a str, &'a str),
     /// The port can't be listened at.
     AtPort(u16),
     /// The text is no code of a laboratory.
@@ -72,7 +88,18 @@ pub(crate) fn write_advice<W: Write>(
         Trouble::Founding(path, FoundingFault::Founding(fault)) => {
             write_of_founding(rt, spot, errors, path, fault)
         }
+        Trouble::Old(path, new, OpenFault::File(fault)) => {
+            write_of_old(rt, errors, path, new, fault)
+        }
+        Trouble::New(path, OpenFault::File(fault)) => write_of_new(rt, errors, path, fault),
+        Trouble::Moving(path, new, fault) => write_of_move(errors, path, new, fault),
+        Trouble::Unsound(path, lab, new) => writeln!(
+            errors,
+            "What {path} holds of {lab} isn't what a labdesk wrote: put a backup in its place, and remove {new} before the next try."
+        ),
         Trouble::Opening(_, OpenFault::Drawing)
+        | Trouble::Old(_, _, OpenFault::Drawing)
+        | Trouble::New(_, OpenFault::Drawing)
         | Trouble::Founding(_, FoundingFault::Server(ServerFault::Read)) => writeln!(
             errors,
             "Standard input, the clock or the source of random words failed."
@@ -102,12 +129,74 @@ fn write_of_file<W: Write>(
 ) -> io::Result<()> {
     match fault {
         FileFault::NotADeskFile => write_of_kind(rt, errors, path),
+        FileFault::SchemaOld(MOVED) => writeln!(
+            errors,
+            "A labdesk of an older version made {path}: 'labdesk migrate' moves it into a new file."
+        ),
         FileFault::SchemaOld(_) | FileFault::SchemaNew(_) => writeln!(
             errors,
             "A labdesk of another version made {path}: take that version."
         ),
         FileFault::Storage => write_of_storage(rt, errors, path),
         FileFault::NotEmpty | FileFault::Memory => Ok(()),
+    }
+}
+
+// Of an old file that was not opened.
+fn write_of_old<W: Write>(
+    rt: &HostRuntime,
+    errors: &mut W,
+    path: &str,
+    new: &str,
+    fault: FileFault,
+) -> io::Result<()> {
+    match fault {
+        FileFault::NotADeskFile if fs::metadata(rt, path).is_err() => {
+            writeln!(errors, "There is no file {path}.")
+        }
+        FileFault::SchemaNew(OWN) => {
+            writeln!(
+                errors,
+                "{path} needn't be moved: this labdesk serves it as it is."
+            )
+        }
+        FileFault::Storage if File::open(rt, path).is_ok() => writeln!(
+            errors,
+            "{path} can't be copied to {new}{ASIDE}: look whether something lies there, whether another program holds {path} (a server that runs), whether the folder may be written, and whether its disk is full."
+        ),
+        _ => write_of_file(rt, errors, path, fault),
+    }
+}
+
+// Of a new file that was not opened.
+fn write_of_new<W: Write>(
+    rt: &HostRuntime,
+    errors: &mut W,
+    path: &str,
+    fault: FileFault,
+) -> io::Result<()> {
+    match fault {
+        FileFault::NotEmpty => writeln!(
+            errors,
+            "{path} isn't empty: name a path where no file is; nothing was changed."
+        ),
+        _ => write_of_file(rt, errors, path, fault),
+    }
+}
+
+// Of a move that stopped.
+fn write_of_move<W: Write>(
+    errors: &mut W,
+    path: &str,
+    new: &str,
+    fault: FileFault,
+) -> io::Result<()> {
+    match fault {
+        FileFault::Storage => writeln!(
+            errors,
+            "{path} has a row that no laboratory has, or the disk of {new} is full or failed. Remove {new} before the next try."
+        ),
+        _ => writeln!(errors, "Remove {new} before the next try."),
     }
 }
 

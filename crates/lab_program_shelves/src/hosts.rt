@@ -2,6 +2,7 @@
 
 use crate::additions::Additions;
 use crate::advice::{Spot, Trouble, write_advice};
+use crate::asides::log_path;
 use crate::faults::OpenFault;
 use crate::shelves::Shelf;
 use lab_forms_texts::Moment;
@@ -11,7 +12,7 @@ use lab_store_files::FileFault;
 use rand::TryRng;
 use rand::rngs::SysRng;
 use sqlite::{Connection, FileFrom, FileStore, Start, Wary};
-use std::alloc::{AllocError, Global};
+use std::alloc::Global;
 use std::fs::{self, File, OpenOptions};
 use std::io::{ErrorKind, IsTerminal, Read, Write};
 use std::os::unix::fs::{MetadataExt, OpenOptionsExt};
@@ -41,11 +42,12 @@ impl Supposed for Wary {
 /// whatever bytes the files held.
 #[derive(Drop)]
 pub struct HostShelf<'a, S> {
-    rt: &'a HostRuntime,
-    start: S,
+    pub(crate) rt: &'a HostRuntime,
+    pub(crate) start: S,
     spot: Option<Spot>,
     had_log: bool,
     connected: Option<Pair>,
+    old: Option<Node>,
 }
 
 // Which file is which: its device and its number there.
@@ -67,11 +69,12 @@ impl<'a, S: Supposed> HostShelf<'a, S> {
             spot: None,
             had_log: true,
             connected: None,
+            old: None,
         }
     }
 
     // What lies at a path, where something does.
-    fn node(&self, path: &str) -> Option<Node> {
+    pub(crate) fn node(&self, path: &str) -> Option<Node> {
         let found = fs::metadata(self.rt, path).ok()?;
         Some((found.dev(), found.ino()))
     }
@@ -103,7 +106,7 @@ impl<'a, S: Supposed> HostShelf<'a, S> {
     }
 
     // Looks at the first bytes of a file. The store looks at the rest, and leaves what isn't its own.
-    fn look_inside(&self, path: &str) -> Result<(), FileFault> {
+    pub(crate) fn look_inside(&self, path: &str) -> Result<(), FileFault> {
         if self.is_unfinished(path)? {
             return Ok(());
         }
@@ -138,7 +141,7 @@ impl<'a, S: Supposed> HostShelf<'a, S> {
     // Prepares a path for a new file. The file and its log are made where they aren't there, and may be
     // read by their owner alone. What the system refuses here it refuses again where the file is opened.
     fn prepare(&self, path: &str, log: &str) -> Result<(), FileFault> {
-        if fs::metadata(self.rt, log).is_ok_and(|found| found.len() >= SHORTEST_LOG) {
+        if self.has_commits(log) {
             return Err(FileFault::Storage);
         }
         self.make(path);
@@ -152,6 +155,11 @@ impl<'a, S: Supposed> HostShelf<'a, S> {
         let _ = options.open(self.rt, path);
     }
 
+    // Whether a log is there that may hold a commit.
+    pub(crate) fn has_commits(&self, log: &str) -> bool {
+        fs::metadata(self.rt, log).is_ok_and(|found| found.len() >= SHORTEST_LOG)
+    }
+
     // The log of a file wants random words.
     fn draw(&self) -> Result<(), OpenFault> {
         match SysRng::new(self.rt).try_next_u64() {
@@ -159,13 +167,6 @@ impl<'a, S: Supposed> HostShelf<'a, S> {
             Err(_) => Err(OpenFault::Drawing),
         }
     }
-}
-
-// The path of a file's log.
-fn log_path(alloc: Global, path: &str) -> Result<String, AllocError> {
-    let mut log = String::from_str(alloc, path)?;
-    log.push_str("-wal")?;
-    Ok(log)
 }
 
 impl<'a, S: Supposed> Shelf for HostShelf<'a, S> {
@@ -193,6 +194,9 @@ impl<'a, S: Supposed> Shelf for HostShelf<'a, S> {
         let Ok(log) = log_path(alloc, path) else {
             return Err(OpenFault::File(FileFault::Memory));
         };
+        if self.old.is_some() && self.node(path) == self.old {
+            return Err(OpenFault::File(FileFault::NotEmpty));
+        }
         self.had_log = fs::metadata(self.rt, log.as_str()).is_ok();
         self.look(path, log.as_str())?;
         match Connection::open_from(self.rt, path, false, self.start.again()) {
@@ -202,6 +206,27 @@ impl<'a, S: Supposed> Shelf for HostShelf<'a, S> {
             }
             Err((error, _)) => {
                 self.tidy(alloc, path);
+                Err(OpenFault::File(FileFault::from(error)))
+            }
+        }
+    }
+
+    fn connect_old(
+        &mut self,
+        alloc: Global,
+        path: &str,
+        new: &str,
+    ) -> Result<Connection<FileStore<FileFrom<S>>>, OpenFault> {
+        self.draw()?;
+        let aside = self.copy_aside(alloc, path, new)?;
+        self.old = self.node(path);
+        match Connection::open_from(self.rt, aside.file.as_str(), false, self.start.again()) {
+            Ok(conn) => {
+                self.take_away(&aside);
+                Ok(conn)
+            }
+            Err((error, _)) => {
+                self.take_away(&aside);
                 Err(OpenFault::File(FileFault::from(error)))
             }
         }
@@ -230,6 +255,13 @@ impl<'a, S: Supposed> Shelf for HostShelf<'a, S> {
 
     fn remark(&mut self, path: &str, additions: Additions) {
         let _ = additions.write(&mut self.rt.stderr(), path);
+    }
+
+    fn tell_move(&mut self, lab: &str, number: usize, all: usize) {
+        let mut errors = self.rt.stderr();
+        if errors.is_terminal() {
+            let _ = writeln!(errors, "labdesk: laboratory {number} of {all}: {lab}");
+        }
     }
 
     fn advise(&mut self, trouble: Trouble<'_>) {

@@ -31,9 +31,25 @@ pub trait Shelf {
     /// without a table, where there is none or an empty one. What is refused stays as it is.
     ///
     /// # Errors
-    /// The file is no database, the source of random words failed, the store refused, a log is there
-    /// without its file, or memory ran out.
+    /// The file is no database, or the old file that was connected to, the source of random words
+    /// failed, the store refused, a log is there without its file, or memory ran out.
     fn connect(&mut self, alloc: Global, path: &str) -> Result<Connection<Self::Disk>, OpenFault>
+        ensures at_rest { IfOk result (λ conn. IsAtRest (state Self.Disk.Store conn)) }
+        ensures found { IfOk result (Finds Self.Disk.Store (holds self.old path.now)) };
+
+    /// A connection to the old file at the path, which shows what the file and its log held. A copy
+    /// of both is opened, which lies beside the path of a new file until it is open, and at no path
+    /// from then on. So nothing is written to the old file, and nothing is left beside it.
+    ///
+    /// # Errors
+    /// The file is no database, somebody else holds it, it couldn't be copied, the source of random
+    /// words failed, the store refused, or memory ran out.
+    fn connect_old(
+        &mut self,
+        alloc: Global,
+        path: &str,
+        new: &str,
+    ) -> Result<Connection<Self::Disk>, OpenFault>
         ensures at_rest { IfOk result (λ conn. IsAtRest (state Self.Disk.Store conn)) }
         ensures found { IfOk result (Finds Self.Disk.Store (holds self.old path.now)) };
 
@@ -49,6 +65,10 @@ pub trait Shelf {
 
     /// Prints, in a line on standard error, what another program added to the file at the path.
     fn remark(&mut self, path: &str, additions: Additions);
+
+    /// Tells a person at a terminal, in a line, which laboratory is moved, and which it is of how
+    /// many.
+    fn tell_move(&mut self, lab: &str, number: usize, all: usize);
 
     /// Advises a person at a terminal, in a line, what to do about the trouble.
     fn advise(&mut self, trouble: Trouble<'_>);

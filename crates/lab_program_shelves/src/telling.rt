@@ -49,6 +49,26 @@ fn decline_valued<H: Shelf, E: Write>(
     }
 }
 
+/// Tells on standard error why nothing was begun over a file, advises a person what to do about the
+/// trouble, and answers the status 1.
+///
+/// # Errors
+/// Standard error failed before the whole line was told.
+pub fn decline_by<H: Shelf, E: Write>(
+    alloc: Global,
+    shelf: &mut H,
+    errors: &mut E,
+    fault: OpenFault,
+    trouble: Trouble<'_>,
+) -> Result<u8, WriteFault>
+    ensures { Declines fault result (E.contents errors.old) (E.contents errors.new) }
+{
+    match fault.value() {
+        Some(value) => decline_valued(alloc, shelf, errors, fault.word(), value, trouble),
+        None => decline(shelf, errors, fault.word(), trouble),
+    }
+}
+
 /// Tells on standard error why nothing was begun over the file at the path, advises a person what
 /// to do, and answers the status 1.
 ///
@@ -63,9 +83,5 @@ pub fn decline_to_open<H: Shelf, E: Write>(
 ) -> Result<u8, WriteFault>
     ensures { Declines fault result (E.contents errors.old) (E.contents errors.new) }
 {
-    let trouble = Trouble::Opening(path, fault);
-    match fault.value() {
-        Some(value) => decline_valued(alloc, shelf, errors, fault.word(), value, trouble),
-        None => decline(shelf, errors, fault.word(), trouble),
-    }
+    decline_by(alloc, shelf, errors, fault, Trouble::Opening(path, fault))
 }

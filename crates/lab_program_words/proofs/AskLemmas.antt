@@ -3,9 +3,9 @@ use Rattle.std.proofs.Common.{◌≡◌, ◌∙◌, ◌≤◌, ℕ, List, IsTrue
 use Rattle.clap.specs.Words.{Row, subcommand_of}
 use Rattle.lab_forms_texts.specs.Ordinals.{is_ordinal}
 use Rattle.lab_program_app.specs.Apps.{labdesk_app, most_connections}
-use Rattle.lab_program_words.specs.Tasks.{Asked, Asks, Gives, IsGiven, IsGivenIn, IsTask, name_of, founds, serves, copies, checks, replays, rehearses, errand_of, errand_called, errand_named, founding, serving, copying, checking, replaying, rehearsing}
+use Rattle.lab_program_words.specs.Tasks.{Asked, Asks, Gives, IsGiven, IsGivenIn, IsTask, name_of, founds, serves, copies, migrates, checks, replays, rehearses, errand_of, errand_called, errand_named, founding, serving, copying, migrating, checking, replaying, rehearsing}
 use Rattle.lab_program_words.specs.declared.tasks.Task.{Task}
-use Rattle.lab_program_words.specs.declared.tasks.Task.TheVariants.{Found, Serve, Copy, Check, Replay, Rehearse}
+use Rattle.lab_program_words.specs.declared.tasks.Task.TheVariants.{Found, Serve, Copy, Migrate, Check, Replay, Rehearse}
 
 -- each by what it is given
 
@@ -18,6 +18,7 @@ module _ (rows : List Row) where
       cc
   is_founding (Serve f p k) file lab errand has gives = absurd (cc)
   is_founding (Copy f l a b) file lab errand has gives = absurd (cc)
+  is_founding (Migrate o n) file lab errand has gives = absurd (cc)
   is_founding Check file lab errand has gives = absurd (cc)
   is_founding Replay file lab errand has gives = absurd (cc)
   is_founding (Rehearse l s) file lab errand has gives = absurd (cc)
@@ -31,6 +32,7 @@ module _ (rows : List Row) where
       let three : k ≡ count = has.2 count gives.3 gives.4 in
       cc
   is_serving (Copy f l a b) file port count errand has gives = absurd (cc)
+  is_serving (Migrate o n) file port count errand has gives = absurd (cc)
   is_serving Check file port count errand has gives = absurd (cc)
   is_serving Replay file port count errand has gives = absurd (cc)
   is_serving (Rehearse l s) file port count errand has gives = absurd (cc)
@@ -48,14 +50,29 @@ module _ (rows : List Row) where
       let three : a ≡ from = has.2 from gives.2 (within from gives.3) in
       let four : b ≡ to = has.3 to gives.4 (within to gives.5) in
       (cc, subst (λ n. IsTrue (is_ordinal n)) (sym three) gives.3, subst (λ n. IsTrue (is_ordinal n)) (sym four) gives.5)
+  is_copying (Migrate o n) file lab from to errand has gives = absurd (cc)
   is_copying Check file lab from to errand has gives = absurd (cc)
   is_copying Replay file lab from to errand has gives = absurd (cc)
   is_copying (Rehearse l s) file lab from to errand has gives = absurd (cc)
+
+  is_migrating : (task : Task) (old new : List ℕ) → errand_of task ≡ migrating → IsGiven rows task → Gives (migrates old new) rows
+      → IsTask task (migrates old new)
+  is_migrating (Found f l) old new errand has gives = absurd (cc)
+  is_migrating (Serve f p k) old new errand has gives = absurd (cc)
+  is_migrating (Copy f l a b) old new errand has gives = absurd (cc)
+  is_migrating (Migrate o n) old new errand has gives =
+      let one : o.now ≡ old = has.0 old gives.0 in
+      let two : n.now ≡ new = has.1 new gives.1 in
+      cc
+  is_migrating Check old new errand has gives = absurd (cc)
+  is_migrating Replay old new errand has gives = absurd (cc)
+  is_migrating (Rehearse l s) old new errand has gives = absurd (cc)
 
   is_checking : (task : Task) → errand_of task ≡ checking → IsTask task checks
   is_checking (Found f l) errand = absurd (cc)
   is_checking (Serve f p k) errand = absurd (cc)
   is_checking (Copy f l a b) errand = absurd (cc)
+  is_checking (Migrate o n) errand = absurd (cc)
   is_checking Check errand = cc
   is_checking Replay errand = absurd (cc)
   is_checking (Rehearse l s) errand = absurd (cc)
@@ -64,6 +81,7 @@ module _ (rows : List Row) where
   is_replaying (Found f l) errand = absurd (cc)
   is_replaying (Serve f p k) errand = absurd (cc)
   is_replaying (Copy f l a b) errand = absurd (cc)
+  is_replaying (Migrate o n) errand = absurd (cc)
   is_replaying Check errand = absurd (cc)
   is_replaying Replay errand = cc
   is_replaying (Rehearse l s) errand = absurd (cc)
@@ -73,6 +91,7 @@ module _ (rows : List Row) where
   is_rehearsing (Found f l) lab moment errand has gives = absurd (cc)
   is_rehearsing (Serve f p k) lab moment errand has gives = absurd (cc)
   is_rehearsing (Copy f l a b) lab moment errand has gives = absurd (cc)
+  is_rehearsing (Migrate o n) lab moment errand has gives = absurd (cc)
   is_rehearsing Check lab moment errand has gives = absurd (cc)
   is_rehearsing Replay lab moment errand has gives = absurd (cc)
   is_rehearsing (Rehearse l s) lab moment errand has gives =
@@ -84,6 +103,7 @@ module _ (rows : List Row) where
   is_task task (founds file lab) errand has gives = is_founding task file lab errand has gives
   is_task task (serves file port count) errand has gives = is_serving task file port count errand has gives
   is_task task (copies file lab from to) errand has gives = is_copying task file lab from to errand has gives
+  is_task task (migrates old new) errand has gives = is_migrating task old new errand has gives
   is_task task checks errand has gives = is_checking task errand
   is_task task replays errand has gives = is_replaying task errand
   is_task task (rehearses lab moment) errand has gives = is_rehearsing task lab moment errand has gives

@@ -2,7 +2,7 @@
 -- `clap`.
 use Rattle.std.proofs.Common.{◌≡◌, ℕ, List, [], ◌∷◌, refl, codes, lit<}
 use Rattle.clap.proofs.OnLiterals.{clap_on_literals}
-use Rattle.lab_program_words.specs.Tasks.{Asks, Writes, founds, serves, copies, checks, replays, rehearses}
+use Rattle.lab_program_words.specs.Tasks.{Asks, Writes, founds, serves, copies, migrates, checks, replays, rehearses}
 
 -- Numbers in decimal digits.
 
@@ -56,6 +56,11 @@ module _ (program : List ℕ) where
     entered = refl;
     given = (refl, refl, (_, refl, seven), refl, (_, refl, a_hundred), refl);
   }
+
+  a_move_is_asked_for : Asks (migrates (codes "labs.db") (codes "new.db"))
+      (program ∷ codes "migrate" ∷ codes "--new" ∷ codes "new.db" ∷ codes "--old=labs.db" ∷ [])
+  unfolding clap_on_literals
+  a_move_is_asked_for = record { unfaulted = refl; rows = _; entered = refl; given = (refl, refl) }
 
   a_check_is_asked_for : Asks checks (program ∷ codes "check" ∷ [])
   unfolding clap_on_literals

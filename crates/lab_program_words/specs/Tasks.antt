@@ -6,16 +6,18 @@ use Rattle.lab_forms_texts.specs.Moment.{is_moment}
 use Rattle.lab_forms_texts.specs.Ordinals.{is_ordinal}
 use Rattle.lab_program_app.specs.Apps.{labdesk_app, last_port, most_connections}
 use Rattle.lab_program_words.specs.declared.tasks.Task.{Task}
-use Rattle.lab_program_words.specs.declared.tasks.Task.TheVariants.{Found, Serve, Copy, Check, Replay, Rehearse}
+use Rattle.lab_program_words.specs.declared.tasks.Task.TheVariants.{Found, Serve, Copy, Migrate, Check, Replay, Rehearse}
 
 -- ---- what may be asked for
 
 -- a founding in a file; serving a file at a port, so many connections; a copy of a file's
--- laboratory, from a record to a record; a check; a replay; a rehearsal at a moment
+-- laboratory, from a record to a record; a move of an old file's laboratories into a new file; a
+-- check; a replay; a rehearsal at a moment
 pub data Asked : Type 0 where
   founds : (file lab : List ℕ) → Asked
   serves : (file : List ℕ) (port count : ℕ) → Asked
   copies : (file lab : List ℕ) (from to : ℕ) → Asked
+  migrates : (old new : List ℕ) → Asked
   checks : Asked
   replays : Asked
   rehearses : (lab : List ℕ) (moment : ℕ) → Asked
@@ -25,6 +27,7 @@ abbrev pub name_of : Asked → List ℕ
 name_of (founds file lab) = codes "found"
 name_of (serves file port count) = codes "serve"
 name_of (copies file lab from to) = codes "copy"
+name_of (migrates old new) = codes "migrate"
 name_of checks = codes "check"
 name_of replays = codes "replay"
 name_of (rehearses lab moment) = codes "rehearse"
@@ -54,6 +57,8 @@ Gives (copies file lab from to) rows =
     HasText (codes "file") rows file × HasText (codes "lab") rows lab
     × HasNumber (codes "from") rows from × IsTrue (is_ordinal from)
     × HasNumber (codes "to") rows to × IsTrue (is_ordinal to)
+Gives (migrates old new) rows =
+    HasText (codes "old") rows old × HasText (codes "new") rows new
 Gives checks rows = Unit {0}
 Gives replays rows = Unit {0}
 Gives (rehearses lab moment) rows =
@@ -74,6 +79,7 @@ pub data Errand : Type 0 where
   founding : Errand
   serving : Errand
   copying : Errand
+  migrating : Errand
   checking : Errand
   replaying : Errand
   rehearsing : Errand
@@ -82,6 +88,7 @@ abbrev pub errand_of : Task → Errand
 errand_of (Found file lab) = founding
 errand_of (Serve file port count) = serving
 errand_of (Copy file lab from to) = copying
+errand_of (Migrate old new) = migrating
 errand_of Check = checking
 errand_of Replay = replaying
 errand_of (Rehearse lab seconds) = rehearsing
@@ -91,8 +98,9 @@ abbrev pub errand_called : List ℕ → Errand
 errand_called name = if bytes_eq name (codes "found") then founding
     else (if bytes_eq name (codes "serve") then serving
     else (if bytes_eq name (codes "copy") then copying
+    else (if bytes_eq name (codes "migrate") then migrating
     else (if bytes_eq name (codes "check") then checking
-    else (if bytes_eq name (codes "rehearse") then rehearsing else replaying))))
+    else (if bytes_eq name (codes "rehearse") then rehearsing else replaying)))))
 
 abbrev pub errand_named : Option (List ℕ × List Row) → Errand
 errand_named None = replaying
@@ -123,6 +131,8 @@ IsGiven rows (Copy file lab from to) =
     ReadsText (codes "file") rows file.now × ReadsText (codes "lab") rows lab.now
     × ReadsNumber most_connections (codes "from") rows from
     × ReadsNumber most_connections (codes "to") rows to
+IsGiven rows (Migrate old new) =
+    ReadsText (codes "old") rows old.now × ReadsText (codes "new") rows new.now
 IsGiven rows Check = Unit {0}
 IsGiven rows Replay = Unit {0}
 IsGiven rows (Rehearse lab seconds) =
@@ -139,6 +149,7 @@ IsTask (Found file lab) asked = asked ≡ founds file.now lab.now
 IsTask (Serve file port count) asked = asked ≡ serves file.now port count
 IsTask (Copy file lab from to) asked = (asked ≡ copies file.now lab.now from to)
     × IsTrue (is_ordinal from) × IsTrue (is_ordinal to)
+IsTask (Migrate old new) asked = asked ≡ migrates old.now new.now
 IsTask Check asked = asked ≡ checks
 IsTask Replay asked = asked ≡ replays
 IsTask (Rehearse lab seconds) asked = (moment : ℕ) × (seconds ≡ pos moment)

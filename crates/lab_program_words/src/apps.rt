@@ -2,11 +2,12 @@
 
 ghost use Rattle.std.specs.Prelude.{◌≡◌, IfOk, true};
 ghost use Rattle.clap.specs.Words.{app_of, with_subcommand};
-ghost use Rattle.lab_program_app.specs.Apps.{bare_app, copy_app, found_app, labdesk_app, rehearse_app, serve_app, told_app, with_files, with_plain, with_streams};
+ghost use Rattle.lab_program_app.specs.Apps.{bare_app, copy_app, found_app, labdesk_app, migrate_app, rehearse_app, serve_app, told_app, with_files, with_plain, with_streams};
 
 use clap::Command;
 use lab_program_app::{
-    check_command, copy_command, found_command, rehearse_command, replay_command, serve_command,
+    check_command, copy_command, found_command, migrate_command, rehearse_command, replay_command,
+    serve_command,
 };
 use std::alloc::{AllocError, Global};
 
@@ -73,6 +74,15 @@ fn with_copy<'a>(alloc: Global, bare: Command<'a>) -> Result<Command<'a>, AllocE
     with(bare, copy)
 }
 
+// A command with `migrate`.
+fn with_migrate<'a>(alloc: Global, bare: Command<'a>) -> Result<Command<'a>, AllocError>
+    ensures { IfOk result
+        (λ more. app_of more ≡ with_subcommand (app_of bare.entry) migrate_app.top) }
+{
+    let migrate = migrate_command(alloc)?;
+    with(bare, migrate)
+}
+
 // A command with `rehearse`.
 fn with_rehearse<'a>(alloc: Global, bare: Command<'a>) -> Result<Command<'a>, AllocError>
     ensures { IfOk result
@@ -88,7 +98,8 @@ fn with_files<'a>(alloc: Global, bare: Command<'a>) -> Result<Command<'a>, Alloc
 {
     let first = with_found(alloc, bare)?;
     let second = with_serve(alloc, first)?;
-    with_copy(alloc, second)
+    let third = with_copy(alloc, second)?;
+    with_migrate(alloc, third)
 }
 
 // A command with the two subcommands that have no arguments.

@@ -3,7 +3,7 @@
 ghost use Rattle.std.specs.Prelude.{◌≡◌, map, IfOk, codes};
 ghost use Rattle.clap.specs.Words.{FailsBy, fault_of, found_of, rows_of as rows_found, subcommand_of, subcommand_rows_of};
 ghost use Rattle.lab_program_app.specs.Apps.{labdesk_app, last_port, most_connections};
-ghost use Rattle.lab_program_words.specs.Tasks.{IsGiven, IsGivenIn, ReadsMoment, ReadsNumber, ReadsText, copying, errand_called, errand_named, errand_of, founding, rehearsing, serving};
+ghost use Rattle.lab_program_words.specs.Tasks.{IsGiven, IsGivenIn, ReadsMoment, ReadsNumber, ReadsText, copying, errand_called, errand_named, errand_of, founding, migrating, rehearsing, serving};
 
 use crate::apps::labdesk_command;
 use clap::{ArgMatches, Error};
@@ -39,6 +39,13 @@ pub enum Task<'a> {
         from: u32,
         /// The number of the last record.
         to: u32,
+    },
+    /// Move the laboratories of an old file into a new one.
+    Migrate {
+        /// The path of the old file.
+        old: &'a str,
+        /// The path of the new file.
+        new: &'a str,
     },
     /// Check the inspection copy of standard input.
     Check,
@@ -122,6 +129,17 @@ fn copying<'a>(given: &ArgMatches<'a>) -> Task<'a>
     }
 }
 
+// The move that they ask for.
+fn migrating<'a>(given: &ArgMatches<'a>) -> Task<'a>
+    ensures errand { errand_of result ≡ migrating }
+    ensures given { IsGiven (rows_found (found_of given.now)) result }
+{
+    Task::Migrate {
+        old: text_given(given, "old"),
+        new: text_given(given, "new"),
+    }
+}
+
 // The rehearsal that they ask for.
 fn rehearsing<'a>(given: &ArgMatches<'a>) -> Task<'a>
     ensures errand { errand_of result ≡ rehearsing }
@@ -146,6 +164,9 @@ fn task_named<'a>(name: &str, given: &ArgMatches<'a>) -> Task<'a>
     }
     if name == "copy" {
         return copying(given);
+    }
+    if name == "migrate" {
+        return migrating(given);
     }
     if name == "check" {
         return Task::Check;

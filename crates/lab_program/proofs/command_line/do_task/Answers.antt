@@ -16,6 +16,10 @@ returns-in-Copy g c = λ asked is.
     let known = rw c.in-Copy.is at is in
     done_as g.H.Disk.Store g.H.Shelf.holds c.args.host.now.shelf _ _ _ _ _ _ asked _ _ known.0 (c.copy_for.ensures known.1 known.2)
 
+pub returns-in-Migrate : goal.returns-in-Migrate
+returns-in-Migrate g c = λ asked is.
+    done_as g.H.Disk.Store g.H.Shelf.holds c.args.host.now.shelf _ _ _ _ _ _ asked _ _ (rw c.in-Migrate.is at is) c.migrate.ensures
+
 pub returns-in-Check : goal.returns-in-Check
 returns-in-Check g c = λ asked is.
     done_as g.H.Disk.Store g.H.Shelf.holds c.args.host.now.shelf _ _ _ _ _ _ asked _ _ (rw c.in-Check.is at is) c.check.ensures

@@ -1,6 +1,6 @@
 -- The fault has a value, or has none.
 use Rattle.std.proofs.Common.{◌∙◌, sym}
-use Rattle.lab_program_shelves.proofs.telling.decline_to_open.Goals as goal
+use Rattle.lab_program_shelves.proofs.telling.decline_by.Goals as goal
 
 pub returns-in-Some : goal.returns-in-Some
 returns-in-Some g c =

@@ -1,0 +1,13 @@
+-- What `migrate` says of both connections is what is said.
+use Rattle.lab_program_moves.proofs.moving.moved.Goals as goal
+
+pub returns : goal.returns
+returns g c = record {
+  left = c.migrate-moved.new.old.conn;
+  made = c.migrate-moved.new.new;
+  moved = c.migrate-moved.ensures.moved c.requires.blank;
+  ready = c.migrate-moved.ensures.ready c.requires.blank;
+  refused = c.migrate-moved.ensures.refused;
+  old_same = c.migrate-moved.ensures.old_same;
+  unfinished = c.migrate-moved.ensures.unfinished c.requires.blank;
+}

@@ -1,0 +1,198 @@
+//! `labdesk migrate`: the laboratories of an old file come into a new one.
+
+ghost use Rattle.std.specs.Prelude.{IfOk};
+ghost use Rattle.sqlite.specs.Held.{state};
+ghost use Rattle.lab_store_files.specs.NewFiles.{IsBlank};
+ghost use Rattle.lab_store_tables.specs.Ready.{IsAtRest};
+ghost use Rattle.lab_program_shelves.specs.Files.{IsBlankAt};
+ghost use Rattle.lab_program_shelves.specs.Faults.{TellsWord};
+ghost use Rattle.lab_program_moves.specs.Moves.{IsAsked, IsMigration, Moves, Prints, TellsFault, TellsUnsound, migrated_line};
+
+use lab_forms_texts::{LabCode, OutOfMemory};
+use lab_move::{MoveFault, MoveProgress, OldFile};
+use lab_program_outside::{Host, ServerFault, tell};
+use lab_program_shelves::{
+    Closing, OpenFault, Shelf, Trouble, decline, decline_by, open_new, open_old,
+};
+use lab_wire_heads::{WriteFault, write_reply};
+use sqlite::Connection;
+use std::alloc::Global;
+use std::io::Write;
+
+/// Who tells a person at a terminal which laboratory is moved.
+struct Teller<'a, H> {
+    shelf: &'a mut H,
+}
+
+impl<'a, H: Shelf> MoveProgress for Teller<'a, H> {
+    fn told(&mut self, lab: &LabCode, done: usize, all: usize) {
+        self.shelf
+            .tell_move(lab.as_str(), done.saturating_add(1), all);
+    }
+}
+
+// The old file at the path, of schema 2.
+fn old_file<H: Shelf>(
+    alloc: Global,
+    shelf: &mut H,
+    path: &str,
+    new: &str,
+) -> Result<OldFile<H::Disk>, OpenFault>
+    ensures { IfOk result (λ file. IsAsked H.Disk.Store (H.holds shelf.old path.now) file.conn) }
+{
+    let conn = open_old(alloc, shelf, path, new)?;
+    let mut file = OldFile { conn };
+    match lab_move::open_old(&mut file) {
+        Ok(()) => Ok(file),
+        Err(fault) => Err(OpenFault::File(fault)),
+    }
+}
+
+// Tells a word, and answers the status of a fault.
+fn told<E: Write>(errors: &mut E, word: &str) -> Result<u8, WriteFault>
+    ensures { TellsWord word.now result (E.contents errors.old) (E.contents errors.new) }
+{
+    tell(errors, word)?;
+    Ok(1)
+}
+
+// Prints how many laboratories were moved, and answers the status.
+fn print<W: Write, E: Write>(
+    alloc: Global,
+    count: u64,
+    output: &mut W,
+    errors: &mut E,
+) -> Result<u8, WriteFault>
+    ensures { Prints (record {
+      before = W.contents output.old;
+      after = W.contents output.new;
+      told_before = E.contents errors.old;
+      told_after = E.contents errors.new;
+      status = result;
+    }) (migrated_line count) }
+{
+    let Ok(line) = format!(in alloc; "migrated {count}\n") else {
+        return told(errors, OutOfMemory.word());
+    };
+    match write_reply(output, line.as_bytes()) {
+        Ok(()) => Ok(0),
+        Err(_) => told(errors, ServerFault::Write.word()),
+    }
+}
+
+// Tells that a laboratory isn't sound, and answers the status of a fault.
+fn decline_unsound<H: Shelf, E: Write>(
+    alloc: Global,
+    shelf: &mut H,
+    errors: &mut E,
+    code: &str,
+    trouble: Trouble<'_>,
+) -> Result<u8, WriteFault>
+    ensures { TellsUnsound code.now result (E.contents errors.old) (E.contents errors.new) }
+{
+    match format!(in alloc; "not_sound {code}") {
+        Ok(text) => decline(shelf, errors, text.as_str(), trouble),
+        Err(_) => decline(shelf, errors, OutOfMemory.word(), trouble),
+    }
+}
+
+/// Where the files of a move lie.
+#[derive(Clone, Copy)]
+struct Paths<'a> {
+    old: &'a str,
+    new: &'a str,
+}
+
+// Tells why a move stopped, and answers the status of a fault.
+fn decline_move<H: Shelf, E: Write>(
+    alloc: Global,
+    shelf: &mut H,
+    errors: &mut E,
+    paths: Paths<'_>,
+    fault: &MoveFault,
+) -> Result<u8, WriteFault>
+    ensures { TellsFault fault.now result (E.contents errors.old) (E.contents errors.new) }
+{
+    match fault {
+        MoveFault::File(fault) => {
+            let trouble = Trouble::Moving(paths.old, paths.new, *fault);
+            decline_by(alloc, shelf, errors, OpenFault::File(*fault), trouble)
+        }
+        MoveFault::NotSound { lab } => {
+            let trouble = Trouble::Unsound(paths.old, lab.as_str(), paths.new);
+            decline_unsound(alloc, shelf, errors, lab.as_str(), trouble)
+        }
+    }
+}
+
+// Moves the laboratories of an old file that was opened into a new one that was, and closes the new
+// one. The old one is let go of, and not closed, since that would write to it.
+fn moved<H: Shelf>(
+    alloc: Global,
+    shelf: &mut H,
+    old: OldFile<H::Disk>,
+    new: Connection<H::Disk>,
+) -> Result<u64, MoveFault>
+where
+    Connection<H::Disk>: Closing,
+    requires at_rest { IsAtRest (state H.Disk.Store new) }
+    requires blank { IsBlank (state H.Disk.Store new).now }
+    ensures { Moves H.Disk.Store old.conn new result }
+{
+    let (mut old, mut new) = (old, new);
+    let mut teller = Teller { shelf };
+    let moved = lab_move::migrate(alloc, &mut old, &mut new, &mut teller);
+    let Teller { shelf: _ } = teller;
+    let _ = new.close_whole();
+    moved
+}
+
+/// `labdesk migrate`: opens the old file at a path, of schema 2, and a new file at another, moves
+/// all laboratories, prints how many they were, and tells on standard error why it stopped. Answers
+/// the status: 0 where all were moved and that was printed, and else 1. The old file stays as it is.
+///
+/// # Errors
+/// It stopped, and standard error failed before the whole line was told.
+pub fn migrate<N, H: Shelf, C, X, P, W: Write, E: Write>(
+    host: &mut Host<'_, N, H, C, X, P>,
+    old: &str,
+    new: &str,
+    output: &mut W,
+    errors: &mut E,
+) -> Result<u8, WriteFault>
+where
+    Connection<H::Disk>: Closing,
+    ensures { IsMigration H.Disk.Store (H.holds host.old.shelf old.now)
+        (IsBlankAt H.Disk.Store H.holds new.now) (record {
+          before = W.contents output.old;
+          after = W.contents output.new;
+          told_before = E.contents errors.old;
+          told_after = E.contents errors.new;
+          status = result;
+        }) }
+{
+    let from = match old_file(host.alloc, &mut host.shelf, old, new) {
+        Ok(file) => file,
+        Err(fault) => {
+            let trouble = Trouble::Old(old, new, fault);
+            return decline_by(host.alloc, &mut host.shelf, errors, fault, trouble);
+        }
+    };
+    let into = match open_new(host.alloc, &mut host.shelf, new) {
+        Ok(conn) => conn,
+        Err(fault) => {
+            let trouble = Trouble::New(new, fault);
+            return decline_by(host.alloc, &mut host.shelf, errors, fault, trouble);
+        }
+    };
+    match moved(host.alloc, &mut host.shelf, from, into) {
+        Ok(count) => print(host.alloc, count, output, errors),
+        Err(fault) => decline_move(
+            host.alloc,
+            &mut host.shelf,
+            errors,
+            Paths { old, new },
+            &fault,
+        ),
+    }
+}
