@@ -26,13 +26,14 @@ def printed(moment):
 class Sheet:
     """A record: its rows and what they are signed with."""
 
-    OPENED, ENTERED, SIGNED = 1_000, 1_100, 1_300
+    FORMAT, OPENED, ENTERED, SIGNED = 2, 1_000, 1_100, 1_300
 
     def __init__(self, lab, signers, number, rows):
         self.number, self.sample = number, f"Sample {number}"
         self.values = [f"{number % 97}.{row:02}" for row in range(rows)]
         author = signers[0][0]
-        text = ["labrecord 2", lab, str(number), "1", FORM, "1", "no", self.sample, "-", "", author, printed(self.OPENED), str(rows)]
+        text = [f"labrecord {self.FORMAT}", lab, str(number), "1", FORM, "1", *["no"][:self.FORMAT - 1], self.sample, "-", "", author,
+                printed(self.OPENED), str(rows)]
         for value in self.values:
             text += [KEY, value, UNIT, author, printed(self.ENTERED), self.reason(value)]
         self.digest = sha(text)

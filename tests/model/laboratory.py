@@ -145,7 +145,7 @@ def form_words(f):
 def version_lines(record, v):
     at = f"{record.number}|{v.number}"
     amends = ["first"] if v.previous is None else ["amends", v.previous, v.reason]
-    lines = [line("version", at, "format 2 approval" if v.approval else "format 2", *amends, v.opener, v.opened)]
+    lines = [line("version", at, f"format {v.format} approval" if v.approval else f"format {v.format}", *amends, v.opener, v.opened)]
     for i, r in enumerate(v.rows):
         lines.append(line("row", at, i + 1, *row_words(r)))
     for i, s in enumerate(v.signatures):
@@ -249,10 +249,10 @@ def state_of(record, v):
 
 
 def text_of(lab, record, v):
-    """The text of a version, in bytes."""
-    parts = ["labrecord 2", lab.code, str(record.number), str(v.number), record.form.code,
-             str(record.form.version), "yes" if v.approval else "no", record.sample, v.previous or "-",
-             v.reason or "", v.opener, printed(v.opened), str(len(v.rows))]
+    """The text of a version, in bytes. One of format 1 doesn't say whether an approval is wanted."""
+    parts = [f"labrecord {v.format}", lab.code, str(record.number), str(v.number), record.form.code, str(record.form.version)]
+    parts += ["yes" if v.approval else "no"] if v.format == 2 else []
+    parts += [record.sample, v.previous or "-", v.reason or "", v.opener, printed(v.opened), str(len(v.rows))]
     for r in v.rows:
         parts += [r.key, r.value, r.unit, r.person, printed(r.moment), r.reason or ""]
     return b"".join(map(item, parts))
@@ -549,7 +549,8 @@ class Machine:
             raise Refused(28)
         self.room()
         number = self.records + 1
-        first = Thing(number=1, previous=None, reason=None, approval=last.approval, opener=p.code, opened=self.now, rows=[], signatures=[])
+        first = Thing(number=1, format=2, previous=None, reason=None, approval=last.approval, opener=p.code, opened=self.now, rows=[],
+                      signatures=[])
         self.lab.records.append(Thing(number=number, form=last, sample=sample, versions=[first]))
         self.tell(p.code, "record", number)
         return told(line("record opened", number, 1), record=number, version=1)
@@ -595,7 +596,7 @@ class Machine:
             raise Refused(28)
         self.room()
         rows = [Thing(key=k, value=t, unit=u, person=p.code, moment=self.now, reason=reason) for k, t, u in items]
-        n = Thing(number=v.number + 1, previous=digest_of(self.lab, r, v), reason=reason, approval=r.form.approval,
+        n = Thing(number=v.number + 1, format=2, previous=digest_of(self.lab, r, v), reason=reason, approval=r.form.approval,
                   opener=p.code, opened=self.now, rows=rows, signatures=[])
         r.versions.append(n)
         self.tell(p.code, "amend", f"{number}/{n.number}")
@@ -665,7 +666,7 @@ class Machine:
         v = r.versions[version - 1]
         values = values_of(r, version)
         return told(
-            line("version of", r.number, version), approval=r.form.approval, digest=digest_of(self.lab, r, v), format=2,
+            line("version of", r.number, version), approval=r.form.approval, digest=digest_of(self.lab, r, v), format=v.format,
             moment=printed(v.opened), opener=v.opener, reason=v.reason or "", state=state_of(r, v), version=v.number,
             altered=altered(r, version), rows=[row_members(one) for one in v.rows],
             signatures=[signature_members(one) for one in v.signatures],
@@ -701,8 +702,8 @@ def copy_row(kind, lab, **fields):
 def record_rows(lab, r):
     yield copy_row("record", lab, record=r.number, version=r.form.version, key=r.form.code, value=r.sample)
     for n, v in enumerate(r.versions, 1):
-        yield copy_row("version", lab, record=r.number, version=n, key="2", value=state_of(r, v), person=v.opener,
-                       name="approval" if r.form.approval else "", moment=printed(v.opened), reason=v.reason,
+        yield copy_row("version", lab, record=r.number, version=n, key=v.format, value=state_of(r, v), person=v.opener,
+                       name="approval" if v.approval else "", moment=printed(v.opened), reason=v.reason,
                        digest=digest_of(lab, r, v))
         for one in v.rows:
             yield copy_row("entry", lab, record=r.number, version=n, key=one.key, value=one.value, unit=one.unit, person=one.person,

@@ -113,10 +113,10 @@ class Rows:
     def add_lab(self, lab):
         counts = {name: laboratory.count_of(lab, name) for name in ("records", "sessions", "trail")}
         own = self.add("labs", code=lab.code, name=lab.name, last=lab.last, stray=lab.strays, **counts)
-        persons = {}
-        for p in sorted(self.mixed(lab.persons), key=lambda p: p.ask is not None):
-            asker = None if p.ask is None else persons[p.ask[0]]
-            persons[p.code] = self.add("persons", lab=own, asker=asker, **person_columns(p))
+        mixed, before = sorted(self.mixed(lab.persons), key=lambda p: p.ask is not None), len(self.tables["persons"])
+        persons = {p.code: self.id_of(at) for at, p in enumerate(mixed, before + 1)}
+        for p in mixed:
+            self.add("persons", lab=own, asker=p.ask and persons[p.ask[0]], **person_columns(p))
         for s in self.mixed(lab.sessions):
             self.add("sessions", lab=own, person=persons[s.person], number=s.number, token=blob(s.token), opened=s.opened, last=s.last,
                      closed=int(s.closed), signed=int(s.signed))
@@ -140,7 +140,7 @@ class Rows:
         kept = self.add("records", lab=lab, number=r.number, form=forms[r.form.code, r.form.version], form_code=r.form.code,
                         sample=r.sample, current=len(r.versions))
         for v in self.mixed(r.versions):
-            version = self.add("versions", record=kept, number=v.number, format=2, opener=persons[v.opener], opened=v.opened,
+            version = self.add("versions", record=kept, number=v.number, format=v.format, opener=persons[v.opener], opened=v.opened,
                                reason=v.reason)
             for place, one in self.mixed(list(enumerate(v.rows, 1))):
                 self.add("entries", version=version, place=place, key=one.key, value=one.value, unit=one.unit,

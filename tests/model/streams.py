@@ -230,9 +230,13 @@ class Stream:
 
     def read_all(self, code, lab="aqua"):
         """All that can be read of a laboratory, by somebody who may read it and comes in for it, at its last moment."""
+        self.open(self.labs[lab].last, code, who="reader", lab=lab)
+        self.read_each("reader", lab)
+
+    def read_each(self, who, lab="aqua"):
+        """The same in a session that is there."""
         kept = self.labs[lab]
-        moment, who = kept.last, "reader"
-        self.open(moment, code, who=who, lab=lab)
+        moment = kept.last
         self.get(moment, who, "/persons", lab=lab)
         for form in kept.forms:
             self.get(moment, who, f"/forms/{form.code}/{form.version}", lab=lab)
