@@ -11,7 +11,7 @@ use lab_copy_rows::{
     Digest, Edition, Format, Meaning, Moment, Note, Ordinal, OutOfMemory, PersonCode, Seal, State,
 };
 use lab_forms_texts::{Notes, PersonCodes, Rule};
-use lab_seal::fields::{moment_of, own, text_in, value_of};
+use lab_seal::fields::{moment_of, own_copy, text_in, value_of};
 use std::alloc::Global;
 
 /// The most rows of one kind that an end row can tell of.
@@ -44,7 +44,7 @@ pub fn own_reason(alloc: Global, reason: Option<&str>) -> Result<Option<Note>, O
     ensures { IfOk result (λ copy. copy ≡ option_map (λ note. note.now) reason.entry) }
 {
     match reason {
-        Some(reason) => Ok(Some(own::<Notes>(alloc, reason)?)),
+        Some(reason) => Ok(Some(own_copy::<Notes>(alloc, reason)?)),
         None => Ok(None),
     }
 }
@@ -58,7 +58,7 @@ pub fn own_person(alloc: Global, person: Option<&str>) -> Result<Option<PersonCo
     ensures { IfOk result (λ copy. copy ≡ option_map (λ code. code.now) person.entry) }
 {
     match person {
-        Some(person) => Ok(Some(own::<PersonCodes>(alloc, person)?)),
+        Some(person) => Ok(Some(own_copy::<PersonCodes>(alloc, person)?)),
         None => Ok(None),
     }
 }
@@ -252,7 +252,9 @@ pub fn own_meaning(alloc: Global, meaning: MeaningParts<'_>) -> Result<Meaning, 
     match meaning {
         MeaningParts::Authorship => Ok(Meaning::Authorship),
         MeaningParts::Review => Ok(Meaning::Review),
-        MeaningParts::Rejection(reason) => Ok(Meaning::Rejection(own::<Notes>(alloc, reason)?)),
+        MeaningParts::Rejection(reason) => Ok(Meaning::Rejection(own_copy::<Notes>(
+            alloc, reason,
+        )?)),
         MeaningParts::Approval => Ok(Meaning::Approval),
     }
 }

@@ -21,7 +21,7 @@ use lab_copy_rows::{
     SignatureLine, State, VersionLine,
 };
 use lab_forms_texts::{Keys, LabCodes, Names, Notes, PersonCodes, Units};
-use lab_seal::fields::own;
+use lab_seal::fields::own_copy;
 use std::alloc::Global;
 
 /// What a row stands for in a copy of the edition. `BadRow` where it stands for nothing.
@@ -69,11 +69,11 @@ fn copy_line(alloc: Global, row: &RowFields<'_>) -> Result<CopyLine, RowFault>
     };
     Ok(CopyLine {
         edition: parts.edition,
-        lab: own::<LabCodes>(alloc, parts.lab)?,
+        lab: own_copy::<LabCodes>(alloc, parts.lab)?,
         from: parts.from,
         to: parts.to,
         person: own_person(alloc, parts.person)?,
-        name: own::<Names>(alloc, parts.name)?,
+        name: own_copy::<Names>(alloc, parts.name)?,
         moment: parts.moment,
     })
 }
@@ -85,11 +85,11 @@ fn record_line(alloc: Global, row: &RowFields<'_>) -> Result<RecordLine, RowFaul
         return Err(RowFault::Refused(BadRow));
     };
     Ok(RecordLine {
-        lab: own::<LabCodes>(alloc, parts.lab)?,
+        lab: own_copy::<LabCodes>(alloc, parts.lab)?,
         record_number: parts.record_number,
         form_version: parts.form_version,
-        form: own::<Keys>(alloc, parts.form)?,
-        sample: own::<Names>(alloc, parts.sample)?,
+        form: own_copy::<Keys>(alloc, parts.form)?,
+        sample: own_copy::<Names>(alloc, parts.sample)?,
     })
 }
 
@@ -109,12 +109,12 @@ fn version_line(
         return Err(RowFault::Refused(BadRow));
     }
     Ok(VersionLine {
-        lab: own::<LabCodes>(alloc, parts.lab)?,
+        lab: own_copy::<LabCodes>(alloc, parts.lab)?,
         record_number: parts.record_number,
         number: parts.number,
         format: parts.format,
         state: parts.state,
-        opener: own::<PersonCodes>(alloc, parts.opener)?,
+        opener: own_copy::<PersonCodes>(alloc, parts.opener)?,
         opened: parts.opened,
         reason: own_reason(alloc, parts.reason)?,
         digest: parts.digest,
@@ -148,14 +148,14 @@ fn entry_line(alloc: Global, row: &RowFields<'_>) -> Result<EntryLine, RowFault>
         return Err(RowFault::Refused(BadRow));
     };
     Ok(EntryLine {
-        lab: own::<LabCodes>(alloc, parts.lab)?,
+        lab: own_copy::<LabCodes>(alloc, parts.lab)?,
         record_number: parts.record_number,
         version: parts.version,
         row: EntryRow {
-            key: own::<Keys>(alloc, parts.key)?,
-            value: own::<Notes>(alloc, parts.value)?,
-            unit: own::<Units>(alloc, parts.unit)?,
-            person: own::<PersonCodes>(alloc, parts.person)?,
+            key: own_copy::<Keys>(alloc, parts.key)?,
+            value: own_copy::<Notes>(alloc, parts.value)?,
+            unit: own_copy::<Units>(alloc, parts.unit)?,
+            person: own_copy::<PersonCodes>(alloc, parts.person)?,
             moment: parts.moment,
             reason: own_reason(alloc, parts.reason)?,
         },
@@ -181,9 +181,9 @@ fn signature_line(
         version: parts.version,
         parts: SealParts {
             version: parts.digest,
-            lab: own::<LabCodes>(alloc, parts.lab)?,
-            person: own::<PersonCodes>(alloc, parts.person)?,
-            name: own::<Names>(alloc, parts.name)?,
+            lab: own_copy::<LabCodes>(alloc, parts.lab)?,
+            person: own_copy::<PersonCodes>(alloc, parts.person)?,
+            name: own_copy::<Names>(alloc, parts.name)?,
             meaning: own_meaning(alloc, parts.meaning)?,
             moment: parts.moment,
         },
@@ -214,7 +214,7 @@ fn end_line(alloc: Global, row: &RowFields<'_>) -> Result<EndLine, RowFault>
         return Err(RowFault::Refused(BadRow));
     };
     Ok(EndLine {
-        lab: own::<LabCodes>(alloc, parts.lab)?,
+        lab: own_copy::<LabCodes>(alloc, parts.lab)?,
         counts: parts.counts,
     })
 }

@@ -13,7 +13,7 @@ ghost use Rattle.lab_desk_foundings.specs.Faults.{FoundFaultFits, OnBody, OnKept
 ghost use Rattle.lab_desk.specs.Answering.{Answers};
 ghost use Rattle.lab_desk.specs.Handling.{Handles};
 
-use lab_desk_foundings::{FoundFault, Line, founded, newborn_of, unfounded};
+use lab_desk_foundings::{FoundFault, Line, founded_line, line_of_fault, newborn_of};
 use lab_desk_requests::answer_asked;
 use lab_desk_runs::Event;
 use lab_forms_texts::{LabCode, OutOfMemory, Tick};
@@ -227,7 +227,7 @@ impl<S: Keeper + Drop> Desk<S> {
             (Stays (S.world self.old.keeper) (S.world self.new.keeper)) }
         ensures passes { Passes (S.world self.old.keeper) (S.world self.new.keeper) }
     {
-        let Ok(line) = founded(self.alloc, lab) else {
+        let Ok(line) = founded_line(self.alloc, lab) else {
             return Line::of_memory();
         };
         match self.found(lab, tick, body) {
@@ -235,7 +235,7 @@ impl<S: Keeper + Drop> Desk<S> {
                 taken: true,
                 text: Some(line),
             },
-            Err(fault) => unfounded(self.alloc, &fault),
+            Err(fault) => line_of_fault(self.alloc, &fault),
         }
     }
 

@@ -41,7 +41,7 @@ pub fn newborn_of(
 ///
 /// # Errors
 /// Memory ran out.
-pub fn founded(alloc: Global, lab: &LabCode) -> Result<Vec<u8>, OutOfMemory>
+pub fn founded_line(alloc: Global, lab: &LabCode) -> Result<Vec<u8>, OutOfMemory>
     ensures { IfOk result (λ line. line.items ≡ founded_line lab.now) }
 {
     let code = lab.as_str();
@@ -49,7 +49,7 @@ pub fn founded(alloc: Global, lab: &LabCode) -> Result<Vec<u8>, OutOfMemory>
 }
 
 // The line that tells of a refused founding.
-fn refused(alloc: Global, fault: &FoundFault) -> Result<Vec<u8>, OutOfMemory>
+fn refused_line(alloc: Global, fault: &FoundFault) -> Result<Vec<u8>, OutOfMemory>
     ensures { IfOk result (λ line. line.items ≡ refused_line (found_fault_entry fault.now)) }
 {
     let number = fault.number().unwrap();
@@ -58,7 +58,7 @@ fn refused(alloc: Global, fault: &FoundFault) -> Result<Vec<u8>, OutOfMemory>
 }
 
 /// The line that tells of a founding that failed, and whether it was taken all the same.
-pub fn unfounded(alloc: Global, fault: &FoundFault) -> Line
+pub fn line_of_fault(alloc: Global, fault: &FoundFault) -> Line
     ensures taken { result.taken ≡ true → (is_taken fault.now ≡ true)
         × (shown (option_map (λ line. line.items) result.text)
         ≡ refused_line (found_fault_entry fault.now)) }
@@ -68,7 +68,7 @@ pub fn unfounded(alloc: Global, fault: &FoundFault) -> Line
         × (shown (option_map (λ line. line.items) result.text)
         ≡ refused_line (found_fault_entry fault.now))) }
 {
-    match refused(alloc, fault) {
+    match refused_line(alloc, fault) {
         Ok(text) => Line {
             taken: fault.is_taken(),
             text: Some(text),

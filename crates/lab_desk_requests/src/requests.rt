@@ -15,7 +15,7 @@ ghost use Rattle.lab_records_walks.specs.Legible.{IsLegibleChange};
 
 use crate::{answer_on, no_such_lab};
 use lab_forms_texts::Tick;
-use lab_records::formed;
+use lab_records::command_is_formed;
 use lab_records_kept::{Keeper, KeeperFault, Slice};
 use lab_records_machine::{Command, ReadingCommand, SessionCommand, needs};
 use lab_records_walks::order_is_legible;
@@ -80,7 +80,7 @@ pub fn answer_asked<S: Keeper>(
         (OnOk result (All IsLegibleChange
         (changes_for ((S.world keeper.old).meaning asked.lab) tick.now asked.instruction))) }
 {
-    formed(&asked.instruction.command);
+    command_is_formed(&asked.instruction.command);
     asked_legibly(tick, &asked.instruction.command);
     match load_needed(keeper, tick, &asked) {
         Ok(Some(slice)) => answer_on(alloc, keeper, slice, tick, asked),

@@ -5,7 +5,7 @@ ghost use Rattle.std.specs.Cmp.{partial_equiv_from_equiv};
 ghost use Rattle.lab_forms.specs.Kinds.{bound_amount, is_bound, is_at_most};
 
 use crate::dates::is_date_text;
-use crate::numbers::{DECIMALS_LIMIT, read_amount, uncompared};
+use crate::numbers::{DECIMALS_LIMIT, read_amount, text_without_comparison};
 use crate::words::{Worded, has_word, has_word_twice};
 use lab_forms_texts::{Name, Notes, OutOfMemory, Rule, Unit, Writing};
 use std::alloc::AllocError;
@@ -224,7 +224,7 @@ impl Kind {
     {
         match self {
             Kind::Number { decimals, .. } => {
-                read_amount(*decimals, uncompared(text.as_bytes())).is_some()
+                read_amount(*decimals, text_without_comparison(text.as_bytes())).is_some()
             }
             Kind::Text { size } => text.len() <= *size as usize,
             Kind::Choice { choices } => has_word(choices.names(), text),
@@ -255,7 +255,7 @@ impl Kind {
                 max,
                 ..
             } => {
-                let amount = read_amount(*decimals, uncompared(text.as_bytes()));
+                let amount = read_amount(*decimals, text_without_comparison(text.as_bytes()));
                 is_not_above(bound_of(*decimals, min), amount)
                     && is_not_above(amount, bound_of(*decimals, max))
             }

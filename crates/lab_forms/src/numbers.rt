@@ -56,7 +56,7 @@ fn read_unsigned(decimals: u32, text: &[u8]) -> Option<u128>
 }
 
 #[tactic(auto, unfolding(crate::specs::Numbers::without_sign))]
-fn unsigned(text: &[u8]) -> &[u8]
+fn text_without_sign(text: &[u8]) -> &[u8]
     ensures { result.now ≡ without_sign text.now }
 {
     match text {
@@ -71,7 +71,7 @@ pub fn read_amount(decimals: u32, text: &[u8]) -> Option<i128>
     requires { decimals ≤ 6 }
     ensures { result ≡ amount_read decimals text.now }
 {
-    let millionths = read_unsigned(decimals, unsigned(text))? as i128;
+    let millionths = read_unsigned(decimals, text_without_sign(text))? as i128;
     if text.first() == Some(&b'-') {
         Some(-millionths)
     } else {
@@ -81,7 +81,7 @@ pub fn read_amount(decimals: u32, text: &[u8]) -> Option<i128>
 
 /// The text behind its `<` or `>`, if it has one.
 #[tactic(auto, unfolding(crate::specs::Numbers::without_comparison))]
-pub fn uncompared(text: &[u8]) -> &[u8]
+pub fn text_without_comparison(text: &[u8]) -> &[u8]
     ensures { result.now ≡ without_comparison text.now }
 {
     match text {

@@ -105,15 +105,15 @@ impl Moment {
             IsTrue (is_moment n) → text.now ≡ moment_text n → result ≡ Ok n }
         ensures fault { IfErr result (λ _. IsNoMoment text.now) }
     {
-        spelled(text.as_bytes()).ok_or(MomentFault::BadMoment)
+        moment_spelled(text.as_bytes()).ok_or(MomentFault::BadMoment)
     }
 }
 
 // The moment that has this text.
-fn spelled(text: &[u8]) -> Option<Moment>
+fn moment_spelled(text: &[u8]) -> Option<Moment>
     ensures { result ≡ moment_of text.now }
 {
-    let moment = told(text)?;
+    let moment = moment_of_digits(text)?;
     let mut printed = [0; TEXT_LEN];
     moment.print(&mut printed);
     if printed.as_slice() == text {
@@ -124,7 +124,7 @@ fn spelled(text: &[u8]) -> Option<Moment>
 }
 
 // The moment that the digits tell, where the text is a moment's.
-fn told(text: &[u8]) -> Option<Moment>
+fn moment_of_digits(text: &[u8]) -> Option<Moment>
     ensures { (n : ℕ) → IsTrue (is_moment n) → text.now ≡ moment_text n → result ≡ Some n }
 {
     if text.len() != TEXT_LEN {

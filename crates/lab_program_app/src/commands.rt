@@ -79,7 +79,7 @@ const LAST_RECORD: i64 = 1_000_000_000;
 // ---- arguments
 
 // An argument behind `--` and its name, and what help calls its value.
-fn named<'a>(alloc: Global, name: &'a str, value: &'a str, help: &'a str) -> Arg<'a>
+fn named_argument<'a>(alloc: Global, name: &'a str, value: &'a str, help: &'a str) -> Arg<'a>
     ensures rule { rule_of result ≡ named_rule name.entry.now }
     ensures local { result.global ≡ false }
 {
@@ -90,11 +90,11 @@ fn named<'a>(alloc: Global, name: &'a str, value: &'a str, help: &'a str) -> Arg
 }
 
 // One that has to be given.
-fn wanted<'a>(alloc: Global, name: &'a str, value: &'a str, help: &'a str) -> Arg<'a>
+fn wanted_argument<'a>(alloc: Global, name: &'a str, value: &'a str, help: &'a str) -> Arg<'a>
     ensures rule { rule_of result ≡ wanted_rule name.entry.now }
     ensures local { result.global ≡ false }
 {
-    named(alloc, name, value, help).required(true)
+    named_argument(alloc, name, value, help).required(true)
 }
 
 // A file of laboratories.
@@ -102,7 +102,7 @@ fn file_argument<'a>(alloc: Global) -> Arg<'a>
     ensures rule { rule_of result ≡ file_rule }
     ensures local { result.global ≡ false }
 {
-    wanted(alloc, "file", "F", "Path of the file of laboratories")
+    wanted_argument(alloc, "file", "F", "Path of the file of laboratories")
 }
 
 // A laboratory.
@@ -110,7 +110,7 @@ fn lab_argument<'a>(alloc: Global) -> Arg<'a>
     ensures rule { rule_of result ≡ lab_rule }
     ensures local { result.global ≡ false }
 {
-    wanted(alloc, "lab", "L", "Code of the laboratory")
+    wanted_argument(alloc, "lab", "L", "Code of the laboratory")
 }
 
 // The moment of a rehearsal.
@@ -119,7 +119,9 @@ fn moment_argument<'a>(alloc: Global) -> Arg<'a>
     ensures local { result.global ≡ false }
 {
     let help = "Seconds since 1970-01-01T00:00:00Z";
-    wanted(alloc, "moment", "S", help).value_parser(value_parser!(i64).range(0..=LAST_SECOND))
+    wanted_argument(alloc, "moment", "S", help).value_parser(value_parser!(i64).range(
+        0..=LAST_SECOND,
+    ))
 }
 
 // The port of a server.
@@ -128,7 +130,7 @@ fn port_argument<'a>(alloc: Global) -> Arg<'a>
     ensures local { result.global ≡ false }
 {
     let help = "Port of this machine, 0 for any that is free";
-    wanted(alloc, "port", "P", help).value_parser(value_parser!(u16))
+    wanted_argument(alloc, "port", "P", help).value_parser(value_parser!(u16))
 }
 
 // How many connections a server serves.
@@ -136,7 +138,7 @@ fn count_argument<'a>(alloc: Global) -> Arg<'a>
     ensures rule { rule_of result ≡ count_rule }
     ensures local { result.global ≡ false }
 {
-    named(alloc, "count", "K", "How many connections are served")
+    named_argument(alloc, "count", "K", "How many connections are served")
         .default_value("1000000")
         .value_parser(value_parser!(u32).range(1..=MOST_CONNECTIONS))
 }
@@ -146,7 +148,9 @@ fn number_argument<'a>(alloc: Global, name: &'a str, value: &'a str, help: &'a s
     ensures rule { rule_of result ≡ number_rule name.entry.now }
     ensures local { result.global ≡ false }
 {
-    wanted(alloc, name, value, help).value_parser(value_parser!(u32).range(1..=LAST_RECORD))
+    wanted_argument(alloc, name, value, help).value_parser(value_parser!(u32).range(
+        1..=LAST_RECORD,
+    ))
 }
 
 // ---- commands
@@ -197,9 +201,12 @@ fn with_range<'a>(alloc: Global, bare: Command<'a>) -> Result<Command<'a>, Alloc
 fn with_old_and_new<'a>(alloc: Global, bare: Command<'a>) -> Result<Command<'a>, AllocError>
     ensures { IfOk result (λ more. app_of more ≡ with_old_and_new (app_of bare.entry)) }
 {
-    let old = wanted(alloc, "old", "F", "Path of the old file");
+    let old = wanted_argument(alloc, "old", "F", "Path of the old file");
     let first = with(bare, old)?;
-    with(first, wanted(alloc, "new", "G", "Path of the new file"))
+    with(
+        first,
+        wanted_argument(alloc, "new", "G", "Path of the new file"),
+    )
 }
 
 /// `found`, of a laboratory in a file.

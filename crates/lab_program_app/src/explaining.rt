@@ -51,7 +51,7 @@ fn named_copy<'a>(alloc: Global) -> Result<Command<'a>, AllocError> {
 }
 
 // The fault of a range of records that ends before it begins, as clap tells those of a command.
-fn misordered(mut command: Command<'_>) -> Result<Error, AllocError>
+fn misordered_fault(mut command: Command<'_>) -> Result<Error, AllocError>
     ensures { IfOk result (λ error. kind_of error ≡ ValueValidation) }
 {
     command.error(ErrorKind::ValueValidation, MISORDERED)
@@ -62,7 +62,7 @@ fn order_fault(alloc: Global) -> Result<Error, AllocError>
     ensures { IfOk result (λ error. kind_of error ≡ ValueValidation) }
 {
     let copy = named_copy(alloc)?;
-    misordered(copy)
+    misordered_fault(copy)
 }
 
 // The refusal of a range whose numbers are out of order, or that memory ran out.

@@ -45,7 +45,7 @@ struct Intake {
 }
 
 // Takes what a founding needs. The tick is drawn once the body is read.
-fn taken<N, H, C: Clock, X: Chance, P, B: Read>(
+fn intake_of<N, H, C: Clock, X: Chance, P, B: Read>(
     host: &mut Host<'_, N, H, C, X, P>,
     lab: &LabCode,
     body: &mut B,
@@ -76,7 +76,7 @@ fn print<W: Write>(output: &mut W, line: &[u8]) -> Result<(), FoundingFault>
 }
 
 // What became of a founding. Bytes that are none are noted, so that a person can be advised.
-fn noted<H: Shelf>(
+fn founding_noted<H: Shelf>(
     alloc: Global,
     shelf: &mut H,
     body: &[u8],
@@ -113,9 +113,9 @@ pub fn found_over<N, H: Shelf, C: Clock, X: Chance, P, S: Keeper + Drop, B: Read
         (W.contents output.old) (W.contents output.new) }
     ensures passes { Passes (S.world desk.old.keeper) (S.world desk.new.keeper) }
 {
-    let intake = taken(host, lab, body)?;
+    let intake = intake_of(host, lab, body)?;
     let founded = desk.found(lab, &intake.tick, intake.bytes.as_slice());
-    noted(
+    founding_noted(
         host.alloc,
         &mut host.shelf,
         intake.bytes.as_slice(),

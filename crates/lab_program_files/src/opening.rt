@@ -23,7 +23,7 @@ impl<'a> FileOpener<'a> {
 }
 
 // Why no keeper was opened.
-fn unopened(fault: OpenFault) -> KeeperFault {
+fn opening_fault(fault: OpenFault) -> KeeperFault {
     match fault {
         OpenFault::File(FileFault::Memory) => KeeperFault::Memory,
         _ => KeeperFault::Refused(BadStore),
@@ -45,7 +45,7 @@ where
     fn open(&mut self, alloc: Global, host: &mut H) -> Result<Store<H::Disk>, KeeperFault> {
         match open_file(alloc, host, self.path) {
             Ok(conn) => Ok(Store::new(alloc, conn)),
-            Err(fault) => Err(unopened(fault)),
+            Err(fault) => Err(opening_fault(fault)),
         }
     }
 

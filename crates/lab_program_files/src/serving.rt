@@ -20,7 +20,7 @@ use std::io::Write;
 use std::net::Net;
 
 // An office with a desk over the file at the path.
-fn opened<'p, H: Shelf>(
+fn office_opened<'p, H: Shelf>(
     alloc: Global,
     shelf: &mut H,
     path: &'p str,
@@ -69,7 +69,7 @@ where
           status = result;
         }) }
 {
-    let mut office = match opened(host.alloc, &mut host.shelf, path) {
+    let mut office = match office_opened(host.alloc, &mut host.shelf, path) {
         Ok(office) => office,
         Err(OpenFault::Drawing) => {
             let word = OpenFault::Drawing.word();

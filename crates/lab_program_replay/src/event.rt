@@ -69,7 +69,7 @@ fn place_of(text: &[u8], byte: u8) -> Option<usize>
 }
 
 // What stands before the first such byte, and what stands after it.
-fn cut(text: &[u8], byte: u8) -> Option<(&[u8], &[u8])>
+fn parts_cut(text: &[u8], byte: u8) -> Option<(&[u8], &[u8])>
     ensures { option_map (λ parts. (parts.0.now, parts.1.now)) result ≡ cut_at byte text.now }
 {
     let at = place_of(text, byte)?;
@@ -131,11 +131,11 @@ fn lab(alloc: Global, text: &[u8]) -> Result<LabCode, ReplayFault>
 
 // The numbers at the end of a line.
 #[tactic(auto, unfolding(crate::specs::Event::numbered))]
-fn numbered(founded: Option<LabCode>, text: &[u8]) -> Option<Heading>
+fn heading_numbered(founded: Option<LabCode>, text: &[u8]) -> Option<Heading>
     ensures { option_map heading_said result ≡ numbered founded text.now }
 {
-    let (seconds, text) = cut(text, b' ')?;
-    let (word, length) = cut(text, b' ')?;
+    let (seconds, text) = parts_cut(text, b' ')?;
+    let (word, length) = parts_cut(text, b' ')?;
     let moment = moment(seconds)?;
     let words = words_from(number(word, LAST_FIRST_WORD)?);
     let length = number(length, MOST_BYTES)? as usize;
@@ -152,9 +152,9 @@ fn numbered(founded: Option<LabCode>, text: &[u8]) -> Option<Heading>
 fn heading_of_founding(alloc: Global, text: &[u8]) -> Result<Heading, ReplayFault>
     ensures { Gives heading_said result (founding_of text.now) }
 {
-    let (code, text) = cut(text, b' ').ok_or(ReplayFault::BadEvent)?;
+    let (code, text) = parts_cut(text, b' ').ok_or(ReplayFault::BadEvent)?;
     let code = lab(alloc, code)?;
-    numbered(Some(code), text).ok_or(ReplayFault::BadEvent)
+    heading_numbered(Some(code), text).ok_or(ReplayFault::BadEvent)
 }
 
 // What a line says, its line feed left off.
@@ -162,11 +162,11 @@ fn heading_of_founding(alloc: Global, text: &[u8]) -> Result<Heading, ReplayFaul
 fn heading_of_line(alloc: Global, line: &[u8]) -> Result<Heading, ReplayFault>
     ensures { Gives heading_said result (heading_of line.now) }
 {
-    let (kind, text) = cut(line, b' ').ok_or(ReplayFault::BadEvent)?;
+    let (kind, text) = parts_cut(line, b' ').ok_or(ReplayFault::BadEvent)?;
     if kind == b"found".as_slice() {
         heading_of_founding(alloc, text)
     } else if kind == b"call".as_slice() {
-        numbered(None, text).ok_or(ReplayFault::BadEvent)
+        heading_numbered(None, text).ok_or(ReplayFault::BadEvent)
     } else {
         Err(ReplayFault::BadEvent)
     }

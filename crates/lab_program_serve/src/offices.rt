@@ -91,7 +91,7 @@ impl<S: Keeper + Drop, O: Drop> Office<S, O> {
     }
 
     // A desk over a keeper that is opened anew.
-    fn opened<H>(&mut self, alloc: Global, host: &mut H) -> Result<Desk<S>, KeeperFault>
+    fn desk_opened<H>(&mut self, alloc: Global, host: &mut H) -> Result<Desk<S>, KeeperFault>
     where
         O: Opener<H, S>,
         ensures opened { IfOk result (λ desk. O.opened desk.keeper × (desk.reply ≡ [])) }
@@ -125,7 +125,7 @@ impl<S: Keeper + Drop, O: Drop> Office<S, O> {
             return;
         }
         self.give_up(host);
-        match self.opened(alloc, host) {
+        match self.desk_opened(alloc, host) {
             Ok(desk) => self.desk = Some(desk),
             Err(fault) => self.shut.set_keeper(Shut { fault }),
         }

@@ -21,7 +21,7 @@ const COMMANDS: &str = "What goes in and comes out is described in docs/FORMATS.
     labdesk serve --file laboratories --port 8080";
 
 // What help and `--version` say of a command, and that it wants a subcommand.
-fn told<'a>(command: Command<'a>) -> Command<'a>
+fn explained_command<'a>(command: Command<'a>) -> Command<'a>
     ensures { app_of result ≡ told_app (app_of command.entry) }
 {
     command
@@ -36,7 +36,7 @@ fn bare_command<'a>(alloc: Global) -> Result<Command<'a>, AllocError>
     ensures { IfOk result (λ command. app_of command ≡ bare_app) }
 {
     let named = Command::new(alloc, "labdesk").bin_name("labdesk")?;
-    Ok(told(named))
+    Ok(explained_command(named))
 }
 
 // A command with one more subcommand, whose arguments are its own.

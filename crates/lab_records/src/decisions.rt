@@ -35,7 +35,7 @@ pub fn decide(
     ensures memory { OnErr result (IsTrue (is_made slice tick.now command)) }
     ensures formed { IsCommandFormed command }
 {
-    formed(&command);
+    command_is_formed(&command);
     if tick.moment < slice.last {
         drop(slice);
         drop(command);
@@ -48,7 +48,7 @@ pub fn decide(
 }
 
 /// The form that a command makes is one, as every form of the code is. A law: the command is left as it is.
-pub fn formed(command: &Command)
+pub fn command_is_formed(command: &Command)
     ensures { IsCommandFormed command.now }
 {
     if let Command::In(SessionCommand::OnRecord(RecordCommand::MakeForm { form, .. })) = command {
@@ -133,7 +133,7 @@ fn decide_passed(
         }
         Passage::Barred(session, refusal) => {
             drop(command);
-            barred(alloc, slice.last, tick.moment, session, refusal)
+            barred_outcome(alloc, slice.last, tick.moment, session, refusal)
         }
         Passage::Passes(session, caller) => {
             let outcome = decide_allowed(alloc, slice, tick, session, &caller, command);
@@ -145,7 +145,7 @@ fn decide_passed(
 
 // A command that its session may not give: that its request came is noted, where it isn't already.
 // The only error is out of memory, where it is noted.
-fn barred(
+fn barred_outcome(
     alloc: Global,
     last: Moment,
     moment: Moment,

@@ -6,7 +6,7 @@ mod commands;
 mod decisions;
 
 pub use commands::done_of;
-pub use decisions::{decide, formed};
+pub use decisions::{command_is_formed, decide};
 pub use lab_records_commands::opening_done;
 pub use lab_records_kept::{Change, EntryRow, Lab, Need, Record, Signature, Slice, Version};
 pub use lab_records_machine::{Command, Instruction, Reply, SessionCommand, needs};

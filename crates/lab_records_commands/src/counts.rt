@@ -11,7 +11,7 @@ use lab_people_access::{Opened, PeopleFault, PeopleRefusal, Person, Roles, Sessi
 const MOST: u64 = 4_294_967_295;
 
 // A count in 32 bits.
-fn cut(count: u64) -> u32
+fn count_of_32_bits(count: u64) -> u32
     ensures { result ≡ min count 4294967295 }
 {
     count.min(MOST) as u32
@@ -33,7 +33,14 @@ pub fn open_counted(
     ensures { result ≡ opening code person password.now tick.now sessions
         (option_copied repeated.entry) }
 {
-    open_session(code, person, password, tick, cut(sessions), repeated)
+    open_session(
+        code,
+        person,
+        password,
+        tick,
+        count_of_32_bits(sessions),
+        repeated,
+    )
 }
 
 /// A person who is enrolled, where the laboratory has so many.
@@ -50,5 +57,5 @@ pub fn enrol_counted(
 ) -> Result<Person, PeopleRefusal>
     ensures { result ≡ enrolling code name roles (option_copied holder.entry) persons }
 {
-    enrol(code, name, roles, holder, cut(persons))
+    enrol(code, name, roles, holder, count_of_32_bits(persons))
 }

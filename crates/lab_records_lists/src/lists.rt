@@ -167,14 +167,14 @@ fn founded_beside(
         drop(newborn);
         return Ok(None);
     }
-    match founded(alloc, newborn) {
+    match founded_lab(alloc, newborn) {
         Ok(lab) => Ok(Some(lab)),
         Err(error) => Err(error),
     }
 }
 
 // The laboratory that is founded.
-fn founded(alloc: Global, newborn: Newborn) -> Result<Lab, OutOfMemory>
+fn founded_lab(alloc: Global, newborn: Newborn) -> Result<Lab, OutOfMemory>
     ensures { IfOk result (λ lab. lab ≡ newborn_lab newborn) }
 {
     let trail = first_trail(alloc, &newborn)?;

@@ -190,7 +190,7 @@ fn record_named(lab: &Lab, wanted: &Option<RecordWanted>) -> Result<Option<Recor
     ensures memory { OnErr result (IsSome (option_and_then (record_meant lab.now) wanted.now)) }
 {
     match wanted {
-        Some(wanted) => filed(lab, wanted),
+        Some(wanted) => wanted_record(lab, wanted),
         None => Ok(None),
     }
 }
@@ -216,7 +216,7 @@ fn form_copied(found: Option<&FormVersion>) -> Result<Option<FormVersion>, OutOf
     }
 }
 
-fn filed(lab: &Lab, wanted: &RecordWanted) -> Result<Option<Record>, OutOfMemory>
+fn wanted_record(lab: &Lab, wanted: &RecordWanted) -> Result<Option<Record>, OutOfMemory>
     ensures kept { IfOk result (λ kept. kept ≡ record_meant lab.now wanted.now) }
     ensures memory { OnErr result (IsSome (record_meant lab.now wanted.now)) }
 {

@@ -15,7 +15,7 @@ pub use commands::{
     AccountCommand, Command, Instruction, ReadingCommand, RecordCommand, SessionCommand,
 };
 pub use done::Done;
-pub use lists::{joined, pair, single, triple};
+pub use lists::{joined_list, pair, single, triple};
 pub use passages::{Passage, pass};
 pub use replies::Reply;
 pub use wanted::needs;

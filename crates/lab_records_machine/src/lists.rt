@@ -49,7 +49,7 @@ pub fn triple<T: Drop>(
 ///
 /// # Errors
 /// Memory ran out.
-pub fn joined<T: Drop>(first: Series<T>, second: Series<T>) -> Result<Series<T>, OutOfMemory>
+pub fn joined_list<T: Drop>(first: Series<T>, second: Series<T>) -> Result<Series<T>, OutOfMemory>
     ensures { IfOk result (λ list. list ≡ first ++ second) }
 {
     let mut list = first.into_vec();

@@ -11,7 +11,7 @@ use crate::trail_rows::next_number;
 use lab_forms_texts::{Moment, Ordinal, OutOfMemory, PersonCode, Series};
 use lab_people_access::{Failure, PeopleRefusal, Session};
 use lab_records_kept::{Change, Deed, Occasion};
-use lab_records_machine::{Done, Reply, joined, pair, single};
+use lab_records_machine::{Done, Reply, joined_list, pair, single};
 use lab_records_rules::Refusal;
 use std::alloc::Global;
 
@@ -59,7 +59,7 @@ fn noted_changes(
         return Ok(Series::new(alloc));
     }
     match touch_changes(alloc, moment, session) {
-        Ok(before) => joined(before, own),
+        Ok(before) => joined_list(before, own),
         Err(fault) => {
             drop(own);
             Err(fault)
@@ -159,7 +159,7 @@ fn with_moment(
     ensures { IfOk result (λ changes. changes ≡ Change.Last moment ∷ own) }
 {
     match single(alloc, Change::Last(moment)) {
-        Ok(first) => joined(first, own),
+        Ok(first) => joined_list(first, own),
         Err(fault) => {
             drop(own);
             Err(fault)

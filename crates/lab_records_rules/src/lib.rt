@@ -19,4 +19,4 @@ pub use outcomes::{AmendmentMade, EntryMade, SignatureMade, Signing};
 pub use reading::{person_line, read_form, read_record, read_version, record_line};
 pub use readings::{PersonLine, RecordRead, RecordState, VersionRead, VersionState};
 pub use refusals::Refusal;
-pub use values::{altered_at, first_versions, latest, noted};
+pub use values::{altered_at, first_versions, latest, row_of_key};

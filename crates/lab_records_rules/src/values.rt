@@ -110,7 +110,7 @@ fn note<'a>(
 }
 
 /// The row that is noted under a key.
-pub fn noted<'a>(table: &BTreeMap<&'a str, &'a EntryRow>, key: &Key) -> Option<&'a EntryRow>
+pub fn row_of_key<'a>(table: &BTreeMap<&'a str, &'a EntryRow>, key: &Key) -> Option<&'a EntryRow>
     ensures { option_copied result ≡ noted table.now key.now }
 {
     table.get(key.as_str()).copied()
@@ -127,7 +127,7 @@ fn values_by<'a>(
 {
     let mut rows = Series::new(alloc);
     for field in fields {
-        if let Some(row) = noted(table, &field.key) {
+        if let Some(row) = row_of_key(table, &field.key) {
             rows.push(row.copy()?)?;
         }
     }
@@ -147,7 +147,10 @@ fn altered_by<'a>(
 {
     let mut keys = Series::new(alloc);
     for field in fields {
-        if is_altered_by(noted(before, &field.key), noted(after, &field.key)) {
+        if is_altered_by(
+            row_of_key(before, &field.key),
+            row_of_key(after, &field.key),
+        ) {
             keys.push(field.key.copy()?)?;
         }
     }

@@ -10,7 +10,7 @@ use crate::entering::read_item;
 use lab_forms_texts::{LabCode, Moment, Note, Ordinal, OutOfMemory, PersonCode, Series};
 use lab_people_access::PeopleRefusal;
 use lab_records_kept::{ROWS_LIMIT, Record, VERSIONS_LIMIT, Version};
-use lab_records_rules::{Altered, AmendmentMade, CommandFault, Item, Refusal, latest, noted};
+use lab_records_rules::{Altered, AmendmentMade, CommandFault, Item, Refusal, latest, row_of_key};
 use lab_seal_versions::{Amendment, EntryRow, EntryRows, Format, Origin, State};
 use std::alloc::Global;
 use std::collections::BTreeMap;
@@ -185,7 +185,7 @@ fn altered_value<'a>(
         (altered_refusal kept.now item.now) item.now.value result }
 {
     let value = read_item(alloc, kept, item)?;
-    if is_same_value(noted(table, &item.key), item.value.as_str()) {
+    if is_same_value(row_of_key(table, &item.key), item.value.as_str()) {
         let key = item.key.copy()?;
         return Err(CommandFault::Refused(Refusal::NotAltered(key)));
     }

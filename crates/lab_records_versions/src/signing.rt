@@ -15,7 +15,8 @@ use lab_forms_texts::{LabCode, Moment, Ordinal, OutOfMemory, PersonCode};
 use lab_people_access::Person;
 use lab_records_kept::{Record, Signature, Version};
 use lab_records_rules::{
-    CommandFault, Refusal, SignatureMade, Signing, altered_at, fail, first_versions, latest, noted,
+    CommandFault, Refusal, SignatureMade, Signing, altered_at, fail, first_versions, latest,
+    row_of_key,
 };
 use lab_seal_versions::{Digest, EntryRow, Meaning, SealParts, state_of};
 use std::alloc::Global;
@@ -146,7 +147,7 @@ fn is_any_missing(alloc: Global, kept: &Record, number: Ordinal) -> Result<bool,
 fn is_missing<'a>(table: &BTreeMap<&'a str, &'a EntryRow>, field: &Field) -> bool
     ensures { result ≡ (field.now.required && is_none (noted table.now field.now.key)) }
 {
-    field.required && noted(table, &field.key).is_none()
+    field.required && row_of_key(table, &field.key).is_none()
 }
 
 // What the signature means. A rejection without a reason was refused.

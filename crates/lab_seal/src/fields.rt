@@ -16,7 +16,7 @@ use std::alloc::Global;
 ///
 /// # Errors
 /// Memory ran out.
-pub fn own<R: Rule>(alloc: Global, text: &str) -> Result<Text<R>, OutOfMemory>
+pub fn own_copy<R: Rule>(alloc: Global, text: &str) -> Result<Text<R>, OutOfMemory>
     requires { IsTrue (R.admits text.now) }
     ensures { IfOk result (λ copy. copy ≡ text.now) }
 {

@@ -30,7 +30,7 @@ pub fn read_version(alloc: Global, bytes: &[u8]) -> Result<VersionParts, TextFau
 {
     let (front, rest) = first_front(bytes).ok_or(TextFault::Refused(BadText))?;
     let rows = all_rows(alloc, front.opening.rows, rest)?;
-    Ok(owned(alloc, &front, rows)?)
+    Ok(owned_parts(alloc, &front, rows)?)
 }
 
 // Why a row is not made that memory has run out for, where so many rows are left with it.
@@ -83,21 +83,25 @@ fn owned_row(alloc: Global, row: &Row<'_>) -> Result<EntryRow, OutOfMemory>
     ensures { IfOk result (λ owned. owned ≡ row_of row.now) }
 {
     let reason = match &row.reason {
-        Some(reason) => Some(fields::own(alloc, reason)?),
+        Some(reason) => Some(fields::own_copy(alloc, reason)?),
         None => None,
     };
     Ok(EntryRow {
-        key: fields::own(alloc, row.key)?,
-        value: fields::own(alloc, row.value)?,
-        unit: fields::own(alloc, row.unit)?,
-        person: fields::own(alloc, row.person)?,
+        key: fields::own_copy(alloc, row.key)?,
+        value: fields::own_copy(alloc, row.value)?,
+        unit: fields::own_copy(alloc, row.unit)?,
+        person: fields::own_copy(alloc, row.person)?,
         moment: owned_moment(row.moment),
         reason,
     })
 }
 
 // The version that has what stands before its rows, copied, and these rows.
-fn owned(alloc: Global, front: &Front<'_>, rows: EntryRows) -> Result<VersionParts, OutOfMemory>
+fn owned_parts(
+    alloc: Global,
+    front: &Front<'_>,
+    rows: EntryRows,
+) -> Result<VersionParts, OutOfMemory>
     requires { IsFront (version_of (front_of front.now) rows) }
     ensures { IfOk result (λ parts. parts ≡ version_of (front_of front.now) rows) }
 {
@@ -131,10 +135,10 @@ fn owned_texts(
     ensures sample { IfOk result (λ texts. texts.2 ≡ front.now.subject.sample.now) }
     ensures opener { IfOk result (λ texts. texts.3 ≡ front.now.opening.opener.now) }
 {
-    let lab = fields::own(alloc, front.heading.lab)?;
-    let form = fields::own(alloc, front.subject.form)?;
-    let sample = fields::own(alloc, front.subject.sample)?;
-    let opener = fields::own(alloc, front.opening.opener)?;
+    let lab = fields::own_copy(alloc, front.heading.lab)?;
+    let form = fields::own_copy(alloc, front.subject.form)?;
+    let sample = fields::own_copy(alloc, front.subject.sample)?;
+    let opener = fields::own_copy(alloc, front.opening.opener)?;
     Ok((lab, form, sample, opener))
 }
 
@@ -151,7 +155,7 @@ fn owned_origin(
     let amendment = match amendment {
         Some(found) => Some(Amendment {
             previous: Digest::from_bytes(found.previous),
-            reason: fields::own(alloc, found.reason)?,
+            reason: fields::own_copy(alloc, found.reason)?,
         }),
         None => None,
     };

@@ -33,11 +33,11 @@ pub(crate) fn bytes_of_digits(digits: &[u8]) -> Option<[u8; 32]>
     ensures exact { IsSome result ↔ AreLowerDigits 64 digits.now }
     ensures spelled { IfSome result (λ bytes. digits.now ≡ encode_lower bytes) }
 {
-    decoded(digits)
+    decoded_digest(digits)
 }
 
 #[tactic(auto, unfolding(crate::specs::Digits::bytes_of_digits))]
-fn decoded(digits: &[u8]) -> Option<[u8; 32]>
+fn decoded_digest(digits: &[u8]) -> Option<[u8; 32]>
     ensures { result ≡ bytes_of_digits 32 digits.now }
 {
     if !are_lower_digits(digits) {

@@ -35,8 +35,8 @@ impl KeyedHash {
     {
         let block = block_of(key);
         KeyedHash {
-            inner: Sha256::new_with_prefix(padded(&block, INNER_PAD)),
-            outer: Sha256::new_with_prefix(padded(&block, OUTER_PAD)),
+            inner: Sha256::new_with_prefix(padded_block(&block, INNER_PAD)),
+            outer: Sha256::new_with_prefix(padded_block(&block, OUTER_PAD)),
         }
     }
 
@@ -91,7 +91,7 @@ fn zero_filled(key: &[u8]) -> [u8; BLOCK]
     block
 }
 
-fn padded(block: &[u8; BLOCK], pad: u8) -> [u8; BLOCK]
+fn padded_block(block: &[u8; BLOCK], pad: u8) -> [u8; BLOCK]
     ensures { result ≡ xor_each pad block.now }
 {
     let mut padded = *block;

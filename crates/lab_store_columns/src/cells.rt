@@ -113,7 +113,7 @@ pub fn moment_of(row: &Row, at: usize) -> Result<Moment, ReadFault>
 }
 
 // The bytes of a text, which may be another one.
-fn parsed<R: Rule>(alloc: Global, text: &[u8]) -> Result<Text<R>, ReadFault>
+fn parsed_text<R: Rule>(alloc: Global, text: &[u8]) -> Result<Text<R>, ReadFault>
     ensures value { IfOk result (λ read. read ≡ text.now) }
     ensures fault { IfErr result (IsNotMade (is_utf8 text.now && R.admits text.now)) }
 {
@@ -136,7 +136,7 @@ pub fn text_of<R: Rule>(alloc: Global, row: &Row, at: usize) -> Result<Text<R>, 
     ensures fault { IfErr result (IsNotMade (stands (is_text R.admits) row.now at)) }
 {
     match cell_of(row, at)? {
-        ValueRef::Text(text) => parsed(alloc, text),
+        ValueRef::Text(text) => parsed_text(alloc, text),
         _ => Err(ReadFault::Refused(BadStore)),
     }
 }
@@ -181,7 +181,7 @@ pub fn text_if<R: Rule>(alloc: Global, row: &Row, at: usize) -> Result<Option<Te
 {
     match cell_of(row, at)? {
         ValueRef::Null => Ok(None),
-        ValueRef::Text(text) => Ok(Some(parsed(alloc, text)?)),
+        ValueRef::Text(text) => Ok(Some(parsed_text(alloc, text)?)),
         _ => Err(ReadFault::Refused(BadStore)),
     }
 }

@@ -128,7 +128,7 @@ fn copy(query: &str) -> Option<Command>
 }
 
 // What a body names.
-fn posted(alloc: Global, post: Post, body: &[u8]) -> Result<Command, RouteFault>
+fn posted_command(alloc: Global, post: Post, body: &[u8]) -> Result<Command, RouteFault>
     ensures read { IfOk result (λ command.
         by_body (body_named (post_named post) body.now) ≡ Ok command) }
     ensures fault { IfErr result (FaultFits (0 < length body.now)
@@ -159,7 +159,7 @@ fn command_at(alloc: Global, to: &Destination<'_>, body: &[u8]) -> Result<Comman
         Route::Records => records(to.query).ok_or(BAD_QUERY),
         Route::Trail => trail(to.query).ok_or(BAD_QUERY),
         Route::Copy => copy(to.query).ok_or(BAD_QUERY),
-        Route::Posted(post) => posted(alloc, post, body),
+        Route::Posted(post) => posted_command(alloc, post, body),
     }
 }
 

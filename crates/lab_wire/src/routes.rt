@@ -135,7 +135,7 @@ fn places() -> &'static [Place]
 }
 
 // The place of a number.
-fn numbered(number: usize) -> Place
+fn place_of_number(number: usize) -> Place
     requires { number < length texts }
     ensures { place_shown result ≡ place_at (text_at number) }
 {
@@ -199,7 +199,7 @@ fn is_to(place: &str, text: &str) -> bool
 
 impl Place {
     // What is asked by the method of a name.
-    fn named(&self, name: &str) -> Option<Route>
+    fn route_named(&self, name: &str) -> Option<Route>
         ensures { result ≡ asked_by name.now (place_shown self.now) }
     {
         if "GET" == name {
@@ -217,7 +217,7 @@ impl Place {
         ensures { result ≡ asked_by method.now (place_shown self.now) }
     {
         match Method::from_bytes(alloc, method) {
-            Ok(method) => self.named(method.as_str()),
+            Ok(method) => self.route_named(method.as_str()),
             Err(_) => None,
         }
     }
@@ -229,12 +229,12 @@ impl Place {
     {
         match self.by(alloc, method) {
             Some(route) => Ok(route),
-            None => Err(RouteRefusal::Method(self.allowed())),
+            None => Err(RouteRefusal::Method(self.allowed_methods())),
         }
     }
 
     // The methods by which something is asked.
-    fn allowed(&self) -> Allowed
+    fn allowed_methods(&self) -> Allowed
         ensures { result ≡ allowed_at (place_shown self.now) }
     {
         match (self.get, self.post) {
@@ -301,7 +301,7 @@ impl Routes {
         let Some(number) = self.number_of(place) else {
             return None;
         };
-        let near = numbered(number);
+        let near = place_of_number(number);
         if is_to(place, near.text) {
             Some(near)
         } else {

@@ -7,7 +7,7 @@ ghost use Rattle.lab_wire_members.specs.Readings.{FaultyInTurn};
 use lab_forms_texts::{Names, PersonCode, PersonCodes};
 use lab_records_machine::{AccountCommand, Command, SessionCommand};
 use lab_wire_members::{
-    BodyFault, BodyRefusal, Member, has_members, must, named_at, roles_at, typed_at, wanted,
+    BodyFault, BodyRefusal, Member, has_members, must, named_at, roles_at, typed_at, wanted_member,
 };
 use serde_json::Value;
 use std::alloc::Global;
@@ -88,7 +88,7 @@ pub fn enrolment(alloc: Global, value: &Value) -> Result<Command, BodyFault>
     }
     let code = named_at::<PersonCodes>(alloc, value, "code")?;
     let name = named_at::<Names>(alloc, value, "name")?;
-    let roles = wanted(roles_at(value, "roles"))?;
+    let roles = wanted_member(roles_at(value, "roles"))?;
     Ok(Command::In(SessionCommand::OnAccount(AccountCommand::Enrol { code, name, roles })))
 }
 
@@ -105,7 +105,7 @@ pub fn setting_roles(alloc: Global, value: &Value) -> Result<Command, BodyFault>
         return Err(BodyFault::Refused(BodyRefusal::BadBody));
     }
     let code = named_at::<PersonCodes>(alloc, value, "code")?;
-    let roles = wanted(roles_at(value, "roles"))?;
+    let roles = wanted_member(roles_at(value, "roles"))?;
     Ok(Command::In(SessionCommand::OnAccount(AccountCommand::SetRoles { code, roles })))
 }
 

@@ -57,7 +57,7 @@ pub fn command_of(alloc: Global, post: Post, body: &[u8]) -> Result<Command, Bod
     ensures fault { IfErr result (BodyFaultFits (post_named post) body.now) }
 {
     match value_of(alloc, body) {
-        Ok(value) => posted(alloc, post, &value),
+        Ok(value) => posted_command(alloc, post, &value),
         Err(fault) => Err(fault),
     }
 }
@@ -80,7 +80,7 @@ pub fn founding_of(alloc: Global, body: &[u8]) -> Result<Founding, BodyFault>
 }
 
 // The command that JSON names, by what is posted.
-fn posted(alloc: Global, post: Post, value: &Value) -> Result<Command, BodyFault>
+fn posted_command(alloc: Global, post: Post, value: &Value) -> Result<Command, BodyFault>
     ensures read { IfOk result (λ command. post_named post (view value.now) ≡ Ok command) }
     ensures fault { IfErr result (FaultyInTurn (post_named post (view value.now))) }
 {

@@ -15,8 +15,8 @@ use lab_forms::{Bound, Choices, Field, Form, Kind};
 use lab_forms_texts::{Keys, Name, Names, Units};
 use lab_records_machine::{Command, RecordCommand, SessionCommand};
 use lab_wire_members::{
-    BodyFault, BodyRefusal, Element, Member, admitted, each_of, elements_at, flag_at, has_members,
-    may, must, named_at, str_at, wanted, whole_at,
+    BodyFault, BodyRefusal, Element, Member, admitted_text, each_of, elements_at, flag_at,
+    has_members, may, must, named_at, str_at, wanted_member, whole_at,
 };
 use serde_json::Value;
 use std::alloc::Global;
@@ -182,7 +182,7 @@ impl Element<OfForm> for Name {
     #[tactic(auto, using(lab_wire_members::proofs::ReadingLemmas::in_turn))]
     fn read(alloc: Global, value: &Value) -> Result<Name, BodyFault> {
         match value.as_str() {
-            Some(text) => admitted::<Names>(alloc, text),
+            Some(text) => admitted_text::<Names>(alloc, text),
             None => Err(BodyFault::Refused(BodyRefusal::BadBody)),
         }
     }
@@ -208,7 +208,7 @@ fn number(alloc: Global, value: &Value) -> Result<Kind, BodyFault>
     ensures fault { IfErr result (FaultyInTurn (number_read (view value.now))) }
 {
     let unit = named_at::<Units>(alloc, value, "unit")?;
-    let decimals = wanted(whole_at(value, "decimals"))?;
+    let decimals = wanted_member(whole_at(value, "decimals"))?;
     let min = bound_at(alloc, value, "min")?;
     let max = bound_at(alloc, value, "max")?;
     Ok(Kind::Number {
@@ -223,7 +223,7 @@ fn number(alloc: Global, value: &Value) -> Result<Kind, BodyFault>
 fn text(value: &Value) -> Result<Kind, BodyRefusal>
     ensures { result ≡ text_read (view value.now) }
 {
-    let size = wanted(whole_at(value, "size"))?;
+    let size = wanted_member(whole_at(value, "size"))?;
     Ok(Kind::Text { size })
 }
 
@@ -266,8 +266,8 @@ impl Element<OfForm> for Field {
     fn read(alloc: Global, value: &Value) -> Result<Field, BodyFault> {
         let key = named_at::<Keys>(alloc, value, "key")?;
         let label = named_at::<Names>(alloc, value, "label")?;
-        let required = wanted(flag_at(value, "required"))?;
-        let sort = wanted(sort_in(value))?;
+        let required = wanted_member(flag_at(value, "required"))?;
+        let sort = wanted_member(sort_in(value))?;
         let kind = kind(alloc, value, sort)?;
         Ok(Field {
             key,
@@ -278,7 +278,7 @@ impl Element<OfForm> for Field {
     }
 }
 
-fn made(fields: Vec<Field>, approval: bool) -> Result<Form, BodyRefusal>
+fn form_made(fields: Vec<Field>, approval: bool) -> Result<Form, BodyRefusal>
     ensures { result ≡ form_reading (form_made fields.items approval) }
 {
     match Form::make(fields, approval) {
@@ -304,7 +304,7 @@ fn form_read(alloc: Global, value: &Value) -> Result<Command, BodyFault>
         return Err(BodyFault::Refused(BodyRefusal::BadBody));
     };
     let fields = each_of::<OfForm, Field>(alloc, elements)?;
-    let form = made(fields, approval(value))?;
+    let form = form_made(fields, approval(value))?;
     Ok(Command::In(SessionCommand::OnRecord(RecordCommand::MakeForm { code, form })))
 }
 

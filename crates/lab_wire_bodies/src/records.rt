@@ -12,7 +12,7 @@ use lab_records_machine::{Command, RecordCommand, SessionCommand};
 use lab_records_rules::{Altered, Item};
 use lab_wire_members::{
     BodyFault, BodyRefusal, Element, Member, each_has, each_of, elements_at, has_members, may,
-    must, named_at, named_if_at, ordinal_at, typed_at, wanted,
+    must, named_at, named_if_at, ordinal_at, typed_at, wanted_member,
 };
 use serde_json::Value;
 use std::alloc::Global;
@@ -89,7 +89,7 @@ pub fn entry(alloc: Global, value: &Value) -> Result<Command, BodyFault>
     if !has_members(value, &ENTRY) {
         return Err(BodyFault::Refused(BodyRefusal::BadBody));
     }
-    let number = wanted(ordinal_at(value, "record"))?;
+    let number = wanted_member(ordinal_at(value, "record"))?;
     let item = Item::read(alloc, value)?;
     let reason = named_if_at::<Notes>(alloc, value, "reason")?;
     Ok(Command::In(SessionCommand::OnRecord(RecordCommand::Enter {
@@ -123,7 +123,7 @@ fn has_key_twice(items: &[Item]) -> bool
     false
 }
 
-fn different(items: Vec<Item>) -> Result<Altered, BodyRefusal>
+fn different_items(items: Vec<Item>) -> Result<Altered, BodyRefusal>
     ensures { result ≡ different items.items }
 {
     if has_key_twice(&items) {
@@ -133,7 +133,7 @@ fn different(items: Vec<Item>) -> Result<Altered, BodyRefusal>
 }
 
 #[tactic(auto, using(lab_wire_members::proofs::ReadingLemmas::in_turn), unfolding(crate::specs::Records::altered_read))]
-fn altered(alloc: Global, value: &Value) -> Result<Altered, BodyFault>
+fn altered_items(alloc: Global, value: &Value) -> Result<Altered, BodyFault>
     ensures read { IfOk result (λ altered. altered_read (view value.now) ≡ Ok altered) }
     ensures fault { IfErr result (FaultyInTurn (altered_read (view value.now))) }
 {
@@ -141,7 +141,7 @@ fn altered(alloc: Global, value: &Value) -> Result<Altered, BodyFault>
         return Err(BodyFault::Refused(BodyRefusal::BadBody));
     };
     let items = each_of::<OfRecords, Item>(alloc, elements)?;
-    match different(items) {
+    match different_items(items) {
         Ok(altered) => Ok(altered),
         Err(refusal) => Err(BodyFault::Refused(refusal)),
     }
@@ -159,9 +159,9 @@ pub fn amendment(alloc: Global, value: &Value) -> Result<Command, BodyFault>
     if !is_amendment_body(value) {
         return Err(BodyFault::Refused(BodyRefusal::BadBody));
     }
-    let number = wanted(ordinal_at(value, "record"))?;
+    let number = wanted_member(ordinal_at(value, "record"))?;
     let reason = named_if_at::<Notes>(alloc, value, "reason")?;
-    let altered = altered(alloc, value)?;
+    let altered = altered_items(alloc, value)?;
     Ok(Command::In(SessionCommand::OnRecord(RecordCommand::Amend {
         number,
         reason,

@@ -12,7 +12,7 @@ use lab_records_rules::Signing;
 use lab_seal_hashes::Digest;
 use lab_wire_members::{
     BodyFault, BodyRefusal, Member, digest_at, has_members, may, must, named_if_at, ordinal_at,
-    str_at, typed_at, wanted,
+    str_at, typed_at, wanted_member,
 };
 use serde_json::Value;
 use std::alloc::Global;
@@ -159,10 +159,10 @@ fn signature_read(alloc: Global, value: &Value) -> Result<Command, BodyFault>
     ensures read { IfOk result (λ command. signature_read (view value.now) ≡ Ok command) }
     ensures fault { IfErr result (FaultyInTurn (signature_read (view value.now))) }
 {
-    let number = wanted(ordinal_at(value, "record"))?;
-    let version = wanted(ordinal_at(value, "version"))?;
-    let digest = wanted(digest_at(value, "digest"))?;
-    let meant = wanted(meant_in(value))?;
+    let number = wanted_member(ordinal_at(value, "record"))?;
+    let version = wanted_member(ordinal_at(value, "version"))?;
+    let digest = wanted_member(digest_at(value, "digest"))?;
+    let meant = wanted_member(meant_in(value))?;
     signature_by(alloc, value, number, version, digest, meant)
 }
 

@@ -11,7 +11,8 @@ mod values;
 pub use members::{Member, MemberKind, each_has, elements_at, flag_at, has_members, str_at};
 pub use parts::{Element, each_of, typed_at};
 pub use readings::{
-    admitted, digest_at, named_at, named_if_at, ordinal_at, roles_at, text_at, wanted, whole_at,
+    admitted_text, digest_at, named_at, named_if_at, ordinal_at, roles_at, text_at, wanted_member,
+    whole_at,
 };
 pub use refusals::{BodyFault, BodyRefusal};
 pub use values::value_of;

@@ -18,7 +18,7 @@ use std::alloc::Global;
 ///
 /// # Errors
 /// The body's refusal, or memory ran out.
-pub fn admitted<R: Rule>(alloc: Global, text: &str) -> Result<Text<R>, BodyFault>
+pub fn admitted_text<R: Rule>(alloc: Global, text: &str) -> Result<Text<R>, BodyFault>
     ensures read { IfOk result (λ named. admitted R.admits text.now ≡ Ok named) }
     ensures fault { IfErr result (Faulty (admitted R.admits text.now)) }
 {
@@ -38,7 +38,7 @@ pub fn named_at<R: Rule>(alloc: Global, value: &Value, name: &str) -> Result<Tex
     ensures fault { IfErr result (Faulty (named_at R.admits name.now (view value.now))) }
 {
     match members::str_at(value, name) {
-        Some(text) => admitted::<R>(alloc, text),
+        Some(text) => admitted_text::<R>(alloc, text),
         None => Err(BodyFault::Refused(BodyRefusal::BadBody)),
     }
 }
@@ -58,7 +58,7 @@ pub fn named_if_at<R: Rule>(
     ensures memory { OnErr result (IsSome (at as_str name.now (view value.now))) }
 {
     match members::str_at(value, name) {
-        Some(text) => match admitted::<R>(alloc, text) {
+        Some(text) => match admitted_text::<R>(alloc, text) {
             Ok(named) => Ok(Some(named)),
             Err(fault) => Err(fault),
         },
@@ -88,7 +88,7 @@ pub fn text_at(alloc: Global, value: &Value, name: &str) -> Result<String, BodyF
 ///
 /// # Errors
 /// Why the body is refused.
-pub fn wanted<T: Drop>(found: Option<T>) -> Result<T, BodyRefusal>
+pub fn wanted_member<T: Drop>(found: Option<T>) -> Result<T, BodyRefusal>
     ensures { result ≡ wanted found }
 {
     match found {

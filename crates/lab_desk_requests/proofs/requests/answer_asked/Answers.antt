@@ -57,7 +57,7 @@ answered g c honest reached =
       same = c.load_needed.ensures.loads.same earlier reached lives.1;
       built = builds _ c.in-Ok-Some.slice c.args.tick.now c.args.asked.instruction
           (sym c.in-Ok-Some.field-0-is ∙ c.in-Ok-Some.ensures.part earlier reached)
-          c.formed.ensures;
+          c.command_is_formed.ensures;
     }
 
 -- the changes fit what was loaded, where the laboratory is within its limits

@@ -18,11 +18,11 @@ returns-in_err-intake-clause-prints g c =
     rw (fault.1, fault.2) (prints_idle (founded_line c.args.lab.now) _
     (g.W.Write.contents c.args.output.now) c.in_err-intake.ensures.fault (Keeps-refl _))
 
-pub returns-in_err-noted-clause-ends : goal.returns-in_err-noted-clause-ends
-returns-in_err-noted-clause-ends g c =
-    let fault = err_from_is_err_and c.from_residual-in_err-noted.result
-    c.from_residual-in_err-noted.ensures.1 in
-    let refused = sym c.in_err-noted.ensures in
+pub returns-in_err-founding_noted-clause-ends : goal.returns-in_err-founding_noted-clause-ends
+returns-in_err-founding_noted-clause-ends g c =
+    let fault = err_from_is_err_and c.from_residual-in_err-founding_noted.result
+    c.from_residual-in_err-founding_noted.ensures.1 in
+    let refused = sym c.in_err-founding_noted.ensures in
     rw (fault.1, fault.2) (ends_refused g.S.Keeper _ c.args.lab.now
     (g.B.Read.remaining c.args.body.now) c.as_slice.result.now c.in_ok-intake.intake.bytes.items
     c.args.desk.now.keeper c.found-founded.new.self.keeper c.in_ok-intake.intake.tick _
@@ -30,15 +30,15 @@ returns-in_err-noted-clause-ends g c =
     c.in_ok-intake.ensures.body (rw refused at c.found-founded.ensures.fault)
     (rw refused at c.found-founded.ensures.err))
 
-pub returns-in_err-noted-clause-prints : goal.returns-in_err-noted-clause-prints
-returns-in_err-noted-clause-prints g c =
-    let fault = err_from_is_err_and c.from_residual-in_err-noted.result
-    c.from_residual-in_err-noted.ensures.1 in
+pub returns-in_err-founding_noted-clause-prints : goal.returns-in_err-founding_noted-clause-prints
+returns-in_err-founding_noted-clause-prints g c =
+    let fault = err_from_is_err_and c.from_residual-in_err-founding_noted.result
+    c.from_residual-in_err-founding_noted.ensures.1 in
     rw (fault.1, fault.2) (Keeps-refl _)
 
 pub returns-clause-ends : goal.returns-clause-ends
 returns-clause-ends g c =
-    let founded = sym c.in_ok-noted.ensures in
+    let founded = sym c.in_ok-founding_noted.ensures in
     ends_founded g.S.Keeper _ c.args.lab.now
     (g.B.Read.remaining c.args.body.now) c.as_slice.result.now c.in_ok-intake.intake.bytes.items
     c.args.desk.now.keeper c.found-founded.new.self.keeper c.in_ok-intake.intake.tick _

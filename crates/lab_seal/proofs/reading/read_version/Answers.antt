@@ -19,18 +19,18 @@ returns-in_err-rows-clause-fault c =
     rw (p.1, p.2) (rows_fault c.args.bytes.now (front_of c.in_ok-front.front) c.in_ok-front.rest.now _ front
     c.in_err-rows.ensures.fault)
 
-pub owned-requires : goal.owned-requires
-owned-requires c =
+pub owned_parts-requires : goal.owned_parts-requires
+owned_parts-requires c =
     let front = rw (found c.first_front.result (Refused (record {})) _ c.in_ok-front.ensures.value) at (sym c.first_front.ensures) in
     (read_whole c.args.bytes.now (front_of c.in_ok-front.front) c.in_ok-front.rest.now c.in_ok-rows.rows front
     c.in_ok-rows.ensures.rows).version.front
 
-pub returns-in_err-owned-clause-fault : goal.returns-in_err-owned-clause-fault
-returns-in_err-owned-clause-fault c =
+pub returns-in_err-owned_parts-clause-fault : goal.returns-in_err-owned_parts-clause-fault
+returns-in_err-owned_parts-clause-fault c =
     let front = rw (found c.first_front.result (Refused (record {})) _ c.in_ok-front.ensures.value) at (sym c.first_front.ensures) in
     let read = read_whole c.args.bytes.now (front_of c.in_ok-front.front) c.in_ok-front.rest.now c.in_ok-rows.rows front
     c.in_ok-rows.ensures.rows in
-    let p = err_from_is_err_and c.from_residual-in_err-owned.result c.from_residual-in_err-owned.ensures.1 in
+    let p = err_from_is_err_and c.from_residual-in_err-owned_parts.result c.from_residual-in_err-owned_parts.ensures.1 in
     rw (p.1, p.2) (some_version read)
 
 pub returns-clause-read : goal.returns-clause-read
@@ -38,4 +38,4 @@ returns-clause-read c =
     let front = rw (found c.first_front.result (Refused (record {})) _ c.in_ok-front.ensures.value) at (sym c.first_front.ensures) in
     let read = read_whole c.args.bytes.now (front_of c.in_ok-front.front) c.in_ok-front.rest.now c.in_ok-rows.rows front
     c.in_ok-rows.ensures.rows in
-    rw c.in_ok-owned.ensures (read.version, read.text)
+    rw c.in_ok-owned_parts.ensures (read.version, read.text)

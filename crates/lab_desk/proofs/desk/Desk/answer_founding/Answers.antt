@@ -18,7 +18,7 @@ returns-clause-taken g c = λ honest reached taken. elim c.match-found.branch [
   | in-Err w ↦ rw w.result-is (takes_refused g.S.Keeper.world c.args.self.now.keeper
       c.found.new.self.keeper
       c.args.lab.now c.args.tick.now (founding_in c.args.body.now) _ c.found.result _
-      honest reached w.in-Err.is (w.unfounded.ensures.taken (rw w.result-is at taken))
+      honest reached w.in-Err.is (w.line_of_fault.ensures.taken (rw w.result-is at taken))
       c.found.ensures.fault c.found.ensures.untouched (c.found.ensures.lives honest reached)
       (c.found.ensures.err honest reached))
 ]
@@ -27,7 +27,7 @@ pub returns-clause-settles : goal.returns-clause-settles
 returns-clause-settles g c = λ honest reached taken. elim c.match-found.branch [
   | in-Ok-found w ↦ inl (rw w.in-Ok-found.is at c.found.ensures.durable honest reached)
   | in-Err w ↦ settles_refused g.S.Keeper.world c.args.self.now.keeper c.found.new.self.keeper
-      c.found.result _ w.in-Err.is (w.unfounded.ensures.taken (rw w.result-is at taken)).0
+      c.found.result _ w.in-Err.is (w.line_of_fault.ensures.taken (rw w.result-is at taken)).0
       (c.found.ensures.quiet honest reached) (c.found.ensures.err honest reached)
       c.found.ensures.untouched (c.found.ensures.lives honest reached)
 ]

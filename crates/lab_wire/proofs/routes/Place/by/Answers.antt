@@ -5,7 +5,7 @@ use Rattle.lab_wire.proofs.routes.Place.by.Goals as goal
 
 pub returns-in-Ok : goal.returns-in-Ok
 returns-in-Ok c =
-    c.named.ensures ∙ ap (λ m. asked_by m (place_shown c.args.self.now)) (c.as_str.ensures.value ∙ c.in-Ok.ensures.ok)
+    c.route_named.ensures ∙ ap (λ m. asked_by m (place_shown c.args.self.now)) (c.as_str.ensures.value ∙ c.in-Ok.ensures.ok)
 
 pub returns-in-Err : goal.returns-in-Err
 returns-in-Err c =

@@ -12,28 +12,28 @@ returns-in_default c =
     let found = rw (c.in_default.is, c.place_in-place.ensures) at c.number_of.ensures in
     numbered_nowhere (place_in c.args.rest.now) (place_begins c.args.rest.now) found
 
-pub numbered-near-requires : goal.numbered-near-requires
-numbered-near-requires c =
+pub place_of_number-near-requires : goal.place_of_number-near-requires
+place_of_number-near-requires c =
     let found = rw (c.in-Some.is, c.place_in-place.ensures) at c.number_of.ensures in
     numbered_within (place_in c.args.rest.now) (place_begins c.args.rest.now) c.in-Some.number found
 
 pub returns-then-is_to : goal.returns-then-is_to
 returns-then-is_to c =
     let place = place_in c.args.rest.now in
-    let near = c.numbered-near.result in
+    let near = c.place_of_number-near.result in
     let found = rw (c.in-Some.is, c.place_in-place.ensures) at c.number_of.ensures in
-    let text : near.text.now ≡ text_at c.in-Some.number = ap (λ (p : Place). p.text) c.numbered-near.ensures in
+    let text : near.text.now ≡ text_at c.in-Some.number = ap (λ (p : Place). p.text) c.place_of_number-near.ensures in
     let of : all_admitted (segments (text_at c.in-Some.number)) (segments place) ≡ true =
     ap (λ t. all_admitted (segments t) (segments place)) (sym text)
     ∙ ap (λ p. all_admitted (segments near.text.now) (segments p)) (sym c.place_in-place.ensures) ∙ sym c.is_to.ensures ∙ c.if-is_to.true in
-    ap Some c.numbered-near.ensures ∙ numbered_there place (place_begins c.args.rest.now) c.in-Some.number found of
+    ap Some c.place_of_number-near.ensures ∙ numbered_there place (place_begins c.args.rest.now) c.in-Some.number found of
 
 pub returns-else-is_to : goal.returns-else-is_to
 returns-else-is_to c =
     let place = place_in c.args.rest.now in
-    let near = c.numbered-near.result in
+    let near = c.place_of_number-near.result in
     let found = rw (c.in-Some.is, c.place_in-place.ensures) at c.number_of.ensures in
-    let text : near.text.now ≡ text_at c.in-Some.number = ap (λ (p : Place). p.text) c.numbered-near.ensures in
+    let text : near.text.now ≡ text_at c.in-Some.number = ap (λ (p : Place). p.text) c.place_of_number-near.ensures in
     let not : all_admitted (segments (text_at c.in-Some.number)) (segments place) ≡ false =
     ap (λ t. all_admitted (segments t) (segments place)) (sym text)
     ∙ ap (λ p. all_admitted (segments near.text.now) (segments p)) (sym c.place_in-place.ensures) ∙ sym c.is_to.ensures ∙ c.if-is_to.false in

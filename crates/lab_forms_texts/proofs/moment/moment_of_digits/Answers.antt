@@ -4,7 +4,7 @@ use Rattle.jiff_core.proofs.SignedLemmas.{signed_arith}
 use Rattle.jiff_core.specs.Date.{IsYmd}
 use Rattle.jiff_core.specs.Time.{IsHms}
 use Rattle.lab_forms_texts.proofs.MomentLemmas.{told_long, told_date, told_time, told_seconds, made, at_ok}
-use Rattle.lab_forms_texts.proofs.moment.told.Goals as goal
+use Rattle.lab_forms_texts.proofs.moment.moment_of_digits.Goals as goal
 
 pub returns-then-text-ne-TEXT_LEN : goal.returns-then-text-ne-TEXT_LEN
 returns-then-text-ne-TEXT_LEN c = λ n is e. absurd (c.if-text-ne-TEXT_LEN.true (told_long c.args.text.now n is e))

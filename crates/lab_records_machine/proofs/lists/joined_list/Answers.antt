@@ -1,7 +1,7 @@
 use Rattle.std.proofs.Common.{ℕ, ◌++◌, ◌∙◌, ap, sym, Ok}
 use Rattle.std.proofs.lemmas.Iterator.Adapters.{fact_from_extend, YieldsList-from_vec}
 use Rattle.std.proofs.lemmas.List.{map-id}
-use Rattle.lab_records_machine.proofs.lists.joined.Goals as goal
+use Rattle.lab_records_machine.proofs.lists.joined_list.Goals as goal
 
 -- what went in is the second list
 pub returns : goal.returns

@@ -1,6 +1,6 @@
 use Rattle.std.proofs.Common.{◌+◌, refl, sym, ◌∙◌}
 use Rattle.lab_program_replay.proofs.EventLemmas.{cut_at_none, cut_at_some, take_rest}
-use Rattle.lab_program_replay.proofs.event.cut.Goals as goal
+use Rattle.lab_program_replay.proofs.event.parts_cut.Goals as goal
 
 pub returns-in_err-at : goal.returns-in_err-at
 returns-in_err-at c =

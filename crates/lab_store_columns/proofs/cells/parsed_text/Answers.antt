@@ -1,7 +1,7 @@
 use Rattle.std.proofs.Common.{ℕ, List, subst}
 use Rattle.lab_forms_texts.specs.Faults.{NameFaultFits}
 use Rattle.lab_store_columns.proofs.Unread.{no_text, text_faults}
-use Rattle.lab_store_columns.proofs.cells.parsed.Goals as goal
+use Rattle.lab_store_columns.proofs.cells.parsed_text.Goals as goal
 
 pub returns-in-Err-parse-clause-fault : goal.returns-in-Err-parse-clause-fault
 returns-in-Err-parse-clause-fault g c =

@@ -1,7 +1,7 @@
 use Rattle.lab_wire.specs.Places.{texts}
 use Rattle.std.proofs.Common.{◌<◌, length, arith}
 use Rattle.lab_wire.proofs.InsertLemmas.{place_of}
-use Rattle.lab_wire.proofs.routes.numbered.Goals as goal
+use Rattle.lab_wire.proofs.routes.place_of_number.Goals as goal
 
 pub returns : goal.returns
 returns c =

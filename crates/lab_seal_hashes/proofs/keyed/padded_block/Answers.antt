@@ -2,7 +2,7 @@ use Rattle.std.proofs.Common.{get_or, arith}
 use Rattle.std.proofs.lemmas.List.{get_or_default}
 use Rattle.std.proofs.lemmas.List.Edits.{map_over_more}
 use Rattle.std.specs.Prelude.{bit_xor}
-use Rattle.lab_seal_hashes.proofs.keyed.padded.Goals as goal
+use Rattle.lab_seal_hashes.proofs.keyed.padded_block.Goals as goal
 
 pub loop-byte-preserved : goal.loop-byte-preserved
 loop-byte-preserved c =

@@ -1,7 +1,7 @@
 -- The desk's keeper is the file's.
 use Rattle.lab_program_shelves.specs.Files.{IsOurs}
 use Rattle.lab_program_shelves.proofs.FileLemmas.{kept_so}
-use Rattle.lab_program_files.proofs.serving.opened.Goals as goal
+use Rattle.lab_program_files.proofs.serving.office_opened.Goals as goal
 
 pub returns : goal.returns
 returns g c =
