@@ -1,6 +1,6 @@
 -- Values from outside, so that a wrong rule in the definitions does not check: what a copy begins with, as Python's csv writes it,
 -- what is counted, and what of a text went out where a writer failed.
-use Rattle.std.proofs.Common.{◌≡◌, refl, ℕ, List, [], ◌∷◌, Some, None}
+use Rattle.std.proofs.Common.{◌≡◌, refl, [], ◌∷◌, Some}
 use Rattle.std.specs.Prelude.{codes}
 use Rattle.std.specs.Fmt.{digits}
 use Rattle.csv.specs.Writing.{fields_text, is_blank, escaped}

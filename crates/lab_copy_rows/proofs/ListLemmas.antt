@@ -1,7 +1,7 @@
 -- Lists with one element more at the end.
 use Rattle.std.specs.Prelude.{is_some, unwrap_or, ◌||◌, map}
 use Rattle.std.proofs.lemmas.Bool.{false≢true}
-use Rattle.std.proofs.Common.{◌≡◌, ℕ, ◌+◌, ◌-◌, ◌≤◌, Bool, true, false, not, cond, List, [], ◌∷◌, ◌++◌, reverse, length, take, drop, Option, Some, None, refl, sym, ap, ◌∙◌, arith}
+use Rattle.std.proofs.Common.{◌≡◌, ◌+◌, ◌-◌, Bool, true, false, not, cond, List, [], ◌∷◌, ◌++◌, length, take, drop, Option, Some, None, refl, sym, ap, ◌∙◌, arith}
 use Rattle.std.specs.List.{list_any, last_or, before_last, after_last, suffix_len, prefix_len, filter_map, cons_option}
 use Rattle.std.proofs.lemmas.List.{length_push, reverse-append, take_at, take-append-le, drop-append-le, drop_all, append-nil}
 use Rattle.std.proofs.lemmas.List.Elements.{filter_map-append}

@@ -1,14 +1,17 @@
 //! A copy on its way out: its text is made row by row, and sent.
-ghost use Rattle.std.specs.Prelude.{◌≡◌, [], None, Some, Ok, Err, OnOk, IfOk, IfErr, IfSome};
+ghost use Rattle.std.specs.Prelude.{◌≡◌, ◌<◌, ◌≤◌, [], None, Some, Ok, Err, OnOk, IfOk, IfErr, IfSome};
 ghost use Rattle.std.specs.Io.KnownBytes.{Keeps};
 ghost use Rattle.lab_copy_rows.specs.Csv.{csv_row, csv_text};
 ghost use Rattle.lab_copy_rows.specs.Rows.{fields_in, end_row};
-ghost use Rattle.lab_copy_rows.specs.Outs.{Sends, counted, no_counts, start_text};
+ghost use Rattle.lab_copy_rows.specs.Outs.{Sends, counted, counted_all, no_counts, start_text};
 
-use crate::sending::send_row;
+use crate::sending::send_rows;
 use crate::{CopyLine, CopyOutFault, CopyRow, Counts, EndLine, LabCode};
 use std::alloc::Global;
 use std::io::Write;
+
+/// How many rows are made into bytes before these go out, by one write where the writer takes all.
+const ROWS_AT_ONCE: usize = 32;
 
 /// Writes rows as CSV (RFC 4180), each ended by a line feed. The first write that fails or takes no byte is the fault.
 ///
@@ -23,10 +26,26 @@ pub fn write_copy<W: Write>(
         (csv_text rows.now) result }
     ensures nothing { rows.now ≡ [] → result ≡ Ok tt }
 {
-    for row in rows {
-        send_row(alloc, writer, row)?;
+    let mut sent = 0;
+    while sent < rows.len() {
+        let next = next_stop(sent, rows.len());
+        send_rows(alloc, writer, &rows[sent..next])?;
+        sent = next;
     }
     Ok(())
+}
+
+// Where the next rows end that go out together.
+fn next_stop(sent: usize, len: usize) -> usize
+    requires { sent < len }
+    ensures further { sent < result }
+    ensures within { result ≤ len }
+{
+    if len - sent > ROWS_AT_ONCE {
+        sent + ROWS_AT_ONCE
+    } else {
+        len
+    }
 }
 
 const NO_ROWS: Counts = Counts {
@@ -83,21 +102,21 @@ impl CopyOut {
         })
     }
 
-    /// Writes a row.
+    /// Writes rows.
     ///
     /// # Errors
     /// The writer failed, or memory ran out.
     #[tactic(auto, using(crate::proofs::SendLemmas::none_went))]
-    pub fn row<W: Write>(
+    pub fn give<W: Write>(
         &mut self,
         alloc: Global,
         writer: &mut W,
-        row: &CopyRow,
+        rows: &[CopyRow],
     ) -> Result<(), CopyOutFault>
         ensures text { Sends (W.contents writer.old) (W.contents writer.new)
-            (csv_row row.now) result }
+            (csv_text rows.now) result }
         ensures counts { OnOk result
-            (self.new ≡ record self.old { counts = counted self.old.counts row.now }) }
+            (self.new ≡ record self.old { counts = counted_all self.old.counts rows.now }) }
         ensures fault { IfErr result (λ fault. self.new ≡ record self.old { fault = Some fault }) }
         ensures stopped { IfSome self.old.fault (λ fault. (result ≡ Err fault)
             × Keeps (W.contents writer.old) (W.contents writer.new)) }
@@ -105,11 +124,11 @@ impl CopyOut {
         if let Some(fault) = self.fault {
             return Err(fault);
         }
-        if let Err(fault) = send_row(alloc, writer, row) {
+        if let Err(fault) = write_copy(alloc, writer, rows) {
             self.fault = Some(fault);
             return Err(fault);
         }
-        self.count(row);
+        self.count_all(rows);
         Ok(())
     }
 
@@ -117,7 +136,7 @@ impl CopyOut {
     ///
     /// # Errors
     /// The writer failed, or memory ran out.
-    #[tactic(auto, using(crate::proofs::SendLemmas::none_went))]
+    #[tactic(auto, using(crate::proofs::SendLemmas::none_went, crate::proofs::SendLemmas::one_row))]
     pub fn finish<W: Write>(self, alloc: Global, writer: &mut W) -> Result<Counts, CopyOutFault>
         ensures text { Sends (W.contents writer.old) (W.contents writer.new)
             (csv_row (fields_in (end_row (record { lab = self.lab; counts = self.counts }))))
@@ -131,8 +150,17 @@ impl CopyOut {
             return Err(fault);
         }
         let row = CopyRow::end(alloc, &EndLine { lab, counts })?;
-        send_row(alloc, writer, &row)?;
+        write_copy(alloc, writer, &[row])?;
         Ok(counts)
+    }
+
+    // Counts rows that went out.
+    fn count_all(&mut self, rows: &[CopyRow])
+        ensures { self.new ≡ record self.old { counts = counted_all self.old.counts rows.now } }
+    {
+        for row in rows {
+            self.count(row);
+        }
     }
 
     // Counts a row that went out.

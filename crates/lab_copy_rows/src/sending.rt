@@ -1,29 +1,28 @@
-//! Sending rows: each is made into bytes in memory, and every byte goes out.
-ghost use Rattle.std.specs.Prelude.{◌≡◌, ◌≤◌, IfOk, length, take};
+//! Sending rows: they are made into bytes in memory, by one writer of CSV, and every byte goes out.
+ghost use Rattle.std.specs.Prelude.{◌≡◌, ◌≤◌, ◌++◌, ℕ, List, [], IfOk, OnOk, length, take};
 ghost use Rattle.std.specs.Io.KnownBytes.{Appends};
 ghost use Rattle.csv.specs.Records.{fields_of};
-ghost use Rattle.lab_copy_rows.specs.Csv.{csv_row};
-ghost use Rattle.lab_copy_rows.specs.Outs.{Sends};
+ghost use Rattle.lab_copy_rows.specs.Csv.{csv_row, csv_text};
+ghost use Rattle.lab_copy_rows.specs.Outs.{HasWritten, Sends};
 
 use crate::{CopyOutFault, CopyRow, OutOfMemory, WriteFailure};
-use csv::{Error, StringRecord, WriterBuilder};
+use csv::{StringRecord, Writer, WriterBuilder};
 use std::alloc::Global;
 use std::io::Write;
 
-/// Writes a row as CSV.
+/// Writes rows as CSV, once the text of all is in memory.
 ///
 /// # Errors
 /// The writer failed, or memory ran out.
 #[tactic(auto, using(crate::proofs::SendLemmas::taken_went, crate::proofs::SendLemmas::all_went, crate::proofs::SendLemmas::none_went))]
-pub(crate) fn send_row<W: Write>(
+pub(crate) fn send_rows<W: Write>(
     alloc: Global,
     writer: &mut W,
-    row: &CopyRow,
+    rows: &[CopyRow],
 ) -> Result<(), CopyOutFault>
-    ensures { Sends (W.contents writer.old) (W.contents writer.new) (csv_row row.now) result }
+    ensures { Sends (W.contents writer.old) (W.contents writer.new) (csv_text rows.now) result }
 {
-    let fields = record_of(alloc, row)?;
-    let Ok(bytes) = row_bytes(alloc, &fields) else {
+    let Ok(bytes) = rows_bytes(alloc, rows) else {
         return Err(CopyOutFault::Memory);
     };
     if send(writer, &bytes) < bytes.len() {
@@ -32,27 +31,59 @@ pub(crate) fn send_row<W: Write>(
     Ok(())
 }
 
-// The fields of a row, as the writer takes them.
-fn record_of(alloc: Global, row: &CopyRow) -> Result<StringRecord, OutOfMemory>
-    ensures { IfOk result (λ made. fields_of made ≡ row.now) }
+// The text of rows. The writer writes to memory, so its only error is out of memory.
+fn rows_bytes(alloc: Global, rows: &[CopyRow]) -> Result<Vec<u8>, OutOfMemory>
+    ensures { IfOk result (λ bytes. bytes.items ≡ csv_text rows.now) }
 {
-    let mut made = StringRecord::new(alloc);
+    let mut writer = WriterBuilder::new().from_writer(Vec::new(alloc));
+    put_rows(alloc, &mut writer, rows)?;
+    match writer.into_inner() {
+        Ok(bytes) => Ok(bytes),
+        Err(_) => Err(OutOfMemory),
+    }
+}
+
+// Has a writer that wrote nothing write rows.
+fn put_rows<W: Write + Drop>(
+    alloc: Global,
+    writer: &mut Writer<W>,
+    rows: &[CopyRow],
+) -> Result<(), OutOfMemory>
+    ensures { HasWritten W.contents writer.old [] →
+        OnOk result (HasWritten W.contents writer.new (csv_text rows.now)) }
+{
+    let mut fields = StringRecord::new(alloc);
+    for row in rows {
+        put_row(writer, &mut fields, row)?;
+    }
+    Ok(())
+}
+
+// Has the writer write a row behind those before it.
+fn put_row<W: Write + Drop>(
+    writer: &mut Writer<W>,
+    fields: &mut StringRecord,
+    row: &CopyRow,
+) -> Result<(), OutOfMemory>
+    ensures { (bytes : List ℕ) → HasWritten W.contents writer.old bytes →
+        OnOk result (HasWritten W.contents writer.new (bytes ++ csv_row row.now)) }
+{
+    take_fields(fields, row)?;
+    let Ok(()) = writer.write_byte_record(fields.as_byte_record()) else {
+        return Err(OutOfMemory);
+    };
+    Ok(())
+}
+
+// The fields of a row, as the writer takes them, in the place of those before.
+fn take_fields(made: &mut StringRecord, row: &CopyRow) -> Result<(), OutOfMemory>
+    ensures { OnOk result (fields_of made.new ≡ row.now) }
+{
+    made.clear();
     for field in row.fields() {
         made.push_field(field)?;
     }
-    Ok(made)
-}
-
-// The text of a row. The writer writes to memory, so its only error is out of memory.
-fn row_bytes(alloc: Global, fields: &StringRecord) -> Result<Vec<u8>, Error>
-    ensures { IfOk result (λ bytes. bytes.items ≡ csv_row (fields_of fields.now)) }
-{
-    let mut writer = WriterBuilder::new().from_writer(Vec::new(alloc));
-    writer.write_byte_record(fields.as_byte_record())?;
-    match writer.into_inner() {
-        Ok(bytes) => Ok(bytes),
-        Err(error) => Err(error.into_error()),
-    }
+    Ok(())
 }
 
 // Writes the bytes until a write fails or takes none, and answers how many went out.

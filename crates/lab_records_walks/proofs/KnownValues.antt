@@ -20,9 +20,9 @@ use Rattle.lab_records_kept.specs.declared.records.FormVersion.{FormVersion}
 use Rattle.lab_records_kept.specs.declared.records.Record.{Record}
 use Rattle.lab_records_kept.specs.declared.records.Signature.{Signature}
 use Rattle.lab_records_kept.specs.declared.records.Version.{Version}
-use Rattle.lab_copy_rows.specs.Outs.{no_counts}
+use Rattle.lab_copy_rows.specs.Outs.{counted_all, no_counts}
 use Rattle.lab_records_walks.specs.Faults.{CopyFaultFits, copy_fault_number, copy_fault_word}
-use Rattle.lab_records_walks.specs.Walks.{IsWalkable, copy_text, counted_all, desk_order, last_walked, numbers_between, walked}
+use Rattle.lab_records_walks.specs.Walks.{IsWalkable, copy_text, desk_order, last_walked, numbers_between, walked}
 use Rattle.lab_records_walks.specs.declared.faults.CopyOutFault.TheVariants.{NoSuchLab, Storage, Memory, Write}
 
 -- ---- two records

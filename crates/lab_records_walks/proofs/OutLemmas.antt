@@ -1,7 +1,5 @@
 -- A copy on its way out: its numbers of rows after more rows, and its end.
-use Rattle.std.proofs.Common.{◌≡◌, ℕ, ◌+◌, ◌-◌, ◌<◌, ◌≤◌, ◌^◌, List, [], ◌∷◌, ◌++◌, length, take, Option, None, sym, ap, ◌∙◌, arith, option_to_list}
-use Rattle.std.specs.Prelude.{slice_index_or}
-use Rattle.std.proofs.lemmas.List.{take_more}
+use Rattle.std.proofs.Common.{◌≡◌, ℕ, ◌+◌, ◌-◌, ◌<◌, ◌≤◌, ◌^◌, List, ◌++◌, length, Option, None, sym, ap, ◌∙◌, arith, option_to_list}
 use Rattle.lab_records_kept.specs.declared.labs.Lab.{Lab}
 use Rattle.lab_records_kept.specs.declared.records.Record.{Record}
 use Rattle.lab_copy_rows.specs.Csv.{csv_row}
@@ -9,9 +7,9 @@ use Rattle.lab_copy_rows.specs.Rows.{fields_in, end_row}
 use Rattle.lab_copy_rows.specs.declared.lines.CopyLine.{CopyLine}
 use Rattle.lab_copy_rows.specs.declared.lines.Counts.{Counts}
 use Rattle.lab_copy_rows.specs.declared.outs.CopyOut.{CopyOut}
-use Rattle.lab_copy_rows.specs.Outs.{counted, no_counts}
+use Rattle.lab_copy_rows.specs.Outs.{counted_all, no_counts}
 use Rattle.lab_records_copies.specs.CopyLines.{body_lines, end_line}
-use Rattle.lab_records_walks.specs.Walks.{counted_all, record_at, record_rows, walked}
+use Rattle.lab_records_walks.specs.Walks.{record_at, record_rows, walked}
 use Rattle.lab_records_walks.proofs.NumberLemmas.{next_walked}
 use Rattle.lab_records_walks.proofs.TextLemmas.{end_text, rows_both}
 use Rattle.lab_records_walks.proofs.CountLemmas.{all_counted, counted_both}
@@ -32,18 +30,6 @@ pub given_on : (start between new : CopyOut) (rows more : List (List (List ℕ))
     new ≡ given_rows start (rows ++ more)
 given_on start between new rows more so_far here =
     here ∙ ap (λ (out : CopyOut). given_rows out more) so_far ∙ given_both start rows more
-
--- one row of a list more
-pub row_given : (start between new : CopyOut) (rows : List (List (List ℕ))) (count : ℕ)
-    (row : List (List ℕ)) → count < length rows → row ≡ slice_index_or rows count row →
-    between ≡ given_rows start (take count rows) →
-    new ≡ record between { counts = counted between.counts row } →
-    new ≡ given_rows start (take (count + 1) rows)
-row_given start between new rows count row lt is_row so_far here =
-    let more : take (count + 1) rows ≡ take count rows ++ row ∷ [] =
-    take_more rows count row lt ∙ ap (λ y. take count rows ++ y ∷ []) (sym is_row) in
-    given_on start between new (take count rows) (row ∷ []) so_far here
-    ∙ ap (given_rows start) (sym more)
 
 -- ---- one record after the other
 

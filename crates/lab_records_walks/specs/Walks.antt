@@ -14,10 +14,8 @@ use Rattle.lab_records_kept.specs.Worlds.{World}
 use Rattle.lab_copy_rows.specs.Copies.{counts_of}
 use Rattle.lab_copy_rows.specs.Csv.{csv_text}
 use Rattle.lab_copy_rows.specs.Rows.{fields_in, header_row}
-use Rattle.lab_copy_rows.specs.declared.lines.Counts.{Counts}
 use Rattle.lab_copy_rows.specs.declared.lines.CopyLine.{CopyLine}
 use Rattle.lab_copy_rows.specs.declared.lines.Line.TheVariants as line
-use Rattle.lab_copy_rows.specs.Outs.{counted}
 use Rattle.lab_records_copies.specs.declared.orders.CopyOrder.{CopyOrder}
 use Rattle.lab_records_copies.specs.CopyLines.{body_lines, copy_of, end_line, rows_of_lines}
 
@@ -79,11 +77,6 @@ walked_to lab from last = walked lab from (numbers_between from last)
 -- the rows of these records are fewer than a number of 64 bits can count
 abbrev pub AreCountable : List ℕ → List Record → Type 0
 AreCountable code records = length (body_lines code records) < 2 ^ 64
-
--- the numbers of rows after more rows
-abbrev pub counted_all : Counts → List (List (List ℕ)) → Counts
-counted_all counts [] = counts
-counted_all counts (row ∷ rows) = counted_all (counted counts row) rows
 
 -- ---- what the walk relies on
 

@@ -1,54 +1,56 @@
-//! How the rows of a record go out of a keeper.
+//! How the rows of records go out of a keeper.
 
-ghost use Rattle.std.specs.Prelude.{◌≡◌, ◌≤◌, [], ◌∷◌, IfErr, OnOk, option_to_list};
-ghost use Rattle.lab_copy_rows.specs.Outs.{Sends};
-ghost use Rattle.lab_records_kept.specs.Worlds.{Given, Lives};
+ghost use Rattle.std.specs.Prelude.{◌≡◌, ◌≤◌, IfErr, OnOk};
+ghost use Rattle.lab_copy_rows.specs.Outs.{Sends, counted_all};
+ghost use Rattle.lab_records_kept.specs.Worlds.{Given};
 ghost use Rattle.lab_forms_texts.specs.Ordinals.{last_ordinal};
 ghost use Rattle.lab_copy_rows.specs.Csv.{csv_text};
 ghost use Rattle.lab_records_walks.specs.Faults.{CopyFaultFits};
 ghost use Rattle.lab_records_walks.specs.Resting.{IsRead};
-ghost use Rattle.lab_records_walks.specs.Walks.{counted_all, record_at, record_rows};
+ghost use Rattle.lab_records_walks.specs.Walks.{record_rows, walked_to};
 
 use crate::CopyOutFault;
-use crate::reads::read_record;
-use crate::rows::give_rows;
+use crate::progress::Progress;
+use crate::wholes::give_wholes;
 use lab_copy_rows::CopyOut;
-use lab_records_copies::body_rows;
-use lab_records_kept::{Keeper, LabCode, Record};
+use lab_records_kept::{Keeper, LabCode, Ordinal};
 use std::alloc::Global;
 use std::io::Write;
 
-/// How the rows of a record go out of a keeper.
+/// How the rows of records go out of a keeper.
 pub trait RecordGiver<S: Keeper> {
-    /// Writes the rows of the record of a number, where there is one.
+    /// Writes the rows of the records from a number to a last one, and tells the progress after each.
     ///
     /// # Errors
     /// The store's refusal, that memory ran out, and a write that failed or took no byte. The front
     /// of the rows' text went out.
-    fn give_record<W: Write>(
+    fn give_records<W: Write, P: Progress>(
         &self,
         alloc: Global,
         keeper: &mut S,
         lab: &LabCode,
-        number: u32,
+        from: Ordinal,
+        last: u32,
         out: &mut CopyOut,
         writer: &mut W,
+        progress: &mut P,
     ) -> Result<(), CopyOutFault>
-        requires first { 1 ≤ number }
-        requires last { number ≤ last_ordinal }
-        ensures text { Given (S.world keeper.old) (S.world keeper.new)
+        requires last { last ≤ last_ordinal }
+        ensures text { (S.world keeper.old).is_live →
+            Given (S.world keeper.old) (S.world keeper.new)
             (Sends (W.contents writer.old) (W.contents writer.new) (csv_text (record_rows lab.now
-            (option_to_list (record_at number ((S.world keeper.old).meaning lab.now))))) result) }
-        ensures counts { Given (S.world keeper.old) (S.world keeper.new)
+            (walked_to ((S.world keeper.old).meaning lab.now) from last))) result) }
+        ensures counts { (S.world keeper.old).is_live →
+            Given (S.world keeper.old) (S.world keeper.new)
             (OnOk result (out.new ≡ record out.old {
               counts = counted_all out.old.counts
-                  (record_rows lab.now
-                  (option_to_list (record_at number ((S.world keeper.old).meaning lab.now))));
+                  (record_rows lab.now (walked_to ((S.world keeper.old).meaning lab.now) from last));
             })) }
         ensures fault { IfErr result
             (CopyFaultFits ⊥ (S.world keeper.old).may_refuse (Unit {0})) }
-        ensures lives { Given (S.world keeper.old) (S.world keeper.new)
-            (OnOk result (Lives (S.world keeper.old) (S.world keeper.new))) }
+        ensures lives { (S.world keeper.old).is_live →
+            Given (S.world keeper.old) (S.world keeper.new)
+            (OnOk result (S.world keeper.new).is_live) }
         ensures read { IsRead S.world S.rests keeper.old keeper.new };
 }
 
@@ -57,39 +59,17 @@ pub trait RecordGiver<S: Keeper> {
 pub struct WholeRecords;
 
 impl<S: Keeper> RecordGiver<S> for WholeRecords {
-    fn give_record<W: Write>(
+    fn give_records<W: Write, P: Progress>(
         &self,
         alloc: Global,
         keeper: &mut S,
         lab: &LabCode,
-        number: u32,
+        from: Ordinal,
+        last: u32,
         out: &mut CopyOut,
         writer: &mut W,
+        progress: &mut P,
     ) -> Result<(), CopyOutFault> {
-        match read_record(keeper, lab, number) {
-            Ok(Some(kept)) => give_whole(alloc, lab, kept, out, writer),
-            Ok(None) => Ok(()),
-            Err(fault) => Err(CopyOutFault::from(fault)),
-        }
+        give_wholes(alloc, keeper, lab, from, last, out, writer, progress)
     }
-}
-
-// Writes the rows of a record.
-fn give_whole<W: Write>(
-    alloc: Global,
-    lab: &LabCode,
-    kept: Record,
-    out: &mut CopyOut,
-    writer: &mut W,
-) -> Result<(), CopyOutFault>
-    ensures text { Sends (W.contents writer.old) (W.contents writer.new)
-        (csv_text (record_rows lab.now (kept ∷ []))) result }
-    ensures counts { OnOk result (out.new ≡
-        record out.old { counts = counted_all out.old.counts (record_rows lab.now (kept ∷ [])) }) }
-    ensures fault { IfErr result (CopyFaultFits ⊥ ⊥ (Unit {0})) }
-{
-    let records = [kept];
-    let rows = body_rows(alloc, lab, &records)?;
-    give_rows(alloc, out, writer, rows.as_slice())?;
-    Ok(())
 }

@@ -12,8 +12,8 @@ ghost use Rattle.lab_seal_versions.specs.Versions.{IsDigest, IsReason, IsRow};
 use lab_forms_texts::Series;
 use lab_people_access::Person;
 use lab_records_kept::{
-    Change, Digest, EntryRow, Meaning, Moment, Newborn, Note, Ordinal, Record, Seal, Signature,
-    Version,
+    Change, Digest, EntryRow, Lab, Meaning, Moment, Newborn, Note, Ordinal, Record, Seal,
+    Signature, Version,
 };
 
 // A digest has 32 bytes.
@@ -129,6 +129,32 @@ fn person_is_legible(person: &Person)
     ensures { IsLegiblePerson person.now }
 {
     let _code = person.code.as_str();
+}
+
+fn persons_are_legible(persons: &[Person])
+    ensures { All IsLegiblePerson persons.now }
+{
+    for person in persons {
+        person_is_legible(person);
+    }
+}
+
+fn records_are_legible(records: &[Record])
+    ensures { All IsLegibleRecord records.now }
+{
+    for kept in records {
+        record_is_legible(kept);
+    }
+}
+
+/// Law: a laboratory is legible.
+pub fn lab_is_legible(lab: &Lab)
+    ensures { IsLegible lab.now }
+{
+    let _code = lab.code.as_str();
+    let _name = lab.name.as_str();
+    persons_are_legible(lab.persons.as_slice());
+    records_are_legible(lab.records.as_slice());
 }
 
 // What a change brings is what its types admit.

@@ -8,14 +8,13 @@ mod laws;
 mod legible;
 mod progress;
 mod reads;
-mod rows;
 mod walks;
+mod wholes;
 
 pub use faults::CopyOutFault;
 pub use givers::{RecordGiver, WholeRecords};
 pub use lab_records_kept::{Keeper, LabCode, Moment, Ordinal};
 pub use laws::{a_laboratory_can_be_walked, a_legible_laboratory_gives_sound_copies};
-pub use legible::{changes_are_legible, newborn_is_legible, order_is_legible};
+pub use legible::{changes_are_legible, lab_is_legible, newborn_is_legible, order_is_legible};
 pub use progress::{Progress, Unheard};
-pub use rows::give_rows;
 pub use walks::copy_out;

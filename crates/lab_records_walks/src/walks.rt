@@ -1,14 +1,13 @@
-//! The walk over a laboratory's records: the rows of each go out, one record after the other.
+//! A copy that goes out: how it begins, the rows of its records, and its end.
 
 ghost use Rattle.std.specs.Prelude.{◌≡◌, ◌≤◌, None, Err, IsSome, IfErr, MatchOption, OnOk};
 ghost use Rattle.lab_copy_rows.specs.Outs.{Sends};
 ghost use Rattle.lab_records_kept.specs.Worlds.{Given, Lives};
 ghost use Rattle.lab_forms_texts.specs.Ordinals.{last_ordinal};
-ghost use Rattle.lab_copy_rows.specs.Csv.{csv_text};
 ghost use Rattle.lab_records_walks.specs.Faults.{CopyFaultFits, OnTold};
 ghost use Rattle.lab_records_walks.specs.Legible.{CanCopy, SendsSound};
 ghost use Rattle.lab_records_walks.specs.Resting.{IsRead};
-ghost use Rattle.lab_records_walks.specs.Walks.{AreCountable, CanWalk, copy_text, counted_all, desk_order, record_rows, text_under, walked_to};
+ghost use Rattle.lab_records_walks.specs.Walks.{AreCountable, CanWalk, copy_text, desk_order, text_under, walked_to};
 
 use crate::CopyOutFault;
 use crate::givers::RecordGiver;
@@ -104,48 +103,9 @@ fn copy_under<S: Keeper, G: RecordGiver<S>, W: Write, P: Progress>(
     ensures read { IsRead S.world S.rests keeper.old keeper.new }
 {
     let mut out = CopyOut::start(alloc, writer, &line)?;
-    walk(
-        alloc, keeper, giver, &line.lab, line.from, last, &mut out, writer, progress,
+    giver.give_records(
+        alloc, keeper, &line.lab, line.from, last, &mut out, writer, progress,
     )?;
     out.finish(alloc, writer)?;
-    Ok(())
-}
-
-// Writes the rows of the records from a number to a last one.
-fn walk<S: Keeper, G: RecordGiver<S>, W: Write, P: Progress>(
-    alloc: Global,
-    keeper: &mut S,
-    giver: &G,
-    lab: &LabCode,
-    from: Ordinal,
-    last: u32,
-    out: &mut CopyOut,
-    writer: &mut W,
-    progress: &mut P,
-) -> Result<(), CopyOutFault>
-    requires { last ≤ last_ordinal }
-    ensures text { (S.world keeper.old).is_live →
-        Given (S.world keeper.old) (S.world keeper.new)
-        (Sends (W.contents writer.old) (W.contents writer.new) (csv_text (record_rows lab.now
-        (walked_to ((S.world keeper.old).meaning lab.now) from last))) result) }
-    ensures counts { (S.world keeper.old).is_live →
-        Given (S.world keeper.old) (S.world keeper.new)
-        (OnOk result (out.new ≡ record out.old {
-          counts = counted_all out.old.counts
-              (record_rows lab.now (walked_to ((S.world keeper.old).meaning lab.now) from last));
-        })) }
-    ensures fault { IfErr result
-        (CopyFaultFits ⊥ (S.world keeper.old).may_refuse (Unit {0})) }
-    ensures lives { (S.world keeper.old).is_live →
-        Given (S.world keeper.old) (S.world keeper.new)
-        (OnOk result (S.world keeper.new).is_live) }
-    ensures read { IsRead S.world S.rests keeper.old keeper.new }
-{
-    let first = from.get();
-    let end = last + 1;
-    for number in first..end {
-        giver.give_record(alloc, keeper, lab, number, out, writer)?;
-        progress.told(number - first + 1, end - first);
-    }
     Ok(())
 }

@@ -1,23 +1,29 @@
 //! The keeper over a connection.
 
-ghost use Rattle.std.specs.Prelude.{◌≡◌, IfErr, OnOk, option_to_list};
+ghost use Rattle.std.specs.Prelude.{◌≡◌, ◌≤◌, IfErr, OnOk};
 ghost use Rattle.sqlite.specs.Held.{state};
-ghost use Rattle.lab_copy_rows.specs.Outs.{Sends};
+ghost use Rattle.lab_copy_rows.specs.Outs.{Sends, counted_all};
+ghost use Rattle.lab_forms_texts.specs.Ordinals.{last_ordinal};
+ghost use Rattle.lab_records_kept.specs.Parts.{part_of};
 ghost use Rattle.lab_records_kept.specs.Worlds.{Given, Lives};
 ghost use Rattle.lab_copy_rows.specs.Csv.{csv_text};
 ghost use Rattle.lab_store.specs.StoreWorlds.{store_rests, store_world};
+ghost use Rattle.lab_store_columns.specs.Causes.{HasItsCause};
+ghost use Rattle.lab_store_columns.specs.Reads.{Reads};
+ghost use Rattle.lab_store_load.specs.Readable.{HasPart};
+ghost use Rattle.lab_store_tables.specs.Meaning.{meaning};
 ghost use Rattle.lab_store_tables.specs.Ready.{IsAtRest};
 ghost use Rattle.lab_records_walks.specs.Faults.{CopyFaultFits};
 ghost use Rattle.lab_records_walks.specs.Resting.{IsRead};
-ghost use Rattle.lab_records_walks.specs.Walks.{counted_all, record_at, record_rows};
+ghost use Rattle.lab_records_walks.specs.Walks.{record_rows, walked_to};
 
 use crate::{Tables, apply, found};
 use lab_copy_rows::CopyOut;
 use lab_forms_texts::{LabCode, Ordinal};
 use lab_records_kept::{Change, Keeper, KeeperFault, Need, Newborn, PlacingFault, Series, Slice};
-use lab_records_walks::CopyOutFault;
+use lab_records_walks::{CopyOutFault, Progress};
 use lab_store_load::load;
-use lab_store_pages::give_record_at;
+use lab_store_pages::give_records_at;
 use sqlite::{Alter, Connection};
 use std::alloc::Global;
 use std::io::Write;
@@ -76,29 +82,43 @@ impl<S: Alter> Store<S> {
         conn
     }
 
-    /// Writes the rows of a record into a copy on its way out, one version at a time.
+    /// The part of a laboratory that is needed, or none where there is no laboratory of the code.
+    ///
+    /// # Errors
+    /// The store refused, a row is none that this program writes, or memory ran out.
+    pub fn part(&mut self, code: &LabCode, need: &Need) -> Result<Option<Slice>, KeeperFault>
+        ensures reads { Reads (λ t found. found ≡ part_of need.now (meaning t code.now))
+            (state S.Store self.old) (state S.Store self.new) result }
+        ensures cause { HasItsCause (λ t. HasPart t code.now need.now)
+            (state S.Store self.old) (state S.Store self.new) result }
+    {
+        load(self.alloc, &mut self.tables, code, need)
+    }
+
+    /// Writes the rows of the records from a number to a last one into a copy on its way out, one
+    /// version at a time, and tells the progress after each number.
     ///
     /// # Errors
     /// The store's refusal, that memory ran out, and a write that failed or took no byte. The front
     /// of the rows' text went out.
-    pub fn give_record<W: Write>(
+    pub fn give_records<W: Write, P: Progress>(
         &mut self,
         alloc: Global,
         lab: &LabCode,
-        number: Ordinal,
+        from: Ordinal,
+        last: u32,
         out: &mut CopyOut,
         writer: &mut W,
+        progress: &mut P,
     ) -> Result<(), CopyOutFault>
+        requires { last ≤ last_ordinal }
         ensures text { Given (store_world S.Store self.old) (store_world S.Store self.new)
             (Sends (W.contents writer.old) (W.contents writer.new) (csv_text (record_rows lab.now
-            (option_to_list
-            (record_at number ((store_world S.Store self.old).meaning lab.now))))) result) }
+            (walked_to ((store_world S.Store self.old).meaning lab.now) from last))) result) }
         ensures counts { Given (store_world S.Store self.old) (store_world S.Store self.new)
             (OnOk result (out.new ≡ record out.old {
-              counts = counted_all out.old.counts
-                  (record_rows lab.now
-                  (option_to_list
-                  (record_at number ((store_world S.Store self.old).meaning lab.now))));
+              counts = counted_all out.old.counts (record_rows lab.now
+                  (walked_to ((store_world S.Store self.old).meaning lab.now) from last));
             })) }
         ensures fault { IfErr result
             (CopyFaultFits ⊥ (store_world S.Store self.old).may_refuse (Unit {0})) }
@@ -106,7 +126,16 @@ impl<S: Alter> Store<S> {
             (OnOk result (Lives (store_world S.Store self.old) (store_world S.Store self.new))) }
         ensures read { IsRead (store_world S.Store) (store_rests S.Store) self.old self.new }
     {
-        give_record_at(alloc, &mut self.tables, lab, number, out, writer)
+        give_records_at(
+            alloc,
+            &mut self.tables,
+            lab,
+            from,
+            last,
+            out,
+            writer,
+            progress,
+        )
     }
 }
 
@@ -131,8 +160,7 @@ impl<S: Alter> Keeper for Store<S> {
         (tables_of (state S.Store old)) (tables_of (state S.Store new)) };
 
     fn load(&mut self, code: &LabCode, need: &Need) -> Result<Option<Slice>, KeeperFault> {
-        let found = load(self.alloc, &mut self.tables, code, need)?;
-        Ok(found)
+        self.part(code, need)
     }
 
     fn apply(&mut self, code: &LabCode, changes: Series<Change>) -> Result<(), KeeperFault> {

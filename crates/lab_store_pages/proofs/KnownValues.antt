@@ -1,15 +1,18 @@
 -- Values from outside, computed on the definitions over the small file of lab_store_tables: which record a
 -- number names, and how many rows go out of it.
-use Rattle.std.proofs.Common.{◌≡◌, ◌++◌, pos, [], ◌∷◌, Some, None, length, refl}
+use Rattle.std.proofs.Common.{◌≡◌, ℕ, ◌++◌, pos, [], ◌∷◌, Some, None, length, option_and_then, refl, ap, arith}
 use Rattle.std.specs.Prelude.{codes}
 use Rattle.lab_seal_versions.specs.declared.rows.EntryRow.{EntryRow as Entry}
 use Rattle.lab_seal_versions.specs.declared.seals.Meaning.TheVariants.{Authorship}
+use Rattle.lab_records_kept.specs.declared.records.FormVersion.{FormVersion}
 use Rattle.lab_records_kept.specs.declared.records.Version.{Version}
 use Rattle.lab_records_kept.specs.declared.records.Signature.{Signature}
 use Rattle.lab_store_tables.proofs.KnownFile.{filled, file}
 use Rattle.lab_store_tables.proofs.KnownValues.{aqua_record, older_version}
+use Rattle.lab_store_read_records.specs.declared.heads.LabHead.{LabHead}
 use Rattle.lab_store_read_records.specs.declared.heads.RecordHead.{RecordHead}
-use Rattle.lab_store_pages.specs.Pages.{cover_rows, page_rows, pages_rows, head_at, cover_by}
+use Rattle.lab_store_pages.specs.declared.covers.Cover.{Cover}
+use Rattle.lab_store_pages.specs.Pages.{IsFormed, cover_rows, page_rows, pages_rows, lab_at, head_in, cover_by, filed_by}
 
 -- ---- which record is meant
 
@@ -23,14 +26,41 @@ head = record {
   current = 1;
 }
 
--- aqua has two records, brick one, and zinc isn't there
-pub known_heads : (head_at file (codes "aqua") 2 ≡ Some head) × (head_at file (codes "brick") 2 ≡ None)
-    × (head_at file (codes "aqua") 3 ≡ None) × (head_at file (codes "zinc") 1 ≡ None)
-known_heads = (refl, refl, refl, refl)
+abbrev aqua_row : LabHead
+aqua_row = record {
+  id = pos 7;
+  code = codes "aqua";
+  name = codes "Aqua Lab";
+  last = 1600;
+  strays = 2;
+  records = 2;
+  sessions = 2;
+  trail = 12;
+}
+
+-- aqua and brick are there, and zinc isn't
+pub known_labs : (lab_at file (codes "aqua") ≡ Some aqua_row) × (lab_at file (codes "zinc") ≡ None)
+known_labs = (refl, refl)
+
+-- aqua has two records, and brick one
+pub known_heads : (head_in file aqua_row 2 ≡ Some head) × (head_in file aqua_row 3 ≡ None)
+    × (option_and_then (λ (lab : LabHead). head_in file lab 2) (lab_at file (codes "brick")) ≡ None)
+known_heads = (refl, refl, refl)
 
 -- it is filled in by the first version of aqua's form, and its versions aren't read
 pub known_cover : cover_by file head ≡ aqua_record 2 (codes "S2") []
 known_cover = refl
+
+-- its form is the one of its row, and the third row is another version of it
+abbrev mistaken : Cover
+mistaken = record { form = pos 3; kept = cover_by file head }
+
+pub known_formed : IsFormed file (filed_by file head) × (IsFormed file mistaken → ⊥)
+known_formed = (
+  refl,
+  λ same. absurd (let wrong : ◌≡◌ {A = ℕ} 1 2 = ap (λ (form : FormVersion). form.version) same in
+      omega arith),
+)
 
 -- ---- rows that go out
 

@@ -1,3 +1,4 @@
+mod CauseLemmas
 pub mod GoneLemmas
 pub mod FoundLemmas
 pub mod RowLemmas

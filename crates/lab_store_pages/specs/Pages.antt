@@ -1,6 +1,6 @@
 -- A record of a laboratory in parts, as its copy goes out: its own row, and then the rows of one
 -- version after the other (21 CFR 11.10(b), "accurate and complete copies of records").
-use Rattle.std.specs.Prelude.{ℕ, List, [], ◌∷◌, find, Option, option_and_then, option_map}
+use Rattle.std.specs.Prelude.{◌≡◌, ℕ, List, [], ◌∷◌, find, Option, option_map}
 use Rattle.std.specs.List.{flat_map}
 use Rattle.lab_records_kept.specs.declared.records.Record.{Record}
 use Rattle.lab_records_kept.specs.declared.records.Version.{Version}
@@ -12,6 +12,7 @@ use Rattle.lab_store_read_records.specs.declared.heads.LabHead.{LabHead}
 use Rattle.lab_store_read_records.specs.declared.heads.RecordHead.{RecordHead}
 use Rattle.lab_store_read_records.specs.Heads.{is_record, lab_head, record_head}
 use Rattle.lab_store_read_forms.specs.Wholes.{cover_of}
+use Rattle.lab_store_pages.specs.declared.covers.Cover.{Cover}
 
 -- ---- rows that go out
 
@@ -29,16 +30,22 @@ pages_rows lab cover versions = rows_of_lines (flat_map (version_lines lab cover
 
 -- ---- what is read first
 
--- the own row of the record of a number, in a laboratory of which this was found
-abbrev pub head_in : Tables → ℕ → Option LabHead → Option RecordHead
-head_in t number found =
-    option_and_then
-    (λ (lab : LabHead). option_map record_head (find (is_record lab.id number) t.records)) found
+-- the laboratory's own row, where there is one of the code
+abbrev pub lab_at : Tables → List ℕ → Option LabHead
+lab_at t code = option_map lab_head (find (has_code code) t.labs)
 
--- in the laboratory of a code
-abbrev pub head_at : Tables → List ℕ → ℕ → Option RecordHead
-head_at t code number = head_in t number (option_map lab_head (find (has_code code) t.labs))
+-- the own row of the record of a number, in the laboratory with its row
+abbrev pub head_in : Tables → LabHead → ℕ → Option RecordHead
+head_in t lab number = option_map record_head (find (is_record lab.id number) t.records)
 
 -- the record without its versions
 abbrev pub cover_by : Tables → RecordHead → Record
 cover_by t head = cover_of head (form_at t head.form)
+
+-- and by which version of a form it is filled in
+abbrev pub filed_by : Tables → RecordHead → Cover
+filed_by t head = record { form = head.form; kept = cover_by t head }
+
+-- of a record without its versions the form is the one that the tables have
+abbrev pub IsFormed : Tables → Cover → Type 0
+IsFormed t cover = cover.kept.form ≡ form_at t cover.form

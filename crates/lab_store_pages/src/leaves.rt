@@ -1,23 +1,24 @@
 //! What is written of a record: its own row, and the rows of a version, read out of the tables.
 
-ghost use Rattle.std.specs.Prelude.{◌≡◌, IfErr, IfOk, OnOk};
+ghost use Rattle.std.specs.Prelude.{◌≡◌, is_some, IfErr, IfOk, IsFalse, OnOk};
 ghost use Rattle.sqlite.specs.State.{HasCleanDisk, IsUnchanged};
-ghost use Rattle.lab_copy_rows.specs.Outs.{Sends};
+ghost use Rattle.lab_copy_rows.specs.Outs.{Sends, counted_all};
 ghost use Rattle.lab_records_kept.specs.Digests.{digest_of};
+ghost use Rattle.lab_store_pages.specs.Causes.{CopyHasItsCause, HasPage};
 ghost use Rattle.lab_store_pages.specs.Pages.{cover_rows, page_rows};
 ghost use Rattle.lab_store_read_records.specs.Leaves.{leaf_by, leaf_of};
+ghost use Rattle.lab_store_read_records.specs.Readable.{is_placed};
 ghost use Rattle.lab_copy_rows.specs.Csv.{csv_text};
 ghost use Rattle.lab_store_tables.specs.Meaning.{version_after};
 ghost use Rattle.lab_store_tables.specs.Ready.{IsReady, PassesBy, tables_of};
 ghost use Rattle.lab_records_walks.specs.Faults.{CopyFaultFits};
-ghost use Rattle.lab_records_walks.specs.Walks.{counted_all};
 
 use crate::faults::page_fault;
 use lab_copy_rows::CopyOut;
 use lab_forms_texts::LabCode;
 use lab_records_copies::{record_row, version_rows};
 use lab_records_kept::{Record, Version};
-use lab_records_walks::{CopyOutFault, give_rows};
+use lab_records_walks::CopyOutFault;
 use lab_seal_hashes::Digest;
 use lab_store_columns::Readable;
 use lab_store_read_records::{VersionHead, VersionLeaf, leaf_at, version_after};
@@ -41,10 +42,10 @@ pub fn give_cover<W: Write>(
     ensures counts { OnOk result (out.new ≡ record out.old {
       counts = counted_all out.old.counts (cover_rows lab.now cover.now);
     }) }
-    ensures fault { IfErr result (CopyFaultFits ⊥ (Unit {0}) (Unit {0})) }
+    ensures fault { IfErr result (CopyFaultFits ⊥ ⊥ (Unit {0})) }
 {
     let row = record_row(alloc, lab, cover)?;
-    give_rows(alloc, out, writer, &[row])?;
+    out.give(alloc, writer, &[row])?;
     Ok(())
 }
 
@@ -62,10 +63,10 @@ fn give_version<W: Write>(
     ensures counts { OnOk result (out.new ≡ record out.old {
       counts = counted_all out.old.counts (page_rows lab.now cover.now version.now);
     }) }
-    ensures fault { IfErr result (CopyFaultFits ⊥ (Unit {0}) (Unit {0})) }
+    ensures fault { IfErr result (CopyFaultFits ⊥ ⊥ (Unit {0})) }
 {
     let rows = version_rows(alloc, lab, cover, version)?;
-    give_rows(alloc, out, writer, rows.as_slice())?;
+    out.give(alloc, writer, rows.as_slice())?;
     Ok(())
 }
 
@@ -89,7 +90,8 @@ fn give_leaf<W: Write>(
     }) }
     ensures digest { IfOk result (λ digest. digest
         ≡ digest_of lab.now cover.now (version_after cover.now before (leaf_of leaf))) }
-    ensures fault { IfErr result (CopyFaultFits ⊥ (Unit {0}) (Unit {0})) }
+    ensures fault { IfErr result (CopyFaultFits ⊥
+        (IsFalse (is_placed (is_some before) leaf.number leaf.reason)) (Unit {0})) }
 {
     let Some(version) = version_after(cover, before, leaf) else {
         return Err(CopyOutFault::Storage);
@@ -130,6 +132,8 @@ pub fn give_page<D: Readable, W: Write>(
         IfOk result (λ digest. digest ≡ digest_of lab.now cover.now
         (version_after cover.now before (leaf_by (tables_of (D.state conn.old)) head))) }
     ensures fault { IfErr result (CopyFaultFits ⊥ (Unit {0}) (Unit {0})) }
+    ensures cause { CopyHasItsCause (λ t. HasPage t (is_some before) head)
+        (D.state conn.old) (D.state conn.new) result }
 {
     match leaf_at(alloc, conn, head) {
         Ok(leaf) => give_leaf(alloc, lab, cover, before, leaf, out, writer),

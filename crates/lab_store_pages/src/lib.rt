@@ -8,4 +8,4 @@ mod faults;
 mod leaves;
 mod pages;
 
-pub use pages::give_record_at;
+pub use pages::give_records_at;

@@ -1,27 +1,32 @@
 //! A record's rows on their way out of the tables: each version is read, its rows go out, and it is
 //! let go.
 
-ghost use Rattle.std.specs.Prelude.{◌≡◌, None, [], ◌∷◌, ◌++◌, map, IfErr, IsTrue, OnOk, option_to_list};
+ghost use Rattle.std.specs.Prelude.{◌≡◌, ◌≤◌, None, Some, [], ◌∷◌, ◌++◌, false, map, IfErr, IfOk, IfSome, IsTrue, OnOk, option_to_list};
 ghost use Rattle.sqlite.specs.State.{HasCleanDisk, IsUnchanged};
-ghost use Rattle.lab_copy_rows.specs.Outs.{Sends};
-ghost use Rattle.lab_store_pages.specs.Pages.{cover_rows, pages_rows};
+ghost use Rattle.lab_copy_rows.specs.Outs.{Sends, counted_all};
+ghost use Rattle.lab_forms_texts.specs.Ordinals.{last_ordinal};
+ghost use Rattle.lab_store_columns.specs.Causes.{HasFirst};
+ghost use Rattle.lab_store_pages.specs.Causes.{CopyHasItsCause, HasNumbered, HasPages, HasRange, HasVersions};
+ghost use Rattle.lab_store_pages.specs.Pages.{IsFormed, cover_rows, lab_at, pages_rows};
 ghost use Rattle.lab_store_read_records.specs.Leaves.{leaf_by};
+ghost use Rattle.lab_store_read_records.specs.Shown.{records_shown};
+ghost use Rattle.lab_store_read_forms.specs.Readable.{HasParts, HasWholeRecord};
 ghost use Rattle.lab_store_read_forms.specs.Wholes.{record_by};
 ghost use Rattle.lab_copy_rows.specs.Csv.{csv_text};
 ghost use Rattle.lab_store_tables.specs.Meaning.{chained, leaves_of, meaning};
 ghost use Rattle.lab_store_tables.specs.Ready.{IsReady, PassesBy, tables_of};
 ghost use Rattle.lab_records_walks.specs.Faults.{CopyFaultFits};
-ghost use Rattle.lab_records_walks.specs.Walks.{counted_all, record_at, record_rows};
+ghost use Rattle.lab_records_walks.specs.Walks.{record_at, record_rows, walked_to};
 
-use crate::covers::{cover_at, head_at};
+use crate::covers::{Cover, cover_behind, head_in};
 use crate::faults::page_fault;
 use crate::leaves::{give_cover, give_page};
 use lab_copy_rows::CopyOut;
 use lab_forms_texts::{LabCode, Ordinal};
 use lab_records_kept::Record;
-use lab_records_walks::CopyOutFault;
+use lab_records_walks::{CopyOutFault, Progress};
 use lab_store_columns::Readable;
-use lab_store_read_records::{RecordHead, VersionHead, versions_at};
+use lab_store_read_records::{LabHead, RecordHead, VersionHead, lab_at, versions_at};
 use std::alloc::Global;
 use std::io::Write;
 
@@ -50,6 +55,8 @@ fn give_pages<D: Readable, W: Write>(
               (map (leaf_by (tables_of (D.state conn.old))) heads.items)));
         }) }
     ensures fault { IfErr result (CopyFaultFits ⊥ (Unit {0}) (Unit {0})) }
+    ensures cause { CopyHasItsCause (λ t. HasPages t false heads.items)
+        (D.state conn.old) (D.state conn.new) result }
 {
     let mut before = None;
     for head in heads {
@@ -83,6 +90,8 @@ fn give_versions<D: Readable, W: Write>(
               (leaves_of (tables_of (D.state conn.old)) kept)));
         }) }
     ensures fault { IfErr result (CopyFaultFits ⊥ (Unit {0}) (Unit {0})) }
+    ensures cause { CopyHasItsCause (λ t. HasVersions t kept)
+        (D.state conn.old) (D.state conn.new) result }
 {
     match versions_at(alloc, conn, kept) {
         Ok(heads) => give_pages(alloc, conn, lab, cover, heads, out, writer),
@@ -116,70 +125,231 @@ fn give_covered<D: Readable, W: Write>(
               (leaves_of (tables_of (D.state conn.old)) kept)));
         }) }
     ensures fault { IfErr result (CopyFaultFits ⊥ (Unit {0}) (Unit {0})) }
+    ensures cause { CopyHasItsCause (λ t. HasVersions t kept)
+        (D.state conn.old) (D.state conn.new) result }
 {
     give_cover(alloc, lab, cover, out, writer)?;
     give_versions(alloc, conn, lab, cover, kept, out, writer)
 }
 
-// Writes the rows of the record with the row.
+// Writes the rows of the record without its versions and of those, which the id leads to, and
+// answers the first for the record behind it.
+fn give_filed<D: Readable, W: Write>(
+    alloc: Global,
+    conn: &mut D,
+    lab: &LabCode,
+    cover: Cover,
+    id: i64,
+    out: &mut CopyOut,
+    writer: &mut W,
+) -> Result<Option<Cover>, CopyOutFault>
+    ensures passes { PassesBy (D.state conn.old) (D.state conn.new) }
+    ensures same { HasCleanDisk (D.state conn.new) →
+        OnOk result (IsUnchanged (D.state conn.old) (D.state conn.new)) }
+    ensures text { IsReady (D.state conn.old) → HasCleanDisk (D.state conn.new) →
+        Sends (W.contents writer.old) (W.contents writer.new)
+        (csv_text (cover_rows lab.now cover.kept ++ pages_rows lab.now cover.kept
+        (chained lab.now cover.kept None
+        (leaves_of (tables_of (D.state conn.old)) id)))) result }
+    ensures counts { IsReady (D.state conn.old) → HasCleanDisk (D.state conn.new) →
+        OnOk result (out.new ≡ record out.old {
+          counts = counted_all out.old.counts
+              (cover_rows lab.now cover.kept ++ pages_rows lab.now cover.kept
+              (chained lab.now cover.kept None
+              (leaves_of (tables_of (D.state conn.old)) id)));
+        }) }
+    ensures cover { IfOk result (λ behind. behind ≡ Some cover) }
+    ensures fault { IfErr result (CopyFaultFits ⊥ (Unit {0}) (Unit {0})) }
+    ensures cause { CopyHasItsCause (λ t. HasVersions t id)
+        (D.state conn.old) (D.state conn.new) result }
+{
+    match give_covered(alloc, conn, lab, &cover.kept, id, out, writer) {
+        Ok(()) => Ok(Some(cover)),
+        Err(fault) => Err(fault),
+    }
+}
+
+// Writes the rows of the record with the row, whose form is read where it isn't that of the one
+// before it, and answers the record without its versions.
 fn give_headed<D: Readable, W: Write>(
     alloc: Global,
     conn: &mut D,
     lab: &LabCode,
+    before: Option<Cover>,
     head: RecordHead,
     out: &mut CopyOut,
     writer: &mut W,
-) -> Result<(), CopyOutFault>
+) -> Result<Option<Cover>, CopyOutFault>
     ensures passes { PassesBy (D.state conn.old) (D.state conn.new) }
     ensures same { HasCleanDisk (D.state conn.new) →
         OnOk result (IsUnchanged (D.state conn.old) (D.state conn.new)) }
     ensures text { IsReady (D.state conn.old) → HasCleanDisk (D.state conn.new) →
+        IfSome before (IsFormed (tables_of (D.state conn.old))) →
         Sends (W.contents writer.old) (W.contents writer.new) (csv_text (record_rows lab.now
         (record_by (tables_of (D.state conn.old)) lab.now head ∷ []))) result }
     ensures counts { IsReady (D.state conn.old) → HasCleanDisk (D.state conn.new) →
+        IfSome before (IsFormed (tables_of (D.state conn.old))) →
         OnOk result (out.new ≡ record out.old {
           counts = counted_all out.old.counts (record_rows lab.now
               (record_by (tables_of (D.state conn.old)) lab.now head ∷ []));
         }) }
+    ensures formed { IsReady (D.state conn.old) → HasCleanDisk (D.state conn.new) →
+        IfSome before (IsFormed (tables_of (D.state conn.old))) →
+        IfOk result (λ behind. IfSome behind (IsFormed (tables_of (D.state conn.old)))) }
     ensures fault { IfErr result (CopyFaultFits ⊥ (Unit {0}) (Unit {0})) }
+    ensures cause { CopyHasItsCause (λ t. HasParts t head)
+        (D.state conn.old) (D.state conn.new) result }
 {
     let id = head.id;
-    match cover_at(alloc, conn, head) {
-        Ok(cover) => give_covered(alloc, conn, lab, &cover, id, out, writer),
+    match cover_behind(alloc, conn, before, head) {
+        Ok(cover) => give_filed(alloc, conn, lab, cover, id, out, writer),
         Err(fault) => Err(page_fault(fault)),
     }
 }
 
-/// Writes the rows of the record of the number, where the laboratory of the code has one: each
-/// version is read, and its rows go out, before the next is read.
+// Writes the rows of the record of the number, where the laboratory with the row has one, and
+// answers the last record without its versions, for the one behind it.
+fn give_record_at<D: Readable, W: Write>(
+    alloc: Global,
+    conn: &mut D,
+    lab: &LabCode,
+    found: &LabHead,
+    before: Option<Cover>,
+    number: Ordinal,
+    out: &mut CopyOut,
+    writer: &mut W,
+) -> Result<Option<Cover>, CopyOutFault>
+    ensures passes { PassesBy (D.state conn.old) (D.state conn.new) }
+    ensures same { HasCleanDisk (D.state conn.new) →
+        OnOk result (IsUnchanged (D.state conn.old) (D.state conn.new)) }
+    ensures text { IsReady (D.state conn.old) → HasCleanDisk (D.state conn.new) →
+        Some found.now ≡ lab_at (tables_of (D.state conn.old)) lab.now →
+        IfSome before (IsFormed (tables_of (D.state conn.old))) →
+        Sends (W.contents writer.old) (W.contents writer.new) (csv_text (record_rows lab.now
+        (option_to_list (record_at number (meaning (tables_of (D.state conn.old)) lab.now)))))
+        result }
+    ensures counts { IsReady (D.state conn.old) → HasCleanDisk (D.state conn.new) →
+        Some found.now ≡ lab_at (tables_of (D.state conn.old)) lab.now →
+        IfSome before (IsFormed (tables_of (D.state conn.old))) →
+        OnOk result (out.new ≡ record out.old {
+          counts = counted_all out.old.counts (record_rows lab.now (option_to_list
+              (record_at number (meaning (tables_of (D.state conn.old)) lab.now))));
+        }) }
+    ensures formed { IsReady (D.state conn.old) → HasCleanDisk (D.state conn.new) →
+        IfSome before (IsFormed (tables_of (D.state conn.old))) →
+        IfOk result (λ behind. IfSome behind (IsFormed (tables_of (D.state conn.old)))) }
+    ensures fault { IfErr result (CopyFaultFits ⊥ (Unit {0}) (Unit {0})) }
+    ensures cause { CopyHasItsCause
+        (λ t. HasFirst (HasWholeRecord t) (records_shown t found.now.id number))
+        (D.state conn.old) (D.state conn.new) result }
+{
+    match head_in(alloc, conn, found, number) {
+        Ok(Some(head)) => give_headed(alloc, conn, lab, before, head, out, writer),
+        Ok(None) => Ok(before),
+        Err(fault) => Err(page_fault(fault)),
+    }
+}
+
+// The number of a record.
+fn ordinal(number: u32) -> Ordinal
+    requires first { 1 ≤ number }
+    requires last { number ≤ last_ordinal }
+    ensures { result ≡ number }
+{
+    match Ordinal::new(number) {
+        Some(number) => number,
+        None => Ordinal::FIRST,
+    }
+}
+
+// Writes the rows of the records from a number to a last one, of the laboratory with the row.
+fn give_all<D: Readable, W: Write, P: Progress>(
+    alloc: Global,
+    conn: &mut D,
+    lab: &LabCode,
+    found: LabHead,
+    from: Ordinal,
+    last: u32,
+    out: &mut CopyOut,
+    writer: &mut W,
+    progress: &mut P,
+) -> Result<(), CopyOutFault>
+    requires { last ≤ last_ordinal }
+    ensures passes { PassesBy (D.state conn.old) (D.state conn.new) }
+    ensures same { HasCleanDisk (D.state conn.new) → IsTrue (D.state conn.old).is_open →
+        OnOk result (IsUnchanged (D.state conn.old) (D.state conn.new)) }
+    ensures text { IsReady (D.state conn.old) → HasCleanDisk (D.state conn.new) →
+        IsTrue (D.state conn.old).is_open →
+        Some found ≡ lab_at (tables_of (D.state conn.old)) lab.now →
+        Sends (W.contents writer.old) (W.contents writer.new) (csv_text (record_rows lab.now
+        (walked_to (meaning (tables_of (D.state conn.old)) lab.now) from last))) result }
+    ensures counts { IsReady (D.state conn.old) → HasCleanDisk (D.state conn.new) →
+        IsTrue (D.state conn.old).is_open →
+        Some found ≡ lab_at (tables_of (D.state conn.old)) lab.now →
+        OnOk result (out.new ≡ record out.old {
+          counts = counted_all out.old.counts (record_rows lab.now
+              (walked_to (meaning (tables_of (D.state conn.old)) lab.now) from last));
+        }) }
+    ensures fault { IfErr result (CopyFaultFits ⊥ (Unit {0}) (Unit {0})) }
+    ensures cause { CopyHasItsCause (λ t. HasNumbered t found.id from last)
+        (D.state conn.old) (D.state conn.new) result }
+{
+    let first = from.get();
+    let end = last + 1;
+    let mut before = None;
+    for number in first..end {
+        let behind = give_record_at(
+            alloc,
+            conn,
+            lab,
+            &found,
+            before,
+            ordinal(number),
+            out,
+            writer,
+        )?;
+        before = behind;
+        progress.told(number - first + 1, end - first);
+    }
+    Ok(())
+}
+
+/// Writes the rows of the records from a number to a last one, where there is a laboratory of the
+/// code: its row is read once, and the form of a record where it isn't that of the record before.
+/// Each version is read, and its rows go out, before the next is read. The progress is told after
+/// each number.
 ///
 /// # Errors
 /// The store's refusal, that memory ran out, and a write that failed or took no byte. The front of
 /// the rows' text went out, and the tables are as they were.
-pub fn give_record_at<D: Readable, W: Write>(
+pub fn give_records_at<D: Readable, W: Write, P: Progress>(
     alloc: Global,
     conn: &mut D,
     lab: &LabCode,
-    number: Ordinal,
+    from: Ordinal,
+    last: u32,
     out: &mut CopyOut,
     writer: &mut W,
+    progress: &mut P,
 ) -> Result<(), CopyOutFault>
+    requires { last ≤ last_ordinal }
     ensures passes { PassesBy (D.state conn.old) (D.state conn.new) }
     ensures same { HasCleanDisk (D.state conn.new) →
         OnOk result (IsUnchanged (D.state conn.old) (D.state conn.new)) }
     ensures text { IsReady (D.state conn.old) → HasCleanDisk (D.state conn.new) →
         Sends (W.contents writer.old) (W.contents writer.new) (csv_text (record_rows lab.now
-        (option_to_list (record_at number (meaning (tables_of (D.state conn.old)) lab.now)))))
-        result }
+        (walked_to (meaning (tables_of (D.state conn.old)) lab.now) from last))) result }
     ensures counts { IsReady (D.state conn.old) → HasCleanDisk (D.state conn.new) →
         OnOk result (out.new ≡ record out.old {
-          counts = counted_all out.old.counts (record_rows lab.now (option_to_list
-              (record_at number (meaning (tables_of (D.state conn.old)) lab.now))));
+          counts = counted_all out.old.counts (record_rows lab.now
+              (walked_to (meaning (tables_of (D.state conn.old)) lab.now) from last));
         }) }
     ensures fault { IfErr result (CopyFaultFits ⊥ (Unit {0}) (Unit {0})) }
+    ensures cause { CopyHasItsCause (λ t. HasRange t lab.now from last)
+        (D.state conn.old) (D.state conn.new) result }
 {
-    match head_at(alloc, conn, lab, number) {
-        Ok(Some(head)) => give_headed(alloc, conn, lab, head, out, writer),
+    match lab_at(alloc, conn, lab) {
+        Ok(Some(found)) => give_all(alloc, conn, lab, found, from, last, out, writer, progress),
         Ok(None) => Ok(()),
         Err(fault) => Err(page_fault(fault)),
     }

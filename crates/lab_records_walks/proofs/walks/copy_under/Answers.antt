@@ -12,29 +12,29 @@ returns-in_err-out-clause-text g c = λ live few honest reached.
     let failed = err_from_is_err_and c.from_residual.result c.from_residual.ensures.1 in
     rw failed.1 (cut_at_start c.args.line _ _ _ c.in_err-out.ensures.text)
 
-pub returns-in_err-walk-clause-text : goal.returns-in_err-walk-clause-text
-returns-in_err-walk-clause-text g c = λ live few honest reached.
-    let failed = err_from_is_err_and c.from_residual-in_err-walk.result
-    c.from_residual-in_err-walk.ensures.1 in
+pub returns-in_err-give_records-clause-text : goal.returns-in_err-give_records-clause-text
+returns-in_err-give_records-clause-text g c = λ live few honest reached.
+    let failed = err_from_is_err_and c.from_residual-in_err-give_records.result
+    c.from_residual-in_err-give_records.ensures.1 in
     rw failed.1 (cut_in_records c.args.line _ _ _ _ c.in_ok-out.ensures.text
-    (c.in_err-walk.ensures.text live honest reached))
+    (c.in_err-give_records.ensures.text live honest reached))
 
 pub returns-in_err-finish-clause-text : goal.returns-in_err-finish-clause-text
 returns-in_err-finish-clause-text g c = λ live few honest reached.
     let failed = err_from_is_err_and c.from_residual-in_err-finish.result
     c.from_residual-in_err-finish.ensures.1 in
-    let end = ended c.args.line _ c.in_ok-out.out c.walk.new.out c.in_ok-out.ensures.fresh
-    (c.in_ok-walk.ensures.counts live honest reached) few in
+    let end = ended c.args.line _ c.in_ok-out.out c.give_records.new.out c.in_ok-out.ensures.fresh
+    (c.in_ok-give_records.ensures.counts live honest reached) few in
     rw failed.1 (cut_at_end c.args.line _ _ _ _ _ c.in_ok-out.ensures.text
-    (c.in_ok-walk.ensures.text live honest reached)
-    (subst (AppendsFront (g.W.Write.contents c.walk.new.writer)
+    (c.in_ok-give_records.ensures.text live honest reached)
+    (subst (AppendsFront (g.W.Write.contents c.give_records.new.writer)
     (g.W.Write.contents c.finish.new.writer)) end c.in_err-finish.ensures.text))
 
 pub returns-clause-text : goal.returns-clause-text
 returns-clause-text g c = λ live few honest reached.
-    let end = ended c.args.line _ c.in_ok-out.out c.walk.new.out c.in_ok-out.ensures.fresh
-    (c.in_ok-walk.ensures.counts live honest reached) few in
+    let end = ended c.args.line _ c.in_ok-out.out c.give_records.new.out c.in_ok-out.ensures.fresh
+    (c.in_ok-give_records.ensures.counts live honest reached) few in
     went_whole c.args.line _ _ _ _ _ c.in_ok-out.ensures.text
-    (c.in_ok-walk.ensures.text live honest reached)
-    (subst (Appends (g.W.Write.contents c.walk.new.writer)
+    (c.in_ok-give_records.ensures.text live honest reached)
+    (subst (Appends (g.W.Write.contents c.give_records.new.writer)
     (g.W.Write.contents c.finish.new.writer)) end c.in_ok-finish.ensures.text)

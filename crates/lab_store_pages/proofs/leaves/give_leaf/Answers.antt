@@ -4,6 +4,7 @@ use Rattle.std.proofs.lemmas.Result.{err_from_is_err_and}
 use Rattle.lab_store_tables.specs.Meaning.{version_after}
 use Rattle.lab_store_read_records.specs.Leaves.{leaf_of}
 use Rattle.lab_store_pages.specs.Pages.{page_rows}
+use Rattle.lab_store_pages.proofs.CauseLemmas.{fit_passed}
 use Rattle.lab_store_pages.proofs.RowLemmas.{front_as}
 use Rattle.lab_store_pages.proofs.leaves.give_leaf.Goals as goal
 
@@ -19,3 +20,8 @@ returns-in_err-give_version-clause-text g c =
     (page_rows lab cover (version_after cover c.args.before (leaf_of c.args.leaf)))
     (ap (page_rows lab cover) c.in-Some.ensures.value)
     c.in_err-give_version.ensures.text)
+
+pub returns-in_err-give_version-clause-fault : goal.returns-in_err-give_version-clause-fault
+returns-in_err-give_version-clause-fault g c =
+    fit_passed (λ never. absurd never) _ c.in_err-give_version.ensures.fault
+    c.from_residual-in_err-give_version.result c.from_residual-in_err-give_version.ensures.1

@@ -1,11 +1,12 @@
 -- The rows of the versions go out behind the record's own.
-use Rattle.std.proofs.Common.{ℤ, List, ℕ, None, ap, w64}
+use Rattle.std.proofs.Common.{ℤ, List, ℕ, None, refl, ap, w64}
 use Rattle.std.proofs.lemmas.Int.{to_z-of_z}
 use Rattle.std.proofs.lemmas.Result.{err_from_is_err_and}
 use Rattle.lab_store_tables.specs.Meaning.{chained, leaves_of}
 use Rattle.lab_store_tables.specs.Ready.{tables_of}
 use Rattle.lab_store_columns.proofs.Readers.{passes_none}
 use Rattle.lab_store_pages.specs.Pages.{cover_rows, pages_rows}
+use Rattle.lab_store_pages.proofs.CauseLemmas.{cause_as, fit_passed, never_blamed}
 use Rattle.lab_store_pages.proofs.RowLemmas.{cut_in_first, given_as, given_behind, sends_as, sends_behind}
 use Rattle.lab_store_pages.proofs.pages.give_covered.Goals as goal
 
@@ -47,3 +48,18 @@ returns-clause-counts g c ready clean =
     (given_as c.give_cover.new.out c.give_versions.new.out _ (pages c.args.kept)
     c.give_versions.result (ap pages (to_z-of_z w64 c.args.kept c.ranges.kept))
     (c.give_versions.ensures.counts ready clean))
+
+pub returns-in_err-give_cover-clause-fault : goal.returns-in_err-give_cover-clause-fault
+returns-in_err-give_cover-clause-fault g c =
+    fit_passed (λ never. absurd never) _ c.in_err-give_cover.ensures.fault c.from_residual.result
+    c.from_residual.ensures.1
+
+pub returns-in_err-give_cover-clause-cause : goal.returns-in_err-give_cover-clause-cause
+returns-in_err-give_cover-clause-cause g c =
+    never_blamed refl _ c.in_err-give_cover.ensures.fault c.from_residual.result
+    c.from_residual.ensures.1
+
+pub returns-clause-cause : goal.returns-clause-cause
+returns-clause-cause g c =
+    cause_as (rw (to_z-of_z w64 c.args.kept c.ranges.kept) at c.give_versions.ensures.cause)
+    (λ has. has)

@@ -1,5 +1,6 @@
 -- Each version goes out behind those before it; a fault cuts it within one.
-use Rattle.std.proofs.Common.{◌≡◌, [], ◌∷◌, map, length, sym, ap, ◌∙◌, arith, rules}
+use Rattle.std.proofs.Common.{◌≡◌, List, [], ◌∷◌, false, map, length, refl, sym, ap, subst, ◌∙◌, arith, rules}
+use Rattle.std.specs.Prelude.{is_some}
 use Rattle.std.specs.Vec.Iter.{into_iter_items}
 use Rattle.std.proofs.lemmas.Result.{err_from_is_err_and}
 use Rattle.sqlite.specs.Effect.{Database}
@@ -7,7 +8,10 @@ use Rattle.lab_store_tables.specs.Rows.{tables_in}
 use Rattle.lab_store_tables.specs.Ready.{tables_of}
 use Rattle.lab_store_columns.proofs.Readers.{passes_none, unchanged_none, passes_on, unchanged_then}
 use Rattle.lab_store_columns.proofs.Loops.{none_left}
+use Rattle.lab_store_read_records.specs.declared.heads.VersionHead.{VersionHead}
 use Rattle.lab_store_read_records.specs.Leaves.{leaf_by}
+use Rattle.lab_store_pages.specs.Causes.{HasPages}
+use Rattle.lab_store_pages.proofs.CauseLemmas.{none_blamed, page_next, pages_next, passed_on, then_told}
 use Rattle.lab_store_pages.proofs.GoneLemmas.{none_gone, page_more, page_cut, all_gone, all_given}
 use Rattle.lab_store_pages.proofs.pages.give_pages.Goals as goal
 
@@ -21,6 +25,8 @@ loop-head-init g c =
       same = λ clean opened. unchanged_none old opened;
       gone = λ ready clean opened. none_gone c.args.lab.now c.args.cover.now _ _ _ _
           (ap (map (leaf_by (tables_of old))) all);
+      limit = refl;
+      readable = λ t has. subst (λ (list : List VersionHead). HasPages t false list) (sym all) has;
       counted = search rules;
     }
 
@@ -46,6 +52,10 @@ loop-head-preserved g c =
           (ap (λ (db : Database). tables_in db.trees) (so.same was opened).0.now_is) steps _ _ _ _
           _ _ (so.gone ready was opened) c.in_ok-digest.digest (page.text begun clean)
           (page.counts begun clean) (page.digest begun clean);
+      limit = page.cause.limit ∙ so.limit;
+      readable = λ t has.
+          pages_next t (is_some at.before) _ (into_iter_items c.next.new.self) c.in-Some.head steps
+          (so.readable t has);
       counted =
           let was = so.counted in
           let less = c.in-Some.ensures.steps.1 in
@@ -88,3 +98,17 @@ returns-clause-counts g c ready clean opened =
     none_left _ (sym c.loop-head.invariant.counted ∙ c.in-None.ensures.steps.0) in
     all_given c.args.lab.now c.args.cover.now _ _ _ _ _ _ _
     (ap (map (leaf_by (tables_of old))) none) (c.loop-head.invariant.gone ready clean opened)
+
+pub returns-in_err-digest-clause-cause : goal.returns-in_err-digest-clause-cause
+returns-in_err-digest-clause-cause g c =
+    let old = g.D.Readable.state c.args.conn.now in
+    let at = c.loop-head in
+    let so = at.invariant in
+    passed_on (then_told {Then = λ t. HasPages t false c.args.heads.items} old (g.D.Readable.state at.conn) (g.D.Readable.state c.give_page.new.conn)
+    so.passes so.same so.limit c.give_page.ensures.passes c.in_err-digest.ensures.cause
+    (λ ready clean has. page_next (tables_of old) (is_some at.before) _
+    (into_iter_items c.next.new.self) c.in-Some.head c.in-Some.ensures.steps.0
+    (so.readable (tables_of old) has))) c.from_residual.result c.from_residual.ensures.1
+
+pub returns-clause-cause : goal.returns-clause-cause
+returns-clause-cause g c = none_blamed c.loop-head.invariant.limit

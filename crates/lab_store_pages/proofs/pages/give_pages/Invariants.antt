@@ -1,10 +1,13 @@
 -- The versions so far went out and were counted, and the next one's digest is at hand; nothing has
--- changed.
-use Rattle.std.proofs.Common.{◌≡◌, map, length, IsTrue}
+-- changed. Those that are left are readable where all are.
+use Rattle.std.proofs.Common.{◌≡◌, false, map, length, IsTrue}
+use Rattle.std.specs.Prelude.{is_some}
 use Rattle.std.specs.Vec.Iter.{into_iter_items, into_iter_len}
 use Rattle.sqlite.specs.State.{HasCleanDisk, IsUnchanged}
+use Rattle.lab_store_tables.specs.Rows.{Tables}
 use Rattle.lab_store_tables.specs.Ready.{IsReady, PassesBy, tables_of}
 use Rattle.lab_store_read_records.specs.Leaves.{leaf_by}
+use Rattle.lab_store_pages.specs.Causes.{HasPages}
 use Rattle.lab_store_pages.proofs.GoneLemmas.{HasGone}
 use Rattle.lab_store_pages.proofs.pages.give_pages.Given as goal
 
@@ -20,5 +23,8 @@ invariant-loop-head g l =
           (map (leaf_by (tables_of old)) (into_iter_items l.head-iterator))
           (map (leaf_by (tables_of old)) l.fn.heads.items) (g.W.Write.contents l.fn.writer)
           (g.W.Write.contents l.writer) l.fn.out l.out;
+      limit : now.step_limit ≡ old.step_limit;
+      readable : (t : Tables) → HasPages t false l.fn.heads.items →
+          HasPages t (is_some l.before) (into_iter_items l.head-iterator);
       counted : into_iter_len l.head-iterator ≡ length (into_iter_items l.head-iterator);
     }

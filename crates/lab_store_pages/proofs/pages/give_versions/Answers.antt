@@ -5,6 +5,8 @@ use Rattle.sqlite.specs.Effect.{Database}
 use Rattle.lab_copy_rows.proofs.SendLemmas.{none_went}
 use Rattle.lab_store_tables.specs.Rows.{tables_in}
 use Rattle.lab_store_tables.specs.Ready.{tables_of}
+use Rattle.lab_store_read_records.proofs.Below.{own_rows}
+use Rattle.lab_store_pages.proofs.CauseLemmas.{pages_of, then_told, told_so}
 use Rattle.lab_store_pages.proofs.RowLemmas.{given_as, sends_as}
 use Rattle.lab_store_pages.proofs.FoundLemmas.{leaves_as}
 use Rattle.lab_store_pages.proofs.pages.give_versions.Goals as goal
@@ -38,3 +40,19 @@ returns-in-Ok-clause-counts g c ready clean =
 
 pub returns-in-Err-clause-text : goal.returns-in-Err-clause-text
 returns-in-Err-clause-text g c ready clean = none_went _ _
+
+pub returns-in-Ok-clause-cause : goal.returns-in-Ok-clause-cause
+returns-in-Ok-clause-cause g c =
+    let old = g.D.Readable.state c.args.conn.now in
+    let reads = rw (to_z-of_z w64 c.args.kept c.ranges.kept) at c.in-Ok.ensures.reads in
+    then_told old (g.D.Readable.state c.versions_at.new.conn) (g.D.Readable.state c.give_pages.new.conn)
+    reads.passes (λ clean opened. reads.same clean) c.in-Ok.ensures.cause.limit
+    c.give_pages.ensures.passes c.give_pages.ensures.cause
+    (λ ready clean has. pages_of (tables_of old) c.args.kept c.in-Ok.heads.items
+    (reads.answer ready clean) has)
+
+pub returns-in-Err-clause-cause : goal.returns-in-Err-clause-cause
+returns-in-Err-clause-cause g c =
+    told_so c.page_fault.ensures.told
+    (rw (to_z-of_z w64 c.args.kept c.ranges.kept) at c.in-Err.ensures.cause)
+    (λ has. own_rows (tables_of (g.D.Readable.state c.args.conn.now)) c.args.kept has.versions)
