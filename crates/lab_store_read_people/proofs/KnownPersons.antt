@@ -3,16 +3,19 @@
 use Rattle.std.proofs.Common.{◌≡◌, refl, pos, [], ◌∷◌, Some, option_map, map}
 use Rattle.std.specs.Prelude.{codes, length}
 use Rattle.lab_people_access.specs.declared.persons.Ask.{Ask}
+use Rattle.sqlite_value.specs.declared.value.Value.TheVariants.{Int}
+use Rattle.lab_store_tables.specs.Meaning.{persons_of}
 use Rattle.lab_store_tables.proofs.KnownFile.{file}
 use Rattle.lab_store_read_people.specs.declared.heads.PersonHead.{PersonHead}
+use Rattle.lab_store_read_people.specs.CountsShown.{count_shown}
 use Rattle.lab_store_read_people.specs.Heads.{person_by, person_heads_of}
-use Rattle.lab_store_read_people.specs.PersonsShown.{all_codes_shown, person_read, person_shown_by, persons_shown}
+use Rattle.lab_store_read_people.specs.PersonsShown.{person_read, person_shown_by, persons_shown}
 
 -- aqua's four in the order of their codes, none of brick's three
 pub known_persons :
     (map (λ (one : PersonHead). one.name) (person_heads_of file (pos 7))
     ≡ codes "Ann Ames" ∷ codes "Dan Dale" ∷ codes "Eve Eden" ∷ codes "Hal Hunt" ∷ [])
-    × (length (all_codes_shown file (pos 3)) ≡ 3)
+    × (count_shown (length (persons_of file (pos 3))) ≡ (Int (pos 3) ∷ []) ∷ [])
 known_persons = (refl, refl)
 
 -- what is read of the rows that are shown is what the tables say; dan is aqua's

@@ -1,3 +1,5 @@
+pub mod CountAnswers
+pub mod CountCauses
 pub mod KnownPersons
 pub mod KnownSessions
 pub mod PersonCauses

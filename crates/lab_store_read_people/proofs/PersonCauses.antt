@@ -3,7 +3,6 @@ use Rattle.std.proofs.Common.{ℕ, ℤ, List, [], ◌∷◌, slice_get, Option, 
 use Rattle.std.proofs.lemmas.List.Elements.{All-map, All-weaker}
 use Rattle.sqlite_value.specs.declared.value.Value.TheVariants.{Int, Text}
 use Rattle.sqlite_value.specs.Order.{Row}
-use Rattle.sqlite_sql.specs.Term.{col}
 use Rattle.sqlite_tied.specs.Compute.{everything}
 use Rattle.sqlite.specs.Listing.{understood}
 use Rattle.lab_store_tables.specs.Rows.{Tables}
@@ -14,7 +13,7 @@ use Rattle.lab_store_read_people.specs.Heads.{person_heads_of}
 use Rattle.lab_store_read_people.specs.PersonsShown.{persons_shown, person_read}
 use Rattle.lab_store_read_people.specs.PersonsReadable.{HasPerson, HasAsker, HasWholePerson}
 use Rattle.lab_store_read_people.proofs.PersonsFound.{persons_found}
-use Rattle.lab_store_read_people.proofs.PersonTexts.{person_text, person_query, persons_text, person_columns, all_codes_text}
+use Rattle.lab_store_read_people.proofs.PersonTexts.{person_text, person_query, persons_text, person_columns}
 
 -- ---- queries
 
@@ -25,10 +24,6 @@ person_fits lab code = fits_by _ _ _ (lit≤ tt, refl) refl refl refl
 pub persons_fits : (lab : ℤ) → Fits persons_text (own_query 3 (is_param 2 0 ∷ []) person_columns 3) (Int lab ∷ [])
 unfolding understood everything
 persons_fits lab = fits_by _ _ _ (lit≤ tt, refl) refl refl refl
-
-pub all_codes_fits : (lab : ℤ) → Fits all_codes_text (own_query 3 (is_param 2 0 ∷ []) (col 1 3 ∷ []) 3) (Int lab ∷ [])
-unfolding understood everything
-all_codes_fits lab = fits_by _ _ _ (lit≤ tt, refl) refl refl refl
 
 -- ---- rows
 

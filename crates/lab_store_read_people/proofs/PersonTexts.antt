@@ -1,6 +1,7 @@
 -- What the texts of the queries mean under the schema.
 use Rattle.std.proofs.Common.{ℕ, List, [], ◌∷◌, codes, refl}
 use Rattle.sqlite_tied.specs.Compute.{everything}
+use Rattle.sqlite_tied.specs.Listing.{count_rows, first_column}
 use Rattle.sqlite.specs.Listing.{understood}
 use Rattle.sqlite_sql.specs.Query.{Query, inner, end}
 use Rattle.sqlite_sql.specs.Term.{Term, col}
@@ -31,11 +32,14 @@ pub persons_means : Means persons_text (own_query 3 (is_param 2 0 ∷ []) person
 unfolding understood everything
 persons_means = record { read = (_, refl); command = refl; unlisted = refl; plain = (refl, refl) }
 
--- ---- the codes of all persons
+-- ---- how many they are
 
-abbrev pub all_codes_text : List ℕ
-all_codes_text = codes "SELECT code FROM persons WHERE lab = ?1 ORDER BY code"
+abbrev pub count_text : List ℕ
+count_text = codes "SELECT count(*) FROM persons WHERE lab = ?1"
 
-pub all_codes_means : Means all_codes_text (own_query 3 (is_param 2 0 ∷ []) (col 1 3 ∷ []) 3) (codes "code" ∷ [])
+abbrev pub count_query : Query
+count_query = record record_query { from = inner 3 end; filter = is_param 2 0 ∷ []; group = count_rows; project = first_column }
+
+pub count_means : Means count_text count_query (codes "count(*)" ∷ [])
 unfolding understood everything
-all_codes_means = record { read = (_, refl); command = refl; unlisted = refl; plain = (refl, refl) }
+count_means = record { read = (_, refl); command = refl; unlisted = refl; plain = (refl, refl) }

@@ -1,11 +1,10 @@
 -- The exact rows of each query, in a file of ours.
-use Rattle.std.proofs.Common.{◌≡◌, ℕ, ℤ, ◌&&◌, List, [], ◌∷◌, refl, ap₂, ◌∙◌, int_eq}
+use Rattle.std.proofs.Common.{◌≡◌, ℕ, ℤ, ◌&&◌, List, [], ◌∷◌, length, refl, ap, ap₂, ◌∙◌, int_eq}
 use Rattle.std.specs.Ordering.{nat_cmp}
 use Rattle.std.specs.Cmp.Lexicographic.{slice_cmp}
 use Rattle.sqlite_value.specs.declared.value.Value.TheVariants.{Null, Int, Text}
 use Rattle.sqlite_value.specs.Order.{Row}
 use Rattle.sqlite_sql.specs.Program.{overlay}
-use Rattle.sqlite_sql.specs.Term.{col}
 use Rattle.sqlite_typed.proofs.AnswerLemmas.{last_table, at_end}
 use Rattle.sqlite.specs.State.{State, Shown}
 use Rattle.sqlite.proofs.Callers.{reads_as}
@@ -13,12 +12,14 @@ use Rattle.lab_store_tables.specs.Schema.{lab_schema}
 use Rattle.lab_store_tables.specs.Rows.{PersonRow, tables_in, person_row, person_id}
 use Rattle.lab_store_tables.specs.Ready.{IsKept}
 use Rattle.lab_store_tables.specs.Changes.{is_person}
+use Rattle.lab_store_tables.specs.Meaning.{persons_of}
 use Rattle.lab_store_columns.proofs.Texts.{is_param}
 use Rattle.lab_store_columns.proofs.Sorted.{equal_ints, equal_texts, and_true, only_answer, own_rows}
-use Rattle.lab_store_columns.specs.Shown.{code_shown}
-use Rattle.lab_store_read_people.specs.PersonsShown.{person_shown, person_shown_by, persons_shown, all_codes_shown}
+use Rattle.lab_store_read_people.specs.PersonsShown.{person_shown, person_shown_by, persons_shown}
+use Rattle.lab_store_read_people.specs.CountsShown.{count_shown}
+use Rattle.lab_store_read_people.proofs.CountAnswers.{count_answer, persons_counted}
 use Rattle.lab_store_read_people.proofs.PersonKeys.{persons_apart}
-use Rattle.lab_store_read_people.proofs.PersonTexts.{person_text, person_query, person_means, persons_text, person_columns, persons_means, all_codes_text, all_codes_means}
+use Rattle.lab_store_read_people.proofs.PersonTexts.{person_text, person_query, person_means, persons_text, person_columns, persons_means, count_text, count_query, count_means}
 use Rattle.lab_store_read_people.proofs.PersonLists.{by_text}
 use Rattle.lab_store_columns.proofs.Lists.{untied_texts, alone_texts}
 
@@ -46,14 +47,14 @@ persons_rows_read old new lab rows kept h =
     (is_param 2 0 ∷ []) person_columns 3 params person_shown (λ x. Text x.code)
     (λ x. and_true _ ∙ equal_ints x.lab lab) (λ x. refl) (λ x. refl) (λ a b. by_text a.code b.code) rows (read.answer Null)
 
-pub all_codes_read : (old new : State) (lab : ℤ) (rows : List Row) → IsKept old.now → Shown all_codes_text (Int lab ∷ []) old new rows → rows ≡ all_codes_shown (tables_in old.now.trees) lab
-all_codes_read old new lab rows kept h =
+pub counts_read : (old new : State) (lab : ℤ) (rows : List Row) → IsKept old.now → Shown count_text (Int lab ∷ []) old new rows
+    → rows ≡ count_shown (length (persons_of (tables_in old.now.trees) lab))
+counts_read old new lab rows kept h =
     let params = Int lab ∷ [] in
     let typed = kept.typed in
     let db = overlay old.now.trees [] in
     let t = tables_in old.now.trees in
-    let read = reads_as all_codes_text params old new lab_schema typed.schema _ all_codes_means.command all_codes_means.plain all_codes_means.unlisted rows h in
-    own_rows db 3 person_row person_id t.persons typed.persons typed.rising.persons (λ x. int_eq x.lab lab) (λ one other. slice_cmp nat_cmp one.code other.code)
-    (untied_texts (λ (x : PersonRow). x.lab) (λ (x : PersonRow). x.code) lab t.persons (persons_apart t kept.rows))
-    (is_param 2 0 ∷ []) (col 1 3 ∷ []) 3 params code_shown (λ x. Text x.code)
-    (λ x. and_true _ ∙ equal_ints x.lab lab) (λ x. refl) (λ x. refl) (λ a b. by_text a.code b.code) rows (read.answer Null)
+    let read = reads_as count_text params old new lab_schema typed.schema _ count_means.command count_means.plain count_means.unlisted rows h in
+    count_answer count_query db params (last_table db 3 person_row person_id t.persons typed.persons typed.rising.persons (at_end db)) (λ x. int_eq x.lab lab)
+    (λ x. and_true _ ∙ equal_ints x.lab lab) refl refl refl rows (read.answer Null)
+    ∙ ap count_shown (persons_counted t lab)

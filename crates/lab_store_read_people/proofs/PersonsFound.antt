@@ -1,8 +1,7 @@
 -- What was read of the rows that a query shows, as what the tables have.
-use Rattle.std.proofs.Common.{◌≡◌, ℕ, ℤ, cond, List, [], ◌∷◌, map, filter, find, length, slice_get, Option, Some, None, option_map, refl, sym, ap, ◌∙◌, int_eq, bytes_eq}
+use Rattle.std.proofs.Common.{◌≡◌, ℕ, ℤ, cond, List, [], ◌∷◌, map, filter, find, slice_get, Option, Some, None, option_map, refl, sym, ap, ◌∙◌, int_eq, bytes_eq}
 use Rattle.std.specs.Cmp.{on_total}
 use Rattle.std.specs.Cmp.Lexicographic.{nat_list_cmp_total}
-use Rattle.std.proofs.lemmas.List.{length-map}
 use Rattle.sqlite_keyed.proofs.ListLemmas.{slice_get-filter, map-map, map_same}
 use Rattle.lab_people_access.specs.declared.persons.Person.{Person}
 use Rattle.lab_people_access.specs.Persons.{person_of}
@@ -13,7 +12,7 @@ use Rattle.lab_store_tables.specs.Changes.{is_person}
 use Rattle.lab_store_tables.specs.Meaning.{person_in, persons_of, by_code}
 use Rattle.lab_store_columns.proofs.Finds.{found_alone}
 use Rattle.lab_store_read_people.specs.Heads.{ask_head, person_head, person_heads_of, ask_by, person_by}
-use Rattle.lab_store_read_people.specs.PersonsShown.{person_shown, person_shown_by, persons_shown, all_codes_shown, person_read, password_cells, ask_cells}
+use Rattle.lab_store_read_people.specs.PersonsShown.{person_shown, person_shown_by, persons_shown, person_read, password_cells, ask_cells}
 use Rattle.lab_store_read_people.proofs.PersonKeys.{persons_apart}
 use Rattle.lab_store_columns.proofs.Lists.{alone_texts}
 use Rattle.lab_store_columns.proofs.Found.{flag_back, number_back, blob_back, id_back}
@@ -75,6 +74,3 @@ person_found t kept lab code =
     ∙ sym (person_is_found code (persons_of t lab)
     ∙ found_alone by_code (on_total (λ (one : PersonRow). one.code) nat_list_cmp_total) (λ (one : PersonRow). int_eq one.lab lab) (person_in t) (λ (one : Person). bytes_eq one.code code) t.persons
     (alone_texts (λ (one : PersonRow). one.lab) (λ (one : PersonRow). one.code) lab code t.persons (persons_apart t kept)))
-
-pub persons_counted : (t : Tables) (lab : ℤ) → length (all_codes_shown t lab) ≡ length (persons_of t lab)
-persons_counted t lab = length-map _ _ ∙ sym (length-map _ _)

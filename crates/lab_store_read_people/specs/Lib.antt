@@ -1,3 +1,4 @@
+pub mod CountsShown
 pub mod Heads
 pub mod PersonsReadable
 pub mod PersonsShown

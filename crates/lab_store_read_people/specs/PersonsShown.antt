@@ -9,7 +9,6 @@ use Rattle.lab_store_tables.specs.Rows.{PersonRow, PasswordColumns, AskColumns, 
 use Rattle.lab_store_tables.specs.Columns.{roles_in, password_in}
 use Rattle.lab_store_tables.specs.Changes.{is_person}
 use Rattle.lab_store_tables.specs.Meaning.{by_code}
-use Rattle.lab_store_columns.specs.Shown.{code_shown}
 use Rattle.lab_store_read_people.specs.declared.heads.PersonHead.{PersonHead}
 use Rattle.lab_store_read_people.specs.Heads.{ask_head}
 
@@ -30,12 +29,6 @@ person_shown_by t lab code = map person_shown (filter (is_person lab code) t.per
 abbrev pub persons_shown : Tables → ℤ → List Row
 persons_shown t lab =
     map person_shown
-    (sort_by by_code (filter (λ (one : PersonRow). int_eq one.lab lab) t.persons))
-
--- the codes of all of them
-abbrev pub all_codes_shown : Tables → ℤ → List Row
-all_codes_shown t lab =
-    map code_shown
     (sort_by by_code (filter (λ (one : PersonRow). int_eq one.lab lab) t.persons))
 
 abbrev pub password_cells : Row → PasswordColumns

@@ -4,11 +4,13 @@
 
 mod asking;
 mod cells;
+mod counts;
 mod heads;
 mod passwords;
 mod persons;
 mod sessions;
 
+pub use counts::person_count;
 pub use heads::{AskHead, PersonHead};
-pub use persons::{person_at, person_count, persons_at};
+pub use persons::{person_at, persons_at};
 pub use sessions::session_at;

@@ -1,6 +1,6 @@
 //! Persons, with their accounts.
 
-ghost use Rattle.std.specs.Prelude.{◌≡◌, [], ◌∷◌, ◌++◌, map, length, option_map, slice_get, All, IfOk, IfErr, IfSome};
+ghost use Rattle.std.specs.Prelude.{◌≡◌, [], ◌∷◌, ◌++◌, map, option_map, slice_get, All, IfOk, IfErr, IfSome};
 ghost use Rattle.lab_people_access.specs.Persons.{person_of};
 ghost use Rattle.lab_store_tables.specs.Meaning.{persons_of};
 ghost use Rattle.lab_store_columns.specs.Causes.{HasItsCause, HasFirst};
@@ -8,7 +8,7 @@ ghost use Rattle.lab_store_columns.specs.Cells.{storage};
 ghost use Rattle.lab_store_columns.specs.Reads.{Reads, MayRead};
 ghost use Rattle.lab_store_read_people.specs.Heads.{ask_by, person_by, person_heads_of};
 ghost use Rattle.lab_store_read_people.specs.PersonsReadable.{HasPerson, HasCode, HasAsker, HasWholePerson};
-ghost use Rattle.lab_store_read_people.specs.PersonsShown.{person_shown_by, persons_shown, all_codes_shown, person_read};
+ghost use Rattle.lab_store_read_people.specs.PersonsShown.{person_shown_by, persons_shown, person_read};
 
 use crate::cells::moment_if;
 use crate::heads::{AskHead, PersonHead};
@@ -44,19 +44,6 @@ fn persons_rows<D: Readable>(conn: &mut D, lab: i64) -> Result<Vec<Row>, ReadFau
     rows_by_one(
         conn,
         "SELECT code, name, roles, retired, failures, locked, kind, salt, rounds, bytes, salt2, rounds2, bytes2, changed, asker, asked, ask_salt, ask_rounds, ask_bytes FROM persons WHERE lab = ?1 ORDER BY code",
-        lab,
-    )
-}
-
-// The codes of the persons of the laboratory with the id, in order.
-fn all_code_rows<D: Readable>(conn: &mut D, lab: i64) -> Result<Vec<Row>, ReadFault>
-    ensures reads { Reads (λ t rows. rows.items ≡ all_codes_shown t lab)
-        (D.state conn.old) (D.state conn.new) result }
-    ensures cause { HasItsCause (λ t. Unit {0}) (D.state conn.old) (D.state conn.new) result }
-{
-    rows_by_one(
-        conn,
-        "SELECT code FROM persons WHERE lab = ?1 ORDER BY code",
         lab,
     )
 }
@@ -267,17 +254,4 @@ pub fn persons_at<D: Readable>(
     let mut made = Vec::new(alloc);
     add_persons(alloc, conn, &mut made, heads)?;
     Ok(made)
-}
-
-/// How many persons the laboratory with the id has.
-///
-/// # Errors
-/// The store refused, a row is none that this program writes, or memory ran out.
-pub fn person_count<D: Readable>(conn: &mut D, lab: i64) -> Result<u64, ReadFault>
-    ensures reads { Reads (λ t count. count ≡ length (persons_of t lab))
-        (D.state conn.old) (D.state conn.new) result }
-    ensures cause { HasItsCause (λ t. Unit {0}) (D.state conn.old) (D.state conn.new) result }
-{
-    let rows = all_code_rows(conn, lab)?;
-    Ok(rows.len() as u64)
 }
