@@ -15,9 +15,9 @@ use Rattle.lab_store_read_people.specs.declared.heads.PersonHead.{PersonHead}
 use Rattle.lab_store_read_people.specs.Heads.{ask_head, person_head, person_heads_of, person_by}
 use Rattle.lab_store_read_people.specs.SessionsShown.{session_read}
 use Rattle.lab_store_read_people.proofs.PersonsFound.{persons_built}
-use Rattle.lab_store_load.specs.declared.heads.ToldHead.{ToldHead}
-use Rattle.lab_store_load.specs.Trails.{told_head, told_by}
-use Rattle.lab_store_load.specs.Shown.{told_read}
+use Rattle.lab_store_read_trail.specs.declared.heads.ToldHead.{ToldHead}
+use Rattle.lab_store_read_trail.specs.Trails.{told_head, told_by}
+use Rattle.lab_store_read_trail.specs.Shown.{told_read}
 use Rattle.lab_move_tables.specs.OldRows.{old_tables, beside, old_rounds}
 use Rattle.lab_move_tables.specs.Owned.{own_persons, own_sessions, own_trail, lab_of}
 use Rattle.lab_move_tables.specs.KeptLabs.{run, is_theirs, is_nobody_or_theirs, are_kept_persons, are_kept_sessions, is_kept_trail}

@@ -2,8 +2,8 @@
 use Rattle.std.specs.Prelude.{ℕ, ℤ, Bool, List, map, Option}
 use Rattle.lab_records_kept.specs.declared.trails.TrailRow.{TrailRow as Told}
 use Rattle.lab_store_tables.specs.Rows.{Tables}
-use Rattle.lab_store_load.specs.declared.heads.ToldHead.{ToldHead}
-use Rattle.lab_store_load.specs.Trails.{told_head}
+use Rattle.lab_store_read_trail.specs.declared.heads.ToldHead.{ToldHead}
+use Rattle.lab_store_read_trail.specs.Trails.{told_head}
 use Rattle.lab_move_tables.specs.Owned.{own_trail}
 use Rattle.lab_move_tables.specs.KeptLabs.{is_nobody_or_theirs}
 use Rattle.lab_move_rows.specs.Shown.{trail_shown}

@@ -3,8 +3,8 @@
 ghost use Rattle.std.specs.Prelude.{◌≡◌, map, option_map, IfOk};
 ghost use Rattle.std.specs.List.{list_all};
 ghost use Rattle.lab_store_tables.specs.Meaning.{trail_of};
-ghost use Rattle.lab_store_load.specs.Trails.{told_by};
-ghost use Rattle.lab_store_load.specs.Shown.{told_read};
+ghost use Rattle.lab_store_read_trail.specs.Trails.{told_by};
+ghost use Rattle.lab_store_read_trail.specs.Shown.{told_read};
 ghost use Rattle.lab_move_tables.specs.KeptLabs.{is_kept_trail};
 ghost use Rattle.lab_move_tables.specs.Reading.{ReadsOld};
 ghost use Rattle.lab_move_people.specs.Kept.{where_kept, are_counted};
@@ -18,7 +18,7 @@ use lab_move_rows::told_rows;
 use lab_records_kept::TrailRow;
 use lab_store_columns::cells::{id_if, moment_of, ordinal_of, text_of};
 use lab_store_columns::{BadStore, ReadFault, Readable};
-use lab_store_load::ToldHead;
+use lab_store_read_trail::ToldHead;
 use sqlite::Row;
 use std::alloc::Global;
 

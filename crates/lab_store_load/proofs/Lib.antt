@@ -1,11 +1,6 @@
 pub mod Counted
-pub mod Exact
-pub mod Keys
 pub mod KnownParts
-pub mod KnownTrails
 pub mod ListLemmas
 pub mod Loaded
 pub mod PeopleLemmas
-pub mod Texts
 pub mod ThingLemmas
-pub mod TrailsFound

@@ -1,6 +1,5 @@
 pub mod Lists
 pub mod Parts
 pub mod People
-pub mod Shown
+pub mod Readable
 pub mod Things
-pub mod Trails

@@ -1,12 +1,13 @@
 //! How many a laboratory has, and which of them are meant.
 
-ghost use Rattle.std.specs.Prelude.{◌≡◌, Some};
+ghost use Rattle.std.specs.Prelude.{◌≡◌, Some, IfSome};
 ghost use Rattle.lab_records_kept.specs.declared.needs.ListWanted.TheVariants.{Persons, Records, Trail};
 ghost use Rattle.lab_store_read_records.specs.Laboratories.{lab_by};
 ghost use Rattle.lab_store_load.specs.Lists.{counts_by, listed_by};
+ghost use Rattle.lab_store_load.specs.Readable.{HasListOf};
+ghost use Rattle.lab_store_columns.specs.Causes.{HasItsCause};
 ghost use Rattle.lab_store_columns.specs.Reads.{Reads, MayRead};
 
-use crate::trail_within;
 use lab_forms_texts::{Ordinal, Series};
 use lab_people_access::Person;
 use lab_records_kept::{Counts, ListWanted, Record, TrailRow};
@@ -14,6 +15,7 @@ use lab_store_columns::{ReadFault, Readable};
 use lab_store_read_forms::filed_within;
 use lab_store_read_people::{person_count, persons_at};
 use lab_store_read_records::LabHead;
+use lab_store_read_trail::trail_within;
 use std::alloc::Global;
 
 /// The list that is meant; the others are empty.
@@ -32,8 +34,9 @@ pub struct Listed {
 /// # Errors
 /// The store refused, a row is none that this program writes, or memory ran out.
 pub fn counts_at<D: Readable>(conn: &mut D, lab: &LabHead) -> Result<Counts, ReadFault>
-    ensures { Reads (λ t counts. counts ≡ counts_by t lab.now)
+    ensures reads { Reads (λ t counts. counts ≡ counts_by t lab.now)
         (D.state conn.old) (D.state conn.new) result }
+    ensures cause { HasItsCause (λ t. Unit {0}) (D.state conn.old) (D.state conn.new) result }
 {
     let persons = person_count(conn, lab.id)?;
     Ok(Counts {
@@ -50,7 +53,9 @@ fn persons_listed<D: Readable>(
     conn: &mut D,
     lab: &LabHead,
 ) -> Result<Listed, ReadFault>
-    ensures { Reads (λ t listed. listed ≡ listed_by (lab_by t lab.now) (Some Persons))
+    ensures reads { Reads (λ t listed. listed ≡ listed_by (lab_by t lab.now) (Some Persons))
+        (D.state conn.old) (D.state conn.new) result }
+    ensures cause { HasItsCause (λ t. HasListOf t lab.now.id Persons)
         (D.state conn.old) (D.state conn.new) result }
 {
     let persons = persons_at(alloc, conn, lab.id)?;
@@ -69,7 +74,10 @@ fn records_listed<D: Readable>(
     from: Ordinal,
     to: Ordinal,
 ) -> Result<Listed, ReadFault>
-    ensures { Reads (λ t listed. listed ≡ listed_by (lab_by t lab.now) (Some (Records from to)))
+    ensures reads { Reads (λ t listed. listed
+        ≡ listed_by (lab_by t lab.now) (Some (Records from to)))
+        (D.state conn.old) (D.state conn.new) result }
+    ensures cause { HasItsCause (λ t. HasListOf t lab.now.id (Records from to))
         (D.state conn.old) (D.state conn.new) result }
 {
     let records = filed_within(alloc, conn, &lab.code, lab.id, from, to)?;
@@ -88,7 +96,9 @@ fn trail_listed<D: Readable>(
     from: Ordinal,
     to: Ordinal,
 ) -> Result<Listed, ReadFault>
-    ensures { Reads (λ t listed. listed ≡ listed_by (lab_by t lab.now) (Some (Trail from to)))
+    ensures reads { Reads (λ t listed. listed ≡ listed_by (lab_by t lab.now) (Some (Trail from to)))
+        (D.state conn.old) (D.state conn.new) result }
+    ensures cause { HasItsCause (λ t. HasListOf t lab.now.id (Trail from to))
         (D.state conn.old) (D.state conn.new) result }
 {
     let trail = trail_within(alloc, conn, lab.id, from, to)?;
@@ -97,6 +107,25 @@ fn trail_listed<D: Readable>(
         records: Series::new(alloc),
         trail: Series::from_vec(trail),
     })
+}
+
+// The list.
+fn list_wanted<D: Readable>(
+    alloc: Global,
+    conn: &mut D,
+    lab: &LabHead,
+    wanted: &ListWanted,
+) -> Result<Listed, ReadFault>
+    ensures reads { Reads (λ t listed. listed ≡ listed_by (lab_by t lab.now) (Some wanted.now))
+        (D.state conn.old) (D.state conn.new) result }
+    ensures cause { HasItsCause (λ t. HasListOf t lab.now.id wanted.now)
+        (D.state conn.old) (D.state conn.new) result }
+{
+    match wanted {
+        ListWanted::Persons => persons_listed(alloc, conn, lab),
+        ListWanted::Records { from, to } => records_listed(alloc, conn, lab, *from, *to),
+        ListWanted::Trail { from, to } => trail_listed(alloc, conn, lab, *from, *to),
+    }
 }
 
 /// The list that is meant.
@@ -109,13 +138,13 @@ pub fn listed_at<D: Readable>(
     lab: &LabHead,
     list: &Option<ListWanted>,
 ) -> Result<Listed, ReadFault>
-    ensures { MayRead (λ t listed. listed ≡ listed_by (lab_by t lab.now) list.now)
+    ensures reads { MayRead (λ t listed. listed ≡ listed_by (lab_by t lab.now) list.now)
+        (D.state conn.old) (D.state conn.new) result }
+    ensures cause { HasItsCause (λ t. IfSome list.now (HasListOf t lab.now.id))
         (D.state conn.old) (D.state conn.new) result }
 {
     match list {
-        Some(ListWanted::Persons) => persons_listed(alloc, conn, lab),
-        Some(ListWanted::Records { from, to }) => records_listed(alloc, conn, lab, *from, *to),
-        Some(ListWanted::Trail { from, to }) => trail_listed(alloc, conn, lab, *from, *to),
+        Some(wanted) => list_wanted(alloc, conn, lab, wanted),
         None => Ok(Listed {
             persons: Series::new(alloc),
             records: Series::new(alloc),

@@ -1,9 +1,11 @@
 //! The part of a laboratory that is needed.
 
-ghost use Rattle.std.specs.Prelude.{◌≡◌, option_map};
+ghost use Rattle.std.specs.Prelude.{◌≡◌, option_map, IfSome};
 ghost use Rattle.lab_records_kept.specs.Parts.{part_of};
 ghost use Rattle.lab_store_tables.specs.Meaning.{meaning};
+ghost use Rattle.lab_store_columns.specs.Causes.{HasItsCause};
 ghost use Rattle.lab_store_columns.specs.Reads.{Reads, MayRead};
+ghost use Rattle.lab_store_load.specs.Readable.{HasPeople, HasThings, HasSlice, HasPart};
 ghost use Rattle.lab_store_load.specs.Parts.{slice_with, slice_counted, slice_by};
 
 use crate::lists::{Listed, counts_at, listed_at};
@@ -24,7 +26,9 @@ fn slice_with<D: Readable>(
     counts: Counts,
     listed: Listed,
 ) -> Result<Slice, ReadFault>
-    ensures { MayRead (λ t slice. slice ≡ slice_with t need.now head counts listed)
+    ensures reads { MayRead (λ t slice. slice ≡ slice_with t need.now head counts listed)
+        (D.state conn.old) (D.state conn.new) result }
+    ensures cause { HasItsCause (λ t. HasPeople t head need.now × HasThings t head need.now)
         (D.state conn.old) (D.state conn.new) result }
 {
     let people = people_at(alloc, conn, &head, need)?;
@@ -54,7 +58,9 @@ fn slice_counted<D: Readable>(
     need: &Need,
     counts: Counts,
 ) -> Result<Slice, ReadFault>
-    ensures { MayRead (λ t slice. slice ≡ slice_counted t need.now head counts)
+    ensures reads { MayRead (λ t slice. slice ≡ slice_counted t need.now head counts)
+        (D.state conn.old) (D.state conn.new) result }
+    ensures cause { HasItsCause (λ t. HasSlice t head need.now)
         (D.state conn.old) (D.state conn.new) result }
 {
     let listed = listed_at(alloc, conn, &head, &need.list)?;
@@ -68,7 +74,9 @@ fn slice_at<D: Readable>(
     head: LabHead,
     need: &Need,
 ) -> Result<Slice, ReadFault>
-    ensures { Reads (λ t slice. slice ≡ slice_by t need.now head)
+    ensures reads { Reads (λ t slice. slice ≡ slice_by t need.now head)
+        (D.state conn.old) (D.state conn.new) result }
+    ensures cause { HasItsCause (λ t. HasSlice t head need.now)
         (D.state conn.old) (D.state conn.new) result }
 {
     let counts = counts_at(conn, &head)?;
@@ -82,7 +90,9 @@ fn slice_if<D: Readable>(
     head: Option<LabHead>,
     need: &Need,
 ) -> Result<Option<Slice>, ReadFault>
-    ensures { MayRead (λ t slice. slice ≡ option_map (slice_by t need.now) head)
+    ensures reads { MayRead (λ t slice. slice ≡ option_map (slice_by t need.now) head)
+        (D.state conn.old) (D.state conn.new) result }
+    ensures cause { HasItsCause (λ t. IfSome head (λ one. HasSlice t one need.now))
         (D.state conn.old) (D.state conn.new) result }
 {
     match head {
@@ -104,7 +114,9 @@ pub fn load<D: Readable>(
     code: &LabCode,
     need: &Need,
 ) -> Result<Option<Slice>, ReadFault>
-    ensures { Reads (λ t found. found ≡ part_of need.now (meaning t code.now))
+    ensures reads { Reads (λ t found. found ≡ part_of need.now (meaning t code.now))
+        (D.state conn.old) (D.state conn.new) result }
+    ensures cause { HasItsCause (λ t. HasPart t code.now need.now)
         (D.state conn.old) (D.state conn.new) result }
 {
     let head = lab_at(alloc, conn, code)?;

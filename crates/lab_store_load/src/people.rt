@@ -4,6 +4,8 @@ ghost use Rattle.std.specs.Prelude.{◌≡◌, option_and_then};
 ghost use Rattle.lab_records_kept.specs.Lookups.{session_at, person_at, caller_of};
 ghost use Rattle.lab_store_read_records.specs.Laboratories.{lab_by};
 ghost use Rattle.lab_store_load.specs.People.{callers_by, people_by};
+ghost use Rattle.lab_store_load.specs.Readable.{HasSessionOf, HasPersonOf, HasCallerOf, HasCallers, HasPeople};
+ghost use Rattle.lab_store_columns.specs.Causes.{HasItsCause};
 ghost use Rattle.lab_store_columns.specs.Reads.{MayRead};
 
 use lab_forms_texts::PersonCode;
@@ -42,8 +44,10 @@ fn session_if<D: Readable>(
     lab: &LabHead,
     token: &Option<Digest>,
 ) -> Result<Option<Session>, ReadFault>
-    ensures { MayRead (λ t session. session
+    ensures reads { MayRead (λ t session. session
         ≡ option_and_then (session_at (lab_by t lab.now)) token.now)
+        (D.state conn.old) (D.state conn.new) result }
+    ensures cause { HasItsCause (λ t. HasSessionOf t lab.now.id token.now)
         (D.state conn.old) (D.state conn.new) result }
 {
     match token {
@@ -59,7 +63,9 @@ fn caller_if<D: Readable>(
     lab: &LabHead,
     session: &Option<Session>,
 ) -> Result<Option<Person>, ReadFault>
-    ensures { MayRead (λ t caller. caller ≡ caller_of (lab_by t lab.now) session.now)
+    ensures reads { MayRead (λ t caller. caller ≡ caller_of (lab_by t lab.now) session.now)
+        (D.state conn.old) (D.state conn.new) result }
+    ensures cause { HasItsCause (λ t. HasCallerOf t lab.now.id session.now)
         (D.state conn.old) (D.state conn.new) result }
 {
     match session {
@@ -75,7 +81,9 @@ fn callers_at<D: Readable>(
     lab: &LabHead,
     token: &Option<Digest>,
 ) -> Result<Callers, ReadFault>
-    ensures { MayRead (λ t callers. callers ≡ callers_by (lab_by t lab.now) token.now)
+    ensures reads { MayRead (λ t callers. callers ≡ callers_by (lab_by t lab.now) token.now)
+        (D.state conn.old) (D.state conn.new) result }
+    ensures cause { HasItsCause (λ t. HasCallers t lab.now token.now)
         (D.state conn.old) (D.state conn.new) result }
 {
     let session = session_if(alloc, conn, lab, token)?;
@@ -90,7 +98,10 @@ fn person_if<D: Readable>(
     lab: &LabHead,
     code: &Option<PersonCode>,
 ) -> Result<Option<Person>, ReadFault>
-    ensures { MayRead (λ t person. person ≡ option_and_then (person_at (lab_by t lab.now)) code.now)
+    ensures reads { MayRead (λ t person. person
+        ≡ option_and_then (person_at (lab_by t lab.now)) code.now)
+        (D.state conn.old) (D.state conn.new) result }
+    ensures cause { HasItsCause (λ t. HasPersonOf t lab.now.id code.now)
         (D.state conn.old) (D.state conn.new) result }
 {
     match code {
@@ -109,7 +120,9 @@ pub fn people_at<D: Readable>(
     lab: &LabHead,
     need: &Need,
 ) -> Result<People, ReadFault>
-    ensures { MayRead (λ t people. people ≡ people_by (lab_by t lab.now) need.now)
+    ensures reads { MayRead (λ t people. people ≡ people_by (lab_by t lab.now) need.now)
+        (D.state conn.old) (D.state conn.new) result }
+    ensures cause { HasItsCause (λ t. HasPeople t lab.now need.now)
         (D.state conn.old) (D.state conn.new) result }
 {
     let callers = callers_at(alloc, conn, lab, &need.token)?;

@@ -1,9 +1,11 @@
 //! What is meant: a version of a form, and a record.
 
-ghost use Rattle.std.specs.Prelude.{◌≡◌, option_and_then};
+ghost use Rattle.std.specs.Prelude.{◌≡◌, option_and_then, IfSome};
 ghost use Rattle.lab_records_kept.specs.Parts.{form_meant, record_meant};
 ghost use Rattle.lab_store_read_records.specs.Laboratories.{lab_by};
 ghost use Rattle.lab_store_load.specs.Things.{things_by};
+ghost use Rattle.lab_store_load.specs.Readable.{HasFormOf, HasFiledOf, HasThings};
+ghost use Rattle.lab_store_columns.specs.Causes.{HasItsCause};
 ghost use Rattle.lab_store_columns.specs.Reads.{Reads, MayRead};
 
 use lab_records_kept::{FormVersion, FormWanted, Need, Record, RecordWanted};
@@ -28,7 +30,9 @@ fn form_wanted<D: Readable>(
     lab: &LabHead,
     wanted: &FormWanted,
 ) -> Result<Option<FormVersion>, ReadFault>
-    ensures { Reads (λ t form. form ≡ form_meant (lab_by t lab.now) wanted.now)
+    ensures reads { Reads (λ t form. form ≡ form_meant (lab_by t lab.now) wanted.now)
+        (D.state conn.old) (D.state conn.new) result }
+    ensures cause { HasItsCause (λ t. HasFormOf t lab.now.id wanted.now)
         (D.state conn.old) (D.state conn.new) result }
 {
     match wanted {
@@ -44,7 +48,10 @@ fn form_if<D: Readable>(
     lab: &LabHead,
     wanted: &Option<FormWanted>,
 ) -> Result<Option<FormVersion>, ReadFault>
-    ensures { MayRead (λ t form. form ≡ option_and_then (form_meant (lab_by t lab.now)) wanted.now)
+    ensures reads { MayRead (λ t form. form
+        ≡ option_and_then (form_meant (lab_by t lab.now)) wanted.now)
+        (D.state conn.old) (D.state conn.new) result }
+    ensures cause { HasItsCause (λ t. IfSome wanted.now (HasFormOf t lab.now.id))
         (D.state conn.old) (D.state conn.new) result }
 {
     match wanted {
@@ -60,7 +67,9 @@ fn filed_wanted<D: Readable>(
     lab: &LabHead,
     wanted: &RecordWanted,
 ) -> Result<Option<Record>, ReadFault>
-    ensures { Reads (λ t filed. filed ≡ record_meant (lab_by t lab.now) wanted.now)
+    ensures reads { Reads (λ t filed. filed ≡ record_meant (lab_by t lab.now) wanted.now)
+        (D.state conn.old) (D.state conn.new) result }
+    ensures cause { HasItsCause (λ t. HasFiledOf t lab.now.id wanted.now)
         (D.state conn.old) (D.state conn.new) result }
 {
     match wanted {
@@ -78,8 +87,10 @@ fn filed_if<D: Readable>(
     lab: &LabHead,
     wanted: &Option<RecordWanted>,
 ) -> Result<Option<Record>, ReadFault>
-    ensures { MayRead (λ t filed. filed
+    ensures reads { MayRead (λ t filed. filed
         ≡ option_and_then (record_meant (lab_by t lab.now)) wanted.now)
+        (D.state conn.old) (D.state conn.new) result }
+    ensures cause { HasItsCause (λ t. IfSome wanted.now (HasFiledOf t lab.now.id))
         (D.state conn.old) (D.state conn.new) result }
 {
     match wanted {
@@ -98,7 +109,9 @@ pub fn things_at<D: Readable>(
     lab: &LabHead,
     need: &Need,
 ) -> Result<Things, ReadFault>
-    ensures { MayRead (λ t things. things ≡ things_by (lab_by t lab.now) need.now)
+    ensures reads { MayRead (λ t things. things ≡ things_by (lab_by t lab.now) need.now)
+        (D.state conn.old) (D.state conn.new) result }
+    ensures cause { HasItsCause (λ t. HasThings t lab.now need.now)
         (D.state conn.old) (D.state conn.new) result }
 {
     let form = form_if(alloc, conn, lab, &need.form)?;

@@ -1,7 +1,7 @@
 use Rattle.std.proofs.Common.{w64, map, ap, ◌∙◌}
 use Rattle.std.proofs.lemmas.Int.{to_z-of_z}
 use Rattle.lab_store_columns.proofs.Queries.{if_then}
-use Rattle.lab_store_load.specs.Shown.{told_read}
+use Rattle.lab_store_read_trail.specs.Shown.{told_read}
 use Rattle.lab_move_tables.specs.Reading.{old_tables_of}
 use Rattle.lab_move_rows.proofs.OldReaders.{may_and}
 use Rattle.lab_move_people.specs.Kept.{where_kept, are_counted}

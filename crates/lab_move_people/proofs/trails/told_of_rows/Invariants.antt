@@ -1,5 +1,5 @@
 use Rattle.std.proofs.Common.{◌≡◌, map, take}
-use Rattle.lab_store_load.specs.Shown.{told_read}
+use Rattle.lab_store_read_trail.specs.Shown.{told_read}
 use Rattle.lab_move_people.proofs.trails.told_of_rows.Given as goal
 
 -- those of the rows so far

@@ -1,7 +1,7 @@
 use Rattle.std.proofs.Common.{◌≡◌, ◌∷◌, length, sym, ap, ◌∙◌, arith, rules, w64}
 use Rattle.std.proofs.lemmas.Int.{to_z-of_z}
 use Rattle.std.specs.Vec.Iter.{into_iter_items}
-use Rattle.lab_store_load.specs.Trails.{told_by}
+use Rattle.lab_store_read_trail.specs.Trails.{told_by}
 use Rattle.lab_move_people.specs.Trails.{is_kept_told}
 use Rattle.lab_store_columns.proofs.Loops.{none_left}
 use Rattle.lab_move_rows.proofs.OldReaders.{reads_as}

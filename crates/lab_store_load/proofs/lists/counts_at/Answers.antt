@@ -5,8 +5,8 @@ use Rattle.lab_store_columns.proofs.Readers.{reads_and}
 use Rattle.lab_store_load.specs.Lists.{counts_by}
 use Rattle.lab_store_load.proofs.lists.counts_at.Goals as goal
 
-pub returns : goal.returns
-returns g c =
+pub returns-clause-reads : goal.returns-clause-reads
+returns-clause-reads g c =
     let lab = c.args.lab.now in
     let fits : SFits w64 lab.id = search rules in
     reads_and (rw (to_z-of_z w64 lab.id fits) at c.in_ok-persons.ensures.reads) (λ kept persons.

@@ -1,0 +1,16 @@
+-- Values from outside, computed on the definitions over the small file of lab_store_tables: what is shown of the trail of aqua.
+use Rattle.std.proofs.Common.{◌≡◌, refl, pos, [], ◌∷◌, Some, None, map}
+use Rattle.std.specs.Prelude.{codes}
+use Rattle.lab_records_kept.specs.declared.trails.TrailRow.{TrailRow as Told}
+use Rattle.lab_store_tables.proofs.KnownFile.{file}
+use Rattle.lab_store_read_trail.specs.declared.heads.ToldHead.{ToldHead}
+use Rattle.lab_store_read_trail.specs.Shown.{told_read, told_shown_within}
+use Rattle.lab_store_read_trail.specs.Trails.{told_by, told_heads_within}
+
+-- by their numbers, and not as they stand in the table, both ends with them; nobody did what the machine did
+pub known_trail :
+    (map (λ (one : ToldHead). one.number) (told_heads_within file (pos 7) 3 5) ≡ 3 ∷ 4 ∷ 5 ∷ [])
+    × (map told_read (told_shown_within file (pos 7) 3 5) ≡ told_heads_within file (pos 7) 3 5)
+    × (map (λ (one : Told). one.person) (map (told_by file) (told_heads_within file (pos 7) 11 20)) ≡ Some (codes "ann") ∷ Some (codes "ann") ∷ [])
+    × (map (λ (one : Told). one.person) (map (told_by file) (told_heads_within file (pos 7) 1 1)) ≡ None ∷ [])
+known_trail = (refl, refl, refl, refl)

@@ -1,0 +1,40 @@
+//! One column of a row, as the type that stands in it. What is none of that type is a fault of the store, and nothing else is;
+//! memory runs out for texts alone.
+
+ghost use Rattle.std.specs.Prelude.{◌≡◌, ◌&&◌, IfOk, IfErr};
+ghost use Rattle.std.specs.Str.{is_utf8};
+ghost use Rattle.sqlite_value.specs.Order.{column, bytes};
+ghost use Rattle.lab_store_columns.specs.Cells.{is_text, stands, IsNotMade};
+ghost use Rattle.lab_store_read_trail.specs.Readable.{is_subject};
+
+use lab_records_kept::Subject;
+use lab_store_columns::cells::cell_of;
+use lab_store_columns::{BadStore, ReadFault};
+use sqlite::Row;
+use sqlite::types::ValueRef;
+use std::alloc::Global;
+
+// The bytes of a text, which may be a subject.
+fn subject_by(alloc: Global, text: &[u8]) -> Result<Subject, ReadFault>
+    ensures value { IfOk result (λ subject. subject ≡ text.now) }
+    ensures fault { IfErr result (IsNotMade (is_utf8 text.now && is_subject text.now)) }
+{
+    match std::str::from_utf8(text) {
+        Ok(text) => Ok(Subject::new(String::from_str(alloc, text)?)),
+        Err(_) => Err(ReadFault::Refused(BadStore)),
+    }
+}
+
+/// What something was done to.
+///
+/// # Errors
+/// No text stands there, or memory ran out for it.
+pub(crate) fn subject_of(alloc: Global, row: &Row, at: usize) -> Result<Subject, ReadFault>
+    ensures value { IfOk result (λ subject. subject ≡ bytes (column row.now at)) }
+    ensures fault { IfErr result (IsNotMade (stands (is_text is_subject) row.now at)) }
+{
+    match cell_of(row, at)? {
+        ValueRef::Text(text) => subject_by(alloc, text),
+        _ => Err(ReadFault::Refused(BadStore)),
+    }
+}
