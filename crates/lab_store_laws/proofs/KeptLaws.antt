@@ -10,6 +10,7 @@ use Rattle.lab_records_kept.specs.declared.changes.Change.TheVariants.{Last, Str
 use Rattle.lab_store_tables.specs.Rows.{LabRow, PersonRow, SessionRow, FormRow, FieldRow, ChoiceRow, RecordRow, VersionRow, EntryRow, SignatureRow, TrailRow, Tables, lab_id, person_id, session_id, form_id, field_id, choice_id, record_id, version_id, entry_id, signature_id, trail_id}
 use Rattle.lab_store_tables.specs.WellKept.{are_apart, have_own_ids, have_parents, same_lab, same_person, same_token, same_session, same_form, same_field, same_key, same_choice, same_record, same_sample, same_version, same_entry, same_signature, same_meaning, same_told, are_ids_unique, are_keys_unique, are_arrows_whole, has_counted, is_current, names_its_form, is_said_alike, AreWellKept, IsWellKept}
 use Rattle.lab_store_tables.specs.Changes.{in_lab, Applies}
+use Rattle.lab_store_laws.specs.ByRules.{IsByRules}
 
 -- ---- rows that are set, where a test of them stays
 
@@ -137,3 +138,14 @@ strays_kept old new code count kept it = subst IsWellKept (sym it.made) (record 
   rows = set_kept old it.lab.id (λ (one : LabRow). record one { stray = count }) (λ one. refl)
       (by_case old it.lab.id (λ (one : LabRow). record one { stray = count }) (λ one. refl)) (λ one. refl) kept.rows;
 })
+
+-- a database's own rules say nothing of the last moment
+pub last_by_rules : (t : Tables) (lab : ℤ) (moment : ℕ) → IsByRules t → IsByRules (in_lab lab (λ (one : LabRow). record one { last = moment }) t)
+last_by_rules t lab moment rules =
+    let next = λ (one : LabRow). record one { last = moment } in
+    let codes_stay = by_case t lab next (λ one. refl) in
+    record {
+      ids = ids_stay t lab next (λ one. refl) codes_stay (λ one. refl) ∙ rules.ids;
+      keys = keys_stay t lab next (λ one. refl) codes_stay (λ one. refl) ∙ rules.keys;
+      arrows = arrows_stay t lab next (λ one. refl) codes_stay (λ one. refl) ∙ rules.arrows;
+    }

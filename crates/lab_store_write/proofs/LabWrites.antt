@@ -137,3 +137,23 @@ trail_is = refl
 pub sets_trail : (id : ℤ) (count : ℕ) (old new : State) (rows : ℕ) → IsTyped old.now → Executes trail_text (Int id ∷ number count ∷ []) old new (Ok rows)
     → Wrote (in_lab id (λ (one : LabRow). record one { trail = count }) (tables_in old.now.trees)) new.now
 sets_trail id count = sets_lab trail_text trail_shown trail_plain trail_is id (number count ∷ []) (λ (one : LabRow). record one { trail = count }) (λ _. refl) (λ _. refl)
+
+-- ---- the last moment with the counter of the trail
+
+abbrev pub row_text : List ℕ
+row_text = codes "UPDATE labs SET last = ?2, trail = ?3 WHERE id = ?1"
+
+abbrev row_shown : List Term
+row_shown = col 1 0 ∷ col 1 0 ∷ lit Null ∷ col 1 2 ∷ col 1 3 ∷ col 0 1 ∷ col 1 5 ∷ col 1 6 ∷ col 1 7 ∷ col 0 2 ∷ []
+
+row_plain : IsPlain (understood lab_schema row_text)
+unfolding understood everything
+row_plain = (refl, refl)
+
+row_is : command_of (understood lab_schema row_text) ≡ Update 1 (record { lets = []; body = by_id_query 1 row_shown })
+unfolding understood everything
+row_is = refl
+
+pub sets_row : (id : ℤ) (moment count : ℕ) (old new : State) (rows : ℕ) → IsTyped old.now → Executes row_text (Int id ∷ number moment ∷ number count ∷ []) old new (Ok rows)
+    → Wrote (in_lab id (λ (one : LabRow). record one { last = moment; trail = count }) (tables_in old.now.trees)) new.now
+sets_row id moment count = sets_lab row_text row_shown row_plain row_is id (number moment ∷ number count ∷ []) (λ (one : LabRow). record one { last = moment; trail = count }) (λ _. refl) (λ _. refl)

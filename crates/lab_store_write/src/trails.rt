@@ -5,13 +5,13 @@ ghost use Rattle.lab_store_tables.specs.Rows.{LabRow};
 ghost use Rattle.lab_store_tables.specs.Changes.{in_lab, AddsTold};
 ghost use Rattle.lab_store_write.specs.Calls.{Writes, Becomes};
 ghost use Rattle.lab_store_write.specs.Ids.{row_id};
-ghost use Rattle.lab_store_write.specs.TrailAdded.{with_told};
+ghost use Rattle.lab_store_write.specs.TrailAdded.{with_told, AddsLastTold};
 
 use crate::named::person_if_any;
 use crate::statements::{RowId, run};
 use crate::values::{id_or_null, id_value, moment_value, ordinal_value, text_value};
 use crate::writable::Writable;
-use lab_forms_texts::Ordinal;
+use lab_forms_texts::{Moment, Ordinal};
 use lab_records_kept::TrailRow;
 use sqlite::Error;
 
@@ -64,5 +64,41 @@ pub fn add_told<W: Writable>(tx: &mut W, lab: RowId, told: &TrailRow) -> Result<
     let person = person_if_any(tx, lab, &told.person)?;
     insert_told(tx, lab, person, told)?;
     set_trail(tx, lab, told.number)?;
+    Ok(())
+}
+
+// Sets the last moment of the laboratory, and how many rows of the trail it has.
+fn set_last_and_trail<W: Writable>(
+    tx: &mut W,
+    lab: RowId,
+    moment: Moment,
+    count: Ordinal,
+) -> Result<usize, Error>
+    ensures { Writes W.lender W.state
+        (Becomes (in_lab lab.id (λ (one : LabRow). record one { last = moment; trail = count })))
+        tx.old tx.new result }
+{
+    run(
+        tx,
+        "UPDATE labs SET last = ?2, trail = ?3 WHERE id = ?1",
+        &[id_value(lab), moment_value(moment), ordinal_value(count)],
+    )
+}
+
+/// Adds a row of the trail, and sets the last moment of the laboratory with its count.
+///
+/// # Errors
+/// Those of `add_told`.
+pub fn add_last_told<W: Writable>(
+    tx: &mut W,
+    lab: RowId,
+    moment: Moment,
+    told: &TrailRow,
+) -> Result<(), Error>
+    ensures { Writes W.lender W.state (AddsLastTold lab.id moment told.now) tx.old tx.new result }
+{
+    let person = person_if_any(tx, lab, &told.person)?;
+    insert_told(tx, lab, person, told)?;
+    set_last_and_trail(tx, lab, moment, told.number)?;
     Ok(())
 }

@@ -4,3 +4,4 @@ pub mod KnownNewborns
 pub mod LabMore
 mod Positions
 mod Steps
+mod FramedSteps

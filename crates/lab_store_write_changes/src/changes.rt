@@ -1,16 +1,19 @@
 //! Each change inside a transaction, and one after the other.
 
 ghost use Rattle.std.specs.Prelude.{OnOk, IsTrue};
+ghost use Rattle.std.specs.List.{list_all};
 ghost use Rattle.sqlite.specs.Effect.{IsDatabase};
 ghost use Rattle.sqlite.specs.State.{HasCleanDisk};
 ghost use Rattle.lab_records_kept.specs.declared.changes.Change.TheVariants.{Last, Strays, SessionsClosed};
 ghost use Rattle.lab_store_tables.specs.Changes.{AppliesIn, InTurn};
 ghost use Rattle.lab_store_laws.specs.Steps.{AppliesWhereKept, StepsBy};
 ghost use Rattle.lab_store_write.specs.Calls.{Stays, Steps, Writes};
+ghost use Rattle.lab_store_write_changes.specs.Framed.{spares_lab, framed};
 
+use crate::framed::frame_of;
 use lab_forms_texts::{Moment, PersonCode};
-use lab_records_kept::{Change, Closing};
-use lab_store_write::{RowId, Writable, add_told, set_last, set_strays};
+use lab_records_kept::{Change, Closing, TrailRow};
+use lab_store_write::{RowId, Writable, add_last_told, add_told, set_last, set_strays};
 use lab_store_write_people::{add_person, add_session, close_sessions, set_person, set_session};
 use lab_store_write_records::{add_form, add_record, enter_row, open_version, sign_version};
 use sqlite::Error;
@@ -69,6 +72,44 @@ fn change_rows<W: Writable>(tx: &mut W, lab: RowId, change: &Change) -> Result<(
     }
 }
 
+// Makes the changes, one after the other.
+fn each_inside<W: Writable>(tx: &mut W, lab: RowId, changes: &[Change]) -> Result<(), Error>
+    ensures stays { Stays W.lender W.state tx.old tx.new }
+    ensures inside { IsTrue (W.state tx.old).in_transaction → HasCleanDisk (W.state tx.new) →
+        OnOk result (IsTrue (W.state tx.new).in_transaction) }
+    // In a database that keeps its own rules:
+    ensures made { IsTrue (W.state tx.old).in_transaction → HasCleanDisk (W.state tx.new) →
+        OnOk result (IsDatabase (W.state tx.old).now →
+        Steps (InTurn (StepsBy lab.id) changes.now) (W.state tx.old) (W.state tx.new)) }
+{
+    for change in changes {
+        change_rows(tx, lab, change)?;
+    }
+    Ok(())
+}
+
+// Makes changes that most requests make: the row of the trail sets the last moment, too.
+fn framed_inside<W: Writable>(
+    tx: &mut W,
+    lab: RowId,
+    moment: Moment,
+    between: &[Change],
+    told: &TrailRow,
+) -> Result<(), Error>
+    ensures stays { Stays W.lender W.state tx.old tx.new }
+    ensures inside { IsTrue (W.state tx.old).in_transaction → HasCleanDisk (W.state tx.new) →
+        OnOk result (IsTrue (W.state tx.new).in_transaction) }
+    // Of changes that are such, in a database that keeps its own rules:
+    ensures made { IsTrue (list_all spares_lab between.now) →
+        IsTrue (W.state tx.old).in_transaction → HasCleanDisk (W.state tx.new) →
+        OnOk result (IsDatabase (W.state tx.old).now →
+        Steps (InTurn (StepsBy lab.id) (framed moment between.now told.now))
+        (W.state tx.old) (W.state tx.new)) }
+{
+    each_inside(tx, lab, between)?;
+    add_last_told(tx, lab, moment, told)
+}
+
 /// Makes the changes, one after the other.
 ///
 /// # Errors
@@ -82,8 +123,8 @@ pub fn all_inside<W: Writable>(tx: &mut W, lab: RowId, changes: &[Change]) -> Re
         OnOk result (IsDatabase (W.state tx.old).now →
         Steps (InTurn (StepsBy lab.id) changes.now) (W.state tx.old) (W.state tx.new)) }
 {
-    for change in changes {
-        change_rows(tx, lab, change)?;
+    match frame_of(changes) {
+        Some(some) => framed_inside(tx, lab, some.moment, some.between, some.told),
+        None => each_inside(tx, lab, changes),
     }
-    Ok(())
 }

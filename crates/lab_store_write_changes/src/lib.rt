@@ -4,6 +4,7 @@
 #![tactic(auto)]
 
 mod changes;
+mod framed;
 mod newborns;
 mod rows;
 

@@ -5,7 +5,7 @@ use Rattle.lab_store_laws.specs.Steps.{AppliesWhereKept}
 use Rattle.lab_store_write.specs.Calls.{Steps}
 use Rattle.lab_store_write.proofs.Writers.{nothing_done, stays_then}
 use Rattle.lab_store_write_changes.proofs.Steps.{none_made, one_more}
-use Rattle.lab_store_write_changes.proofs.changes.all_inside.Goals as goal
+use Rattle.lab_store_write_changes.proofs.changes.each_inside.Goals as goal
 
 pub loop-change-init : goal.loop-change-init
 loop-change-init g c = (

@@ -4,7 +4,7 @@ use Rattle.sqlite.specs.State.{HasCleanDisk}
 use Rattle.lab_store_tables.specs.Changes.{InTurn}
 use Rattle.lab_store_laws.specs.Steps.{StepsBy}
 use Rattle.lab_store_write.specs.Calls.{Stays, Steps}
-use Rattle.lab_store_write_changes.proofs.changes.all_inside.Given as goal
+use Rattle.lab_store_write_changes.proofs.changes.each_inside.Given as goal
 
 -- the changes so far were made
 abbrev pub invariant-loop-change : goal.invariant-loop-change

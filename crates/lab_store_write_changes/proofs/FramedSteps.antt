@@ -1,0 +1,140 @@
+-- The last moment of a laboratory is set with the row of the trail that comes last: as if it had been set before all other changes.
+use Rattle.std.proofs.Common.{◌≡◌, ℕ, ℤ, Bool, true, false, ◌&&◌, List, [], ◌∷◌, ◌++◌, Result, Ok, Err, IfOk, OnOk, refl, ap, subst, int_eq}
+use Rattle.std.specs.List.{list_all}
+use Rattle.sqlite_keyed.specs.Lists.{update_where}
+use Rattle.sqlite_keyed.proofs.KeyedLemmas.{IsKeyedBy-update_where}
+use Rattle.sqlite.specs.Effect.{IsDatabase}
+use Rattle.sqlite.specs.State.{State}
+use Rattle.lab_records_kept.specs.declared.changes.Change.{Change}
+use Rattle.lab_records_kept.specs.declared.changes.Change.TheVariants.{Last, Strays, PersonAdded, PersonSet, SessionAdded, SessionSet, SessionsClosed, FormAdded, RecordAdded, RowAdded, VersionOpened, SignatureAdded, TrailAdded}
+use Rattle.lab_records_kept.specs.declared.trails.TrailRow.{TrailRow as Told}
+use Rattle.lab_store_tables.specs.Rows.{LabRow, Tables, lab_id}
+use Rattle.lab_store_tables.specs.Changes.{InTurn, asker_of}
+use Rattle.lab_store_tables.specs.Held.{AreRising}
+use Rattle.lab_store_tables.specs.Ready.{tables_of}
+use Rattle.lab_store_laws.specs.Steps.{AppliesWhereKept, StepsBy}
+use Rattle.lab_store_laws.proofs.KeptLaws.{last_by_rules}
+use Rattle.lab_store_write.specs.Calls.{Steps}
+use Rattle.lab_store_write.specs.TrailAdded.{with_last, AddsLastTold}
+use Rattle.lab_store_write.proofs.Tables.{rising_labs}
+use Rattle.lab_store_write.proofs.TrailAddedLemmas.{named_still}
+use Rattle.lab_store_write_changes.specs.Framed.{spares_lab, framed, IsFramed}
+use Rattle.lab_store_write_changes.proofs.Steps.{rules_of}
+
+-- what is made of a step that a call made
+pub on_ok_by : {A E S X : Type 0} (r : Result A E) → (S → X) → IfOk r (λ _. S) → OnOk r X
+on_ok_by (Ok a) f it = f it
+on_ok_by (Err e) f it = tt
+
+-- ---- which changes are such
+
+pub framed_is : (moment : ℕ) (between : List Change) (last : Change) (told : Told) → last ≡ TrailAdded told → list_all spares_lab between ≡ true
+    → IsFramed moment between told (Last moment ∷ (between ++ last ∷ []))
+framed_is moment between last told is spared = record { whole = ap (λ (one : Change). Last moment ∷ (between ++ one ∷ [])) is; spared = spared }
+
+and_left : (a b : Bool) → (a && b) ≡ true → a ≡ true
+and_left true b both = refl
+and_left false b both = absurd cc
+
+and_right : (a b : Bool) → (a && b) ≡ true → b ≡ true
+and_right true b both = both
+and_right false b both = absurd cc
+
+-- ---- a change beside the last moment
+
+module _ (lab : ℤ) (moment : ℕ) where
+  rising_still : (t : Tables) → AreRising t → AreRising (with_last lab moment t)
+  rising_still t rising =
+      let mine = λ (one : LabRow). int_eq one.id lab in
+      let next = λ (one : LabRow). record one { last = moment } in
+      rising_labs t (update_where mine next t.labs) rising (IsKeyedBy-update_where lab_id mine next (λ _. refl) t.labs rising.labs)
+
+  beside : (one : Change) (old new : Tables) → spares_lab one ≡ true → AppliesWhereKept lab one old new
+      → AppliesWhereKept lab one (with_last lab moment old) (with_last lab moment new)
+  beside (Last moment) old new spared it = absurd cc
+  beside (Strays count) old new spared it = absurd cc
+  beside (PersonAdded person) old new spared it = absurd cc
+  beside (PersonSet person) old new spared it = record {
+    id = it.id;
+    found = it.found;
+    asker = it.asker;
+    named = named_still lab moment old (asker_of person) it.asker it.named;
+    made = ap (with_last lab moment) it.made;
+  }
+  beside (SessionAdded session) old new spared it = absurd cc
+  beside (SessionSet session) old new spared it = record {
+    id = it.id;
+    found = it.found;
+    person = it.person;
+    named = it.named;
+    made = ap (with_last lab moment) it.made;
+  }
+  beside (SessionsClosed person closing) old new spared it = absurd cc
+  beside (FormAdded form) old new spared it = absurd cc
+  beside (RecordAdded kept) old new spared it = absurd cc
+  beside (RowAdded number row) old new spared it = record {
+    kept = it.kept;
+    found = it.found;
+    version = it.version;
+    last = it.last;
+    added = record {
+      id = it.added.id;
+      free = it.added.free;
+      person = it.added.person;
+      named = it.added.named;
+      made = ap (with_last lab moment) it.added.made;
+    };
+  }
+  beside (VersionOpened number version) old new spared it = absurd cc
+  beside (SignatureAdded number version signature) old new spared it = record {
+    kept = it.kept;
+    found = it.found;
+    signed = it.signed;
+    there = it.there;
+    added = record {
+      id = it.added.id;
+      free = it.added.free;
+      person = it.added.person;
+      named = it.added.named;
+      made = ap (with_last lab moment) it.added.made;
+    };
+  }
+  beside (TrailAdded told) old new spared it = absurd cc
+
+  step_beside : (one : Change) (old new : Tables) → spares_lab one ≡ true → StepsBy lab one old new → StepsBy lab one (with_last lab moment old) (with_last lab moment new)
+  step_beside one old new spared it = record {
+    applies = beside one old new spared it.applies;
+    rising = rising_still new it.rising;
+    rules = last_by_rules new lab moment it.rules;
+  }
+
+  steps_beside : (told : Told) (changes : List Change) → list_all spares_lab changes ≡ true → (t u v : Tables) → InTurn (StepsBy lab) changes t u
+      → StepsBy lab (TrailAdded told) (with_last lab moment u) v → InTurn (StepsBy lab) (changes ++ TrailAdded told ∷ []) (with_last lab moment t) v
+  steps_beside told [] spared t u v it told_last = (v, subst (λ (w : Tables). StepsBy lab (TrailAdded told) (with_last lab moment w) v) it told_last, refl)
+  steps_beside told (one ∷ others) spared t u v it told_last = (
+    with_last lab moment it.0,
+    step_beside one t it.0 (and_left _ _ spared) it.1,
+    steps_beside told others (and_right _ _ spared) it.0 u v it.2 told_last,
+  )
+
+  pub framed_made : (told : Told) (between : List Change) → list_all spares_lab between ≡ true → (a b c : State) → IsDatabase a.now
+      → Steps (InTurn (StepsBy lab) between) a b → Steps (AddsLastTold lab moment told) b c → Steps (InTurn (StepsBy lab) (framed moment between told)) a c
+  framed_made told between spared a b c rules p q = record {
+    inside = q.inside;
+    made = λ typed.
+        let one = p.made typed in
+        let two = q.made one.0 in
+        let t = tables_of a in
+        let begun : StepsBy lab (Last moment) t (with_last lab moment t) = record {
+          applies = refl;
+          rising = rising_still t typed.rising;
+          rules = last_by_rules t lab moment (rules_of a.now typed rules);
+        } in
+        let told_last : StepsBy lab (TrailAdded told) (with_last lab moment (tables_of b)) (tables_of c) = record {
+          applies = two.1;
+          rising = two.0.rising;
+          rules = rules_of c.now two.0 (q.sound one.0 (p.sound typed rules));
+        } in
+        (two.0, (with_last lab moment t, begun, steps_beside told between spared t (tables_of b) (tables_of c) one.1 told_last));
+    sound = λ typed sound. q.sound (p.made typed).0 (p.sound typed sound);
+  }
