@@ -16,12 +16,11 @@ ghost use Rattle.lab_move_labs.specs.Laboratories.{codes_of};
 ghost use Rattle.lab_move.specs.Moving.{Blames, BlamesFirst, BlamesFirstOfAll, CarriesFrom, Fills, FillsAll, HasThese, AreCounted, IsRead, IsSoundIn, IsSoundLab, IsUnsoundIn, IsWhole, IsWholeOf};
 
 use crate::faults::{MoveFault, store_fault};
-use crate::progress::MoveProgress;
 use crate::testing::{not_sound, test_lab};
 use lab_forms_texts::LabCode;
 use lab_move_files::finish;
 use lab_move_labs::{WholeFault, codes, whole};
-use lab_move_writing::place_lab;
+use lab_move_writing::{MoveProgress, place_lab};
 use lab_records_kept::Lab;
 use lab_store_columns::Readable;
 use lab_store_files::FileFault;
@@ -29,25 +28,30 @@ use sqlite::{Alter, Connection};
 use std::alloc::Global;
 
 // Places a laboratory that was tried.
-fn place_tried<T: Alter>(new: &mut Connection<T>, lab: &Lab) -> Result<(), MoveFault>
+fn place_tried<T: Alter, P: MoveProgress>(
+    new: &mut Connection<T>,
+    lab: &Lab,
+    progress: &mut P,
+) -> Result<(), MoveFault>
     requires at_rest { IsAtRest (state T.Store new.old) }
     ensures placed { IsSoundLab lab.now → MakesAtOnce
         (Carries lab.now (state T.Store new.old).now) result
         (state T.Store new.old) (state T.Store new.new) }
     ensures fault { IfErr result (Blames (λ _. ⊥)) }
 {
-    match place_lab(new, lab) {
+    match place_lab(new, lab, progress) {
         Ok(()) => Ok(()),
         Err(fault) => Err(MoveFault::File(store_fault(fault))),
     }
 }
 
 // Tries a laboratory that was read, and places it.
-fn place_sound<T: Alter>(
+fn place_sound<T: Alter, P: MoveProgress>(
     alloc: Global,
     new: &mut Connection<T>,
     code: &LabCode,
     lab: &Lab,
+    progress: &mut P,
 ) -> Result<(), MoveFault>
     requires at_rest { IsAtRest (state T.Store new.old) }
     ensures placed { MakesAtOnce
@@ -58,17 +62,18 @@ fn place_sound<T: Alter>(
         (Blames (λ one. (one ≡ code.now) × ¬ (IsBound lab.now × IsDual lab.now))) }
 {
     match test_lab(alloc, code, lab) {
-        Ok(()) => place_tried(new, lab),
+        Ok(()) => place_tried(new, lab, progress),
         Err(fault) => Err(fault),
     }
 }
 
 // Places a laboratory that was read, where there is one.
-fn place_found<T: Alter>(
+fn place_found<T: Alter, P: MoveProgress>(
     alloc: Global,
     new: &mut Connection<T>,
     code: &LabCode,
     found: Option<Lab>,
+    progress: &mut P,
 ) -> Result<(), MoveFault>
     requires at_rest { IsAtRest (state T.Store new.old) }
     ensures placed { MakesAtOnce (λ db. (lab : AnyLab) × (found ≡ Some lab) × IsSoundLab lab
@@ -79,7 +84,7 @@ fn place_found<T: Alter>(
         × (lab : AnyLab) × (found ≡ Some lab) × ¬ (IsBound lab × IsDual lab))) }
 {
     match found {
-        Some(lab) => place_sound(alloc, new, code, &lab),
+        Some(lab) => place_sound(alloc, new, code, &lab, progress),
         None => Err(MoveFault::File(FileFault::Storage)),
     }
 }
@@ -96,11 +101,12 @@ fn unread(code: &LabCode, fault: WholeFault) -> MoveFault
 }
 
 // Reads the laboratory of the code, and places it.
-fn move_lab<D: Readable, T: Alter>(
+fn move_lab<D: Readable, T: Alter, P: MoveProgress>(
     alloc: Global,
     old: &mut D,
     new: &mut Connection<T>,
     code: &LabCode,
+    progress: &mut P,
 ) -> Result<(), MoveFault>
     requires at_rest { IsAtRest (state T.Store new.old) }
     ensures reads { ReadsOld (λ t _. IsSoundIn t code.now)
@@ -112,7 +118,7 @@ fn move_lab<D: Readable, T: Alter>(
         IsUnsoundIn (old_tables_of (D.state old.old)) code.now))) }
 {
     match whole(alloc, old, code) {
-        Ok(found) => place_found(alloc, new, code, found),
+        Ok(found) => place_found(alloc, new, code, found, progress),
         Err(fault) => Err(unread(code, fault)),
     }
 }
@@ -134,8 +140,8 @@ fn move_each<D: Readable, T: Alter, P: MoveProgress>(
 {
     for place in 0..codes.len() {
         let code = &codes[place];
-        progress.told(code, place, codes.len());
-        move_lab(alloc, old, new, code)?;
+        progress.tell_lab(code, place, codes.len());
+        move_lab(alloc, old, new, code, progress)?;
     }
     Ok(())
 }

@@ -6,15 +6,13 @@
 
 mod faults;
 mod filling;
-mod legible;
 mod moving;
 mod old_tables;
 mod opening;
-mod progress;
 mod schemas;
 mod testing;
 
 pub use faults::MoveFault;
+pub use lab_move_writing::{MoveProgress, Unwatched};
 pub use moving::{an_unfinished_file_is_refused, migrate};
 pub use opening::{OldFile, open_old};
-pub use progress::{MoveProgress, Unwatched};

@@ -18,8 +18,8 @@ ghost use Rattle.lab_move.specs.Moving.{HasCause, IsMoved, IsRefused, IsStart, L
 use crate::faults::MoveFault;
 use crate::filling::fill;
 use crate::opening::{OldFile, open_old};
-use crate::progress::MoveProgress;
 use lab_move_files::make_tables;
+use lab_move_writing::MoveProgress;
 use lab_store_files::FileFault;
 use sqlite::{Alter, Connection};
 use std::alloc::Global;

@@ -8,10 +8,10 @@ ghost use Rattle.lab_move.specs.declared.faults.MoveFault.TheVariants.{File, Not
 ghost use Rattle.lab_move.specs.Moving.{Blames, IsSoundLab};
 
 use crate::faults::MoveFault;
-use crate::legible::lab_is_legible;
 use lab_forms_texts::LabCode;
 use lab_move_sound::{is_sound, is_within};
 use lab_records_kept::Lab;
+use lab_records_walks::lab_is_legible;
 use lab_store_files::FileFault;
 use std::alloc::Global;
 

@@ -8,6 +8,7 @@ ghost use Rattle.lab_store_write.specs.Calls.{Writes};
 ghost use Rattle.lab_move_laws.specs.Placings.{whole_changes};
 ghost use Rattle.lab_move_writing.specs.Turns.{MakesInTurn};
 
+use crate::progress::MoveProgress;
 use lab_forms_texts::OutOfMemory;
 use lab_people_access::{Person, Session};
 use lab_records_kept::{FormVersion, Lab, Record, TrailRow};
@@ -17,7 +18,7 @@ use lab_store_write_records::{add_form, add_record};
 use sqlite::{Error, ErrorCode};
 
 // The person before anything was asked for. The only error is out of memory.
-fn unasked(person: &Person) -> Result<Person, OutOfMemory>
+fn unasked_person(person: &Person) -> Result<Person, OutOfMemory>
     ensures { IfOk result (λ one. one ≡ bare person.now) }
 {
     let mut one = person.copy()?;
@@ -29,7 +30,7 @@ fn unasked(person: &Person) -> Result<Person, OutOfMemory>
 fn add_bare<W: Writable>(tx: &mut W, lab: RowId, person: &Person) -> Result<(), Error>
     ensures { Writes W.lender W.state (AddsPerson lab.id (bare person.now)) tx.old tx.new result }
 {
-    match unasked(person) {
+    match unasked_person(person) {
         Ok(one) => add_person(tx, lab, &one),
         Err(_) => Err(Error::SqliteFailure(ErrorCode::OutOfMemory)),
     }
@@ -89,13 +90,20 @@ fn add_forms<W: Writable>(tx: &mut W, lab: RowId, forms: &[FormVersion]) -> Resu
     Ok(())
 }
 
-// Adds the records, one after the other, each with its versions, their rows and their signatures.
-fn add_records<W: Writable>(tx: &mut W, lab: RowId, records: &[Record]) -> Result<(), Error>
+// Adds the records, one after the other, each with its versions, their rows and their signatures. The progress is told
+// after each.
+fn add_records<W: Writable, P: MoveProgress>(
+    tx: &mut W,
+    lab: RowId,
+    records: &[Record],
+    progress: &mut P,
+) -> Result<(), Error>
     ensures { MakesInTurn W.lender W.state lab.id (map RecordAdded records.now)
         tx.old tx.new result }
 {
-    for kept in records {
-        add_record(tx, lab, kept)?;
+    for place in 0..records.len() {
+        add_record(tx, lab, &records[place])?;
+        progress.tell_records(place + 1, records.len());
     }
     Ok(())
 }
@@ -120,16 +128,17 @@ fn add_people<W: Writable>(tx: &mut W, lab: RowId, persons: &[Person]) -> Result
 }
 
 // Adds the records, and then the trail.
-fn add_work<W: Writable>(
+fn add_work<W: Writable, P: MoveProgress>(
     tx: &mut W,
     lab: RowId,
     records: &[Record],
     trail: &[TrailRow],
+    progress: &mut P,
 ) -> Result<(), Error>
     ensures { MakesInTurn W.lender W.state lab.id
         (map RecordAdded records.now ++ map TrailAdded trail.now) tx.old tx.new result }
 {
-    add_records(tx, lab, records)?;
+    add_records(tx, lab, records, progress)?;
     add_trail(tx, lab, trail)
 }
 
@@ -137,11 +146,22 @@ fn add_work<W: Writable>(
 ///
 /// # Errors
 /// The store refused, also where somebody or a form is named that the laboratory doesn't have; or memory ran out.
-pub(crate) fn add_kinds<W: Writable>(tx: &mut W, row: RowId, lab: &Lab) -> Result<(), Error>
+pub(crate) fn add_kinds<W: Writable, P: MoveProgress>(
+    tx: &mut W,
+    row: RowId,
+    lab: &Lab,
+    progress: &mut P,
+) -> Result<(), Error>
     ensures { MakesInTurn W.lender W.state row.id (whole_changes lab.now) tx.old tx.new result }
 {
     add_people(tx, row, lab.persons.as_slice())?;
     add_sessions(tx, row, lab.sessions.as_slice())?;
     add_forms(tx, row, lab.forms.as_slice())?;
-    add_work(tx, row, lab.records.as_slice(), lab.trail.as_slice())
+    add_work(
+        tx,
+        row,
+        lab.records.as_slice(),
+        lab.trail.as_slice(),
+        progress,
+    )
 }

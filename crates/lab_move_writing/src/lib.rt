@@ -4,6 +4,8 @@
 
 mod kinds;
 mod placing;
+mod progress;
 mod rows;
 
 pub use placing::place_lab;
+pub use progress::{MoveProgress, Unwatched};

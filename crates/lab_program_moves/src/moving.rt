@@ -19,15 +19,19 @@ use sqlite::Connection;
 use std::alloc::Global;
 use std::io::Write;
 
-/// Who tells a person at a terminal which laboratory is moved.
+/// Who tells a person at a terminal which laboratory is moved, and how many of its records are.
 struct Teller<'a, H> {
     shelf: &'a mut H,
 }
 
 impl<'a, H: Shelf> MoveProgress for Teller<'a, H> {
-    fn told(&mut self, lab: &LabCode, done: usize, all: usize) {
+    fn tell_lab(&mut self, lab: &LabCode, done: usize, all: usize) {
         self.shelf
             .tell_move(lab.as_str(), done.saturating_add(1), all);
+    }
+
+    fn tell_records(&mut self, done: usize, all: usize) {
+        self.shelf.tell_records(done, all);
     }
 }
 
@@ -49,7 +53,7 @@ fn old_file<H: Shelf>(
 }
 
 // Tells a word, and answers the status of a fault.
-fn told<E: Write>(errors: &mut E, word: &str) -> Result<u8, WriteFault>
+fn word_told<E: Write>(errors: &mut E, word: &str) -> Result<u8, WriteFault>
     ensures { TellsWord word.now result (E.contents errors.old) (E.contents errors.new) }
 {
     tell(errors, word)?;
@@ -72,11 +76,11 @@ fn print<W: Write, E: Write>(
     }) (migrated_line count) }
 {
     let Ok(line) = format!(in alloc; "migrated {count}\n") else {
-        return told(errors, OutOfMemory.word());
+        return word_told(errors, OutOfMemory.word());
     };
     match write_reply(output, line.as_bytes()) {
         Ok(()) => Ok(0),
-        Err(_) => told(errors, ServerFault::Write.word()),
+        Err(_) => word_told(errors, ServerFault::Write.word()),
     }
 }
 
@@ -127,7 +131,7 @@ fn decline_move<H: Shelf, E: Write>(
 
 // Moves the laboratories of an old file that was opened into a new one that was, and closes the new
 // one. The old one is let go of, and not closed, since that would write to it.
-fn moved<H: Shelf>(
+fn count_moved<H: Shelf>(
     alloc: Global,
     shelf: &mut H,
     old: OldFile<H::Disk>,
@@ -185,7 +189,7 @@ where
             return decline_by(host.alloc, &mut host.shelf, errors, fault, trouble);
         }
     };
-    match moved(host.alloc, &mut host.shelf, from, into) {
+    match count_moved(host.alloc, &mut host.shelf, from, into) {
         Ok(count) => print(host.alloc, count, output, errors),
         Err(fault) => decline_move(
             host.alloc,

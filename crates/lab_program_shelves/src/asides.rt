@@ -78,7 +78,7 @@ impl<'a, S: Supposed> HostShelf<'a, S> {
 
     // Holds a file and its log, so that nobody else writes them meanwhile. What this user may not
     // write isn't held, and is read as it is, if there is no journal that had to be played back.
-    fn held(&self, places: &Places) -> Result<Option<Files<FileFrom<S>>>, FileFault> {
+    fn held_files(&self, places: &Places) -> Result<Option<Files<FileFrom<S>>>, FileFault> {
         match open(self.rt, places.file.as_str(), self.start.again()) {
             Ok(files) => Ok(Some(files)),
             Err(OpenError::Io(error)) if is_forbidden(error.kind()) => {
@@ -133,7 +133,7 @@ impl<'a, S: Supposed> HostShelf<'a, S> {
             return Err(FileFault::Storage);
         }
         let had_log = self.node(from.log.as_str()).is_some();
-        let held = self.held(from)?;
+        let held = self.held_files(from)?;
         if held.is_some() && !had_log {
             self.remove(from.log.as_str());
         }

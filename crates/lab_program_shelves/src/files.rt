@@ -32,7 +32,7 @@ where
         return Err(OpenFault::File(FileFault::NotADeskFile));
     }
     let conn = shelf.connect(alloc, path)?;
-    kept_tidy(alloc, shelf, path, opened(conn))
+    kept_tidy(alloc, shelf, path, opened_connection(conn))
 }
 
 // Answers what was answered. Where the file was refused, nothing is left beside it.
@@ -51,7 +51,7 @@ fn kept_tidy<H: Shelf, T>(
 }
 
 // A connection over which a file of laboratories was opened.
-fn opened<S: Alter>(mut conn: Connection<S>) -> Result<Connection<S>, OpenFault>
+fn opened_connection<S: Alter>(mut conn: Connection<S>) -> Result<Connection<S>, OpenFault>
 where
     Connection<S>: Closing,
     requires { IsAtRest (state S.Store conn) }
@@ -68,7 +68,7 @@ where
 }
 
 // A connection over which the tables of laboratories were made.
-fn made<S: Alter>(mut conn: Connection<S>) -> Result<Connection<S>, OpenFault>
+fn made_connection<S: Alter>(mut conn: Connection<S>) -> Result<Connection<S>, OpenFault>
 where
     Connection<S>: Closing,
     requires { IsAtRest (state S.Store conn) }
@@ -102,9 +102,9 @@ where
 {
     let conn = shelf.connect(alloc, path)?;
     if conn.schema().tables.is_empty() {
-        made(conn)
+        made_connection(conn)
     } else {
-        kept_tidy(alloc, shelf, path, opened(conn))
+        kept_tidy(alloc, shelf, path, opened_connection(conn))
     }
 }
 

@@ -264,6 +264,10 @@ impl<'a, S: Supposed> Shelf for HostShelf<'a, S> {
         }
     }
 
+    fn tell_records(&mut self, done: usize, all: usize) {
+        print_records(self.rt, done, all);
+    }
+
     fn advise(&mut self, trouble: Trouble<'_>) {
         let mut errors = self.rt.stderr();
         if errors.is_terminal() {
@@ -326,8 +330,21 @@ impl<'a> Chance for SystemChance<'a> {
     }
 }
 
-/// After how many records the progress of a copy is printed again.
-const RECORDS_BETWEEN: u32 = 100;
+/// After how many records the progress of a copy, or of a move, is printed again.
+const RECORDS_BETWEEN: usize = 100;
+
+// Prints on standard error, where that is a terminal, how many of how many records are done. The next such line overwrites
+// this one.
+fn print_records(rt: &HostRuntime, done: usize, all: usize) {
+    if done % RECORDS_BETWEEN != 0 && done != all {
+        return;
+    }
+    let mut errors = rt.stderr();
+    if errors.is_terminal() {
+        let end = if done == all { "\n" } else { "" };
+        let _ = write!(errors, "\rlabdesk: {done} of {all} records{end}");
+    }
+}
 
 /// Tells on standard error how far a copy is, where that is a terminal.
 #[derive(Drop)]
@@ -344,13 +361,6 @@ impl<'a> TerminalProgress<'a> {
 
 impl<'a> Progress for TerminalProgress<'a> {
     fn told(&mut self, done: u32, all: u32) {
-        if done % RECORDS_BETWEEN != 0 && done != all {
-            return;
-        }
-        let mut errors = self.rt.stderr();
-        if errors.is_terminal() {
-            let end = if done == all { "\n" } else { "" };
-            let _ = write!(errors, "\rlabdesk: {done} of {all} records{end}");
-        }
+        print_records(self.rt, done as usize, all as usize);
     }
 }

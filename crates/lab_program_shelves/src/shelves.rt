@@ -70,6 +70,10 @@ pub trait Shelf {
     /// many.
     fn tell_move(&mut self, lab: &str, number: usize, all: usize);
 
+    /// Tells a person at a terminal, in a line that the next one overwrites, how many of how many
+    /// records of the laboratory are moved.
+    fn tell_records(&mut self, done: usize, all: usize);
+
     /// Advises a person at a terminal, in a line, what to do about the trouble.
     fn advise(&mut self, trouble: Trouble<'_>);
 }

@@ -27,7 +27,7 @@ pub(crate) fn placed(conn: &mut File, lab: &Lab) -> Result<(), KeeperFault> {
     if !conn.is_autocommit() {
         return Err(KeeperFault::Refused(BadStore));
     }
-    place_lab(conn, lab)
+    place_lab(conn, lab, &mut Unwatched)
 }
 
 pub(crate) fn finished(conn: &mut File) -> Result<(), KeeperFault> {

@@ -5,6 +5,6 @@ use Rattle.lab_move_writing.specs.Turns.{MakesInTurn}
 use Rattle.lab_move_writing.proofs.kinds.add_records.Given as goal
 
 -- those so far were made
-abbrev pub invariant-loop-kept : goal.invariant-loop-kept
-invariant-loop-kept g l =
-    MakesInTurn {A = Unit {0}} {E = Error} g.W.Writable.lender g.W.Writable.state l.fn.lab.id (map RecordAdded (take l.kept-index l.records)) l.fn.tx l.tx (Ok tt)
+abbrev pub invariant-loop-place : goal.invariant-loop-place
+invariant-loop-place g l =
+    MakesInTurn {A = Unit {0}} {E = Error} g.W.Writable.lender g.W.Writable.state l.fn.lab.id (map RecordAdded (take l.place l.records)) l.fn.tx l.tx (Ok tt)

@@ -17,28 +17,28 @@ returns-in-Err-open_new g c = record {
   told = (Keeps-refl _, c.decline_by-in-Err-open_new.ensures);
 }
 
-pub returns-in-Ok-moved : goal.returns-in-Ok-moved
-returns-in-Ok-moved g c = record {
-  ending = Ok (Ok c.in-Ok-moved.count);
+pub returns-in-Ok-count_moved : goal.returns-in-Ok-count_moved
+returns-in-Ok-count_moved g c = record {
+  ending = Ok (Ok c.in-Ok-count_moved.count);
   moves = (
     c.in-Ok.file.conn,
     c.in-Ok-open_new.conn,
     c.in-Ok.ensures,
     (c.old_file.new.shelf, c.in-Ok-open_new.ensures.blank),
-    c.in-Ok-moved.ensures,
+    c.in-Ok-count_moved.ensures,
   );
   told = c.print.ensures;
 }
 
-pub returns-in-Err-moved : goal.returns-in-Err-moved
-returns-in-Err-moved g c = record {
-  ending = Ok (Err c.in-Err-moved.fault);
+pub returns-in-Err-count_moved : goal.returns-in-Err-count_moved
+returns-in-Err-count_moved g c = record {
+  ending = Ok (Err c.in-Err-count_moved.fault);
   moves = (
     c.in-Ok.file.conn,
     c.in-Ok-open_new.conn,
     c.in-Ok.ensures,
     (c.old_file.new.shelf, c.in-Ok-open_new.ensures.blank),
-    c.in-Err-moved.ensures,
+    c.in-Err-count_moved.ensures,
   );
   told = (Keeps-refl _, c.decline_move.ensures);
 }

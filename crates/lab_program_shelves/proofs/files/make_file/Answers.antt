@@ -9,10 +9,10 @@ pub returns-else-is_empty-clause-opened : goal.returns-else-is_empty-clause-open
 returns-else-is_empty-clause-opened g c =
     let held = g.H.Shelf.holds c.args.shelf.now c.args.path.now in
     subst (λ answer. IfOk answer (IsOpened g.H.Disk.Store held)) (sym c.kept_tidy.ensures)
-    (ours_is_opened g.H.Disk.Store held c.in_ok-conn.conn c.in_ok-conn.ensures.found c.opened.result
-    c.opened.ensures.ours)
+    (ours_is_opened g.H.Disk.Store held c.in_ok-conn.conn c.in_ok-conn.ensures.found c.opened_connection.result
+    c.opened_connection.ensures.ours)
 
 pub returns-then-is_empty-clause-opened : goal.returns-then-is_empty-clause-opened
 returns-then-is_empty-clause-opened g c =
     new_is_opened g.H.Disk.Store (g.H.Shelf.holds c.args.shelf.now c.args.path.now)
-    c.in_ok-conn.conn c.in_ok-conn.ensures.found c.made.result c.made.ensures.made
+    c.in_ok-conn.conn c.in_ok-conn.ensures.found c.made_connection.result c.made_connection.ensures.made

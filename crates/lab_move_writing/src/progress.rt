@@ -5,7 +5,10 @@ use lab_forms_texts::LabCode;
 /// Who hears how far a move is.
 pub trait MoveProgress {
     /// The laboratory is the next to be carried along, behind so many of so many.
-    fn told(&mut self, lab: &LabCode, done: usize, all: usize);
+    fn tell_lab(&mut self, lab: &LabCode, done: usize, all: usize);
+
+    /// So many of the laboratory's so many records are written.
+    fn tell_records(&mut self, done: usize, all: usize);
 }
 
 /// Nobody hears of it.
@@ -13,5 +16,7 @@ pub trait MoveProgress {
 pub struct Unwatched;
 
 impl MoveProgress for Unwatched {
-    fn told(&mut self, _lab: &LabCode, _done: usize, _all: usize) {}
+    fn tell_lab(&mut self, _lab: &LabCode, _done: usize, _all: usize) {}
+
+    fn tell_records(&mut self, _done: usize, _all: usize) {}
 }

@@ -1,6 +1,6 @@
 -- What is handed out was asked for its schema, and unchanged by that.
 use Rattle.lab_program_shelves.proofs.FileLemmas.{leaves_shown}
-use Rattle.lab_program_shelves.proofs.files.opened.Goals as goal
+use Rattle.lab_program_shelves.proofs.files.opened_connection.Goals as goal
 
 pub returns-in-Ok-clause-ours : goal.returns-in-Ok-clause-ours
 returns-in-Ok-clause-ours g c = (

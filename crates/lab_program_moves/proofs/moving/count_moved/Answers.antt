@@ -1,5 +1,5 @@
 -- What `migrate` says of both connections is what is said.
-use Rattle.lab_program_moves.proofs.moving.moved.Goals as goal
+use Rattle.lab_program_moves.proofs.moving.count_moved.Goals as goal
 
 pub returns : goal.returns
 returns g c = record {

@@ -1,6 +1,6 @@
 -- What is handed out had none of the tables when they were made.
 use Rattle.lab_program_shelves.proofs.FileLemmas.{leaves_shown, untaken}
-use Rattle.lab_program_shelves.proofs.files.made.Goals as goal
+use Rattle.lab_program_shelves.proofs.files.made_connection.Goals as goal
 
 pub returns-in-Ok-clause-made : goal.returns-in-Ok-clause-made
 returns-in-Ok-clause-made g c = (
