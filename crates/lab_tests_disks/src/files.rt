@@ -1,0 +1,180 @@
+//! A file over disks: what is done with it, once it is opened. One function alone knows the disks;
+//! each other one is for any store of a database.
+use crate::images::Pair;
+use lab_desk::Desk;
+use lab_store::Store;
+use lab_store_files::{FileFault, open};
+use lab_tests_rows::{Exchange, ask, database_of, desk, fill_each, make, said};
+use sqlite::{Alter, Connection, FileStore, Options};
+use sqlite_disk::{Fuse, Memory};
+use std::alloc::Global;
+
+// A few pages are kept in memory alone, and the log is copied into the file as soon as it has a
+// few: so that a request reads and writes both.
+const NARROW: Options = Options {
+    cache_pages: 16,
+    spill_pages: 4,
+    checkpoint_frames: 4,
+    seed: 5,
+};
+
+/// What is done with a file.
+#[derive(Clone, Copy)]
+pub enum Task<'a> {
+    /// The tables of laboratories are made.
+    Make,
+    /// Statements are run, one text after the other, with ids of that kind.
+    Fill {
+        /// The statements.
+        texts: &'a [&'a str],
+        /// The kind of ids.
+        ids: &'a str,
+    },
+    /// What the tables of laboratories say is told.
+    Tell,
+    /// A desk over the laboratories is asked.
+    Ask(&'a Exchange),
+}
+
+/// What came of it.
+#[derive(Drop)]
+pub enum Outcome {
+    /// The file was not opened.
+    Unopened,
+    /// It was opened, and is none of laboratories.
+    NotOurs,
+    /// The task failed otherwise than by a reply.
+    Failed,
+    /// It was made, or filled.
+    Filled,
+    /// The digest of what the tables say.
+    Told([u8; 64]),
+    /// The reply of the desk.
+    Replied(Vec<u8>),
+}
+
+fn of_making<S: Alter>(conn: &mut Connection<S>) -> Outcome {
+    match make(conn) {
+        Ok(()) => Outcome::Filled,
+        Err(_) => Outcome::Failed,
+    }
+}
+
+fn of_filling<S: Alter>(
+    alloc: Global,
+    conn: &mut Connection<S>,
+    texts: &[&str],
+    ids: &str,
+) -> Outcome {
+    match fill_each(alloc, conn, texts, ids) {
+        Ok(()) => Outcome::Filled,
+        Err(_) => Outcome::Failed,
+    }
+}
+
+fn of_telling<S: Alter>(alloc: Global, conn: &mut Connection<S>) -> Outcome {
+    match said(alloc, conn) {
+        Ok(said) => Outcome::Told(said),
+        Err(_) => Outcome::Failed,
+    }
+}
+
+// Why a file isn't one of laboratories; none where it is one.
+fn refused<S: Alter>(conn: &mut Connection<S>) -> Option<Outcome> {
+    match open(conn) {
+        Ok(()) => None,
+        Err(FileFault::NotADeskFile) => Some(Outcome::NotOurs),
+        Err(_) => Some(Outcome::Unopened),
+    }
+}
+
+// The reply of a desk.
+fn reply_of<S: Alter + Drop>(
+    alloc: Global,
+    desk: &mut Desk<Store<S>>,
+    exchange: &Exchange,
+) -> Outcome {
+    if ask(desk, exchange).is_err() {
+        return Outcome::Failed;
+    }
+    match desk.reply().to_vec(alloc) {
+        Ok(reply) => Outcome::Replied(reply),
+        Err(_) => Outcome::Failed,
+    }
+}
+
+// Asks a desk over the database; none where there was no memory for one.
+fn asked<S: Alter + Drop>(
+    alloc: Global,
+    conn: Connection<S>,
+    exchange: &Exchange,
+    outcome: &mut Outcome,
+) -> Option<S> {
+    let mut desk = desk(alloc, conn)?;
+    *outcome = reply_of(alloc, &mut desk, exchange);
+    Some(database_of(desk).into_store())
+}
+
+// Does what is asked of laboratories, over a database in which they are kept.
+fn worked_on_ours<S: Alter + Drop>(
+    alloc: Global,
+    mut conn: Connection<S>,
+    task: Task<'_>,
+    outcome: &mut Outcome,
+) -> Option<S> {
+    if let Some(refusal) = refused(&mut conn) {
+        *outcome = refusal;
+        return Some(conn.into_store());
+    }
+    if let Task::Ask(exchange) = task {
+        return asked(alloc, conn, exchange, outcome);
+    }
+    *outcome = of_telling(alloc, &mut conn);
+    Some(conn.into_store())
+}
+
+// Does the task over a database; none where there was no memory for it.
+fn worked<S: Alter + Drop>(
+    alloc: Global,
+    mut conn: Connection<S>,
+    task: Task<'_>,
+    outcome: &mut Outcome,
+) -> Option<S> {
+    match task {
+        Task::Make => {
+            *outcome = of_making(&mut conn);
+            Some(conn.into_store())
+        }
+        Task::Fill { texts, ids } => {
+            *outcome = of_filling(alloc, &mut conn, texts, ids);
+            Some(conn.into_store())
+        }
+        Task::Tell | Task::Ask(_) => worked_on_ours(alloc, conn, task, outcome),
+    }
+}
+
+// The disks of a file.
+fn closed(store: FileStore<Fuse<Memory>>) -> Pair {
+    store.close()
+}
+
+/// Does the task over the file on the disks, which is opened for it, and gives the disks back; none
+/// where there was no memory. What came of it is told: a file that isn't opened is `Unopened`.
+pub(crate) fn work(
+    alloc: Global,
+    disks: Pair,
+    task: Task<'_>,
+    outcome: &mut Outcome,
+) -> Option<Pair> {
+    *outcome = Outcome::Unopened;
+    if !disks.may_be_used() {
+        return Some(disks);
+    }
+    match Connection::open_files(alloc, disks, NARROW) {
+        Ok(conn) => {
+            let store = worked(alloc, conn, task, outcome)?;
+            Some(closed(store))
+        }
+        Err((_, left)) => Some(left.into_files()),
+    }
+}
