@@ -1,0 +1,55 @@
+//! What a server is given in memory: a clock that stands, words that are known, and who opens no
+//! keeper anew.
+use lab_forms_texts::Moment;
+use lab_program_outside::{Chance, Clock, DrawFault};
+use lab_program_serve::Opener;
+use lab_records_kept::KeeperFault;
+use lab_records_lists::Lists;
+use lab_tests_rows::words;
+use std::alloc::Global;
+
+/// A clock that stands.
+#[derive(Drop)]
+pub(crate) struct Standing {
+    pub(crate) moment: Moment,
+}
+
+/// Words, of which each eight begin with one that is eight more than that before.
+#[derive(Drop)]
+pub(crate) struct Counting {
+    pub(crate) next: u32,
+}
+
+/// Who opens no keeper anew. Nothing is supposed of one.
+#[derive(Drop)]
+pub(crate) struct Never;
+
+impl Clock for Standing {
+    fn moment(&mut self) -> Result<Moment, DrawFault> {
+        Ok(self.moment)
+    }
+}
+
+impl Chance for Counting {
+    fn words(&mut self) -> Result<[u64; 8], DrawFault> {
+        let words = words(self.next);
+        self.next = self.next.saturating_add(8);
+        Ok(words)
+    }
+}
+
+impl<H> Opener<H, Lists> for Never {
+    ghost opened = { λ _. Unit {0} };
+
+    fn is_there(&mut self, _alloc: Global, _host: &mut H) -> bool {
+        true
+    }
+
+    fn open(&mut self, _alloc: Global, _host: &mut H) -> Result<Lists, KeeperFault> {
+        Err(KeeperFault::Memory)
+    }
+
+    fn close(&mut self, _host: &mut H, keeper: Lists) {
+        drop(keeper);
+    }
+}

@@ -1,0 +1,12 @@
+//! Tests of `labdesk serve` in one process: two clients over a network in memory. They stand apart,
+//! so that no crate is proved once more with them.
+#![tactic(auto)]
+
+#[cfg(test)]
+mod events;
+#[cfg(test)]
+mod hosts;
+#[cfg(test)]
+mod streets;
+#[cfg(test)]
+mod tests;
