@@ -161,7 +161,7 @@ pub fn unlock(caller: &PersonCode, person: Option<Person>) -> Result<Effect, Peo
 {
     let person = person_meant_by(caller, person)?;
     Ok(Effect {
-        person: person.unlocked(),
+        person: person.without_lock(),
         closing: Closing::Nothing,
     })
 }

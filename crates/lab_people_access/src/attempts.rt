@@ -67,7 +67,7 @@ fn try_password(person: Person, is_own: bool, text: &str, moment: Moment) -> Res
         return Err(Failure::AlreadyLocked(person));
     }
     if is_own && person.password.accepts(text, moment) {
-        return Ok(person.unlocked());
+        return Ok(person.without_lock());
     }
     Err(fail(person, moment))
 }

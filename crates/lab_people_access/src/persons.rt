@@ -133,7 +133,7 @@ impl Person {
     }
 
     /// The person with no failed password and no lock.
-    pub fn unlocked(mut self) -> Person
+    pub fn without_lock(mut self) -> Person
         ensures { result ≡ unlocked_person self }
     {
         self.failures = 0;

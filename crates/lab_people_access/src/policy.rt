@@ -130,8 +130,8 @@ impl Rule {
 /// `PasswordDue`, where the rule has to wait for a due password, and else `RoleWanted`, where the person has none of the
 /// rule's roles.
 #[tactic(auto, unfolding(crate::specs::Policy::denial))]
-pub fn allowed(person: &Person, rule: Rule, tick: &Tick) -> Result<(), PeopleRefusal>
-    ensures allowed { OnOk result (denial person.now rule tick.now.moment ≡ None) }
+pub fn permission(person: &Person, rule: Rule, tick: &Tick) -> Result<(), PeopleRefusal>
+    ensures permitted { OnOk result (denial person.now rule tick.now.moment ≡ None) }
     ensures refused { IfErr result (λ refusal.
         denial person.now rule tick.now.moment ≡ Some refusal) }
 {

@@ -54,7 +54,7 @@ impl Record {
 
 impl Signature {
     /// The signature of these parts, with its seal.
-    pub fn sealed(parts: SealParts) -> Signature
+    pub fn of_parts(parts: SealParts) -> Signature
         ensures { result ≡ signature_of parts }
     {
         let seal = seal(&parts);

@@ -180,7 +180,7 @@ fn new_signature(
     let lab = lab.copy()?;
     let code = person.code.copy()?;
     let name = person.name.copy()?;
-    Ok(Signature::sealed(SealParts {
+    Ok(Signature::of_parts(SealParts {
         version: digest,
         lab,
         person: code,

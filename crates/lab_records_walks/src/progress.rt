@@ -3,7 +3,7 @@
 /// Who hears how far a copy is.
 pub trait Progress {
     /// So many of so many records are done.
-    fn told(&mut self, done: u32, all: u32);
+    fn tell_records(&mut self, done: u32, all: u32);
 }
 
 /// Nobody hears of it.
@@ -11,5 +11,5 @@ pub trait Progress {
 pub struct Unheard;
 
 impl Progress for Unheard {
-    fn told(&mut self, _done: u32, _all: u32) {}
+    fn tell_records(&mut self, _done: u32, _all: u32) {}
 }

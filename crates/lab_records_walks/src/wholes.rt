@@ -55,7 +55,7 @@ pub(crate) fn give_wholes<S: Keeper, W: Write, P: Progress>(
     let end = last + 1;
     for number in first..end {
         give_at(alloc, keeper, lab, number, out, writer)?;
-        progress.told(number - first + 1, end - first);
+        progress.tell_records(number - first + 1, end - first);
     }
     Ok(())
 }
