@@ -8,7 +8,7 @@ use Rattle.lab_records_kept.specs.declared.trails.TrailRow.{TrailRow as Told}
 use Rattle.lab_store_tables.specs.Rows.{LabRow, Tables, trail_id}
 use Rattle.lab_store_tables.specs.Changes.{in_lab, IsNamedIfAny, AddsTold}
 use Rattle.lab_store_tables.specs.Ready.{tables_of}
-use Rattle.lab_store_write.specs.Calls.{Steps, Finds}
+use Rattle.lab_store_write.specs.Calls.{Steps, Finds, Given}
 use Rattle.lab_store_write.specs.TrailAdded.{with_told, with_last, AddsLastTold}
 
 -- a row of the trail: who is named, the row, and the counter
@@ -52,25 +52,25 @@ pub named_still : (lab : ℤ) (moment : ℕ) (t : Tables) (code : Option (List �
 named_still lab moment t None person it = it
 named_still lab moment t (Some code) person it = it
 
-pub last_told_added : (lab : ℤ) (moment : ℕ) (told : Told) (person : Option ℤ) (a b c d : State) → Steps (Finds (λ t. IsNamedIfAny t lab told.person person)) a b
-    → Steps (λ before after. after ≡ with_told lab person told before) b c
-    → Steps (λ before after. after ≡ in_lab lab (λ (one : LabRow). record one { last = moment; trail = told.number }) before) c d → Steps (AddsLastTold lab moment told) a d
-last_told_added lab moment told person a b c d p q r = record {
-  inside = r.inside;
+pub last_told_added : (lab : ℤ) (moment : ℕ) (told : Told) (person : Option ℤ) (a b c : State)
+    → Steps (λ before after. after ≡ with_told lab person told before) a b
+    → Steps (λ before after. after ≡ in_lab lab (λ (one : LabRow). record one { last = moment; trail = told.number }) before) b c
+    → Steps (Given (λ t. IsNamedIfAny t lab told.person person) (AddsLastTold lab moment told)) a c
+last_told_added lab moment told person a b c p q = record {
+  inside = q.inside;
   made = λ typed.
       let one = p.made typed in
       let two = q.made one.0 in
-      let three = r.made two.0 in
       let t = tables_of a in
-      let added : AddsLastTold lab moment told (tables_of a) (tables_of d) = record {
+      let added : IsNamedIfAny t lab told.person person → AddsLastTold lab moment told t (tables_of c) = λ named. record {
         id = next_key trail_id t.trail;
         free = next_key_is_free trail_id t.trail typed.rising.trail;
         person = person;
-        named = named_still lab moment t told.person person one.1.0;
-        made = three.1
-            ∙ ap (in_lab lab (λ (row : LabRow). record row { last = moment; trail = told.number })) (two.1 ∙ ap (with_told lab person told) one.1.1)
+        named = named_still lab moment t told.person person named;
+        made = two.1
+            ∙ ap (in_lab lab (λ (row : LabRow). record row { last = moment; trail = told.number })) one.1
             ∙ (λ i. record (with_told lab person told t) { labs = set_twice lab moment told.number t.labs i });
       } in
-      (three.0, added);
-  sound = λ typed rules. let one = p.made typed in r.sound (q.made one.0).0 (q.sound one.0 (p.sound typed rules));
+      (two.0, added);
+  sound = λ typed rules. q.sound (p.made typed).0 (p.sound typed rules);
 }

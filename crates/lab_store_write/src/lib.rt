@@ -12,7 +12,7 @@ pub mod values;
 mod writable;
 
 pub use labs::{set_last, set_strays};
-pub use named::{first_id, id_of, person_id_at, person_if_any, session_id_at};
+pub use named::{first_id, id_of, person_id_at, person_id_by, person_if_any, session_id_at};
 pub use places::place_below;
 pub use statements::RowId;
 pub use trails::{add_last_told, add_told};

@@ -1,6 +1,6 @@
 //! Who and which session is named, by keys of the tables.
 
-ghost use Rattle.std.specs.Prelude.{◌≡◌, Some, option_map, slice_get, find, IfOk};
+ghost use Rattle.std.specs.Prelude.{◌≡◌, Some, option_map, slice_get, find, IfOk, IfSome};
 ghost use Rattle.lab_store_tables.specs.Rows.{session_id};
 ghost use Rattle.lab_store_tables.specs.Changes.{person_named, is_session, IsNamedIfAny};
 ghost use Rattle.lab_store_write.specs.Calls.{Answers, Finds};
@@ -59,6 +59,37 @@ pub fn person_id_at<W: Writable>(tx: &mut W, lab: RowId, code: &PersonCode) -> R
 {
     let rows = person_rows(tx, lab, code.as_str())?;
     first_id(&rows)
+}
+
+// The id of who is known, where it is the one of the code.
+fn known_id(known: &Option<PersonCode>, person: Option<RowId>, code: &PersonCode) -> Option<RowId>
+    ensures { IfSome result (λ one. (known.now ≡ Some code.now) × (person ≡ Some one)) }
+{
+    match known {
+        Some(known) if *known == *code => person,
+        _ => None,
+    }
+}
+
+/// The person of the code, in the laboratory. Who is known there by id isn't looked up again.
+///
+/// # Errors
+/// Those of `person_id_at`.
+pub fn person_id_by<W: Writable>(
+    tx: &mut W,
+    lab: RowId,
+    known: &Option<PersonCode>,
+    person: Option<RowId>,
+    code: &PersonCode,
+) -> Result<RowId, Error>
+    ensures { Answers W.lender W.state (λ one. Finds (λ t.
+        IsNamedIfAny t lab.id known.now (option_map row_id person) →
+        person_named t lab.id code.now ≡ Some one.id)) tx.old tx.new result }
+{
+    match known_id(known, person, code) {
+        Some(id) => Ok(id),
+        None => person_id_at(tx, lab, code),
+    }
 }
 
 /// The person of the code, where one is named, in the laboratory.

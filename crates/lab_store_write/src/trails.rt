@@ -2,8 +2,8 @@
 
 ghost use Rattle.std.specs.Prelude.{option_map};
 ghost use Rattle.lab_store_tables.specs.Rows.{LabRow};
-ghost use Rattle.lab_store_tables.specs.Changes.{in_lab, AddsTold};
-ghost use Rattle.lab_store_write.specs.Calls.{Writes, Becomes};
+ghost use Rattle.lab_store_tables.specs.Changes.{in_lab, AddsTold, IsNamedIfAny};
+ghost use Rattle.lab_store_write.specs.Calls.{Writes, Becomes, Given};
 ghost use Rattle.lab_store_write.specs.Ids.{row_id};
 ghost use Rattle.lab_store_write.specs.TrailAdded.{with_told, AddsLastTold};
 
@@ -85,19 +85,21 @@ fn set_last_and_trail<W: Writable>(
     )
 }
 
-/// Adds a row of the trail, and sets the last moment of the laboratory with its count.
+/// Adds a row of the trail, whose person has the id, and sets the last moment of the laboratory with its count.
 ///
 /// # Errors
-/// Those of `add_told`.
+/// Those of `Writable`.
 pub fn add_last_told<W: Writable>(
     tx: &mut W,
     lab: RowId,
     moment: Moment,
+    person: Option<RowId>,
     told: &TrailRow,
 ) -> Result<(), Error>
-    ensures { Writes W.lender W.state (AddsLastTold lab.id moment told.now) tx.old tx.new result }
+    ensures { Writes W.lender W.state
+        (Given (λ t. IsNamedIfAny t lab.id told.now.person (option_map row_id person))
+        (AddsLastTold lab.id moment told.now)) tx.old tx.new result }
 {
-    let person = person_if_any(tx, lab, &told.person)?;
     insert_told(tx, lab, person, told)?;
     set_last_and_trail(tx, lab, moment, told.number)?;
     Ok(())

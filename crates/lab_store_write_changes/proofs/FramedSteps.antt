@@ -1,5 +1,5 @@
 -- The last moment of a laboratory is set with the row of the trail that comes last: as if it had been set before all other changes.
-use Rattle.std.proofs.Common.{◌≡◌, ℕ, ℤ, Bool, true, false, ◌&&◌, List, [], ◌∷◌, ◌++◌, Result, Ok, Err, IfOk, OnOk, refl, ap, subst, int_eq}
+use Rattle.std.proofs.Common.{◌≡◌, ℕ, ℤ, Bool, true, false, ◌&&◌, List, [], ◌∷◌, ◌++◌, Option, option_map, Result, Ok, Err, IfOk, OnOk, refl, ap, subst, int_eq}
 use Rattle.std.specs.List.{list_all}
 use Rattle.sqlite_keyed.specs.Lists.{update_where}
 use Rattle.sqlite_keyed.proofs.KeyedLemmas.{IsKeyedBy-update_where}
@@ -9,16 +9,19 @@ use Rattle.lab_records_kept.specs.declared.changes.Change.{Change}
 use Rattle.lab_records_kept.specs.declared.changes.Change.TheVariants.{Last, Strays, PersonAdded, PersonSet, SessionAdded, SessionSet, SessionsClosed, FormAdded, RecordAdded, RowAdded, VersionOpened, SignatureAdded, TrailAdded}
 use Rattle.lab_records_kept.specs.declared.trails.TrailRow.{TrailRow as Told}
 use Rattle.lab_store_tables.specs.Rows.{LabRow, Tables, lab_id}
-use Rattle.lab_store_tables.specs.Changes.{InTurn, asker_of}
-use Rattle.lab_store_tables.specs.Held.{AreRising}
+use Rattle.lab_store_tables.specs.Changes.{InTurn, IsNamedIfAny, asker_of}
+use Rattle.lab_store_tables.specs.Held.{AreRising, IsTyped}
 use Rattle.lab_store_tables.specs.Ready.{tables_of}
 use Rattle.lab_store_laws.specs.Steps.{AppliesWhereKept, StepsBy}
 use Rattle.lab_store_laws.proofs.KeptLaws.{last_by_rules}
-use Rattle.lab_store_write.specs.Calls.{Steps}
+use Rattle.lab_store_write.specs.declared.statements.RowId.{RowId}
+use Rattle.lab_store_write.specs.Calls.{Steps, Finds, Given}
+use Rattle.lab_store_write.specs.Ids.{row_id}
 use Rattle.lab_store_write.specs.TrailAdded.{with_last, AddsLastTold}
+use Rattle.lab_store_write.proofs.Inside.{steps_weaker, found_then}
 use Rattle.lab_store_write.proofs.Tables.{rising_labs}
 use Rattle.lab_store_write.proofs.TrailAddedLemmas.{named_still}
-use Rattle.lab_store_write_changes.specs.Framed.{spares_lab, framed, IsFramed}
+use Rattle.lab_store_write_changes.specs.Framed.{spares_lab, Knows, StepsKnowing, framed, IsFramed}
 use Rattle.lab_store_write_changes.proofs.Steps.{rules_of}
 
 -- what is made of a step that a call made
@@ -117,9 +120,9 @@ module _ (lab : ℤ) (moment : ℕ) where
     steps_beside told others (and_right _ _ spared) it.0 u v it.2 told_last,
   )
 
-  pub framed_made : (told : Told) (between : List Change) → list_all spares_lab between ≡ true → (a b c : State) → IsDatabase a.now
+  framed_steps : (told : Told) (between : List Change) → list_all spares_lab between ≡ true → (a b c : State) → IsDatabase a.now
       → Steps (InTurn (StepsBy lab) between) a b → Steps (AddsLastTold lab moment told) b c → Steps (InTurn (StepsBy lab) (framed moment between told)) a c
-  framed_made told between spared a b c rules p q = record {
+  framed_steps told between spared a b c rules p q = record {
     inside = q.inside;
     made = λ typed.
         let one = p.made typed in
@@ -138,3 +141,27 @@ module _ (lab : ℤ) (moment : ℕ) where
         (two.0, (with_last lab moment t, begun, steps_beside told between spared t (tables_of b) (tables_of c) one.1 told_last));
     sound = λ typed sound. q.sound (p.made typed).0 (p.sound typed sound);
   }
+
+  -- who is named in the row of the trail is found before them
+  module _ (told : Told) (person : Option RowId) (between : List Change) (a b c d : State)
+      (found : Steps (Finds (λ t. IsNamedIfAny t lab told.person (option_map row_id person))) a b)
+      (p : IsTyped b.now → IsDatabase b.now → Steps (StepsKnowing lab told.person person between) b c)
+      (q : Steps (Given (λ t. IsNamedIfAny t lab told.person (option_map row_id person)) (AddsLastTold lab moment told)) c d) where
+    first_made : IsTyped b.now → IsDatabase b.now → Steps (λ old new. InTurn (StepsBy lab) between old new × Knows lab told.person person new) a c
+    first_made typed rules =
+        found_then (Knows lab told.person person) (λ old new. InTurn (StepsBy lab) between old new × Knows lab told.person person new) a b c found (p typed rules)
+
+    pub framed_made : list_all spares_lab between ≡ true → IsDatabase a.now → Steps (InTurn (StepsBy lab) (framed moment between told)) a d
+    framed_made spared rules = record {
+      inside = q.inside;
+      made = λ typed. (whole typed).made typed;
+      sound = λ typed sound. (whole typed).sound typed sound;
+    }
+      where
+        whole : IsTyped a.now → Steps (InTurn (StepsBy lab) (framed moment between told)) a d
+        whole typed =
+            let first = first_made (found.made typed).0 (found.sound typed rules) in
+            let known = (first.made typed).1.1 in
+            let both = steps_weaker (λ old new. InTurn (StepsBy lab) between old new × Knows lab told.person person new) (InTurn (StepsBy lab) between) a c (λ before after it. it.0) first in
+            framed_steps told between spared a c d rules both
+            (record { inside = q.inside; made = λ later. let it = q.made later in (it.0, it.1 known); sound = q.sound })

@@ -5,3 +5,4 @@ pub mod LabMore
 mod Positions
 mod Steps
 mod FramedSteps
+mod KnownSteps

@@ -1,10 +1,16 @@
 -- Changes that most requests make: the last moment of the laboratory, some that leave its own row
 -- alone, and a row of its trail.
-use Rattle.std.specs.Prelude.{◌≡◌, ℕ, Bool, true, false, List, [], ◌∷◌, ◌++◌, IsTrue}
+use Rattle.std.specs.Prelude.{◌≡◌, ℕ, ℤ, Bool, true, false, List, [], ◌∷◌, ◌++◌, Option, option_map, IsTrue}
 use Rattle.std.specs.List.{list_all}
 use Rattle.lab_records_kept.specs.declared.changes.Change.{Change}
 use Rattle.lab_records_kept.specs.declared.changes.Change.TheVariants.{Last, Strays, PersonAdded, PersonSet, SessionAdded, SessionSet, SessionsClosed, FormAdded, RecordAdded, RowAdded, VersionOpened, SignatureAdded, TrailAdded}
 use Rattle.lab_records_kept.specs.declared.trails.TrailRow.{TrailRow as Told}
+use Rattle.lab_store_tables.specs.Rows.{Tables}
+use Rattle.lab_store_tables.specs.Changes.{InTurn, IsNamedIfAny}
+use Rattle.lab_store_laws.specs.Steps.{StepsBy}
+use Rattle.lab_store_write.specs.declared.statements.RowId.{RowId}
+use Rattle.lab_store_write.specs.Calls.{Given}
+use Rattle.lab_store_write.specs.Ids.{row_id}
 
 -- whether a change adds or sets one row of another table, and nothing else
 abbrev pub spares_lab : Change → Bool
@@ -21,6 +27,17 @@ spares_lab (RowAdded number row) = true
 spares_lab (VersionOpened number version) = false
 spares_lab (SignatureAdded number version signature) = true
 spares_lab (TrailAdded told) = false
+
+-- who is known by code and id is the one of the laboratory
+abbrev pub Knows : ℤ → Option (List ℕ) → Option RowId → Tables → Type 0
+Knows lab known person t = IsNamedIfAny t lab known (option_map row_id person)
+
+-- the changes are made, and who is known is so after them
+abbrev pub StepsKnowing : ℤ → Option (List ℕ) → Option RowId → List Change → Tables → Tables
+    → Type 0
+StepsKnowing lab known person changes =
+    Given (Knows lab known person)
+    (λ old new. InTurn (StepsBy lab) changes old new × Knows lab known person new)
 
 abbrev pub framed : ℕ → List Change → Told → List Change
 framed moment between told = Last moment ∷ (between ++ TrailAdded told ∷ [])

@@ -11,9 +11,12 @@ ghost use Rattle.lab_store_write.specs.Calls.{Stays, Steps, Writes};
 ghost use Rattle.lab_store_write_changes.specs.Framed.{spares_lab, framed};
 
 use crate::framed::frame_of;
+use crate::known::each_known;
 use lab_forms_texts::{Moment, PersonCode};
 use lab_records_kept::{Change, Closing, TrailRow};
-use lab_store_write::{RowId, Writable, add_last_told, add_told, set_last, set_strays};
+use lab_store_write::{
+    RowId, Writable, add_last_told, add_told, person_if_any, set_last, set_strays,
+};
 use lab_store_write_people::{add_person, add_session, close_sessions, set_person, set_session};
 use lab_store_write_records::{add_form, add_record, enter_row, open_version, sign_version};
 use sqlite::Error;
@@ -47,8 +50,11 @@ fn change_sessions<W: Writable>(
     close_sessions(tx, lab, person, closing)
 }
 
-// Makes the change of the laboratory whose row has the id.
-fn change_rows<W: Writable>(tx: &mut W, lab: RowId, change: &Change) -> Result<(), Error>
+/// Makes the change of the laboratory whose row has the id.
+///
+/// # Errors
+/// The store refused, or memory ran out.
+pub(crate) fn change_rows<W: Writable>(tx: &mut W, lab: RowId, change: &Change) -> Result<(), Error>
     ensures { Writes W.lender W.state (AppliesWhereKept lab.id change.now) tx.old tx.new result }
 {
     match change {
@@ -88,7 +94,7 @@ fn each_inside<W: Writable>(tx: &mut W, lab: RowId, changes: &[Change]) -> Resul
     Ok(())
 }
 
-// Makes changes that most requests make: the row of the trail sets the last moment, too.
+// Makes changes that most requests make: the row of the trail sets the last moment, too, and its person is looked up once.
 fn framed_inside<W: Writable>(
     tx: &mut W,
     lab: RowId,
@@ -106,8 +112,9 @@ fn framed_inside<W: Writable>(
         Steps (InTurn (StepsBy lab.id) (framed moment between.now told.now))
         (W.state tx.old) (W.state tx.new)) }
 {
-    each_inside(tx, lab, between)?;
-    add_last_told(tx, lab, moment, told)
+    let person = person_if_any(tx, lab, &told.person)?;
+    each_known(tx, lab, &told.person, person, between)?;
+    add_last_told(tx, lab, moment, person, told)
 }
 
 /// Makes the changes, one after the other.

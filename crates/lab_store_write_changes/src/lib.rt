@@ -5,6 +5,7 @@
 
 mod changes;
 mod framed;
+mod known;
 mod newborns;
 mod rows;
 

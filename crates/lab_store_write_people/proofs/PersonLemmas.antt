@@ -1,5 +1,5 @@
 -- The columns of a person's row, and steps of several calls: a person more, a person set.
-use Rattle.std.proofs.Common.{◌≡◌, ℤ, Some, None, Option, option_map, refl, ap, subst, ◌∙◌}
+use Rattle.std.proofs.Common.{◌≡◌, ℤ, Some, None, Option, option_map, refl, ap, ◌∙◌}
 use Rattle.sqlite_keyed.specs.Keyed.{next_key}
 use Rattle.sqlite_keyed.proofs.KeyedLemmas.{next_key_is_free}
 use Rattle.sqlite.specs.State.{State}
@@ -7,12 +7,12 @@ use Rattle.lab_people_access.specs.declared.passwords.Password.{Password}
 use Rattle.lab_people_access.specs.declared.passwords.Password.TheVariants.{Unset, Chosen, OneTime}
 use Rattle.lab_people_access.specs.declared.persons.Person.{Person}
 use Rattle.lab_people_access.specs.declared.persons.Ask.{Ask}
-use Rattle.lab_store_tables.specs.Rows.{Tables, person_id}
+use Rattle.lab_store_tables.specs.Rows.{person_id}
 use Rattle.lab_store_tables.specs.Columns.{roles_sum}
 use Rattle.lab_store_tables.specs.Changes.{person_named, IsNamedIfAny, asker_of, person_row_of, set_person, AddsPerson, SetsPerson}
 use Rattle.lab_store_tables.specs.Ready.{tables_of}
 use Rattle.lab_store_write.specs.declared.statements.RowId.{RowId}
-use Rattle.lab_store_write.specs.Calls.{Steps, Finds}
+use Rattle.lab_store_write.specs.Calls.{Steps, Finds, Given}
 use Rattle.lab_store_write.specs.Ids.{row_id}
 use Rattle.lab_store_write_people.specs.Persons.{password_cells, ask_cells, person_given, with_person}
 use Rattle.lab_store_write_people.proofs.PersonWrites.{person_values}
@@ -48,21 +48,21 @@ person_added lab person asker a b c p q = record {
   sound = λ typed rules. q.sound (p.made typed).0 (p.sound typed rules);
 }
 
-pub person_set : (lab : ℤ) (person : Person) (id : ℤ) (asker : Option ℤ) (a b c d : State) → Steps (Finds (λ t. person_named t lab person.code ≡ Some id)) a b
-    → Steps (Finds (λ t. IsNamedIfAny t lab (asker_of person) asker)) b c → Steps (λ before after. after ≡ set_person (person_row_of lab id asker person) before) c d → Steps (SetsPerson lab person) a d
-person_set lab person id asker a b c d p q r = record {
-  inside = r.inside;
+pub person_set : (lab : ℤ) (person : Person) (id : ℤ) (asker : Option ℤ) (a b c : State) → Steps (Finds (λ t. IsNamedIfAny t lab (asker_of person) asker)) a b
+    → Steps (λ before after. after ≡ set_person (person_row_of lab id asker person) before) b c
+    → Steps (Given (λ t. person_named t lab person.code ≡ Some id) (SetsPerson lab person)) a c
+person_set lab person id asker a b c p q = record {
+  inside = q.inside;
   made = λ typed.
       let one = p.made typed in
       let two = q.made one.0 in
-      let three = r.made two.0 in
-      let set : SetsPerson lab person (tables_of a) (tables_of d) = record {
+      let set : person_named (tables_of a) lab person.code ≡ Some id → SetsPerson lab person (tables_of a) (tables_of c) = λ found. record {
         id = id;
-        found = one.1.0;
+        found = found;
         asker = asker;
-        named = subst (λ (t : Tables). IsNamedIfAny t lab (asker_of person) asker) one.1.1 two.1.0;
-        made = three.1 ∙ ap (set_person (person_row_of lab id asker person)) (two.1.1 ∙ one.1.1);
+        named = one.1.0;
+        made = two.1 ∙ ap (set_person (person_row_of lab id asker person)) one.1.1;
       } in
-      (three.0, set);
-  sound = λ typed rules. let one = p.made typed in r.sound (q.made one.0).0 (q.sound one.0 (p.sound typed rules));
+      (two.0, set);
+  sound = λ typed rules. q.sound (p.made typed).0 (p.sound typed rules);
 }

@@ -1,8 +1,8 @@
 //! Persons, with their accounts.
 
-ghost use Rattle.std.specs.Prelude.{option_map};
-ghost use Rattle.lab_store_tables.specs.Changes.{IsNamedIfAny, AddsPerson, SetsPerson, person_row_of, set_person as with_row};
-ghost use Rattle.lab_store_write.specs.Calls.{Answers, Writes, Becomes, Finds};
+ghost use Rattle.std.specs.Prelude.{◌≡◌, Some, option_map};
+ghost use Rattle.lab_store_tables.specs.Changes.{person_named, IsNamedIfAny, AddsPerson, SetsPerson, person_row_of, set_person as with_row};
+ghost use Rattle.lab_store_write.specs.Calls.{Answers, Writes, Becomes, Finds, Given};
 ghost use Rattle.lab_store_write.specs.Ids.{row_id};
 ghost use Rattle.lab_store_write_people.specs.Persons.{asker_in, with_person};
 
@@ -141,6 +141,25 @@ fn update_person<W: Writable>(
     )
 }
 
+/// Sets a person, who has the id.
+///
+/// # Errors
+/// Those of `Writable`, and that nobody has the code of who asked for a one-time word.
+pub fn set_person_of<W: Writable>(
+    tx: &mut W,
+    lab: RowId,
+    id: RowId,
+    person: &Person,
+) -> Result<(), Error>
+    ensures { Writes W.lender W.state
+        (Given (λ t. person_named t lab.id person.now.code ≡ Some id.id)
+        (SetsPerson lab.id person.now)) tx.old tx.new result }
+{
+    let asker = asker_if_any(tx, lab, &person.ask)?;
+    update_person(tx, id, lab, asker, person)?;
+    Ok(())
+}
+
 /// Sets a person, whom the code names.
 ///
 /// # Errors
@@ -149,7 +168,5 @@ pub fn set_person<W: Writable>(tx: &mut W, lab: RowId, person: &Person) -> Resul
     ensures { Writes W.lender W.state (SetsPerson lab.id person.now) tx.old tx.new result }
 {
     let id = person_id_at(tx, lab, &person.code)?;
-    let asker = asker_if_any(tx, lab, &person.ask)?;
-    update_person(tx, id, lab, asker, person)?;
-    Ok(())
+    set_person_of(tx, lab, id, person)
 }

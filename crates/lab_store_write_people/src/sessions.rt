@@ -1,8 +1,9 @@
 //! Sessions.
 
+ghost use Rattle.std.specs.Prelude.{◌≡◌, Some};
 ghost use Rattle.lab_store_tables.specs.Rows.{LabRow};
-ghost use Rattle.lab_store_tables.specs.Changes.{in_lab, AddsSession, SetsSession, set_session as with_row, session_row_of};
-ghost use Rattle.lab_store_write.specs.Calls.{Writes, Becomes};
+ghost use Rattle.lab_store_tables.specs.Changes.{in_lab, person_named, AddsSession, SetsSession, set_session as with_row, session_row_of};
+ghost use Rattle.lab_store_write.specs.Calls.{Writes, Becomes, Given};
 ghost use Rattle.lab_store_write_people.specs.Added.{with_session};
 
 use lab_forms_texts::Ordinal;
@@ -95,6 +96,25 @@ fn update_session<W: Writable>(
     )
 }
 
+/// Sets a session, which its token names, and whose person has the id.
+///
+/// # Errors
+/// Those of `Writable`, and that no session has the token.
+pub fn set_session_of<W: Writable>(
+    tx: &mut W,
+    lab: RowId,
+    person: RowId,
+    session: &Session,
+) -> Result<(), Error>
+    ensures { Writes W.lender W.state
+        (Given (λ t. person_named t lab.id session.now.person ≡ Some person.id)
+        (SetsSession lab.id session.now)) tx.old tx.new result }
+{
+    let id = session_id_at(tx, lab, &session.token)?;
+    update_session(tx, id, lab, person, session)?;
+    Ok(())
+}
+
 /// Sets a session, which its token names.
 ///
 /// # Errors
@@ -102,8 +122,6 @@ fn update_session<W: Writable>(
 pub fn set_session<W: Writable>(tx: &mut W, lab: RowId, session: &Session) -> Result<(), Error>
     ensures { Writes W.lender W.state (SetsSession lab.id session.now) tx.old tx.new result }
 {
-    let id = session_id_at(tx, lab, &session.token)?;
     let person = person_id_at(tx, lab, &session.person)?;
-    update_session(tx, id, lab, person, session)?;
-    Ok(())
+    set_session_of(tx, lab, person, session)
 }

@@ -1,9 +1,10 @@
 //! Rows of a version, each behind those that it has.
 
+ghost use Rattle.std.specs.Prelude.{◌≡◌, Some};
 ghost use Rattle.lab_records_kept.specs.declared.changes.Change.TheVariants.{RowAdded};
-ghost use Rattle.lab_store_tables.specs.Changes.{AppliesIn, AddsEntry};
-ghost use Rattle.lab_store_write.specs.Calls.{Writes, Becomes};
-ghost use Rattle.lab_store_write_records.specs.EntriesAdded.{with_entry};
+ghost use Rattle.lab_store_tables.specs.Changes.{AppliesIn, AddsEntry, person_named};
+ghost use Rattle.lab_store_write.specs.Calls.{Writes, Becomes, Given};
+ghost use Rattle.lab_store_write_records.specs.EntriesAdded.{with_entry, AddsEntryOf};
 
 use crate::named::{record_at, version_id_at};
 use crate::places::entry_place;
@@ -46,6 +47,21 @@ fn insert_entry<W: Writable>(
     )
 }
 
+// Adds an entry behind those that the version has. Who entered it has the id.
+fn add_entry_of<W: Writable>(
+    tx: &mut W,
+    version: RowId,
+    person: RowId,
+    entry: &EntryRow,
+) -> Result<(), Error>
+    ensures { Writes W.lender W.state (AddsEntryOf version.id person.id entry.now)
+        tx.old tx.new result }
+{
+    let place = entry_place(tx, version)?;
+    insert_entry(tx, version, place, person, entry)?;
+    Ok(())
+}
+
 /// Adds an entry behind those that the version has.
 ///
 /// # Errors
@@ -59,8 +75,27 @@ pub fn add_entry<W: Writable>(
     ensures { Writes W.lender W.state (AddsEntry lab.id version.id entry.now) tx.old tx.new result }
 {
     let person = person_id_at(tx, lab, &entry.person)?;
-    let place = entry_place(tx, version)?;
-    insert_entry(tx, version, place, person, entry)?;
+    add_entry_of(tx, version, person, entry)
+}
+
+/// Adds an entry in the current version of a record. Who entered it has the id.
+///
+/// # Errors
+/// Those of `Writable`, and that there is no record of the number.
+pub fn enter_row_of<W: Writable>(
+    tx: &mut W,
+    lab: RowId,
+    wanted: Ordinal,
+    person: RowId,
+    entry: &EntryRow,
+) -> Result<(), Error>
+    ensures { Writes W.lender W.state
+        (Given (λ t. person_named t lab.id entry.now.person ≡ Some person.id)
+        (AppliesIn lab.id (RowAdded wanted entry.now))) tx.old tx.new result }
+{
+    let kept = record_at(tx, lab, wanted)?;
+    let version = version_id_at(tx, kept.id, kept.current)?;
+    add_entry_of(tx, version, person, entry)?;
     Ok(())
 }
 
@@ -77,8 +112,6 @@ pub fn enter_row<W: Writable>(
     ensures { Writes W.lender W.state (AppliesIn lab.id (RowAdded wanted entry.now))
         tx.old tx.new result }
 {
-    let kept = record_at(tx, lab, wanted)?;
-    let version = version_id_at(tx, kept.id, kept.current)?;
-    add_entry(tx, lab, version, entry)?;
-    Ok(())
+    let person = person_id_at(tx, lab, &entry.person)?;
+    enter_row_of(tx, lab, wanted, person, entry)
 }

@@ -1,9 +1,10 @@
 //! Signatures of a version, each behind those that it has.
 
+ghost use Rattle.std.specs.Prelude.{◌≡◌, Some};
 ghost use Rattle.lab_records_kept.specs.declared.changes.Change.TheVariants.{SignatureAdded};
-ghost use Rattle.lab_store_tables.specs.Changes.{AppliesIn, AddsSignature};
-ghost use Rattle.lab_store_write.specs.Calls.{Writes, Becomes};
-ghost use Rattle.lab_store_write_records.specs.EntriesAdded.{with_signature};
+ghost use Rattle.lab_store_tables.specs.Changes.{AppliesIn, AddsSignature, person_named};
+ghost use Rattle.lab_store_write.specs.Calls.{Writes, Becomes, Given};
+ghost use Rattle.lab_store_write_records.specs.EntriesAdded.{with_signature, AddsSignatureOf};
 
 use crate::named::{record_at, version_id_at};
 use crate::places::signature_place;
@@ -48,6 +49,21 @@ fn insert_signature<W: Writable>(
     )
 }
 
+// Adds a signature behind those that the version has. Who signed has the id.
+fn add_signature_of<W: Writable>(
+    tx: &mut W,
+    version: RowId,
+    person: RowId,
+    signature: &Signature,
+) -> Result<(), Error>
+    ensures { Writes W.lender W.state (AddsSignatureOf version.id person.id signature.now)
+        tx.old tx.new result }
+{
+    let place = signature_place(tx, version)?;
+    insert_signature(tx, version, place, person, signature)?;
+    Ok(())
+}
+
 /// Adds a signature behind those that the version has.
 ///
 /// # Errors
@@ -62,8 +78,28 @@ pub fn add_signature<W: Writable>(
         tx.old tx.new result }
 {
     let person = person_id_at(tx, lab, &signature.person)?;
-    let place = signature_place(tx, version)?;
-    insert_signature(tx, version, place, person, signature)?;
+    add_signature_of(tx, version, person, signature)
+}
+
+/// Adds a signature of a version of a record. Who signed has the id.
+///
+/// # Errors
+/// Those of `Writable`, and that there is no such version.
+pub fn sign_version_of<W: Writable>(
+    tx: &mut W,
+    lab: RowId,
+    wanted: Ordinal,
+    version: Ordinal,
+    person: RowId,
+    signature: &Signature,
+) -> Result<(), Error>
+    ensures { Writes W.lender W.state
+        (Given (λ t. person_named t lab.id signature.now.person ≡ Some person.id)
+        (AppliesIn lab.id (SignatureAdded wanted version signature.now))) tx.old tx.new result }
+{
+    let kept = record_at(tx, lab, wanted)?;
+    let signed = version_id_at(tx, kept.id, version.get())?;
+    add_signature_of(tx, signed, person, signature)?;
     Ok(())
 }
 
@@ -81,8 +117,6 @@ pub fn sign_version<W: Writable>(
     ensures { Writes W.lender W.state
         (AppliesIn lab.id (SignatureAdded wanted version signature.now)) tx.old tx.new result }
 {
-    let kept = record_at(tx, lab, wanted)?;
-    let signed = version_id_at(tx, kept.id, version.get())?;
-    add_signature(tx, lab, signed, signature)?;
-    Ok(())
+    let person = person_id_at(tx, lab, &signature.person)?;
+    sign_version_of(tx, lab, wanted, version, person, signature)
 }

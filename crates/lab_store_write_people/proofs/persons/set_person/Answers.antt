@@ -1,10 +1,8 @@
-use Rattle.std.proofs.Common.{option_map}
-use Rattle.lab_store_write.specs.Ids.{row_id}
-use Rattle.lab_store_write.proofs.Writers.{and_two}
-use Rattle.lab_store_write_people.proofs.PersonLemmas.{person_set}
+use Rattle.std.proofs.Common.{◌≡◌, Some}
+use Rattle.lab_store_tables.specs.Changes.{person_named}
+use Rattle.lab_store_write.specs.declared.statements.RowId.{RowId}
+use Rattle.lab_store_write.proofs.Writers.{and_given}
 use Rattle.lab_store_write_people.proofs.persons.set_person.Goals as goal
 
 pub returns : goal.returns
-returns g c =
-    and_two c.in_ok-id.ensures c.in_ok-asker.ensures c.in_ok-update_person.ensures
-    (person_set c.args.lab.id c.args.person.now c.in_ok-id.id.id (option_map row_id c.in_ok-asker.asker) _ _ _ _)
+returns g c = and_given (λ (one : RowId) t. person_named t c.args.lab.id c.args.person.now.code ≡ Some one.id) c.in_ok-id.ensures c.set_person_of.ensures

@@ -1,8 +1,8 @@
-use Rattle.lab_store_write.proofs.Writers.{and_two}
-use Rattle.lab_store_write_people.proofs.Added.{session_set}
+use Rattle.std.proofs.Common.{◌≡◌, Some}
+use Rattle.lab_store_tables.specs.Changes.{person_named}
+use Rattle.lab_store_write.specs.declared.statements.RowId.{RowId}
+use Rattle.lab_store_write.proofs.Writers.{and_given}
 use Rattle.lab_store_write_people.proofs.sessions.set_session.Goals as goal
 
 pub returns : goal.returns
-returns g c =
-    and_two c.in_ok-id.ensures c.in_ok-person.ensures c.in_ok-update_session.ensures
-    (session_set c.args.lab.id c.args.session.now c.in_ok-id.id.id c.in_ok-person.person.id _ _ _ _)
+returns g c = and_given (λ (one : RowId) t. person_named t c.args.lab.id c.args.session.now.person ≡ Some one.id) c.in_ok-person.ensures c.set_session_of.ensures

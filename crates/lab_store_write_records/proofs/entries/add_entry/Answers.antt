@@ -1,8 +1,11 @@
-use Rattle.lab_store_write.proofs.Writers.{and_two}
-use Rattle.lab_store_write_records.proofs.Added.{entry_added}
+use Rattle.std.proofs.Common.{◌≡◌, Some}
+use Rattle.lab_store_tables.specs.Changes.{person_named}
+use Rattle.lab_store_write.specs.declared.statements.RowId.{RowId}
+use Rattle.lab_store_write.proofs.Inside.{steps_weaker}
+use Rattle.lab_store_write.proofs.Writers.{and_given, answers_as}
 use Rattle.lab_store_write_records.proofs.entries.add_entry.Goals as goal
 
 pub returns : goal.returns
 returns g c =
-    and_two c.in_ok-person.ensures c.in_ok-place.ensures c.in_ok-insert_entry.ensures
-    (entry_added c.args.lab.id c.args.version.id c.args.entry.now c.in_ok-person.person.id c.in_ok-place.place _ _ _ _)
+    and_given (λ (one : RowId) t. person_named t c.args.lab.id c.args.entry.now.person ≡ Some one.id) c.in_ok-person.ensures
+    (answers_as c.add_entry_of.ensures (λ _. steps_weaker _ _ _ _ (λ before after does. does c.args.lab.id)))

@@ -1,8 +1,8 @@
-use Rattle.lab_store_write.proofs.Writers.{and_two}
-use Rattle.lab_store_write_records.proofs.Added.{row_entered}
+use Rattle.std.proofs.Common.{◌≡◌, Some}
+use Rattle.lab_store_tables.specs.Changes.{person_named}
+use Rattle.lab_store_write.specs.declared.statements.RowId.{RowId}
+use Rattle.lab_store_write.proofs.Writers.{and_given}
 use Rattle.lab_store_write_records.proofs.entries.enter_row.Goals as goal
 
 pub returns : goal.returns
-returns g c =
-    and_two c.in_ok-kept.ensures c.in_ok-version.ensures c.in_ok-add_entry.ensures
-    (row_entered c.args.lab.id c.args.wanted c.args.entry.now c.in_ok-kept.kept.id.id c.in_ok-kept.kept.current c.in_ok-version.version.id _ _ _ _)
+returns g c = and_given (λ (one : RowId) t. person_named t c.args.lab.id c.args.entry.now.person ≡ Some one.id) c.in_ok-person.ensures c.enter_row_of.ensures

@@ -1,9 +1,8 @@
-use Rattle.lab_store_write.proofs.Writers.{and_two}
-use Rattle.lab_store_write_records.proofs.Added.{version_signed}
+use Rattle.std.proofs.Common.{◌≡◌, Some}
+use Rattle.lab_store_tables.specs.Changes.{person_named}
+use Rattle.lab_store_write.specs.declared.statements.RowId.{RowId}
+use Rattle.lab_store_write.proofs.Writers.{and_given}
 use Rattle.lab_store_write_records.proofs.signatures.sign_version.Goals as goal
 
 pub returns : goal.returns
-returns g c =
-    and_two c.in_ok-kept.ensures (rw c.get.ensures.value at c.in_ok-signed.ensures) c.in_ok-add_signature.ensures
-    (version_signed c.args.lab.id c.args.wanted c.args.version c.args.signature.now c.in_ok-kept.kept.id.id c.in_ok-kept.kept.current
-    c.in_ok-signed.signed.id _ _ _ _)
+returns g c = and_given (λ (one : RowId) t. person_named t c.args.lab.id c.args.signature.now.person ≡ Some one.id) c.in_ok-person.ensures c.sign_version_of.ensures

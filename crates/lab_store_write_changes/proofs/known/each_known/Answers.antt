@@ -1,0 +1,34 @@
+use Rattle.std.proofs.Common.{◌<◌, length, subst, arith}
+use Rattle.sqlite.specs.State.{HasCleanDisk}
+use Rattle.lab_records_kept.specs.declared.changes.Change.{Change}
+use Rattle.lab_store_laws.specs.Steps.{AppliesWhereKept}
+use Rattle.lab_store_write.specs.Calls.{Steps, Given}
+use Rattle.lab_store_write.proofs.Writers.{nothing_done, stays_then}
+use Rattle.lab_store_write_changes.specs.Framed.{Knows}
+use Rattle.lab_store_write_changes.proofs.KnownSteps.{none_known, one_more_known}
+use Rattle.lab_store_write_changes.proofs.known.each_known.Goals as goal
+
+pub loop-change-init : goal.loop-change-init
+loop-change-init g c = (
+  nothing_done c.args.tx.now,
+  λ inside clean. inside,
+  λ spared inside clean typed rules. none_known c.args.lab.id c.args.known.now c.args.id (g.W.Writable.state c.args.tx.now) inside,
+)
+
+pub loop-change-preserved : goal.loop-change-preserved
+loop-change-preserved g c =
+    let old = g.W.Writable.state c.args.tx.now in
+    let mid = g.W.Writable.state c.loop-change.tx in
+    let new = g.W.Writable.state c.change_known.new.tx in
+    let inv = c.loop-change.invariant in
+    let i = c.loop-change.change-index in
+    let did = c.in_ok-change_known.ensures in
+    let early : HasCleanDisk new → HasCleanDisk mid = λ clean. omega (arith, did.stays.survives.clean) in
+    let within : i < length c.args.changes.now = omega (arith, c.loop-change-test.true) in (
+      stays_then inv.0 inv.1 did.stays,
+      λ inside clean. (did.made (inv.1 inside (early clean)) clean).inside,
+      λ spared inside clean typed rules. one_more_known c.args.lab.id c.args.known.now c.args.id c.args.changes.now i c.change-item.result within spared old mid new typed rules
+          (inv.2 spared inside (early clean) typed rules)
+          (subst (λ (one : Change). Steps (Given (Knows c.args.lab.id c.args.known.now c.args.id) (AppliesWhereKept c.args.lab.id one)) mid new) c.change-item.is
+          (did.made (inv.1 inside (early clean)) clean)),
+    )

@@ -1,0 +1,18 @@
+use Rattle.std.proofs.Common.{IsTrue, take}
+use Rattle.std.specs.List.{list_all}
+use Rattle.sqlite.specs.Effect.{IsDatabase}
+use Rattle.sqlite.specs.State.{HasCleanDisk}
+use Rattle.lab_store_tables.specs.Held.{IsTyped}
+use Rattle.lab_store_write.specs.Calls.{Stays, Steps}
+use Rattle.lab_store_write_changes.specs.Framed.{spares_lab, StepsKnowing}
+use Rattle.lab_store_write_changes.proofs.known.each_known.Given as goal
+
+-- the changes so far were made
+abbrev pub invariant-loop-change : goal.invariant-loop-change
+invariant-loop-change g l =
+    let old = g.W.Writable.state l.fn.tx in
+    let now = g.W.Writable.state l.tx in
+    Stays g.W.Writable.lender g.W.Writable.state l.fn.tx l.tx
+    × (IsTrue old.in_transaction → HasCleanDisk now → IsTrue now.in_transaction)
+    × (IsTrue (list_all spares_lab l.changes) → IsTrue old.in_transaction → HasCleanDisk now → IsTyped old.now → IsDatabase old.now
+    → Steps (StepsKnowing l.fn.lab.id l.fn.known l.fn.id (take l.change-index l.changes)) old now)

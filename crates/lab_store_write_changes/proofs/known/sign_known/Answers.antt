@@ -1,0 +1,11 @@
+use Rattle.std.proofs.Common.{◌≡◌, Some}
+use Rattle.lab_store_tables.specs.Changes.{person_named}
+use Rattle.lab_store_write.specs.declared.statements.RowId.{RowId}
+use Rattle.lab_store_write.proofs.Writers.{and_known}
+use Rattle.lab_store_write_changes.specs.Framed.{Knows}
+use Rattle.lab_store_write_changes.proofs.known.sign_known.Goals as goal
+
+pub returns : goal.returns
+returns g c =
+    and_known (λ (one : RowId) t. person_named t c.args.lab.id c.args.signature.now.person ≡ Some one.id) (Knows c.args.lab.id c.args.known.now c.args.id)
+    c.in_ok-whose.ensures c.sign_version_of.ensures

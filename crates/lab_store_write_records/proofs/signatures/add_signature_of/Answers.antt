@@ -1,0 +1,8 @@
+use Rattle.lab_store_write.proofs.Writers.{and_then}
+use Rattle.lab_store_write_records.proofs.Added.{signature_added}
+use Rattle.lab_store_write_records.proofs.signatures.add_signature_of.Goals as goal
+
+pub returns : goal.returns
+returns g c =
+    and_then c.in_ok-place.ensures c.in_ok-insert_signature.ensures
+    (signature_added c.args.version.id c.args.signature.now c.args.person.id c.in_ok-place.place _ _ _)
