@@ -1,7 +1,9 @@
 pub mod ActionWords
 pub mod Exact
 pub mod Keys
+pub mod KnownCodes
 pub mod KnownTrails
 pub mod Texts
+pub mod ToldOnce
 pub mod TrailCauses
 pub mod TrailsFound

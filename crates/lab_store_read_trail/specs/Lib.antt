@@ -1,3 +1,4 @@
+pub mod Known
 pub mod Readable
 pub mod Shown
 pub mod Trails

@@ -4,6 +4,7 @@
 
 mod actions;
 mod cells;
+mod codes;
 mod heads;
 mod trails;
 

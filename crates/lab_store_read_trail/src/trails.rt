@@ -6,18 +6,20 @@ ghost use Rattle.lab_store_tables.specs.Meaning.{trail_of};
 ghost use Rattle.lab_store_columns.specs.Causes.{HasItsCause};
 ghost use Rattle.lab_store_columns.specs.Cells.{storage};
 ghost use Rattle.lab_store_columns.specs.Reads.{Reads, MayRead};
+ghost use Rattle.lab_store_read_trail.specs.Known.{AreKnown};
 ghost use Rattle.lab_store_read_trail.specs.Readable.{HasTold, HasDoer, HasWholeTold};
 ghost use Rattle.lab_store_read_trail.specs.Trails.{told_heads_within, told_by};
 ghost use Rattle.lab_store_read_trail.specs.Shown.{told_shown_within, told_read};
 
 use crate::actions::action_by;
 use crate::cells::subject_of;
+use crate::codes::{KnownCode, code_if_any};
 use crate::heads::ToldHead;
 use lab_forms_texts::{Keys, Ordinal, Text};
 use lab_records_kept::TrailRow;
 use lab_store_columns::asking::rows_by_range;
 use lab_store_columns::cells::{id_if, moment_of, ordinal_of, text_of};
-use lab_store_columns::{BadStore, ReadFault, Readable, code_if};
+use lab_store_columns::{BadStore, ReadFault, Readable};
 use sqlite::Row;
 use std::alloc::Global;
 
@@ -89,13 +91,15 @@ fn told_heads_at<D: Readable>(
 fn told_whole<D: Readable>(
     alloc: Global,
     conn: &mut D,
+    known: &mut Vec<KnownCode>,
     head: ToldHead,
 ) -> Result<TrailRow, ReadFault>
-    ensures reads { MayRead (λ t told. told ≡ told_by t head)
+    ensures reads { MayRead (λ t told. AreKnown t known.old.items →
+        (told ≡ told_by t head) × AreKnown t known.new.items)
         (D.state conn.old) (D.state conn.new) result }
     ensures cause { HasItsCause (λ t. HasDoer t head) (D.state conn.old) (D.state conn.new) result }
 {
-    let person = code_if(alloc, conn, head.person)?;
+    let person = code_if_any(alloc, conn, known, head.person)?;
     Ok(TrailRow {
         number: head.number,
         moment: head.moment,
@@ -109,19 +113,21 @@ fn told_whole<D: Readable>(
 fn add_told<D: Readable>(
     alloc: Global,
     conn: &mut D,
+    known: &mut Vec<KnownCode>,
     made: &mut Vec<TrailRow>,
     head: ToldHead,
 ) -> Result<(), ReadFault>
-    ensures reads { MayRead (λ t _. made.new.items ≡ made.old.items ++ told_by t head ∷ [])
+    ensures reads { MayRead (λ t _. AreKnown t known.old.items →
+        (made.new.items ≡ made.old.items ++ told_by t head ∷ []) × AreKnown t known.new.items)
         (D.state conn.old) (D.state conn.new) result }
     ensures cause { HasItsCause (λ t. HasDoer t head) (D.state conn.old) (D.state conn.new) result }
 {
-    let told = told_whole(alloc, conn, head)?;
+    let told = told_whole(alloc, conn, known, head)?;
     made.push(told)?;
     Ok(())
 }
 
-// The rows of the trail, behind others.
+// The rows of the trail, behind others. The code of each person is read once.
 fn add_all_told<D: Readable>(
     alloc: Global,
     conn: &mut D,
@@ -133,13 +139,15 @@ fn add_all_told<D: Readable>(
     ensures cause { HasItsCause (λ t. All (HasDoer t) heads.items)
         (D.state conn.old) (D.state conn.new) result }
 {
+    let mut known = Vec::new(alloc);
     for head in heads {
-        add_told(alloc, conn, made, head)?;
+        add_told(alloc, conn, &mut known, made, head)?;
     }
     Ok(())
 }
 
-/// The rows of the trail from a number to a number in the laboratory with the id, in the order of the numbers.
+/// The rows of the trail from a number to a number in the laboratory with the id, in the order of the
+/// numbers. The code of each person is read once.
 ///
 /// # Errors
 /// The store refused, a row is none that this program writes, or memory ran out.

@@ -9,4 +9,7 @@ pub returns-in_err-push-clause-reads : goal.returns-in_err-push-clause-reads
 returns-in_err-push-clause-reads g c = may_end c.in_ok-told.ensures.reads c.from_residual-in_err-push.result _ c.from_residual-in_err-push.ensures.1
 
 pub returns-clause-reads : goal.returns-clause-reads
-returns-clause-reads g c = may_and c.in_ok-told.ensures.reads (λ is. c.in_ok-push.ensures.items ∙ ap (λ one. c.args.made.now.items ++ one ∷ []) is)
+returns-clause-reads g c =
+    may_and c.in_ok-told.ensures.reads (λ once are.
+    let it = once are in
+    (c.in_ok-push.ensures.items ∙ ap (λ one. c.args.made.now.items ++ one ∷ []) it.0, it.1))
