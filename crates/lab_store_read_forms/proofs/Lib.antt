@@ -5,6 +5,7 @@ pub mod ByCodeTexts
 pub mod Causes
 pub mod Exact
 pub mod FiledFound
+pub mod FormsBehind
 pub mod FormsByCodeFound
 pub mod FormsFound
 pub mod FormsMade

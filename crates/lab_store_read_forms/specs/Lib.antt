@@ -1,4 +1,5 @@
 pub mod Forms
+pub mod FormsBehind
 pub mod FormsByCode
 pub mod Kinds
 pub mod KindsShown

@@ -3,17 +3,20 @@
 ghost use Rattle.std.specs.Prelude.{◌≡◌, [], ◌∷◌, ◌++◌, map, option_map, All, IfSome};
 ghost use Rattle.lab_records_kept.specs.Lookups.{record_of, record_about};
 ghost use Rattle.lab_records_kept.specs.Lookups.{records_within};
-ghost use Rattle.lab_store_tables.specs.Meaning.{records_of};
+ghost use Rattle.lab_store_tables.specs.Meaning.{leaves_of, records_of};
 ghost use Rattle.lab_store_columns.specs.Causes.{HasItsCause, HasFirst};
 ghost use Rattle.lab_store_columns.specs.Reads.{Reads, MayRead};
 ghost use Rattle.lab_store_read_records.specs.Retrieved.{abouts_shown, within_shown};
 ghost use Rattle.lab_store_read_records.specs.Shown.{records_shown};
+ghost use Rattle.lab_store_read_forms.specs.FormsBehind.{IsAtItsId, IsFiledBehind};
 ghost use Rattle.lab_store_read_forms.specs.Readable.{HasParts, HasWholeRecord};
-ghost use Rattle.lab_store_read_forms.specs.Wholes.{record_by};
+ghost use Rattle.lab_store_read_forms.specs.Wholes.{record_by, record_with};
 
-use crate::wholes::record_whole;
+use crate::forms_behind::form_behind;
+use crate::heads::FormAt;
+use crate::wholes::{record_by_form, record_whole};
 use lab_forms_texts::{Key, LabCode, Name, Ordinal};
-use lab_records_kept::Record;
+use lab_records_kept::{FormVersion, Record};
 use lab_store_columns::{ReadFault, Readable};
 use lab_store_read_records::{RecordHead, record_about, record_at, records_within};
 use std::alloc::Global;
@@ -82,25 +85,48 @@ pub fn about_at<D: Readable>(
     record_if(alloc, conn, code, head)
 }
 
-// The record of the row, behind others.
-fn add_record<D: Readable>(
+// The record of the row and the form, behind others.
+fn add_formed<D: Readable>(
     alloc: Global,
     conn: &mut D,
     code: &LabCode,
     made: &mut Vec<Record>,
     head: RecordHead,
+    form: FormVersion,
 ) -> Result<(), ReadFault>
-    ensures reads { Reads (λ t _. made.new.items ≡ made.old.items ++ record_by t code.now head ∷ [])
+    ensures reads { Reads (λ t _. made.new.items
+        ≡ made.old.items ++ record_with code.now head form (leaves_of t head.id) ∷ [])
         (D.state conn.old) (D.state conn.new) result }
     ensures cause { HasItsCause (λ t. HasParts t head)
         (D.state conn.old) (D.state conn.new) result }
 {
-    let kept = record_whole(alloc, conn, code, head)?;
+    let kept = record_by_form(alloc, conn, code, head, form)?;
     made.push(kept)?;
     Ok(())
 }
 
-// The records of the rows, behind others.
+// The record of the row, behind others, and its form: that is read, where it isn't the one before.
+fn add_record<D: Readable>(
+    alloc: Global,
+    conn: &mut D,
+    code: &LabCode,
+    made: &mut Vec<Record>,
+    before: Option<FormAt>,
+    head: RecordHead,
+) -> Result<FormAt, ReadFault>
+    ensures reads { MayRead (λ t found. IfSome before (IsAtItsId t)
+        → IsFiledBehind t code.now head made.old.items made.new.items found)
+        (D.state conn.old) (D.state conn.new) result }
+    ensures cause { HasItsCause (λ t. HasParts t head)
+        (D.state conn.old) (D.state conn.new) result }
+{
+    let found = form_behind(alloc, conn, before, head.form)?;
+    let form = found.form.copy()?;
+    add_formed(alloc, conn, code, made, head, form)?;
+    Ok(found)
+}
+
+// The records of the rows, behind others. A form is read where it isn't that of the record before.
 fn add_records<D: Readable>(
     alloc: Global,
     conn: &mut D,
@@ -114,14 +140,16 @@ fn add_records<D: Readable>(
     ensures cause { HasItsCause (λ t. All (HasParts t) heads.items)
         (D.state conn.old) (D.state conn.new) result }
 {
+    let mut before = None;
     for head in heads {
-        add_record(alloc, conn, code, made, head)?;
+        let found = add_record(alloc, conn, code, made, before, head)?;
+        before = Some(found);
     }
     Ok(())
 }
 
 /// The records from a number to a number, whole, in the laboratory with the code, whose row has the id, in the order of the
-/// numbers.
+/// numbers. A form is read where it isn't that of the record before it.
 ///
 /// # Errors
 /// The store refused, a row is none that this program writes, or memory ran out.

@@ -2,6 +2,7 @@
 
 use lab_forms::Kind;
 use lab_forms_texts::{Key, Name, Ordinal};
+use lab_records_kept::FormVersion;
 
 /// The own row of a version of a form.
 #[derive(Debug, Drop)]
@@ -14,6 +15,15 @@ pub struct FormHead {
     pub version: Ordinal,
     /// Whether what it records wants a third person's approval.
     pub approval: bool,
+}
+
+/// A version of a form by the id of its row.
+#[derive(Drop)]
+pub struct FormAt {
+    /// The row's id.
+    pub id: i64,
+    /// The version of the form.
+    pub form: FormVersion,
 }
 
 /// A field's own row. Its choices stand in rows of their own.

@@ -8,6 +8,7 @@ mod choices;
 mod fields;
 mod filed;
 mod forms;
+mod forms_behind;
 mod forms_by_code;
 mod heads;
 mod kinds;

@@ -1,6 +1,7 @@
 //! Records, with their forms and all their versions.
 
 ghost use Rattle.std.specs.Prelude.{◌≡◌, map, false, IfOk, IfErr};
+ghost use Rattle.lab_store_tables.specs.Meaning.{leaves_of};
 ghost use Rattle.lab_store_read_records.specs.Leaves.{leaf_of};
 ghost use Rattle.lab_store_read_forms.specs.Wholes.{record_with, record_by};
 ghost use Rattle.lab_store_columns.specs.Causes.{HasItsCause};
@@ -39,6 +40,26 @@ fn record_with(
     Ok(cover)
 }
 
+/// The record of the row and the form, of the laboratory with the code, with all its versions.
+///
+/// # Errors
+/// The store refused, a row is none that this program writes, or memory ran out.
+pub(crate) fn record_by_form<D: Readable>(
+    alloc: Global,
+    conn: &mut D,
+    lab: &LabCode,
+    head: RecordHead,
+    form: FormVersion,
+) -> Result<Record, ReadFault>
+    ensures reads { Reads (λ t kept. kept ≡ record_with lab.now head form (leaves_of t head.id))
+        (D.state conn.old) (D.state conn.new) result }
+    ensures cause { HasItsCause (λ t. HasParts t head)
+        (D.state conn.old) (D.state conn.new) result }
+{
+    let leaves = leaves_at(alloc, conn, head.id)?;
+    record_with(alloc, lab, head, form, leaves)
+}
+
 /// The record with the row, of the laboratory with the code, with its form and all its versions.
 ///
 /// # Errors
@@ -55,6 +76,5 @@ pub fn record_whole<D: Readable>(
         (D.state conn.old) (D.state conn.new) result }
 {
     let form = form_at(alloc, conn, head.form)?;
-    let leaves = leaves_at(alloc, conn, head.id)?;
-    record_with(alloc, lab, head, form, leaves)
+    record_by_form(alloc, conn, lab, head, form)
 }

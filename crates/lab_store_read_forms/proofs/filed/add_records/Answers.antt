@@ -1,17 +1,16 @@
 use Rattle.std.proofs.Common.{◌≡◌, ◌∷◌, length, sym, ap, ◌∙◌, arith, rules}
 use Rattle.std.specs.Vec.Iter.{into_iter_items}
-use Rattle.lab_store_columns.proofs.Readers.{may_read}
-use Rattle.lab_store_columns.proofs.Loops.{none_left, none_put, one_put, all_put, put_fails}
-use Rattle.lab_store_read_forms.specs.Wholes.{record_by}
+use Rattle.lab_store_columns.proofs.Loops.{none_left, all_put, put_fails}
 use Rattle.lab_store_columns.proofs.Causes.{none_asked, one_asked, asked_fails, passed_on, none_told}
 use Rattle.lab_store_read_forms.specs.Readable.{HasParts}
+use Rattle.lab_store_read_forms.proofs.FormsBehind.{none_filed, one_filed, put_of}
 use Rattle.lab_store_read_forms.proofs.filed.add_records.Goals as goal
 
 pub loop-head-init : goal.loop-head-init
 loop-head-init g c =
     let all : into_iter_items c.into_iter-head-iterator.result ≡ c.args.heads.items = search rules in
     record {
-      put = none_put (λ t. record_by t c.args.code.now) c.args.made.now.items c.args.heads.items _ (g.D.Readable.state c.args.conn.now) all;
+      filed = none_filed c.args.code.now c.args.made.now.items c.args.heads.items _ (g.D.Readable.state c.args.conn.now) all;
       asked = none_asked HasParts c.args.heads.items _ (g.D.Readable.state c.args.conn.now) all;
       counted = search rules;
     }
@@ -20,8 +19,8 @@ pub loop-head-preserved : goal.loop-head-preserved
 loop-head-preserved g c =
     let steps : into_iter_items c.loop-head.head-iterator ≡ c.in-Some.head ∷ into_iter_items c.next.new.self = c.in-Some.ensures.steps.0 in
     record {
-      put = one_put c.loop-head.invariant.put steps (may_read c.in_ok-add_record.ensures.reads);
-      asked = one_asked c.loop-head.invariant.asked steps c.in_ok-add_record.ensures.cause.limit;
+      filed = one_filed c.loop-head.invariant.filed steps c.in_ok-found.ensures.reads;
+      asked = one_asked c.loop-head.invariant.asked steps c.in_ok-found.ensures.cause.limit;
       counted =
           let was = c.loop-head.invariant.counted in
           let less = c.in-Some.ensures.steps.1 in
@@ -29,16 +28,18 @@ loop-head-preserved g c =
           omega arith;
     }
 
-pub returns-in_err-add_record-clause-reads : goal.returns-in_err-add_record-clause-reads
-returns-in_err-add_record-clause-reads g c = put_fails c.loop-head.invariant.put (may_read c.in_err-add_record.ensures.reads) c.from_residual.result _ c.from_residual.ensures.1
+pub returns-in_err-found-clause-reads : goal.returns-in_err-found-clause-reads
+returns-in_err-found-clause-reads g c =
+    put_fails (put_of c.loop-head.invariant.filed) c.in_err-found.ensures.reads c.from_residual.result _ c.from_residual.ensures.1
 
 pub returns-clause-reads : goal.returns-clause-reads
-returns-clause-reads g c = all_put c.loop-head.invariant.put (none_left _ (sym c.loop-head.invariant.counted ∙ c.in-None.ensures.steps.0))
+returns-clause-reads g c =
+    all_put (put_of c.loop-head.invariant.filed) (none_left _ (sym c.loop-head.invariant.counted ∙ c.in-None.ensures.steps.0))
 
-pub returns-in_err-add_record-clause-cause : goal.returns-in_err-add_record-clause-cause
-returns-in_err-add_record-clause-cause g c =
-    passed_on (asked_fails c.loop-head.invariant.asked c.loop-head.invariant.put c.in-Some.ensures.steps.0
-    (may_read c.in_err-add_record.ensures.reads) c.in_err-add_record.ensures.cause)
+pub returns-in_err-found-clause-cause : goal.returns-in_err-found-clause-cause
+returns-in_err-found-clause-cause g c =
+    passed_on (asked_fails c.loop-head.invariant.asked (put_of c.loop-head.invariant.filed) c.in-Some.ensures.steps.0
+    c.in_err-found.ensures.reads c.in_err-found.ensures.cause)
     (λ has. has) c.from_residual.result c.from_residual.ensures.1
 
 pub returns-clause-cause : goal.returns-clause-cause
