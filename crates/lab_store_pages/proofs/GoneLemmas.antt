@@ -9,7 +9,7 @@ use Rattle.lab_records_kept.specs.Digests.{digest_of}
 use Rattle.lab_copy_rows.specs.Csv.{csv_text}
 use Rattle.lab_copy_rows.specs.declared.outs.CopyOut.{CopyOut}
 use Rattle.lab_copy_rows.specs.Outs.{AppendsFront}
-use Rattle.lab_copy_rows.proofs.SendLemmas.{front_went, second_went}
+use Rattle.lab_copy_rows.proofs.SendLemmas.{first_went, front_went, second_went}
 use Rattle.lab_store_tables.specs.Rows.{Tables}
 use Rattle.lab_store_tables.specs.Meaning.{Leaf, chained, version_after}
 use Rattle.lab_store_read_records.specs.declared.heads.VersionHead.{VersionHead}
@@ -87,6 +87,20 @@ module _ (lab : List ℕ) (cover : Record) (before : Option (List ℕ)) (leaf : 
       (csv_text (page_rows lab cover this) ++ csv_text (pages_rows lab cover later)) so.went
       (front_went between new (csv_text (page_rows lab cover this))
       (csv_text (pages_rows lab cover later)) cut))
+
+-- ---- so far
+
+pub gone_front : (lab : List ℕ) (cover : Record) (before : Option (List ℕ)) (rest all : List Leaf)
+    (old now : Option (List ℕ)) (start out : CopyOut) →
+    HasGone lab cover before rest all old now start out →
+    AppendsFront old now (csv_text (pages_rows lab cover (chained lab cover None all)))
+gone_front lab cover before rest all old now start out so =
+    let later = chained lab cover before rest in
+    subst (AppendsFront old now)
+    (sym (ap csv_text (ap (pages_rows lab cover) so.parts ∙ pages_both lab cover so.made later)
+    ∙ text_of_both (pages_rows lab cover so.made) (pages_rows lab cover later)))
+    (first_went old now (csv_text (pages_rows lab cover so.made))
+    (csv_text (pages_rows lab cover later)) so.went)
 
 -- ---- at the end
 

@@ -3,7 +3,6 @@
 ghost use Rattle.std.specs.Prelude.{◌≡◌, is_some, IfErr, IfOk, IsFalse, OnOk};
 ghost use Rattle.sqlite.specs.State.{HasCleanDisk, IsUnchanged};
 ghost use Rattle.lab_copy_rows.specs.Outs.{Sends, counted_all};
-ghost use Rattle.lab_records_kept.specs.Digests.{digest_of};
 ghost use Rattle.lab_store_pages.specs.Causes.{CopyHasItsCause, HasPage};
 ghost use Rattle.lab_store_pages.specs.Pages.{cover_rows, page_rows};
 ghost use Rattle.lab_store_read_records.specs.Leaves.{leaf_by, leaf_of};
@@ -71,7 +70,7 @@ fn give_version<W: Write>(
 }
 
 // Writes the rows of the version that its own rows tell, behind one of the digest or none, and
-// answers its digest.
+// answers it.
 fn give_leaf<W: Write>(
     alloc: Global,
     lab: &LabCode,
@@ -80,7 +79,7 @@ fn give_leaf<W: Write>(
     leaf: VersionLeaf,
     out: &mut CopyOut,
     writer: &mut W,
-) -> Result<Digest, CopyOutFault>
+) -> Result<Version, CopyOutFault>
     ensures text { Sends (W.contents writer.old) (W.contents writer.new)
         (csv_text (page_rows lab.now cover.now (version_after cover.now before (leaf_of leaf))))
         result }
@@ -88,21 +87,19 @@ fn give_leaf<W: Write>(
       counts = counted_all out.old.counts
           (page_rows lab.now cover.now (version_after cover.now before (leaf_of leaf)));
     }) }
-    ensures digest { IfOk result (λ digest. digest
-        ≡ digest_of lab.now cover.now (version_after cover.now before (leaf_of leaf))) }
+    ensures version { IfOk result
+        (λ version. version ≡ version_after cover.now before (leaf_of leaf)) }
     ensures fault { IfErr result (CopyFaultFits ⊥
         (IsFalse (is_placed (is_some before) leaf.number leaf.reason)) (Unit {0})) }
 {
     let Some(version) = version_after(cover, before, leaf) else {
         return Err(CopyOutFault::Storage);
     };
-    let digest = cover.digest_of(alloc, lab, &version)?;
     give_version(alloc, lab, cover, &version, out, writer)?;
-    Ok(digest)
+    Ok(version)
 }
 
-/// Writes the rows of the version with the row, behind one of the digest or none, and answers its
-/// digest.
+/// Writes the rows of the version with the row, behind one of the digest or none, and answers it.
 ///
 /// # Errors
 /// The store's refusal, that memory ran out, and a write that failed or took no byte. The front of
@@ -116,7 +113,7 @@ pub fn give_page<D: Readable, W: Write>(
     head: VersionHead,
     out: &mut CopyOut,
     writer: &mut W,
-) -> Result<Digest, CopyOutFault>
+) -> Result<Version, CopyOutFault>
     ensures passes { PassesBy (D.state conn.old) (D.state conn.new) }
     ensures same { HasCleanDisk (D.state conn.new) →
         OnOk result (IsUnchanged (D.state conn.old) (D.state conn.new)) }
@@ -128,9 +125,9 @@ pub fn give_page<D: Readable, W: Write>(
           counts = counted_all out.old.counts (page_rows lab.now cover.now
               (version_after cover.now before (leaf_by (tables_of (D.state conn.old)) head)));
         }) }
-    ensures digest { IsReady (D.state conn.old) → HasCleanDisk (D.state conn.new) →
-        IfOk result (λ digest. digest ≡ digest_of lab.now cover.now
-        (version_after cover.now before (leaf_by (tables_of (D.state conn.old)) head))) }
+    ensures version { IsReady (D.state conn.old) → HasCleanDisk (D.state conn.new) →
+        IfOk result (λ version. version
+        ≡ version_after cover.now before (leaf_by (tables_of (D.state conn.old)) head)) }
     ensures fault { IfErr result (CopyFaultFits ⊥ (Unit {0}) (Unit {0})) }
     ensures cause { CopyHasItsCause (λ t. HasPage t (is_some before) head)
         (D.state conn.old) (D.state conn.new) result }

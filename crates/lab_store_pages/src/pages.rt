@@ -1,10 +1,11 @@
 //! A record's rows on their way out of the tables: each version is read, its rows go out, and it is
 //! let go.
 
-ghost use Rattle.std.specs.Prelude.{◌≡◌, ◌≤◌, None, Some, [], ◌∷◌, ◌++◌, false, map, IfErr, IfOk, IfSome, IsTrue, OnOk, option_to_list};
+ghost use Rattle.std.specs.Prelude.{◌≡◌, ◌≤◌, None, Some, [], ◌∷◌, ◌++◌, false, map, option_map, IfErr, IfOk, IfSome, IsTrue, OnOk, option_to_list};
 ghost use Rattle.sqlite.specs.State.{HasCleanDisk, IsUnchanged};
 ghost use Rattle.lab_copy_rows.specs.Outs.{Sends, counted_all};
 ghost use Rattle.lab_forms_texts.specs.Ordinals.{last_ordinal};
+ghost use Rattle.lab_records_kept.specs.Digests.{digest_of};
 ghost use Rattle.lab_store_columns.specs.Causes.{HasFirst};
 ghost use Rattle.lab_store_pages.specs.Causes.{CopyHasItsCause, HasNumbered, HasPages, HasRange, HasVersions};
 ghost use Rattle.lab_store_pages.specs.Pages.{IsFormed, cover_rows, lab_at, pages_rows};
@@ -22,15 +23,33 @@ use crate::covers::{Cover, cover_behind, head_in};
 use crate::faults::page_fault;
 use crate::leaves::{give_cover, give_page};
 use lab_copy_rows::CopyOut;
-use lab_forms_texts::{LabCode, Ordinal};
-use lab_records_kept::Record;
+use lab_forms_texts::{LabCode, Ordinal, OutOfMemory};
+use lab_records_kept::{Record, Version};
 use lab_records_walks::{CopyOutFault, Progress};
+use lab_seal_hashes::Digest;
 use lab_store_columns::Readable;
 use lab_store_read_records::{LabHead, RecordHead, VersionHead, lab_at, versions_at};
 use std::alloc::Global;
 use std::io::Write;
 
-// Writes the rows of the versions with the rows, each behind the digest of the one before it.
+// The digest of the version before another one, if there is one.
+fn digest_behind(
+    alloc: Global,
+    lab: &LabCode,
+    cover: &Record,
+    before: Option<Version>,
+) -> Result<Option<Digest>, OutOfMemory>
+    ensures { IfOk result
+        (λ digest. digest ≡ option_map (digest_of lab.now cover.now) before) }
+{
+    match before {
+        Some(version) => Ok(Some(cover.digest_of(alloc, lab, &version)?)),
+        None => Ok(None),
+    }
+}
+
+// Writes the rows of the versions with the rows, each behind the digest of the one before it, which
+// is made once another version follows, and before that one is read.
 fn give_pages<D: Readable, W: Write>(
     alloc: Global,
     conn: &mut D,
@@ -60,8 +79,9 @@ fn give_pages<D: Readable, W: Write>(
 {
     let mut before = None;
     for head in heads {
-        let digest = give_page(alloc, conn, lab, cover, before, head, out, writer)?;
-        before = Some(digest);
+        let digest = digest_behind(alloc, lab, cover, before)?;
+        let version = give_page(alloc, conn, lab, cover, digest, head, out, writer)?;
+        before = Some(version);
     }
     Ok(())
 }
@@ -309,7 +329,7 @@ fn give_all<D: Readable, W: Write, P: Progress>(
             writer,
         )?;
         before = behind;
-        progress.told(number - first + 1, end - first);
+        progress.tell_records(number - first + 1, end - first);
     }
     Ok(())
 }

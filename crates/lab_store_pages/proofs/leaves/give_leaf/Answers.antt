@@ -10,8 +10,8 @@ use Rattle.lab_store_pages.proofs.leaves.give_leaf.Goals as goal
 
 pub returns-in_err-give_version-clause-text : goal.returns-in_err-give_version-clause-text
 returns-in_err-give_version-clause-text g c =
-    let failed = err_from_is_err_and c.from_residual-in_err-give_version.result
-    c.from_residual-in_err-give_version.ensures.1 in
+    let failed = err_from_is_err_and c.from_residual.result
+    c.from_residual.ensures.1 in
     let lab = c.args.lab.now in
     let cover = c.args.cover.now in
     rw failed.1 (front_as (g.W.Write.contents c.args.writer.now)
@@ -24,4 +24,4 @@ returns-in_err-give_version-clause-text g c =
 pub returns-in_err-give_version-clause-fault : goal.returns-in_err-give_version-clause-fault
 returns-in_err-give_version-clause-fault g c =
     fit_passed (λ never. absurd never) _ c.in_err-give_version.ensures.fault
-    c.from_residual-in_err-give_version.result c.from_residual-in_err-give_version.ensures.1
+    c.from_residual.result c.from_residual.ensures.1
