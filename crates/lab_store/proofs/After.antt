@@ -1,10 +1,10 @@
 -- Changes that are made after the laboratory's row was found.
-use Rattle.std.proofs.Common.{◌≡◌, ◌⊎◌, inl, inr, ℕ, ℤ, List, find, Option, Some, None, option_map, Result, Ok, Err, OnOk, OnErr, IsTrue, refl, sym, ap, subst, ◌∙◌}
+use Rattle.std.proofs.Common.{◌≡◌, ◌⊎◌, inl, inr, ℕ, ℤ, List, find, Option, Some, None, option_map, Result, Ok, Err, IsTrue, refl, sym, ap, subst, ◌∙◌}
 use Rattle.sqlite_trees.specs.Tree.{Trees}
 use Rattle.sqlite.specs.Effect.{Database}
 use Rattle.sqlite.specs.State.{State, HasCleanDisk, IsUnchanged}
 use Rattle.lab_records_kept.specs.declared.changes.Change.{Change}
-use Rattle.lab_store_tables.specs.Rows.{LabRow, Tables, tables_in}
+use Rattle.lab_store_tables.specs.Rows.{LabRow, tables_in}
 use Rattle.lab_store_tables.specs.Meaning.{has_code}
 use Rattle.lab_store_tables.specs.Changes.{InTurn}
 use Rattle.lab_store_tables.specs.Held.{IsTyped}

@@ -5,12 +5,12 @@ use Rattle.sqlite_trees.specs.declared.store.Store.{Ghosts}
 use Rattle.sqlite_trees.specs.Tree.{Trees}
 use Rattle.sqlite.specs.Effect.{Database}
 use Rattle.sqlite.specs.Held.{Held, state}
-use Rattle.sqlite.specs.State.{State, HasCleanDisk}
+use Rattle.sqlite.specs.State.{HasCleanDisk}
 use Rattle.lab_records_kept.specs.Worlds.{IsDurable}
 use Rattle.lab_store_tables.specs.Rows.{tables_in}
 use Rattle.lab_store_tables.specs.Meaning.{meaning}
-use Rattle.lab_store_tables.specs.Ready.{IsAtRest, IsKept, IsReady, PassesBy, LeavesNoMore, tables_of}
-use Rattle.lab_store.specs.StoreWorlds.{world_of, SameRows, IsSafe}
+use Rattle.lab_store_tables.specs.Ready.{IsAtRest, IsReady, PassesBy}
+use Rattle.lab_store.specs.StoreWorlds.{world_of, SameRows}
 
 module _ {S : Type 0} (g : Ghosts S) (stays : (s : S) → IsTrue (g.view s).is_open → g.recovers s (g.view s).committed)
     (settled : (s : S) (db : Trees) → IsTrue (g.view s).is_open → g.recovers s db → db ≡ (g.view s).committed) where

@@ -1,4 +1,5 @@
 pub mod Commits
+pub mod Counting
 pub mod Founding
 pub mod StoreLaws
 pub mod StoreWorlds

@@ -3,7 +3,7 @@
 ghost use Rattle.std.specs.Prelude.{◌≡◌, [], IsTrue, OnOk};
 ghost use Rattle.sqlite.specs.Held.{state};
 ghost use Rattle.sqlite.specs.Effect.{IsDatabase};
-ghost use Rattle.sqlite.specs.State.{HasCleanDisk, KeepsCommit, Survives};
+ghost use Rattle.sqlite.specs.State.{HasCleanDisk, IsUnchanged, KeepsCommit, Survives};
 ghost use Rattle.lab_store_tables.specs.Changes.{InTurn};
 ghost use Rattle.lab_store_tables.specs.Ready.{IsAtRest, IsReady, LeavesNoMore};
 ghost use Rattle.lab_store_laws.specs.Steps.{StepsBy, AreMadeIfAny};
@@ -86,6 +86,8 @@ pub fn apply<S: Alter>(
         (state S.Store tables.old.conn) (state S.Store tables.new.conn) }
     ensures quiet { changes.now ≡ [] → IsReady (state S.Store tables.old.conn) →
         LeavesNoMore (state S.Store tables.old.conn) (state S.Store tables.new.conn) }
+    ensures same { changes.now ≡ [] → HasCleanDisk (state S.Store tables.new.conn) →
+        OnOk result (IsUnchanged (state S.Store tables.old.conn) (state S.Store tables.new.conn)) }
 {
     let found = lab_at(alloc, tables, code)?;
     if changes.is_empty() {

@@ -1,6 +1,6 @@
 //! The keeper over a connection.
 
-ghost use Rattle.std.specs.Prelude.{◌≡◌, ◌≤◌, IfErr, OnOk};
+ghost use Rattle.std.specs.Prelude.{◌≡◌, ◌≤◌, ◌⊎◌, [], None, IfErr, OnOk};
 ghost use Rattle.sqlite.specs.Held.{state};
 ghost use Rattle.lab_copy_rows.specs.Outs.{Sends, counted_all};
 ghost use Rattle.lab_forms_texts.specs.Ordinals.{last_ordinal};
@@ -11,6 +11,7 @@ ghost use Rattle.lab_store.specs.StoreWorlds.{store_rests, store_world};
 ghost use Rattle.lab_store_columns.specs.Causes.{HasItsCause};
 ghost use Rattle.lab_store_columns.specs.Reads.{Reads};
 ghost use Rattle.lab_store_load.specs.Readable.{HasPart};
+ghost use Rattle.lab_store_pages.specs.Causes.{CopyHasItsCause, HasRange};
 ghost use Rattle.lab_store_tables.specs.Meaning.{meaning};
 ghost use Rattle.lab_store_tables.specs.Ready.{IsAtRest};
 ghost use Rattle.lab_records_walks.specs.Faults.{CopyFaultFits};
@@ -22,7 +23,7 @@ use lab_copy_rows::CopyOut;
 use lab_forms_texts::{LabCode, Ordinal};
 use lab_records_kept::{Change, Keeper, KeeperFault, Need, Newborn, PlacingFault, Series, Slice};
 use lab_records_walks::{CopyOutFault, Progress};
-use lab_store_load::load;
+use lab_store_load::{Counted, load};
 use lab_store_pages::give_records_at;
 use sqlite::{Alter, Connection};
 use std::alloc::Global;
@@ -30,8 +31,12 @@ use std::io::Write;
 use std::marker::Model;
 
 /// The laboratories of a file, over a connection at rest that was created or opened by `lab_store_files`.
+///
+/// How many persons a laboratory has is counted once, and kept until a request changes something:
+/// nobody else writes to the file.
 pub struct Store<S: Alter> {
     tables: Tables<S>,
+    counted: Option<Counted>,
     alloc: Global,
 }
 
@@ -40,6 +45,7 @@ impl<S: Alter + Drop> Drop for Store<S> {
     fn drop(self) {
         let Store {
             tables: _,
+            counted: _,
             alloc: _,
         } = self;
     }
@@ -47,7 +53,7 @@ impl<S: Alter + Drop> Drop for Store<S> {
 
 impl<S: Alter> Model for Store<S> {
     ghost use Rattle.sqlite.specs.Held.{Held, held_code, state};
-    ghost use Rattle.lab_store_tables.specs.Ready.{IsAtRest};
+    ghost use Rattle.lab_store.specs.Counting.{IsKeeping};
 
     ghost Value = { Held S };
 
@@ -55,7 +61,7 @@ impl<S: Alter> Model for Store<S> {
 
     ghost view = { λ store. store.tables.conn };
 
-    ghost invariant = { λ store. IsAtRest (state S.Store store.tables.conn) };
+    ghost invariant = { λ store. IsKeeping (state S.Store store.tables.conn) store.counted };
 }
 
 impl<S: Alter> Store<S> {
@@ -66,6 +72,7 @@ impl<S: Alter> Store<S> {
     {
         Store {
             tables: Tables { conn },
+            counted: None,
             alloc,
         }
     }
@@ -77,6 +84,7 @@ impl<S: Alter> Store<S> {
     {
         let Store {
             tables: Tables { conn },
+            counted: _,
             alloc: _,
         } = self;
         conn
@@ -92,7 +100,7 @@ impl<S: Alter> Store<S> {
         ensures cause { HasItsCause (λ t. HasPart t code.now need.now)
             (state S.Store self.old) (state S.Store self.new) result }
     {
-        load(self.alloc, &mut self.tables, code, need)
+        load(self.alloc, &mut self.tables, &mut self.counted, code, need)
     }
 
     /// Writes the rows of the records from a number to a last one into a copy on its way out, one
@@ -124,8 +132,11 @@ impl<S: Alter> Store<S> {
             (CopyFaultFits ⊥ (store_world S.Store self.old).may_refuse (Unit {0})) }
         ensures lives { Given (store_world S.Store self.old) (store_world S.Store self.new)
             (OnOk result (Lives (store_world S.Store self.old) (store_world S.Store self.new))) }
+        ensures cause { CopyHasItsCause (λ t. HasRange t lab.now from last)
+            (state S.Store self.old) (state S.Store self.new) result }
         ensures read { IsRead (store_world S.Store) (store_rests S.Store) self.old self.new }
     {
+        self.counted = None;
         give_records_at(
             alloc,
             &mut self.tables,
@@ -136,6 +147,17 @@ impl<S: Alter> Store<S> {
             writer,
             progress,
         )
+    }
+}
+
+// What was counted is right after changes, too, where there is none.
+fn counted_after(counted: Option<Counted>, changes: &Series<Change>) -> Option<Counted>
+    ensures { ((changes.now ≡ []) × (result ≡ counted)) ⊎ (result ≡ None) }
+{
+    if changes.as_slice().is_empty() {
+        counted
+    } else {
+        None
     }
 }
 
@@ -164,11 +186,15 @@ impl<S: Alter> Keeper for Store<S> {
     }
 
     fn apply(&mut self, code: &LabCode, changes: Series<Change>) -> Result<(), KeeperFault> {
+        let counted = counted_after(self.counted, &changes);
+        self.counted = None;
         apply(self.alloc, &mut self.tables, code, changes.as_slice())?;
+        self.counted = counted;
         Ok(())
     }
 
     fn found(&mut self, newborn: Newborn) -> Result<(), PlacingFault> {
+        self.counted = None;
         found(self.alloc, &mut self.tables, newborn)
     }
 

@@ -18,6 +18,7 @@ use Rattle.lab_records_kept.specs.declared.records.Record.{Record}
 use Rattle.lab_store_load.specs.Things.{things_by}
 use Rattle.lab_records_kept.specs.declared.trails.TrailRow.{TrailRow as Told}
 use Rattle.lab_store_read_records.specs.declared.heads.LabHead.{LabHead}
+use Rattle.lab_store_load.specs.Counts.{IsCounted}
 use Rattle.lab_store_load.specs.Lists.{counts_by, listed_by}
 
 -- aqua's own row
@@ -97,6 +98,10 @@ known_things = (refl, refl, refl, refl)
 -- persons are counted, as no row counts them: brick's three are none of aqua's four
 pub known_counts : counts_by file head ≡ record { persons = 4; sessions = 2; records = 2; trail = 12 }
 known_counts = refl
+
+-- so many were counted of either, and what was counted of one is not right for the other
+pub known_counted : IsCounted file (record { lab = pos 7; persons = 4 }) × IsCounted file (record { lab = pos 3; persons = 3 })
+known_counted = (refl, refl)
 
 -- ---- lists
 

@@ -1,4 +1,5 @@
-pub mod Counted
+pub mod CountLemmas
+pub mod Counting
 pub mod KnownParts
 pub mod ListLemmas
 pub mod Loaded

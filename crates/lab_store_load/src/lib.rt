@@ -2,9 +2,11 @@
 //! (d)). Nothing is written.
 #![tactic(auto)]
 
+mod counts;
 mod lists;
 mod loading;
 mod people;
 mod things;
 
+pub use counts::Counted;
 pub use loading::load;

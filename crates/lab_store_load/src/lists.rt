@@ -3,17 +3,19 @@
 ghost use Rattle.std.specs.Prelude.{◌≡◌, Some, IfSome};
 ghost use Rattle.lab_records_kept.specs.declared.needs.ListWanted.TheVariants.{Persons, Records, Trail};
 ghost use Rattle.lab_store_read_records.specs.Laboratories.{lab_by};
+ghost use Rattle.lab_store_load.specs.Counts.{IsCounted};
 ghost use Rattle.lab_store_load.specs.Lists.{counts_by, listed_by};
 ghost use Rattle.lab_store_load.specs.Readable.{HasListOf};
 ghost use Rattle.lab_store_columns.specs.Causes.{HasItsCause};
 ghost use Rattle.lab_store_columns.specs.Reads.{Reads, MayRead};
 
+use crate::counts::{Counted, persons_counted};
 use lab_forms_texts::{Ordinal, Series};
 use lab_people_access::Person;
 use lab_records_kept::{Counts, ListWanted, Record, TrailRow};
 use lab_store_columns::{ReadFault, Readable};
 use lab_store_read_forms::filed_within;
-use lab_store_read_people::{person_count, persons_at};
+use lab_store_read_people::persons_at;
 use lab_store_read_records::LabHead;
 use lab_store_read_trail::trail_within;
 use std::alloc::Global;
@@ -29,16 +31,20 @@ pub struct Listed {
     pub trail: Series<TrailRow>,
 }
 
-/// How many the laboratory has.
+/// How many the laboratory has. Its persons are counted, where they weren't before.
 ///
 /// # Errors
 /// The store refused, a row is none that this program writes, or memory ran out.
-pub fn counts_at<D: Readable>(conn: &mut D, lab: &LabHead) -> Result<Counts, ReadFault>
-    ensures reads { Reads (λ t counts. counts ≡ counts_by t lab.now)
-        (D.state conn.old) (D.state conn.new) result }
+pub fn counts_at<D: Readable>(
+    conn: &mut D,
+    counted: Option<Counted>,
+    lab: &LabHead,
+) -> Result<Counts, ReadFault>
+    ensures reads { MayRead (λ t counts. IfSome counted (IsCounted t) →
+        counts ≡ counts_by t lab.now) (D.state conn.old) (D.state conn.new) result }
     ensures cause { HasItsCause (λ t. Unit {0}) (D.state conn.old) (D.state conn.new) result }
 {
-    let persons = person_count(conn, lab.id)?;
+    let persons = persons_counted(conn, lab.id, counted)?;
     Ok(Counts {
         persons,
         sessions: lab.sessions,

@@ -1,13 +1,15 @@
 //! The part of a laboratory that is needed.
 
-ghost use Rattle.std.specs.Prelude.{◌≡◌, option_map, IfSome};
+ghost use Rattle.std.specs.Prelude.{◌≡◌, None, option_map, IfSome, OnErr};
 ghost use Rattle.lab_records_kept.specs.Parts.{part_of};
 ghost use Rattle.lab_store_tables.specs.Meaning.{meaning};
 ghost use Rattle.lab_store_columns.specs.Causes.{HasItsCause};
 ghost use Rattle.lab_store_columns.specs.Reads.{Reads, MayRead};
+ghost use Rattle.lab_store_load.specs.Counts.{IsCounted};
 ghost use Rattle.lab_store_load.specs.Readable.{HasPeople, HasThings, HasSlice, HasPart};
 ghost use Rattle.lab_store_load.specs.Parts.{slice_with, slice_counted, slice_by};
 
+use crate::counts::Counted;
 use crate::lists::{Listed, counts_at, listed_at};
 use crate::people::people_at;
 use crate::things::things_at;
@@ -67,58 +69,80 @@ fn slice_counted<D: Readable>(
     slice_with(alloc, conn, head, need, counts, listed)
 }
 
-// The part of the laboratory of the row.
+// The part of the laboratory of the row. Its persons are counted, where they weren't before.
 fn slice_at<D: Readable>(
     alloc: Global,
     conn: &mut D,
+    counted: Option<Counted>,
     head: LabHead,
     need: &Need,
 ) -> Result<Slice, ReadFault>
-    ensures reads { Reads (λ t slice. slice ≡ slice_by t need.now head)
-        (D.state conn.old) (D.state conn.new) result }
+    ensures reads { MayRead (λ t slice. IfSome counted (IsCounted t) →
+        slice ≡ slice_by t need.now head) (D.state conn.old) (D.state conn.new) result }
     ensures cause { HasItsCause (λ t. HasSlice t head need.now)
         (D.state conn.old) (D.state conn.new) result }
 {
-    let counts = counts_at(conn, &head)?;
+    let counts = counts_at(conn, counted, &head)?;
     slice_counted(alloc, conn, head, need, counts)
 }
 
-// The part of the laboratory of the row, where there is one.
+// The part of the laboratory of the row, where there is one, by what was counted before. How many
+// persons it has is kept.
 fn slice_if<D: Readable>(
     alloc: Global,
     conn: &mut D,
+    before: Option<Counted>,
+    counted: &mut Option<Counted>,
     head: Option<LabHead>,
     need: &Need,
 ) -> Result<Option<Slice>, ReadFault>
-    ensures reads { MayRead (λ t slice. slice ≡ option_map (slice_by t need.now) head)
+    ensures reads { MayRead (λ t slice. IfSome before (IsCounted t) →
+        (slice ≡ option_map (slice_by t need.now) head) × IfSome counted.new (IsCounted t))
         (D.state conn.old) (D.state conn.new) result }
     ensures cause { HasItsCause (λ t. IfSome head (λ one. HasSlice t one need.now))
         (D.state conn.old) (D.state conn.new) result }
+    ensures failed { OnErr result (counted.new ≡ counted.old) }
 {
     match head {
         Some(head) => {
-            let slice = slice_at(alloc, conn, head, need)?;
+            let lab = head.id;
+            let slice = slice_at(alloc, conn, before, head, need)?;
+            *counted = Some(Counted {
+                lab,
+                persons: slice.counts.persons,
+            });
             Ok(Some(slice))
         }
-        None => Ok(None),
+        None => {
+            *counted = before;
+            Ok(None)
+        }
     }
 }
 
-/// The part of a laboratory that is needed, or none where there is no laboratory of the code.
+/// The part of a laboratory that is needed, or none where there is no laboratory of the code. Its
+/// persons are counted, where they weren't before, and how many they are is kept.
 ///
 /// # Errors
-/// The store refused, a row is none that this program writes, or memory ran out.
+/// The store refused, a row is none that this program writes, or memory ran out. What was counted
+/// is then forgotten.
 pub fn load<D: Readable>(
     alloc: Global,
     conn: &mut D,
+    counted: &mut Option<Counted>,
     code: &LabCode,
     need: &Need,
 ) -> Result<Option<Slice>, ReadFault>
-    ensures reads { Reads (λ t found. found ≡ part_of need.now (meaning t code.now))
+    // Where what was counted before is right:
+    ensures reads { Reads (λ t found. IfSome counted.old (IsCounted t) →
+        (found ≡ part_of need.now (meaning t code.now)) × IfSome counted.new (IsCounted t))
         (D.state conn.old) (D.state conn.new) result }
     ensures cause { HasItsCause (λ t. HasPart t code.now need.now)
         (D.state conn.old) (D.state conn.new) result }
+    ensures failed { OnErr result (counted.new ≡ None) }
 {
+    let before = *counted;
+    *counted = None;
     let head = lab_at(alloc, conn, code)?;
-    slice_if(alloc, conn, head, need)
+    slice_if(alloc, conn, before, counted, head, need)
 }

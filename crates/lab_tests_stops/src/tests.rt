@@ -70,7 +70,7 @@ fn assert_stops<R: Abort + AllocGlobal>(
 
 #[test]
 fn an_entry_is_there_whole_or_not_at_all(rt: HostRuntime) {
-    assert_stops(&rt, &ENTRY, ROWS_AFTER_ENTRY, (23, 29));
+    assert_stops(&rt, &ENTRY, ROWS_AFTER_ENTRY, (23, 28));
 }
 
 #[test]
@@ -90,7 +90,7 @@ fn an_amendment_is_there_whole_or_not_at_all(rt: HostRuntime) {
 
 #[test]
 fn an_issue_is_there_whole_or_not_at_all(rt: HostRuntime) {
-    assert_stops(&rt, &ISSUE, ROWS_AFTER_ISSUE, (20, 16));
+    assert_stops(&rt, &ISSUE, ROWS_AFTER_ISSUE, (20, 15));
 }
 
 #[test]

@@ -1,4 +1,4 @@
-use Rattle.std.proofs.Common.{◌≡◌, w64, to_z, of_z, SFits, rules, sym, ◌∙◌}
+use Rattle.std.proofs.Common.{w64, to_z, of_z, SFits, rules, sym, ◌∙◌}
 use Rattle.std.proofs.lemmas.Int.{to_z-of_z}
 use Rattle.sqlite.specs.Held.{state}
 use Rattle.lab_forms_texts.specs.declared.refusals.Fault.{Fault}

@@ -1,13 +1,15 @@
-use Rattle.std.proofs.Common.{Some, option_map, sym, ap, subst, ◌∙◌, IfSome}
+use Rattle.std.proofs.Common.{Some, option_map, sym, ap, subst, ◌∙◌, IfSome, w64, rules, SFits}
+use Rattle.std.proofs.lemmas.Int.{to_z-of_z}
 use Rattle.lab_store_tables.specs.Ready.{tables_of}
 use Rattle.lab_store_columns.proofs.Causes.{passed_on}
-use Rattle.lab_store_columns.proofs.Readers.{none_read, may_read, may_end, may_and}
+use Rattle.lab_store_columns.proofs.Readers.{none_read, may_end, may_and}
 use Rattle.lab_store_load.specs.Parts.{slice_by}
 use Rattle.lab_store_load.specs.Readable.{HasSlice}
+use Rattle.lab_store_load.proofs.Counting.{slice_kept}
 use Rattle.lab_store_load.proofs.loading.slice_if.Goals as goal
 
 pub returns-in_err-slice-in-Some-clause-reads : goal.returns-in_err-slice-in-Some-clause-reads
-returns-in_err-slice-in-Some-clause-reads g c = may_end (may_read c.in_err-slice-in-Some.ensures.reads) c.from_residual.result _ c.from_residual.ensures.1
+returns-in_err-slice-in-Some-clause-reads g c = may_end c.in_err-slice-in-Some.ensures.reads c.from_residual.result _ c.from_residual.ensures.1
 
 pub returns-in_err-slice-in-Some-clause-cause : goal.returns-in_err-slice-in-Some-clause-cause
 returns-in_err-slice-in-Some-clause-cause g c =
@@ -18,9 +20,14 @@ returns-in_err-slice-in-Some-clause-cause g c =
 pub returns-in_ok-slice-in-Some-clause-reads : goal.returns-in_ok-slice-in-Some-clause-reads
 returns-in_ok-slice-in-Some-clause-reads g c =
     let t = tables_of (g.D.Readable.state c.args.conn.now) in
-    may_and (may_read c.in_ok-slice-in-Some.ensures.reads) (λ is. ap Some is ∙ sym (ap (option_map (slice_by t c.args.need.now)) c.in-Some.is))
+    let head = c.in-Some.head in
+    let fits : SFits w64 head.id = search rules in
+    may_and c.in_ok-slice-in-Some.ensures.reads (λ is right. (
+      ap Some (is right) ∙ sym (ap (option_map (slice_by t c.args.need.now)) c.in-Some.is),
+      slice_kept t c.args.need.now head _ _ (to_z-of_z w64 head.id fits) (is right),
+    ))
 
 pub returns-in-None-clause-reads : goal.returns-in-None-clause-reads
 returns-in-None-clause-reads g c =
     let t = tables_of (g.D.Readable.state c.args.conn.now) in
-    none_read (sym (ap (option_map (slice_by t c.args.need.now)) c.in-None.is))
+    none_read (λ right. (sym (ap (option_map (slice_by t c.args.need.now)) c.in-None.is), right))

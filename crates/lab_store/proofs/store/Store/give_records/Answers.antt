@@ -3,3 +3,9 @@ use Rattle.lab_store.proofs.store.Store.give_records.Goals as goal
 
 pub returns-clause-text : goal.returns-clause-text
 returns-clause-text g c = rw (← c.self.view_is) (λ clean ready. c.give_records_at.ensures.text ready clean)
+
+pub returns-clause-cause : goal.returns-clause-cause
+returns-clause-cause g c = rw (← c.self.view_is) c.give_records_at.ensures.cause
+
+pub invariant_of-self : goal.invariant_of-self
+invariant_of-self g c = record { at_rest = c.give_records_at.ensures.passes.at_rest c.self.invariant.at_rest; right = λ _ _ _. tt }

@@ -1,8 +1,9 @@
-use Rattle.std.proofs.Common.{◌≡◌, Ok, Err}
+use Rattle.std.proofs.Common.{◌≡◌, ◌∙◌, [], Ok, Err}
 use Rattle.sqlite.specs.Held.{state}
 use Rattle.lab_records_kept.specs.Worlds.{Changes}
 use Rattle.lab_store_tables.specs.Ready.{tables_of}
 use Rattle.lab_store_laws.specs.Steps.{AreMadeIfAny}
+use Rattle.lab_store_load.proofs.Counting.{counted_or_none}
 use Rattle.lab_store.proofs.Settled.{durable_now}
 use Rattle.lab_store.proofs.Committed.{crashes, stays_safe, made_means, reached}
 use Rattle.lab_store.proofs.Applied.{changes_as, changes_law, ends_given}
@@ -86,3 +87,15 @@ returns-clause-shuts g c clean ready =
     let changes = c.args.changes in
     let ends = ends_given g.S.Store code c.as_slice.result.now changes c.self.inside.tables.conn c.args.self.now (state g.S.Store c.apply.new.tables.conn) _ c.as_slice.ensures c.self.view_is c.in_ok-apply.ensures.ends ready in
     world_shuts (state g.S.Store c.args.self.now) (state g.S.Store c.apply.new.tables.conn) clean ends.shuts
+
+pub invariant_of-self : goal.invariant_of-self
+invariant_of-self g c = record { at_rest = c.in_err-apply.ensures.at_rest; right = λ _ _ _. tt }
+
+pub invariant_of-self-2 : goal.invariant_of-self-2
+invariant_of-self-2 g c = record {
+  at_rest = c.in_ok-apply.ensures.at_rest;
+  right =
+      counted_or_none (c.args.changes ≡ []) (state g.S.Store c.self.inside.tables.conn) (state g.S.Store c.apply.new.tables.conn) c.self.inside.counted
+      c.counted_after-counted.result c.counted_after-counted.ensures c.in_ok-apply.ensures.clean
+      (λ none clean. c.in_ok-apply.ensures.same (c.as_slice.ensures ∙ none) clean) c.self.invariant.right;
+}

@@ -1,4 +1,3 @@
-use Rattle.std.proofs.Common.{◌≡◌}
 use Rattle.sqlite.specs.Held.{state}
 use Rattle.lab_records_kept.specs.Births.{newborn_lab}
 use Rattle.lab_records_kept.specs.Worlds.{Places}
@@ -54,3 +53,6 @@ returns-clause-shuts g c clean ready =
     let newborn = c.args.newborn in
     let ends = founding_given g.S.Store newborn c.self.inside.tables.conn c.args.self.now (state g.S.Store c.found.new.tables.conn) c.found.result c.self.view_is c.found.ensures.ends ready in
     world_shuts (state g.S.Store c.args.self.now) (state g.S.Store c.found.new.tables.conn) clean ends.shuts
+
+pub invariant_of-self : goal.invariant_of-self
+invariant_of-self g c = record { at_rest = c.found.ensures.at_rest; right = λ _ _ _. tt }
