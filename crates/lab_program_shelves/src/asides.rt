@@ -67,6 +67,15 @@ pub(crate) fn log_path(alloc: Global, path: &str) -> Result<String, AllocError> 
     path_behind(alloc, path, "-wal")
 }
 
+// What an old file that can't be held is told as.
+fn fault_of_opening(error: &OpenError) -> FileFault {
+    match error {
+        OpenError::OutOfMemory => FileFault::Memory,
+        OpenError::Io(error) if error.kind() == ErrorKind::OutOfMemory => FileFault::Memory,
+        OpenError::Io(_) | OpenError::Busy | OpenError::HotJournal => FileFault::Storage,
+    }
+}
+
 impl<'a, S: Supposed> HostShelf<'a, S> {
     // Looks at an old file before it is copied. Nothing is made where there is none.
     fn look_at_old(&self, path: &str) -> Result<(), FileFault> {
@@ -87,10 +96,7 @@ impl<'a, S: Supposed> HostShelf<'a, S> {
                     None => Ok(None),
                 }
             }
-            Err(OpenError::OutOfMemory) => Err(FileFault::Memory),
-            Err(OpenError::Io(_) | OpenError::Busy | OpenError::HotJournal) => {
-                Err(FileFault::Storage)
-            }
+            Err(error) => Err(fault_of_opening(&error)),
         }
     }
 

@@ -360,7 +360,7 @@ impl<'a> TerminalProgress<'a> {
 }
 
 impl<'a> Progress for TerminalProgress<'a> {
-    fn told(&mut self, done: u32, all: u32) {
+    fn tell_records(&mut self, done: u32, all: u32) {
         print_records(self.rt, done as usize, all as usize);
     }
 }
