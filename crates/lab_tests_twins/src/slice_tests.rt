@@ -17,7 +17,7 @@ fn store_over<R: Abort + AllocGlobal>(rt: &R, rows: &[&str], ids: &str) -> Kept 
 }
 
 // All that the slice has which is needed.
-fn told<R: Abort + AllocGlobal>(rt: &R, store: &mut Kept, need: &Need) -> Vec<u8> {
+fn slice_text<R: Abort + AllocGlobal>(rt: &R, store: &mut Kept, need: &Need) -> Vec<u8> {
     let slice = part(rt.alloc(), store, "aqua", need).expect(rt, "a laboratory");
     let mut text = Vec::new(rt.alloc());
     push_slice(&mut text, &slice).expect(rt, "memory");
@@ -35,8 +35,8 @@ fn assert_told_alike<R: Abort + AllocGlobal>(
     other: &mut Kept,
     need: &Need,
 ) {
-    let first = told(rt, one, need);
-    let second = told(rt, other, need);
+    let first = slice_text(rt, one, need);
+    let second = slice_text(rt, other, need);
     assert_bytes(rt, &second, &first);
     drop(first);
     drop(second);
