@@ -3,8 +3,9 @@
 
     bench/shares.py [PROGRAM]             prints the table; without a program, over the one that is proved
     bench/shares.py --functions [PROGRAM] prints the forty functions that have most of them, too
+    bench/shares.py --size SIZE ..        does so over the file of that size of bench/sized.py, as "10 versions", and not the small one
 
-`labdesk serve` answers a batch of each kind over the small file of bench/sized.py, as in bench/beside.py, by `valgrind --tool=callgrind`. Each
+`labdesk serve` answers a batch of each kind over the file, as in bench/beside.py, by `valgrind --tool=callgrind`. Each
 function's own instructions, less those of what it calls, are counted to whose it is, by its name. A function that was put into its
 caller is counted to the caller.
 """
@@ -66,9 +67,9 @@ def whose(counts):
     return shares
 
 
-def measured(program, room):
+def measured(size, program, room):
     """Each function's instructions a request, by the kind of request."""
-    size, found = SIZES[0], {}
+    found = {}
     file = str(room / "file")
     size.make(file)
     tokens, measure = begin(file, int(time.time())), Instructions(room)
@@ -87,11 +88,15 @@ def measured(program, room):
 
 
 def main(words):
+    size = SIZES[0]
+    if words[:1] == ["--size"]:
+        size = next(one for one in SIZES if one.name == words[1])
+        words = words[2:]
     functions = words[:1] == ["--functions"]
     words = words[1:] if functions else words
     program = os.path.abspath(words[0]) if words else proved_program()
     with tempfile.TemporaryDirectory() as name:
-        found = measured(program, pathlib.Path(name))
+        found = measured(size, program, pathlib.Path(name))
     row(["Whose instructions"] + [f"{KINDS[kind]}, thousands | share" for kind in SHOWN])
     print("|" + "---|" * (1 + 2 * len(SHOWN)))
     shares, totals = [whose(found[kind]) for kind in SHOWN], [sum(found[kind].values()) for kind in SHOWN]
