@@ -1,10 +1,13 @@
 //! The digest of a version of a record as it is now, and signatures with their seals.
-ghost use Rattle.std.specs.Prelude.{◌≡◌, IfOk};
+ghost use Rattle.std.specs.Prelude.{◌≡◌, [], IfOk};
+ghost use Rattle.lab_seal_versions.specs.Versions.{with_rows};
 ghost use Rattle.lab_records_kept.specs.Digests.{parts_of, digest_of, signature_of};
 
 use crate::records::{Record, Signature, Version};
 use lab_forms_texts::{LabCode, OutOfMemory};
-use lab_seal_versions::{Digest, SealParts, VersionParts, digest, seal, write_version};
+use lab_seal_versions::{
+    Digest, EntryRows, SealParts, VersionParts, digest, seal, write_with_rows,
+};
 use std::alloc::Global;
 
 impl Record {
@@ -21,22 +24,27 @@ impl Record {
     ) -> Result<Digest, OutOfMemory>
         ensures { IfOk result (λ digest. digest ≡ digest_of lab.now self.now version.now) }
     {
-        let parts = self.parts_of(lab, version)?;
-        let text = write_version(alloc, &parts);
+        let parts = self.parts_without_rows(alloc, lab, version)?;
+        let text = write_with_rows(alloc, &parts, &version.rows);
         drop(parts);
         Ok(digest(&text?))
     }
 
-    // What the text of the version says, as copies.
-    fn parts_of(&self, lab: &LabCode, version: &Version) -> Result<VersionParts, OutOfMemory>
-        ensures { IfOk result (λ parts. parts ≡ parts_of lab.now self.now version.now) }
+    // What the text of the version says, as copies, but for its rows: there are none.
+    fn parts_without_rows(
+        &self,
+        alloc: Global,
+        lab: &LabCode,
+        version: &Version,
+    ) -> Result<VersionParts, OutOfMemory>
+        ensures { IfOk result
+            (λ parts. parts ≡ with_rows (parts_of lab.now self.now version.now) []) }
     {
         let lab = lab.copy()?;
         let form = self.form.code.copy()?;
         let sample = self.sample.copy()?;
         let opener = version.opener.copy()?;
         let origin = version.origin.copy()?;
-        let rows = version.rows.copy()?;
         Ok(VersionParts {
             format: version.format,
             lab,
@@ -47,7 +55,7 @@ impl Record {
             sample,
             opener,
             opened: version.opened,
-            rows,
+            rows: EntryRows::new(Vec::new(alloc)),
         })
     }
 }

@@ -73,6 +73,21 @@ front_text parts =
 unfoldable pub version_text : VersionParts → List ℕ
 version_text parts = front_text parts ++ flat_map row_text parts.rows
 
+-- the version of these parts, but with these rows
+abbrev pub with_rows : VersionParts → List EntryRow → VersionParts
+with_rows parts rows = record {
+  format = parts.format;
+  lab = parts.lab;
+  record_number = parts.record_number;
+  origin = parts.origin;
+  form = parts.form;
+  form_version = parts.form_version;
+  sample = parts.sample;
+  opener = parts.opener;
+  opened = parts.opened;
+  rows = rows;
+}
+
 -- 32 bytes
 abbrev pub IsDigest : List ℕ → Type 0
 IsDigest digest = (length digest ≡ 32) × IsBytes digest

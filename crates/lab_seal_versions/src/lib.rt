@@ -21,4 +21,4 @@ pub use rows::{EntryRow, EntryRows};
 pub use sealing::seal;
 pub use seals::{Meaning, Seal, SealParts};
 pub use states::{State, state_of};
-pub use versions::{Format, VersionParts, write_version};
+pub use versions::{Format, VersionParts, write_version, write_with_rows};

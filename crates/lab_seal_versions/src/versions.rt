@@ -2,7 +2,7 @@
 ghost use Rattle.std.specs.Prelude.{◌≡◌, ◌++◌, ◌<◌, ◌^◌, OnOk, IfOk, All, length};
 ghost use Rattle.std.specs.List.{flat_map};
 ghost use Rattle.lab_forms_texts.specs.Ordinals.{is_ordinal};
-ghost use Rattle.lab_seal_versions.specs.Versions.{approval_text, reason_text, row_text, heading_text, subject_text, origin_text, opening_text, front_text, version_text, format_word, IsReason, IsRow, IsHeading, IsSubject, IsOrigin, IsOpening, IsFront, IsVersion};
+ghost use Rattle.lab_seal_versions.specs.Versions.{approval_text, reason_text, row_text, heading_text, subject_text, origin_text, opening_text, front_text, version_text, with_rows, format_word, IsReason, IsRow, IsHeading, IsSubject, IsOrigin, IsOpening, IsFront, IsVersion};
 
 use crate::items::{push_digest, push_item, push_moment, push_number};
 use crate::{EntryRow, EntryRows, Origin};
@@ -104,27 +104,45 @@ impl VersionParts {
 ///
 /// # Errors
 /// Memory ran out.
-#[tactic(auto, unfolding(crate::specs::Versions::version_text))]
 pub fn write_version(alloc: Global, parts: &VersionParts) -> Result<Vec<u8>, OutOfMemory>
     ensures text { IfOk result (λ text. text.items ≡ version_text parts.now) }
     ensures version { IfOk result (λ _. IsVersion parts.now) }
 {
+    write_with_rows(alloc, parts, &parts.rows)
+}
+
+/// The text of the version that these parts are of, but for its rows, which stand apart: none of them is copied. The rows among
+/// the parts aren't looked at.
+///
+/// # Errors
+/// Memory ran out.
+#[tactic(auto, unfolding(crate::specs::Versions::version_text))]
+pub fn write_with_rows(
+    alloc: Global,
+    parts: &VersionParts,
+    rows: &EntryRows,
+) -> Result<Vec<u8>, OutOfMemory>
+    ensures text { IfOk result
+        (λ text. text.items ≡ version_text (with_rows parts.now rows.now)) }
+    ensures version { IfOk result (λ _. IsVersion (with_rows parts.now rows.now)) }
+{
     let mut text = Vec::new(alloc);
-    push_front(&mut text, parts)?;
-    push_rows(&mut text, parts.rows.rows())?;
+    push_front(&mut text, parts, rows)?;
+    push_rows(&mut text, rows.rows())?;
     Ok(text)
 }
 
 // Adds all that stands before the rows.
-#[tactic(auto, unfolding(crate::specs::Versions::front_text))]
-fn push_front(text: &mut Vec<u8>, parts: &VersionParts) -> Result<(), OutOfMemory>
-    ensures text { OnOk result (text.new.items ≡ text.old.items ++ front_text parts.now) }
-    ensures front { IfOk result (λ _. IsFront parts.now) }
+#[tactic(auto, unfolding(crate::specs::Versions::front_text, crate::specs::Versions::heading_text, crate::specs::Versions::subject_text))]
+fn push_front(text: &mut Vec<u8>, parts: &VersionParts, rows: &EntryRows) -> Result<(), OutOfMemory>
+    ensures text { OnOk result (text.new.items
+        ≡ text.old.items ++ front_text (with_rows parts.now rows.now)) }
+    ensures front { IfOk result (λ _. IsFront (with_rows parts.now rows.now)) }
 {
     push_heading(text, parts)?;
     push_subject(text, parts)?;
     push_origin(text, &parts.origin)?;
-    push_opening(text, parts)
+    push_opening(text, parts, rows)
 }
 
 #[tactic(auto, unfolding(crate::specs::Versions::heading_text))]
@@ -184,13 +202,18 @@ fn push_origin(text: &mut Vec<u8>, origin: &Origin) -> Result<(), OutOfMemory>
 }
 
 #[tactic(auto, unfolding(crate::specs::Versions::opening_text))]
-fn push_opening(text: &mut Vec<u8>, parts: &VersionParts) -> Result<(), OutOfMemory>
-    ensures text { OnOk result (text.new.items ≡ text.old.items ++ opening_text parts.now) }
-    ensures opening { IfOk result (λ _. IsOpening parts.now) }
+fn push_opening(
+    text: &mut Vec<u8>,
+    parts: &VersionParts,
+    rows: &EntryRows,
+) -> Result<(), OutOfMemory>
+    ensures text { OnOk result (text.new.items
+        ≡ text.old.items ++ opening_text (with_rows parts.now rows.now)) }
+    ensures opening { IfOk result (λ _. IsOpening (with_rows parts.now rows.now)) }
 {
     push_item(text, parts.opener.as_str().as_bytes())?;
     push_moment(text, parts.opened)?;
-    push_number(text, parts.rows.rows().len() as u64)
+    push_number(text, rows.rows().len() as u64)
 }
 
 fn push_rows(text: &mut Vec<u8>, rows: &[EntryRow]) -> Result<(), OutOfMemory>
