@@ -13,3 +13,5 @@ pub mod Finds
 pub mod Causes
 pub mod CodeCauses
 pub mod Found
+pub mod KnownCodes
+pub mod PutOnce

@@ -11,7 +11,8 @@ pub none_left : {A : Type 0} (rest : List A) → length rest ≡ 0 → rest ≡ 
 none_left [] none = refl
 none_left (one ∷ more) none = absurd (omega (arith, none))
 
-one_more : {A B : Type 0} (f : A → B) (made more whole : List B) (one : A) (left rest : List A) → left ≡ one ∷ rest → made ++ map f left ≡ whole
+-- one more of the rows was made
+pub one_more : {A B : Type 0} (f : A → B) (made more whole : List B) (one : A) (left rest : List A) → left ≡ one ∷ rest → made ++ map f left ≡ whole
     → more ≡ made ++ f one ∷ [] → more ++ map f rest ≡ whole
 one_more f made more whole one left rest steps so is =
     ap (λ it. it ++ map f rest) is ∙ append_assoc made (f one ∷ []) (map f rest) ∙ ap (λ it. made ++ map f it) (sym steps) ∙ so

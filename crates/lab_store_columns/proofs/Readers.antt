@@ -65,6 +65,11 @@ unchanged_none s opened = (
 pub none_read : {A E : Type 0} {Answer : Tables → A → Type 0} {s : State} {a : A} → Answer (tables_of s) a → MayRead {E = E} Answer s s (Ok a)
 none_read {s = s} it = record { passes = passes_none s; shows = λ _. refl; same = λ _ opened. unchanged_none s opened; answer = λ _ _. it }
 
+-- a call that reads nothing, and gives no answer
+pub none_failed : {C G : Type 0} {Then : Tables → C → Type 0} (s : State) (end : Result C G) (Q : G → Type 0) → IsErrAnd end Q → MayRead Then s s end
+none_failed s (Ok c) Q failed = absurd failed
+none_failed s (Err e) Q failed = record { passes = passes_none s; shows = λ _. tt; same = λ _ _. tt; answer = λ _ _. tt }
+
 -- ---- one call and then another
 
 -- where the first left all as it was if the connection was open

@@ -3,3 +3,4 @@ pub mod Cells
 pub mod Faults
 pub mod Reads
 pub mod Shown
+pub mod Known

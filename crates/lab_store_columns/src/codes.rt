@@ -1,11 +1,10 @@
 //! Codes of persons, by the ids of their rows.
 
-ghost use Rattle.std.specs.Prelude.{◌≡◌, Some, option_map, slice_get, IfOk, IfErr, IsTrue, true};
-ghost use Rattle.std.specs.Option.{option_map_or};
+ghost use Rattle.std.specs.Prelude.{◌≡◌, Some, option_map, slice_get, IfOk, IfErr, IsTrue};
 ghost use Rattle.lab_store_tables.specs.Meaning.{code_of};
 ghost use Rattle.lab_store_columns.specs.Causes.{HasItsCause};
 ghost use Rattle.lab_store_columns.specs.Cells.{IsNotMade};
-ghost use Rattle.lab_store_columns.specs.Reads.{Reads, MayRead};
+ghost use Rattle.lab_store_columns.specs.Reads.{Reads};
 ghost use Rattle.lab_store_columns.specs.Shown.{codes_shown, code_read, shows_code};
 
 use crate::asking::rows_by_one;
@@ -50,28 +49,4 @@ pub fn code_at<D: Readable>(alloc: Global, conn: &mut D, id: i64) -> Result<Pers
 {
     let rows = code_rows(conn, id)?;
     first_code(alloc, &rows)
-}
-
-/// The code of the person with the id, where there is an id.
-///
-/// # Errors
-/// The store refused, a row is none that this program writes, or memory ran out.
-pub fn code_if<D: Readable>(
-    alloc: Global,
-    conn: &mut D,
-    id: Option<i64>,
-) -> Result<Option<PersonCode>, ReadFault>
-    ensures reads { MayRead (λ t code. code ≡ option_map (code_of t) id)
-        (D.state conn.old) (D.state conn.new) result }
-    ensures cause { HasItsCause
-        (λ t. IsTrue (option_map_or (λ one. shows_code (codes_shown t one)) id true))
-        (D.state conn.old) (D.state conn.new) result }
-{
-    match id {
-        Some(id) => {
-            let code = code_at(alloc, conn, id)?;
-            Ok(Some(code))
-        }
-        None => Ok(None),
-    }
 }

@@ -6,9 +6,11 @@ pub mod asking;
 pub mod cells;
 mod codes;
 mod faults;
+mod known;
 mod readable;
 
-pub use codes::{code_at, code_if};
+pub use codes::code_at;
 pub use faults::{ReadFault, read_fault};
+pub use known::{KnownCode, code_if_any, code_once};
 pub use lab_records_kept::BadStore;
 pub use readable::Readable;

@@ -1,5 +1,5 @@
 -- Records of a list, each by the form of the one before where that is its own; and the loop over them.
-use Rattle.std.proofs.Common.{◌≡◌, ℕ, ℤ, List, [], ◌∷◌, ◌++◌, map, Option, Some, None, Ok, refl, sym, ap, ap₂, subst, ◌∙◌, append_assoc}
+use Rattle.std.proofs.Common.{◌≡◌, ℕ, ℤ, List, [], ◌∷◌, ◌++◌, map, Option, Some, None, Ok, refl, sym, ap, ap₂, subst, ◌∙◌}
 use Rattle.std.specs.Prelude.{IfSome}
 use Rattle.sqlite.specs.State.{State}
 use Rattle.lab_records_kept.specs.declared.records.FormVersion.{FormVersion}
@@ -9,7 +9,7 @@ use Rattle.lab_store_tables.specs.Meaning.{form_at, leaves_of}
 use Rattle.lab_store_tables.specs.Ready.{tables_of}
 use Rattle.lab_store_columns.specs.Reads.{MayRead}
 use Rattle.lab_store_columns.proofs.Readers.{none_read, may_and, may_both}
-use Rattle.lab_store_columns.proofs.Loops.{HasPut}
+use Rattle.lab_store_columns.proofs.Loops.{HasPut, one_more}
 use Rattle.lab_store_read_records.specs.declared.heads.RecordHead.{RecordHead}
 use Rattle.lab_store_read_forms.specs.declared.heads.FormAt.{FormAt}
 use Rattle.lab_store_read_forms.specs.FormsBehind.{form_with_id, IsAtItsId, IsFiledBehind}
@@ -38,11 +38,6 @@ filed_behind t lab head others made found form is copied put =
     }
 
 -- ---- the loop
-
-one_more : {A B : Type 0} (f : A → B) (made more whole : List B) (one : A) (left rest : List A) → left ≡ one ∷ rest → made ++ map f left ≡ whole
-    → more ≡ made ++ f one ∷ [] → more ++ map f rest ≡ whole
-one_more f made more whole one left rest steps so is =
-    ap (λ it. it ++ map f rest) is ∙ append_assoc made (f one ∷ []) (map f rest) ∙ ap (λ it. made ++ map f it) (sym steps) ∙ so
 
 -- the records that were made, and those of the rows that are left, are all, and the form is right for the next one
 pub record HasFiled (lab : List ℕ) (begun : List Record) (rows : List RecordHead) (made : List Record) (left : List RecordHead) (before : Option FormAt)

@@ -13,7 +13,7 @@ pub lab_fits : (code : List ℕ) → Fits lab_text lab_query (Text code ∷ [])
 unfolding understood everything
 lab_fits code = fits_by _ _ _ (lit≤ tt, refl) refl refl refl
 
-pub entry_fits : (version : ℤ) → Fits entry_text (children_query 20 (child_tests 7) entry_columns 3) (Int version ∷ [])
+pub entry_fits : (version : ℤ) → Fits entry_text (own_query 20 (is_param 2 0 ∷ []) entry_columns 3) (Int version ∷ [])
 unfolding understood everything
 entry_fits version = fits_by _ _ _ (lit≤ tt, refl) refl refl refl
 

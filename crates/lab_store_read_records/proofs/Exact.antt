@@ -17,15 +17,15 @@ use Rattle.sqlite_typed.proofs.AnswerLemmas.{last_table, next_table, at_end}
 use Rattle.sqlite.specs.State.{State, Shown}
 use Rattle.sqlite.proofs.Callers.{reads_as}
 use Rattle.lab_store_tables.specs.Schema.{lab_schema}
-use Rattle.lab_store_tables.specs.Rows.{LabRow, RecordRow, PersonRow, tables_in, lab_row, record_row, person_row, version_row, entry_row, signature_row, lab_id, record_id, person_id, version_id, entry_id, signature_id, number, optional}
+use Rattle.lab_store_tables.specs.Rows.{LabRow, RecordRow, PersonRow, EntryRow, tables_in, lab_row, record_row, person_row, version_row, entry_row, signature_row, lab_id, record_id, person_id, version_id, entry_id, signature_id, number, optional}
 use Rattle.lab_store_tables.specs.Meaning.{has_code, code_of}
 use Rattle.lab_store_tables.specs.Ready.{IsKept}
 use Rattle.lab_store_read_records.specs.Heads.{is_record}
-use Rattle.lab_store_read_records.specs.Shown.{labs_shown, records_shown, entries_shown, signatures_shown, versions_shown}
-use Rattle.lab_store_read_records.proofs.Keys.{labs_apart, records_apart, versions_apart, entries_apart, signatures_apart, openers, writers, signers}
+use Rattle.lab_store_read_records.specs.Shown.{labs_shown, records_shown, own_entry_shown, own_entries_shown, signatures_shown, versions_shown}
+use Rattle.lab_store_read_records.proofs.Keys.{labs_apart, records_apart, versions_apart, entries_apart, signatures_apart, openers, signers}
 use Rattle.lab_store_read_records.proofs.Texts.{lab_text, lab_query, lab_means, record_text, record_means, child_tests, entry_text, entry_columns, entry_means, signature_text, signature_columns, signature_means, version_text, version_columns, version_means}
-use Rattle.lab_store_columns.proofs.Texts.{record_query, children_query}
-use Rattle.lab_store_columns.proofs.Sorted.{equal_ints, equal_numbers, equal_texts, and_true, by_one, only_answer, sorted_answer}
+use Rattle.lab_store_columns.proofs.Texts.{record_query, children_query, is_param}
+use Rattle.lab_store_columns.proofs.Sorted.{equal_ints, equal_numbers, equal_texts, and_true, by_one, only_answer, sorted_answer, own_rows}
 use Rattle.lab_store_columns.proofs.Lists.{alone_text, alone_numbers, at_id, untied_in, joined}
 
 pub labs_read : (old new : State) (code : List ℕ) (rows : List Row) → IsKept old.now → Shown lab_text (Text code ∷ []) old new rows → rows ≡ labs_shown (tables_in old.now.trees) code
@@ -95,17 +95,17 @@ module _ {X : Type 0} (db : Trees) (tree : ℕ) (encode : X → Row) (key : X �
       given ∙ ap (λ l. map each (sort_by order l)) found ∙ ap (map each) (sort_by-map order lead (filter mine xs)) ∙ map-map each lead _
       ∙ map_same _ _ (λ x. shows x (at_id person_id none persons (ref x)) ∙ ap (show x) (code_or_none (get_by person_id persons (ref x)) none coded)) _
 
-pub entries_read : (old new : State) (version : ℤ) (rows : List Row) → IsKept old.now → Shown entry_text (Int version ∷ []) old new rows → rows ≡ entries_shown (tables_in old.now.trees) version
+pub entries_read : (old new : State) (version : ℤ) (rows : List Row) → IsKept old.now → Shown entry_text (Int version ∷ []) old new rows → rows ≡ own_entries_shown (tables_in old.now.trees) version
 entries_read old new version rows kept h =
     let params = Int version ∷ [] in
     let typed = kept.typed in
     let db = overlay old.now.trees [] in
     let t = tables_in old.now.trees in
     let read = reads_as entry_text params old new lab_schema typed.schema _ entry_means.command entry_means.plain entry_means.unlisted rows h in
-    children db 20 entry_row entry_id t.entries typed.entries typed.rising.entries typed.persons typed.rising.persons (λ x. x.version) (λ x. x.place) (λ x. x.person)
-    (entries_apart t kept.rows) (writers t kept.rows) no_person refl (child_tests 7) entry_columns 3 version params
-    (λ x code. Text x.key ∷ Text x.value ∷ Text x.unit ∷ Text code ∷ number x.moment ∷ optional Text x.reason ∷ [])
-    (λ x p. ap₂ ◌&&◌ (equal_ints x.version version) (and_true _ ∙ equal_ints p.id x.person)) (λ x p. refl) (λ x. refl) rows (read.answer Null)
+    own_rows db 20 entry_row entry_id t.entries typed.entries typed.rising.entries (λ x. int_eq x.version version) (λ one other. nat_cmp one.place other.place)
+    (untied_in (λ (x : EntryRow). x.version) (λ (x : EntryRow). x.place) version t.entries (entries_apart t kept.rows))
+    (is_param 2 0 ∷ []) entry_columns 3 params own_entry_shown (λ x. Int (pos x.place))
+    (λ x. and_true _ ∙ equal_ints x.version version) (λ x. refl) (λ x. refl) (λ a b. by_one a.place b.place) rows (read.answer Null)
 
 pub signatures_read : (old new : State) (version : ℤ) (rows : List Row) → IsKept old.now → Shown signature_text (Int version ∷ []) old new rows → rows ≡ signatures_shown (tables_in old.now.trees) version
 signatures_read old new version rows kept h =

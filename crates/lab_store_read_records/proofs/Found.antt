@@ -3,15 +3,16 @@ use Rattle.std.proofs.Common.{◌≡◌, ℕ, ℤ, List, [], ◌∷◌, map, fil
 use Rattle.sqlite_keyed.proofs.ListLemmas.{slice_get-filter, map-map, map_same}
 use Rattle.lab_store_tables.specs.Rows.{LabRow, RecordRow, VersionRow, EntryRow, SignatureRow, Tables}
 use Rattle.lab_store_tables.specs.Columns.{meaning_in}
-use Rattle.lab_store_tables.specs.Meaning.{has_code, entry_in, entries_of, signature_in, signatures_of}
+use Rattle.lab_store_tables.specs.Meaning.{has_code, entries_of, signature_in, signatures_of}
 use Rattle.lab_store_columns.proofs.Found.{text_back}
-use Rattle.lab_store_read_records.specs.Heads.{lab_head, is_record, record_head, version_head, versions_of}
+use Rattle.lab_store_read_records.specs.Heads.{lab_head, is_record, record_head, version_head, versions_of, entry_head, entry_heads_of, entry_by}
 use Rattle.lab_seal_versions.specs.declared.rows.EntryRow.{EntryRow as Entry}
 use Rattle.lab_records_kept.specs.declared.records.Signature.{Signature}
 use Rattle.lab_store_tables.specs.Meaning.{Leaf}
+use Rattle.lab_store_read_records.specs.declared.heads.EntryHead.{EntryHead}
 use Rattle.lab_store_read_records.specs.declared.heads.VersionHead.{VersionHead}
 use Rattle.lab_store_read_records.specs.Leaves.{leaf_by}
-use Rattle.lab_store_read_records.specs.Shown.{lab_shown, labs_shown, lab_read, record_shown, records_shown, record_read, entry_shown, entries_shown, entry_read, signature_shown, signatures_shown, signature_read, version_shown, versions_shown, version_read}
+use Rattle.lab_store_read_records.specs.Shown.{lab_shown, labs_shown, lab_read, record_shown, records_shown, record_read, own_entry_shown, own_entries_shown, own_entry_read, signature_shown, signatures_shown, signature_read, version_shown, versions_shown, version_read}
 
 pub lab_found : (t : Tables) (code : List ℕ) → option_map lab_read (slice_get (labs_shown t code) 0) ≡ option_map lab_head (find (has_code code) t.labs)
 lab_found t code = go (filter (has_code code) t.labs) ∙ ap (option_map lab_head) (slice_get-filter (has_code code) t.labs)
@@ -21,11 +22,25 @@ lab_found t code = go (filter (has_code code) t.labs) ∙ ap (option_map lab_hea
     go (one ∷ more) = refl
 
 -- a text that may be NULL is read as it was
-entry_back : (t : Tables) (one : EntryRow) → entry_read (entry_shown t one) ≡ entry_in t one
-entry_back t one = λ i. record (entry_in t one) { reason = text_back one.reason i }
+entry_back : (one : EntryRow) → own_entry_read (own_entry_shown one) ≡ entry_head one
+entry_back one = λ i. record (entry_head one) { reason = text_back one.reason i }
 
-pub entries_found : (t : Tables) (version : ℤ) → map entry_read (entries_shown t version) ≡ entries_of t version
-entries_found t version = map-map entry_read (entry_shown t) _ ∙ map_same _ _ (entry_back t) _
+pub entries_found : (t : Tables) (version : ℤ) → map own_entry_read (own_entries_shown t version) ≡ entry_heads_of t version
+entries_found t version = map-map own_entry_read own_entry_shown _ ∙ map_same _ _ entry_back _
+
+-- an entry's own row, with the code of whoever entered it
+abbrev pub entry_with : EntryHead → List ℕ → Entry
+entry_with head person = record {
+  key = head.key;
+  value = head.value;
+  unit = head.unit;
+  person = person;
+  moment = head.moment;
+  reason = head.reason;
+}
+
+pub entries_built : (t : Tables) (version : ℤ) → map (entry_by t) (entry_heads_of t version) ≡ entries_of t version
+entries_built t version = map-map (entry_by t) entry_head _
 
 signature_back : (t : Tables) (one : SignatureRow) → signature_read (signature_shown t one) ≡ signature_in t one
 signature_back t one = λ i. record (signature_in t one) { meaning = meaning_in one.meaning (text_back one.reason i) }

@@ -4,7 +4,7 @@ use Rattle.std.specs.List.{AllByRecursion}
 use Rattle.sqlite_keyed.specs.Keyed.{has_key}
 use Rattle.sqlite_keyed.specs.Rules.{AreApart}
 use Rattle.sqlite_keyed.proofs.ListLemmas.{all_from_test}
-use Rattle.lab_store_tables.specs.Rows.{VersionRow, EntryRow, SignatureRow, Tables, person_id}
+use Rattle.lab_store_tables.specs.Rows.{VersionRow, SignatureRow, Tables, person_id}
 use Rattle.lab_store_tables.specs.WellKept.{IsWellKept, same_lab, same_record, same_version, same_entry, same_signature}
 use Rattle.lab_store_columns.proofs.Keys.{apart, left, right, two, four}
 
@@ -24,12 +24,9 @@ module _ (t : Tables) (kept : IsWellKept t) where
   pub signatures_apart : AreApart same_signature t.signatures
   signatures_apart = apart same_signature t.signatures (right _ _ (two _ _ _ kept.rows.keys))
 
-  -- whoever opened a version, entered a row or signed is a person of the file
+  -- whoever opened a version or signed is a person of the file
   pub openers : AllByRecursion (λ (one : VersionRow). has_key person_id t.persons one.opener ≡ true) t.versions
   openers = all_from_test (λ (one : VersionRow). has_key person_id t.persons one.opener) t.versions (right _ _ (two _ _ _ (four _ _ _ _ _ kept.rows.arrows)))
-
-  pub writers : AllByRecursion (λ (one : EntryRow). has_key person_id t.persons one.person ≡ true) t.entries
-  writers = all_from_test (λ (one : EntryRow). has_key person_id t.persons one.person) t.entries (right _ _ (four _ _ _ _ _ kept.rows.arrows))
 
   pub signers : AllByRecursion (λ (one : SignatureRow). has_key person_id t.persons one.person ≡ true) t.signatures
   signers = all_from_test (λ (one : SignatureRow). has_key person_id t.persons one.person) t.signatures (right _ _ (two _ _ _ kept.rows.arrows))

@@ -3,11 +3,11 @@
 use Rattle.std.proofs.Common.{◌≡◌, pos, [], ◌∷◌, map, refl}
 use Rattle.std.specs.Prelude.{codes}
 use Rattle.sqlite_value.specs.declared.value.Value.TheVariants.{Null, Int, Text}
-use Rattle.lab_store_tables.specs.Meaning.{leaves_of}
+use Rattle.lab_store_tables.specs.Meaning.{leaves_of, entries_of}
 use Rattle.lab_store_tables.proofs.KnownFile.{filed, file}
-use Rattle.lab_store_read_records.specs.Heads.{record_head, versions_of}
+use Rattle.lab_store_read_records.specs.Heads.{record_head, versions_of, entry_heads_of, entry_by}
 use Rattle.lab_store_read_records.specs.Leaves.{leaf_by}
-use Rattle.lab_store_read_records.specs.Shown.{labs_shown, entries_shown, records_shown, record_read, versions_shown, version_read}
+use Rattle.lab_store_read_records.specs.Shown.{labs_shown, own_entries_shown, own_entry_read, entries_shown, records_shown, record_read, versions_shown, version_read}
 
 -- aqua's own row, and none of a code that isn't there
 pub known_labs :
@@ -33,6 +33,17 @@ pub known_entries :
     ∷ (Text (codes "look") ∷ Text (codes "clear") ∷ Text [] ∷ Text (codes "dan") ∷ Int (pos 1210) ∷ Null ∷ [])
     ∷ []
 known_entries = refl
+
+-- and each by its own row, with the id of the person's
+pub known_own_entries :
+    (own_entries_shown file (pos 1)
+    ≡ (Text (codes "lead") ∷ Text (codes "7.05") ∷ Text (codes "mg/L") ∷ Int (pos 2) ∷ Int (pos 1100) ∷ Null ∷ [])
+    ∷ (Text (codes "lead") ∷ Text (codes "7.50") ∷ Text (codes "mg/L") ∷ Int (pos 2) ∷ Int (pos 1200) ∷ Text (codes "misread scale") ∷ [])
+    ∷ (Text (codes "look") ∷ Text (codes "clear") ∷ Text [] ∷ Int (pos 2) ∷ Int (pos 1210) ∷ Null ∷ [])
+    ∷ [])
+    × (map own_entry_read (own_entries_shown file (pos 1)) ≡ entry_heads_of file (pos 1))
+    × (map (entry_by file) (entry_heads_of file (pos 1)) ≡ entries_of file (pos 1))
+known_own_entries = (refl, refl, refl)
 
 -- what is shown of a record's versions is read as they are, and each is the version that the tables mean
 pub known_versions :

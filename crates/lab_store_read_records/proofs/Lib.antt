@@ -12,3 +12,4 @@ pub mod RetrievalFound
 pub mod RetrievalKeys
 pub mod RetrievalTexts
 pub mod Texts
+pub mod EntryCauses

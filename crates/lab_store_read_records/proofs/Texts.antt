@@ -8,7 +8,7 @@ use Rattle.sqlite_sql.specs.Query.{Query, inner, end}
 use Rattle.sqlite_sql.specs.Term.{Term, lit, col, op2}
 use Rattle.sqlite_sql.specs.declared.ops.BinaryOp.TheVariants.{Compare}
 use Rattle.sqlite_sql.specs.declared.ops.CompareOp.TheVariants.{Eq}
-use Rattle.lab_store_columns.proofs.Texts.{Means, is_param, record_query, children_query}
+use Rattle.lab_store_columns.proofs.Texts.{Means, is_param, record_query, children_query, own_query}
 
 -- ---- a laboratory by its code
 
@@ -35,24 +35,26 @@ pub lab_means : Means lab_text lab_query lab_names
 unfolding understood everything
 lab_means = record { read = (_, refl); command = refl; unlisted = refl; plain = (refl, refl) }
 
+-- ---- the entries of a version, in the order of their places
+
+abbrev pub entry_text : List ℕ
+entry_text = codes "SELECT key, value, unit, person, moment, reason FROM entries WHERE version = ?1 ORDER BY place"
+
+abbrev pub entry_names : List (List ℕ)
+entry_names = codes "key" ∷ codes "value" ∷ codes "unit" ∷ codes "person" ∷ codes "moment" ∷ codes "reason" ∷ []
+
+abbrev pub entry_columns : List Term
+entry_columns = col 1 4 ∷ col 1 5 ∷ col 1 6 ∷ col 1 7 ∷ col 1 8 ∷ col 1 9 ∷ []
+
+pub entry_means : Means entry_text (own_query 20 (is_param 2 0 ∷ []) entry_columns 3) entry_names
+unfolding understood everything
+entry_means = record { read = (_, refl); command = refl; unlisted = refl; plain = (refl, refl) }
+
 -- ---- the rows of one parent, each with the code of a person, in the order of a column of numbers
 
 -- the parent is a parameter, and the person's id stands at a place
 abbrev pub child_tests : ℕ → List Term
 child_tests at = is_param 2 0 ∷ op2 (Compare Eq Binary) (col 2 0) (col 1 at) ∷ []
-
-abbrev pub entry_text : List ℕ
-entry_text = codes "SELECT entries.key, entries.value, entries.unit, persons.code, entries.moment, entries.reason FROM entries, persons WHERE entries.version = ?1 AND persons.id = entries.person ORDER BY entries.place"
-
-abbrev pub entry_names : List (List ℕ)
-entry_names = codes "key" ∷ codes "value" ∷ codes "unit" ∷ codes "code" ∷ codes "moment" ∷ codes "reason" ∷ []
-
-abbrev pub entry_columns : List Term
-entry_columns = col 1 4 ∷ col 1 5 ∷ col 1 6 ∷ col 2 3 ∷ col 1 8 ∷ col 1 9 ∷ []
-
-pub entry_means : Means entry_text (children_query 20 (child_tests 7) entry_columns 3) entry_names
-unfolding understood everything
-entry_means = record { read = (_, refl); command = refl; unlisted = refl; plain = (refl, refl) }
 
 abbrev pub signature_text : List ℕ
 signature_text = codes "SELECT persons.code, signatures.name, signatures.meaning, signatures.reason, signatures.moment, signatures.digest, signatures.seal FROM signatures, persons WHERE signatures.version = ?1 AND persons.id = signatures.person ORDER BY signatures.place"

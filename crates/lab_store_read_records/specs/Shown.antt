@@ -1,4 +1,5 @@
--- The rows that each query shows of the tables, in its order, and what such a row is read as.
+-- The rows that each query shows of the tables, in its order, and what such a row is read as; and
+-- the entries of a version, each with its person's code.
 use Rattle.std.specs.Prelude.{ℕ, ℤ, List, [], ◌∷◌, map, filter}
 use Rattle.std.specs.Ordering.{int_eq}
 use Rattle.sqlite_keyed.specs.Lists.{sort_by}
@@ -8,8 +9,8 @@ use Rattle.sqlite_rules.specs.Edit.{id_in}
 use Rattle.lab_store_tables.specs.Rows.{LabRow, RecordRow, VersionRow, EntryRow, SignatureRow, Tables, number, optional, number_in, optional_in}
 use Rattle.lab_store_tables.specs.Columns.{meaning_in}
 use Rattle.lab_store_tables.specs.Meaning.{code_of, has_code, by_version, by_entry, by_signature}
-use Rattle.lab_seal_versions.specs.declared.rows.EntryRow.{EntryRow as Entry}
 use Rattle.lab_records_kept.specs.declared.records.Signature.{Signature}
+use Rattle.lab_store_read_records.specs.declared.heads.EntryHead.{EntryHead}
 use Rattle.lab_store_read_records.specs.declared.heads.VersionHead.{VersionHead}
 use Rattle.lab_store_read_records.specs.declared.heads.RecordHead.{RecordHead}
 use Rattle.lab_store_read_records.specs.Heads.{is_record}
@@ -35,7 +36,29 @@ lab_read row = record {
   trail = number_in (column row 7);
 }
 
--- ---- entries of a version
+-- ---- entries of a version, each by its own row
+
+abbrev pub own_entry_shown : EntryRow → Row
+own_entry_shown one =
+    Text one.key ∷ Text one.value ∷ Text one.unit ∷ Int one.person ∷ number one.moment
+    ∷ optional Text one.reason ∷ []
+
+abbrev pub own_entries_shown : Tables → ℤ → List Row
+own_entries_shown t version =
+    map own_entry_shown
+    (sort_by by_entry (filter (λ (one : EntryRow). int_eq one.version version) t.entries))
+
+abbrev pub own_entry_read : Row → EntryHead
+own_entry_read row = record {
+  key = bytes (column row 0);
+  value = bytes (column row 1);
+  unit = bytes (column row 2);
+  person = id_in (column row 3);
+  moment = number_in (column row 4);
+  reason = optional_in bytes (column row 5);
+}
+
+-- ---- and with its person's code in the place of the id
 
 abbrev pub entry_shown : Tables → EntryRow → Row
 entry_shown t one =
@@ -46,16 +69,6 @@ abbrev pub entries_shown : Tables → ℤ → List Row
 entries_shown t version =
     map (entry_shown t)
     (sort_by by_entry (filter (λ (one : EntryRow). int_eq one.version version) t.entries))
-
-abbrev pub entry_read : Row → Entry
-entry_read row = record {
-  key = bytes (column row 0);
-  value = bytes (column row 1);
-  unit = bytes (column row 2);
-  person = bytes (column row 3);
-  moment = number_in (column row 4);
-  reason = optional_in bytes (column row 5);
-}
 
 -- ---- signatures of a version
 

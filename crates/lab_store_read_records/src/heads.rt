@@ -1,6 +1,6 @@
 //! Rows as they are read, each by its id.
 
-use lab_forms_texts::{Key, LabCode, Moment, Name, Note, Ordinal, PersonCode};
+use lab_forms_texts::{Key, LabCode, Moment, Name, Note, Ordinal, PersonCode, Unit};
 
 /// A laboratory's own row.
 #[derive(Debug, Drop)]
@@ -37,6 +37,23 @@ pub struct VersionHead {
     /// When it was opened.
     pub opened: Moment,
     /// Why it amends the one before it.
+    pub reason: Option<Note>,
+}
+
+/// An entry's own row.
+#[derive(Drop)]
+pub struct EntryHead {
+    /// The field's key.
+    pub key: Key,
+    /// The value as it was written.
+    pub value: Note,
+    /// The value's unit.
+    pub unit: Unit,
+    /// Whose row entered it.
+    pub person: i64,
+    /// When it was entered.
+    pub moment: Moment,
+    /// Why it was entered in place of an earlier one.
     pub reason: Option<Note>,
 }
 

@@ -1,9 +1,7 @@
 pub mod ActionWords
 pub mod Exact
 pub mod Keys
-pub mod KnownCodes
 pub mod KnownTrails
 pub mod Texts
-pub mod ToldOnce
 pub mod TrailCauses
 pub mod TrailsFound

@@ -1,5 +1,5 @@
 -- What was read of the rows of the trail, as what the tables have.
-use Rattle.std.proofs.Common.{◌≡◌, ℕ, ℤ, map, filter, sym, ap, ◌∙◌, int_eq}
+use Rattle.std.proofs.Common.{◌≡◌, ℕ, ℤ, List, Option, map, filter, sym, ap, ◌∙◌, int_eq}
 use Rattle.std.specs.Cmp.{on_total}
 use Rattle.std.proofs.lemmas.Cmp.{nat_cmp_total}
 use Rattle.sqlite_keyed.specs.Lists.{sort_by}
@@ -8,6 +8,7 @@ use Rattle.lab_records_kept.specs.declared.trails.TrailRow.{TrailRow as Told}
 use Rattle.lab_records_kept.specs.Lookups.{is_within, rows_within}
 use Rattle.lab_store_tables.specs.Rows.{TrailRow, Tables}
 use Rattle.lab_store_tables.specs.Meaning.{told_in, trail_of, by_trail}
+use Rattle.lab_store_read_trail.specs.declared.heads.ToldHead.{ToldHead}
 use Rattle.lab_store_read_trail.specs.Trails.{told_head, told_heads_within, told_by}
 use Rattle.lab_store_read_trail.specs.Shown.{told_shown, told_shown_within, told_read}
 use Rattle.lab_store_columns.proofs.Found.{id_back}
@@ -28,3 +29,13 @@ told_built t lab from to =
     ∙ sym (filter-map (λ (row : Told). is_within from to row.number) (told_in t) (sort_by by_trail (filter mine t.trail))
     ∙ ap (map (told_in t)) (filter_sorted by_trail (on_total (λ (one : TrailRow). one.number) nat_cmp_total) within (filter mine t.trail)
     ∙ ap (sort_by by_trail) (both_filtered mine within t.trail)))
+
+-- a row of the trail, with the code of whoever did it
+abbrev pub told_with : ToldHead → Option (List ℕ) → Told
+told_with head person = record {
+  number = head.number;
+  moment = head.moment;
+  person = person;
+  action = head.action;
+  subject = head.subject;
+}

@@ -4,7 +4,6 @@
 
 mod actions;
 mod cells;
-mod codes;
 mod heads;
 mod trails;
 

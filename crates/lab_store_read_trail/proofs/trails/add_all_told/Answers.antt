@@ -3,14 +3,15 @@ use Rattle.std.specs.Vec.Iter.{into_iter_items}
 use Rattle.lab_store_columns.proofs.Causes.{none_asked, one_asked, asked_fails, all_asked, passed_so}
 use Rattle.lab_store_columns.proofs.Loops.{none_left, all_put, put_fails}
 use Rattle.lab_store_read_trail.specs.Readable.{HasDoer}
-use Rattle.lab_store_read_trail.proofs.ToldOnce.{none_put_once, one_put_once, put_so}
+use Rattle.lab_store_read_trail.specs.Trails.{told_by}
+use Rattle.lab_store_columns.proofs.PutOnce.{none_put_once, one_put_once, put_so}
 use Rattle.lab_store_read_trail.proofs.trails.add_all_told.Goals as goal
 
 pub loop-head-init : goal.loop-head-init
 loop-head-init g c =
     let all : into_iter_items c.into_iter-head-iterator.result ≡ c.args.heads.items = search rules in
     record {
-      put = none_put_once c.args.made.now.items c.args.heads.items _ _ (g.D.Readable.state c.args.conn.now) all c.new-known.ensures.items;
+      put = none_put_once told_by c.args.made.now.items c.args.heads.items _ _ (g.D.Readable.state c.args.conn.now) all c.new-known.ensures.items;
       asked = none_asked HasDoer c.args.heads.items _ (g.D.Readable.state c.args.conn.now) all;
       counted = search rules;
     }

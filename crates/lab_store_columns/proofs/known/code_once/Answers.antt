@@ -3,10 +3,10 @@ use Rattle.std.proofs.lemmas.Int.{to_z-of_z}
 use Rattle.lab_store_tables.specs.Ready.{tables_of}
 use Rattle.lab_store_tables.specs.Meaning.{code_of}
 use Rattle.lab_store_columns.proofs.Readers.{none_read, may_read, reads_as}
-use Rattle.lab_store_read_trail.specs.Known.{AreKnown}
-use Rattle.lab_store_read_trail.proofs.KnownCodes.{among_is, known_more}
-use Rattle.lab_store_read_trail.proofs.ToldOnce.{none_failed}
-use Rattle.lab_store_read_trail.proofs.codes.code_once.Goals as goal
+use Rattle.lab_store_columns.specs.Known.{AreKnown}
+use Rattle.lab_store_columns.proofs.KnownCodes.{among_is, known_more}
+use Rattle.lab_store_columns.proofs.Readers.{none_failed}
+use Rattle.lab_store_columns.proofs.known.code_once.Goals as goal
 
 pub returns-in_err-found-clause-reads : goal.returns-in_err-found-clause-reads
 returns-in_err-found-clause-reads g c = none_failed (g.D.Readable.state c.args.conn.now) c.from_residual.result _ c.from_residual.ensures.1

@@ -3,7 +3,7 @@ use Rattle.std.specs.Prelude.{◌≡◌, ℕ, ℤ, List, find, reverse, Option, 
 use Rattle.std.specs.Ordering.{int_eq}
 use Rattle.lab_store_tables.specs.Rows.{Tables}
 use Rattle.lab_store_tables.specs.Meaning.{code_of}
-use Rattle.lab_store_read_trail.specs.declared.codes.KnownCode.{KnownCode}
+use Rattle.lab_store_columns.specs.declared.known.KnownCode.{KnownCode}
 
 -- the code of the person with the id
 abbrev pub known_by : Tables → ℤ → KnownCode

@@ -3,8 +3,8 @@ use Rattle.std.proofs.lemmas.Int.{to_z-of_z}
 use Rattle.lab_store_tables.specs.Ready.{tables_of}
 use Rattle.lab_store_tables.specs.Meaning.{code_of}
 use Rattle.lab_store_columns.proofs.Readers.{reads_and, reads_fail}
-use Rattle.lab_store_read_trail.proofs.KnownCodes.{known_pushed}
-use Rattle.lab_store_read_trail.proofs.codes.new_code.Goals as goal
+use Rattle.lab_store_columns.proofs.KnownCodes.{known_pushed}
+use Rattle.lab_store_columns.proofs.known.new_code.Goals as goal
 
 pub returns-in_err-copy-clause-reads : goal.returns-in_err-copy-clause-reads
 returns-in_err-copy-clause-reads g c =

@@ -8,10 +8,12 @@ ghost use Rattle.lab_store_tables.specs.Meaning.{code_of};
 ghost use Rattle.lab_store_columns.specs.Causes.{HasItsCause};
 ghost use Rattle.lab_store_columns.specs.Reads.{Reads, MayRead};
 ghost use Rattle.lab_store_columns.specs.Shown.{codes_shown, shows_code};
-ghost use Rattle.lab_store_read_trail.specs.Known.{AreKnown, code_among, known_by};
+ghost use Rattle.lab_store_columns.specs.Known.{AreKnown, code_among, known_by};
 
+use crate::codes::code_at;
+use crate::faults::ReadFault;
+use crate::readable::Readable;
 use lab_forms_texts::{OutOfMemory, PersonCode};
-use lab_store_columns::{ReadFault, Readable, code_at};
 use std::alloc::Global;
 
 /// The code of a person, with the id of the person's row.
@@ -59,8 +61,11 @@ fn new_code<D: Readable>(
     Ok(code)
 }
 
-// The code of the person with the id, which is read where none is kept with the id, and is kept.
-fn code_once<D: Readable>(
+/// The code of the person with the id: it is read where none is kept with the id, and is kept.
+///
+/// # Errors
+/// The store refused, a row is none that this program writes, or memory ran out.
+pub fn code_once<D: Readable>(
     alloc: Global,
     conn: &mut D,
     known: &mut Vec<KnownCode>,
@@ -84,7 +89,7 @@ fn code_once<D: Readable>(
 ///
 /// # Errors
 /// The store refused, a row is none that this program writes, or memory ran out.
-pub(crate) fn code_if_any<D: Readable>(
+pub fn code_if_any<D: Readable>(
     alloc: Global,
     conn: &mut D,
     known: &mut Vec<KnownCode>,

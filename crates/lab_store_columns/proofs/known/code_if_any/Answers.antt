@@ -6,8 +6,8 @@ use Rattle.lab_store_tables.specs.Meaning.{code_of}
 use Rattle.lab_store_columns.specs.Shown.{codes_shown, shows_code}
 use Rattle.lab_store_columns.proofs.Readers.{none_read, may_end, may_and}
 use Rattle.lab_store_columns.proofs.Causes.{passed_on}
-use Rattle.lab_store_read_trail.specs.Known.{AreKnown}
-use Rattle.lab_store_read_trail.proofs.codes.code_if_any.Goals as goal
+use Rattle.lab_store_columns.specs.Known.{AreKnown}
+use Rattle.lab_store_columns.proofs.known.code_if_any.Goals as goal
 
 pub returns-in_err-code-in-Some-clause-reads : goal.returns-in_err-code-in-Some-clause-reads
 returns-in_err-code-in-Some-clause-reads g c = may_end c.in_err-code-in-Some.ensures.reads c.from_residual.result _ c.from_residual.ensures.1
