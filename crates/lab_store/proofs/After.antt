@@ -1,17 +1,18 @@
 -- Changes that are made after the laboratory's row was found.
-use Rattle.std.proofs.Common.{◌≡◌, ◌⊎◌, inl, inr, ℕ, ℤ, List, find, Option, Some, None, option_map, Result, Ok, Err, IsTrue, refl, sym, ap, subst, ◌∙◌}
+use Rattle.std.proofs.Common.{◌≡◌, ◌⊎◌, inl, inr, ℕ, ℤ, List, find, Option, Some, None, option_map, Result, Ok, Err, IfSome, IsTrue, refl, sym, subst, ◌∙◌}
 use Rattle.sqlite_trees.specs.Tree.{Trees}
 use Rattle.sqlite.specs.Effect.{Database}
 use Rattle.sqlite.specs.State.{State, HasCleanDisk, IsUnchanged}
 use Rattle.lab_records_kept.specs.declared.changes.Change.{Change}
-use Rattle.lab_store_tables.specs.Rows.{LabRow, tables_in}
+use Rattle.lab_store_tables.specs.Rows.{LabRow, lab_id, tables_in}
 use Rattle.lab_store_tables.specs.Meaning.{has_code}
 use Rattle.lab_store_tables.specs.Changes.{InTurn}
 use Rattle.lab_store_tables.specs.Held.{IsTyped}
-use Rattle.lab_store_tables.specs.Ready.{IsReady, PassesBy, IsMadeBy, tables_of}
+use Rattle.lab_store_tables.specs.Ready.{IsAtRest, IsReady, PassesBy, IsMadeBy, tables_of}
 use Rattle.lab_store_tables.proofs.Shutting.{shuts_on}
-use Rattle.lab_store_read_records.specs.declared.heads.LabHead.{LabHead}
-use Rattle.lab_store_read_records.specs.Heads.{lab_head}
+use Rattle.lab_store_load.specs.declared.counts.Counted.{Counted}
+use Rattle.lab_store_load.specs.Counts.{IsCounted}
+use Rattle.lab_store.specs.Counting.{IsKeeping}
 use Rattle.lab_store_laws.specs.Steps.{StepsBy, AreMade, AreMadeIfAny}
 use Rattle.lab_store.specs.Commits.{Ends}
 
@@ -65,9 +66,21 @@ module _ (code : List ℕ) (changes : List Change) (old middle new : State) (rea
     shuts = shuts_on old middle new ends.clean passes.shuts ends.shuts;
   }
 
--- the row of the laboratory that a look-up answered
-pub found_row : (o : Option LabRow) (head : LabHead) → Some head ≡ option_map lab_head o → (lab : LabRow) × (o ≡ Some lab) × (lab.id ≡ head.id)
-found_row None head is = absurd (let e = is in cc)
-found_row (Some lab) head is =
-    let same : head ≡ lab_head lab = (let e = is in cc) in
-    (lab, refl, sym (ap (λ (one : LabHead). one.id) same))
+-- the row of the laboratory whose id a look-up answered
+pub found_row : (o : Option LabRow) (id : ℤ) → Some id ≡ option_map lab_id o → (lab : LabRow) × (o ≡ Some lab) × (lab.id ≡ id)
+found_row None id is = absurd (let e = is in cc)
+found_row (Some lab) id is =
+    let same : id ≡ lab.id = (let e = is in cc) in
+    (lab, refl, sym same)
+
+-- what was counted is right for tables of ours
+pub counted_now : (s : State) (counted : Option Counted) → IsKeeping s counted → IsReady s → HasCleanDisk s → IsTrue s.is_open → IfSome counted (IsCounted (tables_of s))
+counted_now s counted keeping ready clean opened = keeping.right clean opened (ready.kept clean opened)
+
+-- what was taken of the keeper is what it kept
+pub keeping_as : (s : State) (one other : Option Counted) → one ≡ other → IsKeeping s other → IsKeeping s one
+keeping_as s one other same keeping = subst (IsKeeping s) (sym same) keeping
+
+-- where nothing is kept, it is enough that the connection is at rest
+pub keeps_none : (s : State) (counted : Option Counted) → counted ≡ None → IsAtRest s → IsKeeping s counted
+keeps_none s counted none rest = subst (IsKeeping s) (sym none) (record { at_rest = rest; right = λ _ _ _. tt; opened = λ _. tt })

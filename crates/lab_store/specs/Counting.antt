@@ -3,9 +3,11 @@ use Rattle.std.specs.Prelude.{Option}
 use Rattle.sqlite.specs.State.{State}
 use Rattle.lab_store_tables.specs.Ready.{IsAtRest}
 use Rattle.lab_store_load.specs.declared.counts.Counted.{Counted}
-use Rattle.lab_store_load.specs.Counts.{IsCountedIn}
+use Rattle.lab_store_load.specs.Counts.{IsCountedIn, IsOpenIn}
 
--- a connection at rest, and how many persons were counted, which is right for what it shows
+-- a connection at rest; and a laboratory that was counted, which is right for what the connection
+-- shows, and then it is open
 pub record IsKeeping (s : State) (counted : Option Counted) : Type 0 where
   pub at_rest : IsAtRest s
   pub right : IsCountedIn s counted
+  pub opened : IsOpenIn s counted

@@ -9,13 +9,14 @@ ghost use Rattle.lab_store_tables.specs.Ready.{IsAtRest, IsReady, LeavesNoMore};
 ghost use Rattle.lab_store_laws.specs.Steps.{StepsBy, AreMadeIfAny};
 ghost use Rattle.lab_store_write.specs.Calls.{Steps};
 ghost use Rattle.lab_store.specs.Commits.{Ends};
+ghost use Rattle.lab_store.specs.Counting.{IsKeeping};
 
 use crate::inside::Inside;
 use crate::tables::Tables;
 use lab_forms_texts::LabCode;
 use lab_records_kept::Change;
 use lab_store_columns::{BadStore, ReadFault, read_fault};
-use lab_store_read_records::lab_at;
+use lab_store_load::{Counted, lab_id_at};
 use lab_store_write::RowId;
 use lab_store_write_changes::all_inside;
 use sqlite::{Alter, Connection, Error, Transaction};
@@ -63,7 +64,8 @@ fn commit_all<S: Alter>(
     tx.commit()
 }
 
-/// Makes the changes of the laboratory of the code by one commit, all of them or none; by none where there is no change.
+/// Makes the changes of the laboratory of the code by one commit, all of them or none; by none where there is no change. Its row
+/// isn't looked up, where it is that of the laboratory that was counted.
 ///
 /// # Errors
 /// No laboratory of the code, or none of what a change names; a refusal of the store; or out of memory. The rows are
@@ -71,6 +73,7 @@ fn commit_all<S: Alter>(
 pub fn apply<S: Alter>(
     alloc: Global,
     tables: &mut Tables<S>,
+    counted: &Option<Counted>,
     code: &LabCode,
     changes: &[Change],
 ) -> Result<(), ReadFault>
@@ -81,22 +84,24 @@ pub fn apply<S: Alter>(
     ensures live { HasCleanDisk (state S.Store tables.new.conn) →
         IsTrue (state S.Store tables.new.conn).is_open →
         IsTrue (state S.Store tables.old.conn).is_open }
-    ensures ends { IsReady (state S.Store tables.old.conn) →
-        Ends (AreMadeIfAny code.now changes.now) result
+    // Where what was counted is right:
+    ensures ends { IsKeeping (state S.Store tables.old.conn) counted.now →
+        IsReady (state S.Store tables.old.conn) → Ends (AreMadeIfAny code.now changes.now) result
         (state S.Store tables.old.conn) (state S.Store tables.new.conn) }
     ensures quiet { changes.now ≡ [] → IsReady (state S.Store tables.old.conn) →
         LeavesNoMore (state S.Store tables.old.conn) (state S.Store tables.new.conn) }
-    ensures same { changes.now ≡ [] → HasCleanDisk (state S.Store tables.new.conn) →
-        OnOk result (IsUnchanged (state S.Store tables.old.conn) (state S.Store tables.new.conn)) }
+    ensures same { IsKeeping (state S.Store tables.old.conn) counted.now → changes.now ≡ [] →
+        HasCleanDisk (state S.Store tables.new.conn) → OnOk result
+        (IsUnchanged (state S.Store tables.old.conn) (state S.Store tables.new.conn)) }
 {
-    let found = lab_at(alloc, tables, code)?;
+    let found = lab_id_at(alloc, tables, counted, code)?;
     if changes.is_empty() {
         return Ok(());
     }
-    let Some(head) = found else {
+    let Some(id) = found else {
         return Err(ReadFault::Refused(BadStore));
     };
-    match commit_all(&mut tables.conn, RowId { id: head.id }, changes) {
+    match commit_all(&mut tables.conn, RowId { id }, changes) {
         Ok(()) => Ok(()),
         Err(error) => Err(read_fault(error)),
     }

@@ -32,8 +32,8 @@ use std::marker::Model;
 
 /// The laboratories of a file, over a connection at rest that was created or opened by `lab_store_files`.
 ///
-/// How many persons a laboratory has is counted once, and kept until a request changes something:
-/// nobody else writes to the file.
+/// The id of a laboratory's row is looked up once, and its persons are counted once. Both are kept
+/// until a request changes something: nobody else writes to the file.
 pub struct Store<S: Alter> {
     tables: Tables<S>,
     counted: Option<Counted>,
@@ -150,7 +150,7 @@ impl<S: Alter> Store<S> {
     }
 }
 
-// What was counted is right after changes, too, where there is none.
+// What is kept of what was counted: all of it where nothing is changed, and else nothing.
 fn counted_after(counted: Option<Counted>, changes: &Series<Change>) -> Option<Counted>
     ensures { ((changes.now ≡ []) × (result ≡ counted)) ⊎ (result ≡ None) }
 {
@@ -186,10 +186,15 @@ impl<S: Alter> Keeper for Store<S> {
     }
 
     fn apply(&mut self, code: &LabCode, changes: Series<Change>) -> Result<(), KeeperFault> {
-        let counted = counted_after(self.counted, &changes);
-        self.counted = None;
-        apply(self.alloc, &mut self.tables, code, changes.as_slice())?;
-        self.counted = counted;
+        let counted = self.counted.take();
+        apply(
+            self.alloc,
+            &mut self.tables,
+            &counted,
+            code,
+            changes.as_slice(),
+        )?;
+        self.counted = counted_after(counted, &changes);
         Ok(())
     }
 

@@ -1,23 +1,38 @@
 -- Persons that were counted before: what is read with them is right where they are, and so is what is kept after it.
-use Rattle.std.proofs.Common.{◌≡◌, ◌⊎◌, inl, inr, ℤ, length, Option, None, Result, Ok, Err, IfOk, IfSome, OnOk, OnErr, sym, ap, subst, ◌∙◌}
+use Rattle.std.proofs.Common.{◌≡◌, ◌⊎◌, inl, inr, ℕ, ℤ, List, length, find, Option, Some, None, option_map, Result, Ok, Err, IfOk, IfSome, OnOk, OnErr, IsTrue, refl, sym, ap, subst, ◌∙◌}
 use Rattle.sqlite.specs.Effect.{Database}
 use Rattle.sqlite.specs.State.{State, HasCleanDisk, IsUnchanged}
 use Rattle.lab_records_kept.specs.declared.needs.Need.{Need}
 use Rattle.lab_records_kept.specs.declared.needs.Slice.{Slice}
-use Rattle.lab_store_tables.specs.Rows.{Tables, tables_in}
-use Rattle.lab_store_tables.specs.Meaning.{persons_of}
+use Rattle.lab_store_tables.specs.Rows.{LabRow, Tables, lab_id, tables_in}
+use Rattle.lab_store_tables.specs.Meaning.{has_code, persons_of}
 use Rattle.lab_store_tables.specs.Ready.{IsAtRest, IsKept, IsReady, tables_of}
 use Rattle.lab_store_columns.specs.Reads.{Reads, MayRead}
 use Rattle.lab_store_columns.proofs.Queries.{if_then}
 use Rattle.lab_store_read_records.specs.declared.heads.LabHead.{LabHead}
 use Rattle.lab_store_load.specs.declared.counts.Counted.{Counted}
-use Rattle.lab_store_load.specs.Counts.{IsCounted, IsCountedIn}
+use Rattle.lab_store_read_records.specs.Heads.{lab_head}
+use Rattle.lab_store_load.specs.Counts.{IsCounted, IsCountedIn, IsOpenIn, lab_id_of}
 use Rattle.lab_store_load.specs.Parts.{slice_by}
 
--- how many persons a part says that its laboratory has
-pub slice_kept : (t : Tables) (need : Need) (head : LabHead) (slice : Slice) (id : ℤ) → id ≡ head.id → slice ≡ slice_by t need head
-    → IsCounted t (record { lab = id; persons = slice.counts.persons })
-slice_kept t need head slice id same is = ap (λ (one : Slice). one.counts.persons) is ∙ ap (λ (lab : ℤ). length (persons_of t lab)) (sym same)
+abbrev pub lab_head_id : LabHead → ℤ
+lab_head_id head = head.id
+
+-- the row that was found has its id
+pub found_id : (o : Option LabRow) → option_map lab_head_id (option_map lab_head o) ≡ option_map lab_id o
+found_id None = refl
+found_id (Some lab) = refl
+
+-- a part was read by the row of its laboratory, and says how many persons that has
+pub slice_kept : (t : Tables) (need : Need) (head : LabHead) (slice : Slice) (code given : List ℕ) (id : ℤ) → id ≡ head.id → code ≡ given
+    → Some head ≡ option_map lab_head (find (has_code given) t.labs) → slice ≡ slice_by t need head
+    → IsCounted t (record { code = code; lab = id; persons = slice.counts.persons })
+slice_kept t need head slice code given id same copied there is = record {
+  found =
+      ap Some same ∙ ap (option_map lab_head_id) there ∙ found_id (find (has_code given) t.labs)
+      ∙ ap (λ (text : List ℕ). lab_id_of t text) (sym copied);
+  persons = ap (λ (one : Slice). one.counts.persons) is ∙ ap (λ (lab : ℤ). length (persons_of t lab)) (sym same);
+}
 
 -- ---- a call that reads
 
@@ -53,6 +68,22 @@ module _ {A E : Type 0} (Answer : Tables → A → Type 0) (before after : Optio
       let is : IfSome after (IsCounted (tables_of old)) = (it.answer ready clean (right early same.was_open was)).1 in
       subst (λ (db : Database). IfSome after (IsCounted (tables_in db.trees))) (sym same.now_is) is
   counted_after (Err e) it failed rest right = λ clean opened kept. subst (λ (o : Option Counted). IfSome o (IsCounted (tables_of new))) (sym failed) tt
+
+-- ---- the connection is open, where anything is kept
+
+open_for : (s : State) (counted : Option Counted) → IsTrue s.is_open → IfSome counted (λ _. IsTrue s.is_open)
+open_for s None opened = tt
+open_for s (Some one) opened = opened
+
+pub open_after : {A E : Type 0} (Answer : Tables → A → Type 0) (before after : Option Counted) (old new : State) (r : Result A E) → Reads (Counting Answer before after) old new r
+    → OnErr r (after ≡ None) → IsOpenIn new after
+open_after Answer before after old new (Ok one) it failed = λ clean. open_for new after (it.same clean).0.is_open
+open_after Answer before after old new (Err e) it failed = λ clean. subst (λ (o : Option Counted). IfSome o (λ _. IsTrue new.is_open)) (sym failed) tt
+
+pub open_or_none : (P : Type 0) (old new : State) (before after : Option Counted) → (P × (after ≡ before)) ⊎ (after ≡ None) → (P → HasCleanDisk new → IsUnchanged old new)
+    → IsOpenIn new after
+open_or_none P old new before after (inl it) same = λ clean. open_for new after (same it.0 clean).0.is_open
+open_or_none P old new before after (inr none) same = subst (IsOpenIn new) (sym none) (λ _. tt)
 
 -- ---- a call that leaves all as it is
 

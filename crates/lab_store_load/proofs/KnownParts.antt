@@ -18,7 +18,7 @@ use Rattle.lab_records_kept.specs.declared.records.Record.{Record}
 use Rattle.lab_store_load.specs.Things.{things_by}
 use Rattle.lab_records_kept.specs.declared.trails.TrailRow.{TrailRow as Told}
 use Rattle.lab_store_read_records.specs.declared.heads.LabHead.{LabHead}
-use Rattle.lab_store_load.specs.Counts.{IsCounted}
+use Rattle.lab_store_load.specs.Counts.{IsCounted, lab_id_of}
 use Rattle.lab_store_load.specs.Lists.{counts_by, listed_by}
 
 -- aqua's own row
@@ -99,9 +99,16 @@ known_things = (refl, refl, refl, refl)
 pub known_counts : counts_by file head ≡ record { persons = 4; sessions = 2; records = 2; trail = 12 }
 known_counts = refl
 
--- so many were counted of either, and what was counted of one is not right for the other
-pub known_counted : IsCounted file (record { lab = pos 7; persons = 4 }) × IsCounted file (record { lab = pos 3; persons = 3 })
-known_counted = (refl, refl)
+-- so many were counted of either; what was counted of one is not right for the other, and no row is that of another's code
+pub known_counted :
+    IsCounted file (record { code = codes "aqua"; lab = pos 7; persons = 4 })
+    × IsCounted file (record { code = codes "brick"; lab = pos 3; persons = 3 })
+    × (IsCounted file (record { code = codes "brick"; lab = pos 7; persons = 4 }) → ⊥)
+    × (lab_id_of file (codes "zinc") ≡ None)
+known_counted = (record { found = refl; persons = refl }, record { found = refl; persons = refl }, other, refl)
+  where
+    other : IsCounted file (record { code = codes "brick"; lab = pos 7; persons = 4 }) → ⊥
+    other is = let wrong : Some (pos 7) ≡ Some (pos 3) = is.found in cc
 
 -- ---- lists
 

@@ -8,5 +8,5 @@ mod loading;
 mod people;
 mod things;
 
-pub use counts::Counted;
+pub use counts::{Counted, lab_id_at};
 pub use loading::load;

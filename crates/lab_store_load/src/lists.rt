@@ -37,10 +37,10 @@ pub struct Listed {
 /// The store refused, a row is none that this program writes, or memory ran out.
 pub fn counts_at<D: Readable>(
     conn: &mut D,
-    counted: Option<Counted>,
+    counted: &Option<Counted>,
     lab: &LabHead,
 ) -> Result<Counts, ReadFault>
-    ensures reads { MayRead (λ t counts. IfSome counted (IsCounted t) →
+    ensures reads { MayRead (λ t counts. IfSome counted.now (IsCounted t) →
         counts ≡ counts_by t lab.now) (D.state conn.old) (D.state conn.new) result }
     ensures cause { HasItsCause (λ t. Unit {0}) (D.state conn.old) (D.state conn.new) result }
 {

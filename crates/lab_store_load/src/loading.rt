@@ -1,8 +1,9 @@
 //! The part of a laboratory that is needed.
 
-ghost use Rattle.std.specs.Prelude.{◌≡◌, None, option_map, IfSome, OnErr};
+ghost use Rattle.std.specs.Prelude.{◌≡◌, None, find, option_map, IfSome, OnErr};
 ghost use Rattle.lab_records_kept.specs.Parts.{part_of};
-ghost use Rattle.lab_store_tables.specs.Meaning.{meaning};
+ghost use Rattle.lab_store_read_records.specs.Heads.{lab_head};
+ghost use Rattle.lab_store_tables.specs.Meaning.{has_code, meaning};
 ghost use Rattle.lab_store_columns.specs.Causes.{HasItsCause};
 ghost use Rattle.lab_store_columns.specs.Reads.{Reads, MayRead};
 ghost use Rattle.lab_store_load.specs.Counts.{IsCounted};
@@ -73,11 +74,11 @@ fn slice_counted<D: Readable>(
 fn slice_at<D: Readable>(
     alloc: Global,
     conn: &mut D,
-    counted: Option<Counted>,
+    counted: &Option<Counted>,
     head: LabHead,
     need: &Need,
 ) -> Result<Slice, ReadFault>
-    ensures reads { MayRead (λ t slice. IfSome counted (IsCounted t) →
+    ensures reads { MayRead (λ t slice. IfSome counted.now (IsCounted t) →
         slice ≡ slice_by t need.now head) (D.state conn.old) (D.state conn.new) result }
     ensures cause { HasItsCause (λ t. HasSlice t head need.now)
         (D.state conn.old) (D.state conn.new) result }
@@ -86,17 +87,19 @@ fn slice_at<D: Readable>(
     slice_counted(alloc, conn, head, need, counts)
 }
 
-// The part of the laboratory of the row, where there is one, by what was counted before. How many
-// persons it has is kept.
+// The part of the laboratory of the code, where its row was found, by what was counted before. What
+// is counted is kept.
 fn slice_if<D: Readable>(
     alloc: Global,
     conn: &mut D,
     before: Option<Counted>,
     counted: &mut Option<Counted>,
+    code: &LabCode,
     head: Option<LabHead>,
     need: &Need,
 ) -> Result<Option<Slice>, ReadFault>
     ensures reads { MayRead (λ t slice. IfSome before (IsCounted t) →
+        head ≡ option_map lab_head (find (has_code code.now) t.labs) →
         (slice ≡ option_map (slice_by t need.now) head) × IfSome counted.new (IsCounted t))
         (D.state conn.old) (D.state conn.new) result }
     ensures cause { HasItsCause (λ t. IfSome head (λ one. HasSlice t one need.now))
@@ -106,8 +109,10 @@ fn slice_if<D: Readable>(
     match head {
         Some(head) => {
             let lab = head.id;
-            let slice = slice_at(alloc, conn, before, head, need)?;
+            let code = code.copy()?;
+            let slice = slice_at(alloc, conn, &before, head, need)?;
             *counted = Some(Counted {
+                code,
                 lab,
                 persons: slice.counts.persons,
             });
@@ -121,7 +126,7 @@ fn slice_if<D: Readable>(
 }
 
 /// The part of a laboratory that is needed, or none where there is no laboratory of the code. Its
-/// persons are counted, where they weren't before, and how many they are is kept.
+/// persons are counted, where they weren't before, and what was counted is kept.
 ///
 /// # Errors
 /// The store refused, a row is none that this program writes, or memory ran out. What was counted
@@ -141,8 +146,7 @@ pub fn load<D: Readable>(
         (D.state conn.old) (D.state conn.new) result }
     ensures failed { OnErr result (counted.new ≡ None) }
 {
-    let before = *counted;
-    *counted = None;
+    let before = counted.take();
     let head = lab_at(alloc, conn, code)?;
-    slice_if(alloc, conn, before, counted, head, need)
+    slice_if(alloc, conn, before, counted, code, head, need)
 }

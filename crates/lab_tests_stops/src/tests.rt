@@ -70,22 +70,22 @@ fn assert_stops<R: Abort + AllocGlobal>(
 
 #[test]
 fn an_entry_is_there_whole_or_not_at_all(rt: HostRuntime) {
-    assert_stops(&rt, &ENTRY, ROWS_AFTER_ENTRY, (23, 28));
+    assert_stops(&rt, &ENTRY, ROWS_AFTER_ENTRY, (23, 26));
 }
 
 #[test]
 fn a_signing_is_there_whole_or_not_at_all(rt: HostRuntime) {
-    assert_stops(&rt, &SIGNING, ROWS_AFTER_SIGNING, (23, 26));
+    assert_stops(&rt, &SIGNING, ROWS_AFTER_SIGNING, (23, 24));
 }
 
 #[test]
 fn a_review_is_there_whole_or_not_at_all(rt: HostRuntime) {
-    assert_stops(&rt, &REVIEW, ROWS_AFTER_REVIEW, (24, 27));
+    assert_stops(&rt, &REVIEW, ROWS_AFTER_REVIEW, (24, 25));
 }
 
 #[test]
 fn an_amendment_is_there_whole_or_not_at_all(rt: HostRuntime) {
-    assert_stops(&rt, &AMENDMENT, ROWS_AFTER_AMENDMENT, (25, 34));
+    assert_stops(&rt, &AMENDMENT, ROWS_AFTER_AMENDMENT, (25, 32));
 }
 
 #[test]
@@ -100,5 +100,5 @@ fn a_confirmation_is_there_whole_or_not_at_all(rt: HostRuntime) {
 
 #[test]
 fn what_a_copy_writes_is_there_whole_or_not_at_all(rt: HostRuntime) {
-    assert_stops(&rt, &COPY, ROWS_AFTER_COPY, (20, 27));
+    assert_stops(&rt, &COPY, ROWS_AFTER_COPY, (20, 26));
 }

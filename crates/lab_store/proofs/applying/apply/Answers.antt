@@ -1,31 +1,34 @@
-use Rattle.std.proofs.Common.{w64, to_z, of_z, SFits, rules, sym, ◌∙◌}
+use Rattle.std.proofs.Common.{w64, to_z, of_z, SFits, IsTrue, rules, sym, ◌∙◌}
 use Rattle.std.proofs.lemmas.Int.{to_z-of_z}
 use Rattle.sqlite.specs.Held.{state}
+use Rattle.sqlite.specs.State.{HasCleanDisk}
 use Rattle.lab_forms_texts.specs.declared.refusals.Fault.{Fault}
 use Rattle.lab_records_kept.specs.declared.faults.BadStore.{BadStore}
-use Rattle.lab_store.proofs.After.{ends_ok, ends_err, found_row}
+use Rattle.lab_store.proofs.After.{ends_ok, ends_err, found_row, counted_now}
 use Rattle.lab_store.proofs.applying.apply.Goals as goal
 
 pub returns-in-Ok-clause-ends : goal.returns-in-Ok-clause-ends
-returns-in-Ok-clause-ends g c ready =
+returns-in-Ok-clause-ends g c keeping ready =
     let old = state g.S.Store c.args.tables.now.conn in
-    let middle = state g.S.Store c.lab_at.new.conn.conn in
+    let middle = state g.S.Store c.lab_id_at.new.conn.conn in
     let new = state g.S.Store c.commit_all.new.conn in
-    let fits : SFits w64 c.in-Some.head.id = search rules in
-    ends_ok c.args.code.now c.args.changes.now old middle new ready
-    c.in_ok-found.ensures.reads.passes c.in_ok-found.ensures.reads.same (to_z w64 (of_z w64 c.in-Some.head.id))
-    (λ clean. let row = found_row _ c.in-Some.head (sym c.in-Some.is ∙ c.in_ok-found.ensures.reads.answer ready clean) in
-    (row.0, row.1, row.2 ∙ sym (to_z-of_z w64 c.in-Some.head.id fits)))
+    let reads = c.in_ok-found.ensures.reads in
+    let opened : HasCleanDisk middle → IsTrue old.is_open = c.in_ok-found.ensures.opened keeping.opened in
+    let fits : SFits w64 c.in-Some.id = search rules in
+    ends_ok c.args.code.now c.args.changes.now old middle new ready reads.passes (λ clean. reads.same clean (opened clean)) (to_z w64 (of_z w64 c.in-Some.id))
+    (λ clean. let row = found_row _ c.in-Some.id (sym c.in-Some.is ∙ reads.answer ready clean (counted_now old c.args.counted.now keeping ready (reads.passes.clean clean) (opened clean))) in
+    (row.0, row.1, row.2 ∙ sym (to_z-of_z w64 c.in-Some.id fits)))
     (Fault BadStore) _ tt c.in-Ok.ensures.ends
 
-pub returns-clause-ends : goal.returns-clause-ends
-returns-clause-ends g c ready =
+pub returns-in-Err-clause-ends : goal.returns-in-Err-clause-ends
+returns-in-Err-clause-ends g c keeping ready =
     let old = state g.S.Store c.args.tables.now.conn in
-    let middle = state g.S.Store c.lab_at.new.conn.conn in
+    let middle = state g.S.Store c.lab_id_at.new.conn.conn in
     let new = state g.S.Store c.commit_all.new.conn in
-    let fits : SFits w64 c.in-Some.head.id = search rules in
-    ends_err c.args.code.now c.args.changes.now old middle new ready
-    c.in_ok-found.ensures.reads.passes c.in_ok-found.ensures.reads.same (to_z w64 (of_z w64 c.in-Some.head.id))
-    (λ clean. let row = found_row _ c.in-Some.head (sym c.in-Some.is ∙ c.in_ok-found.ensures.reads.answer ready clean) in
-    (row.0, row.1, row.2 ∙ sym (to_z-of_z w64 c.in-Some.head.id fits)))
+    let reads = c.in_ok-found.ensures.reads in
+    let opened : HasCleanDisk middle → IsTrue old.is_open = c.in_ok-found.ensures.opened keeping.opened in
+    let fits : SFits w64 c.in-Some.id = search rules in
+    ends_err c.args.code.now c.args.changes.now old middle new ready reads.passes (λ clean. reads.same clean (opened clean)) (to_z w64 (of_z w64 c.in-Some.id))
+    (λ clean. let row = found_row _ c.in-Some.id (sym c.in-Some.is ∙ reads.answer ready clean (counted_now old c.args.counted.now keeping ready (reads.passes.clean clean) (opened clean))) in
+    (row.0, row.1, row.2 ∙ sym (to_z-of_z w64 c.in-Some.id fits)))
     _ c.in-Err.error c.read_fault.result c.in-Err.ensures.ends

@@ -2,6 +2,7 @@ use Rattle.std.proofs.Common.{◌∙◌, ap, sym, subst, option_map, IfSome}
 use Rattle.lab_store_tables.specs.Ready.{tables_of}
 use Rattle.lab_store_columns.proofs.Causes.{passed_on, then_so}
 use Rattle.lab_store_columns.proofs.Readers.{may_read, reads_fail, reads_then}
+use Rattle.lab_store_load.specs.Counts.{IsCounted}
 use Rattle.lab_store_load.specs.Parts.{slice_by}
 use Rattle.lab_store_load.specs.Readable.{HasSlice}
 use Rattle.lab_store_load.proofs.Loaded.{loaded}
@@ -18,7 +19,9 @@ returns-clause-reads g c =
     let t = tables_of (g.D.Readable.state c.args.conn.now) in
     let need = c.args.need.now in
     reads_then c.in_ok-head.ensures.reads c.slice_if.ensures.reads
-    (λ kept found slice is right. ((is right).0 ∙ ap (option_map (slice_by t need)) found ∙ loaded t kept.rows need c.args.code.now, (is right).1))
+    (λ kept found slice is right.
+    let it = is (subst (λ o. IfSome o (IsCounted t)) (sym c.take-before.ensures.value) right) found in
+    (it.0 ∙ ap (option_map (slice_by t need)) found ∙ loaded t kept.rows need c.args.code.now, it.1))
 
 pub returns-clause-cause : goal.returns-clause-cause
 returns-clause-cause g c =

@@ -8,4 +8,4 @@ pub returns-clause-cause : goal.returns-clause-cause
 returns-clause-cause g c = rw (← c.self.view_is) c.give_records_at.ensures.cause
 
 pub invariant_of-self : goal.invariant_of-self
-invariant_of-self g c = record { at_rest = c.give_records_at.ensures.passes.at_rest c.self.invariant.at_rest; right = λ _ _ _. tt }
+invariant_of-self g c = record { at_rest = c.give_records_at.ensures.passes.at_rest c.self.invariant.at_rest; right = λ _ _ _. tt; opened = λ _. tt }

@@ -6,7 +6,7 @@ use Rattle.lab_records_kept.specs.declared.needs.Slice.{Slice}
 use Rattle.lab_records_kept.specs.Parts.{part_of}
 use Rattle.lab_store_tables.specs.Rows.{Tables}
 use Rattle.lab_store_tables.specs.Meaning.{meaning}
-use Rattle.lab_store_load.proofs.Counting.{answer_counted, counted_after}
+use Rattle.lab_store_load.proofs.Counting.{answer_counted, counted_after, open_after}
 use Rattle.lab_store.proofs.store.Store.part.Goals as goal
 
 -- the part that the tables have
@@ -27,4 +27,7 @@ invariant_of-self g c = record {
   right =
       counted_after (IsPart c.args.need.now c.args.code.now) c.self.inside.counted c.load.new.counted (state g.S.Store c.self.inside.tables.conn)
       (state g.S.Store c.load.new.conn.conn) c.load.result c.load.ensures.reads c.load.ensures.failed c.self.invariant.at_rest c.self.invariant.right;
+  opened =
+      open_after (IsPart c.args.need.now c.args.code.now) c.self.inside.counted c.load.new.counted (state g.S.Store c.self.inside.tables.conn)
+      (state g.S.Store c.load.new.conn.conn) c.load.result c.load.ensures.reads c.load.ensures.failed;
 }

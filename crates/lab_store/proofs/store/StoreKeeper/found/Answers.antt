@@ -55,4 +55,4 @@ returns-clause-shuts g c clean ready =
     world_shuts (state g.S.Store c.args.self.now) (state g.S.Store c.found.new.tables.conn) clean ends.shuts
 
 pub invariant_of-self : goal.invariant_of-self
-invariant_of-self g c = record { at_rest = c.found.ensures.at_rest; right = λ _ _ _. tt }
+invariant_of-self g c = record { at_rest = c.found.ensures.at_rest; right = λ _ _ _. tt; opened = λ _. tt }
