@@ -10,7 +10,7 @@ use Rattle.lab_store_tables.specs.Rows.{Tables}
 use Rattle.lab_store_tables.specs.Changes.{InTurn}
 use Rattle.lab_store_tables.specs.Held.{IsTyped, Holds}
 use Rattle.lab_store_tables.specs.Ready.{tables_of}
-use Rattle.lab_store_write.specs.Calls.{Steps, Finds, Given}
+use Rattle.lab_store_write.specs.Calls.{Steps, Finds, MadeFrom}
 
 -- ---- a statement
 
@@ -58,14 +58,14 @@ steps_then first second both a b c f p q = record {
 }
 
 -- what a step is given was found before it
-pub found_then : (P : Tables → Type 0) (step : Tables → Tables → Type 0) (a b c : State) → Steps (Finds P) a b → Steps (Given P step) b c → Steps step a c
+pub found_then : (P : Tables → Type 0) (step : Tables → Tables → Type 0) (a b c : State) → Steps (Finds P) a b → Steps (MadeFrom P step) b c → Steps step a c
 found_then P step a b c =
-    steps_then (Finds P) (Given P step) step a b c (λ x y z found does. subst (λ (t : Tables). step t z) found.1 (does (subst P (sym found.1) found.0)))
+    steps_then (Finds P) (MadeFrom P step) step a b c (λ x y z found does. subst (λ (t : Tables). step t z) found.1 (does (subst P (sym found.1) found.0)))
 
-pub known_then : (K P : Tables → Type 0) (step : Tables → Tables → Type 0) (a b c : State) → Steps (Finds (λ t. K t → P t)) a b → Steps (Given P step) b c
-    → Steps (Given K step) a c
+pub known_then : (K P : Tables → Type 0) (step : Tables → Tables → Type 0) (a b c : State) → Steps (Finds (λ t. K t → P t)) a b → Steps (MadeFrom P step) b c
+    → Steps (MadeFrom K step) a c
 known_then K P step a b c =
-    steps_then (Finds (λ t. K t → P t)) (Given P step) (Given K step) a b c
+    steps_then (Finds (λ t. K t → P t)) (MadeFrom P step) (MadeFrom K step) a b c
     (λ x y z found does known. subst (λ (t : Tables). step t z) found.1 (does (subst P (sym found.1) (found.0 known))))
 
 -- nothing is asked

@@ -8,7 +8,7 @@ use Rattle.lab_records_kept.specs.declared.trails.TrailRow.{TrailRow as Told}
 use Rattle.lab_store_tables.specs.Rows.{LabRow, Tables, trail_id}
 use Rattle.lab_store_tables.specs.Changes.{in_lab, IsNamedIfAny, AddsTold}
 use Rattle.lab_store_tables.specs.Ready.{tables_of}
-use Rattle.lab_store_write.specs.Calls.{Steps, Finds, Given}
+use Rattle.lab_store_write.specs.Calls.{Steps, Finds, MadeFrom}
 use Rattle.lab_store_write.specs.TrailAdded.{with_told, with_last, AddsLastTold}
 
 -- a row of the trail: who is named, the row, and the counter
@@ -55,7 +55,7 @@ named_still lab moment t (Some code) person it = it
 pub last_told_added : (lab : ℤ) (moment : ℕ) (told : Told) (person : Option ℤ) (a b c : State)
     → Steps (λ before after. after ≡ with_told lab person told before) a b
     → Steps (λ before after. after ≡ in_lab lab (λ (one : LabRow). record one { last = moment; trail = told.number }) before) b c
-    → Steps (Given (λ t. IsNamedIfAny t lab told.person person) (AddsLastTold lab moment told)) a c
+    → Steps (MadeFrom (λ t. IsNamedIfAny t lab told.person person) (AddsLastTold lab moment told)) a c
 last_told_added lab moment told person a b c p q = record {
   inside = q.inside;
   made = λ typed.

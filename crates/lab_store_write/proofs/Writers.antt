@@ -13,7 +13,7 @@ use Rattle.lab_store_tables.specs.Changes.{InTurn}
 use Rattle.lab_store_tables.specs.Held.{IsTyped}
 use Rattle.lab_store_tables.specs.Ready.{tables_of}
 use Rattle.lab_store_columns.proofs.Queries.{IsRead, if_then}
-use Rattle.lab_store_write.specs.Calls.{Steps, Stays, Answers, Writes, Becomes, Finds, Given, CountsBelow}
+use Rattle.lab_store_write.specs.Calls.{Steps, Stays, Answers, Writes, Becomes, Finds, MadeFrom, CountsBelow}
 use Rattle.lab_store_write.proofs.Inside.{Wrote, made_exactly, steps_weaker, found_then, known_then, keeps_then, none_then, turns_none, turns_more}
 use Rattle.lab_store_write.proofs.Lookups.{looked, looked_keeps}
 
@@ -201,11 +201,11 @@ module _ {T A E : Type 0} {lender : T → ℕ × ℕ} {state : T → State} {P :
 
 module _ {T A B E F : Type 0} {lender : T → ℕ × ℕ} {state : T → State} (N : A → Tables → Type 0) {step : Tables → Tables → Type 0} {a b c : T} {x : A}
     {s : Result B F} where
-  pub and_given : Answers {E = E} lender state (λ one. Finds (N one)) a b (Ok x) → Writes lender state (Given (N x) step) b c s → Writes lender state step a c s
+  pub and_given : Answers {E = E} lender state (λ one. Finds (N one)) a b (Ok x) → Writes lender state (MadeFrom (N x) step) b c s → Writes lender state step a c s
   and_given p q = and_then p q (λ found does. if_then s (λ _. found_then (N x) step (state a) (state b) (state c) found) does)
 
   pub and_known : (K : Tables → Type 0) → Answers {E = E} lender state (λ one. Finds (λ t. K t → N one t)) a b (Ok x)
-      → Writes lender state (Given (N x) step) b c s → Writes lender state (Given K step) a c s
+      → Writes lender state (MadeFrom (N x) step) b c s → Writes lender state (MadeFrom K step) a c s
   and_known K p q = and_then p q (λ found does. if_then s (λ _. known_then K (N x) step (state a) (state b) (state c) found) does)
 
 -- ---- calls in turn, for the items of a list

@@ -51,9 +51,9 @@ Becomes made before after = after ≡ made before
 abbrev pub Finds : (Tables → Type 0) → Tables → Tables → Type 0
 Finds P before after = P before × (after ≡ before)
 
--- a step that is made of tables of which this is true
-abbrev pub Given : (Tables → Type 0) → (Tables → Tables → Type 0) → Tables → Tables → Type 0
-Given P step before after = P before → step before after
+-- a step, made from tables of which this is true
+abbrev pub MadeFrom : (Tables → Type 0) → (Tables → Tables → Type 0) → Tables → Tables → Type 0
+MadeFrom P step before after = P before → step before after
 
 -- a query by the id of a parent, which answers one more than the rows that are shown
 pub record CountsBelow {T : Type 0} (lender : T → ℕ × ℕ) (state : T → State) (sql : List ℕ)

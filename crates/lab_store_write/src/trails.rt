@@ -3,7 +3,7 @@
 ghost use Rattle.std.specs.Prelude.{option_map};
 ghost use Rattle.lab_store_tables.specs.Rows.{LabRow};
 ghost use Rattle.lab_store_tables.specs.Changes.{in_lab, AddsTold, IsNamedIfAny};
-ghost use Rattle.lab_store_write.specs.Calls.{Writes, Becomes, Given};
+ghost use Rattle.lab_store_write.specs.Calls.{Writes, Becomes, MadeFrom};
 ghost use Rattle.lab_store_write.specs.Ids.{row_id};
 ghost use Rattle.lab_store_write.specs.TrailAdded.{with_told, AddsLastTold};
 
@@ -97,7 +97,7 @@ pub fn add_last_told<W: Writable>(
     told: &TrailRow,
 ) -> Result<(), Error>
     ensures { Writes W.lender W.state
-        (Given (λ t. IsNamedIfAny t lab.id told.now.person (option_map row_id person))
+        (MadeFrom (λ t. IsNamedIfAny t lab.id told.now.person (option_map row_id person))
         (AddsLastTold lab.id moment told.now)) tx.old tx.new result }
 {
     insert_told(tx, lab, person, told)?;

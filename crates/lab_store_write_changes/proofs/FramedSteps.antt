@@ -15,7 +15,7 @@ use Rattle.lab_store_tables.specs.Ready.{tables_of}
 use Rattle.lab_store_laws.specs.Steps.{AppliesWhereKept, StepsBy}
 use Rattle.lab_store_laws.proofs.KeptLaws.{last_by_rules}
 use Rattle.lab_store_write.specs.declared.statements.RowId.{RowId}
-use Rattle.lab_store_write.specs.Calls.{Steps, Finds, Given}
+use Rattle.lab_store_write.specs.Calls.{Steps, Finds, MadeFrom}
 use Rattle.lab_store_write.specs.Ids.{row_id}
 use Rattle.lab_store_write.specs.TrailAdded.{with_last, AddsLastTold}
 use Rattle.lab_store_write.proofs.Inside.{steps_weaker, found_then}
@@ -146,7 +146,7 @@ module _ (lab : ℤ) (moment : ℕ) where
   module _ (told : Told) (person : Option RowId) (between : List Change) (a b c d : State)
       (found : Steps (Finds (λ t. IsNamedIfAny t lab told.person (option_map row_id person))) a b)
       (p : IsTyped b.now → IsDatabase b.now → Steps (StepsKnowing lab told.person person between) b c)
-      (q : Steps (Given (λ t. IsNamedIfAny t lab told.person (option_map row_id person)) (AddsLastTold lab moment told)) c d) where
+      (q : Steps (MadeFrom (λ t. IsNamedIfAny t lab told.person (option_map row_id person)) (AddsLastTold lab moment told)) c d) where
     first_made : IsTyped b.now → IsDatabase b.now → Steps (λ old new. InTurn (StepsBy lab) between old new × Knows lab told.person person new) a c
     first_made typed rules =
         found_then (Knows lab told.person person) (λ old new. InTurn (StepsBy lab) between old new × Knows lab told.person person new) a b c found (p typed rules)

@@ -25,7 +25,7 @@ use Rattle.lab_store_laws.proofs.LabLaws.{text_is}
 use Rattle.lab_store_laws.proofs.Named.{the_row}
 use Rattle.lab_store_laws.proofs.OneRow.{kept}
 use Rattle.lab_store_write.specs.declared.statements.RowId.{RowId}
-use Rattle.lab_store_write.specs.Calls.{Steps, Given}
+use Rattle.lab_store_write.specs.Calls.{Steps, MadeFrom}
 use Rattle.lab_store_write.specs.Ids.{row_id}
 use Rattle.lab_store_write.proofs.Inside.{turn_more}
 use Rattle.lab_store_write_changes.specs.Framed.{spares_lab, Knows, StepsKnowing}
@@ -115,7 +115,7 @@ module _ (lab : ℤ) (known : Option (List ℕ)) (id : Option RowId) where
       go false is = absurd (let none = list_all_at spares_lab changes i d within is in cc)
 
   pub one_more_known : (changes : List Change) (i : ℕ) (d : Change) → i < length changes → list_all spares_lab changes ≡ true → (a b c : State) → IsTyped a.now
-      → IsDatabase a.now → Steps (StepsKnowing lab known id (take i changes)) a b → Steps (Given (Knows lab known id) (AppliesWhereKept lab (get_or changes i d))) b c
+      → IsDatabase a.now → Steps (StepsKnowing lab known id (take i changes)) a b → Steps (MadeFrom (Knows lab known id) (AppliesWhereKept lab (get_or changes i d))) b c
       → Steps (StepsKnowing lab known id (take (i + 1) changes)) a c
   one_more_known changes i d within spared a b c _ rules p q = record {
     inside = q.inside;

@@ -9,7 +9,7 @@ use Rattle.lab_store_tables.specs.Rows.{Tables}
 use Rattle.lab_store_tables.specs.Changes.{InTurn, IsNamedIfAny}
 use Rattle.lab_store_laws.specs.Steps.{StepsBy}
 use Rattle.lab_store_write.specs.declared.statements.RowId.{RowId}
-use Rattle.lab_store_write.specs.Calls.{Given}
+use Rattle.lab_store_write.specs.Calls.{MadeFrom}
 use Rattle.lab_store_write.specs.Ids.{row_id}
 
 -- whether a change adds or sets one row of another table, and nothing else
@@ -36,7 +36,7 @@ Knows lab known person t = IsNamedIfAny t lab known (option_map row_id person)
 abbrev pub StepsKnowing : ℤ → Option (List ℕ) → Option RowId → List Change → Tables → Tables
     → Type 0
 StepsKnowing lab known person changes =
-    Given (Knows lab known person)
+    MadeFrom (Knows lab known person)
     (λ old new. InTurn (StepsBy lab) changes old new × Knows lab known person new)
 
 abbrev pub framed : ℕ → List Change → Told → List Change

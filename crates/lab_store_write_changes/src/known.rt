@@ -7,7 +7,7 @@ ghost use Rattle.sqlite.specs.State.{HasCleanDisk};
 ghost use Rattle.lab_records_kept.specs.declared.changes.Change.TheVariants.{PersonSet, SessionSet, RowAdded, SignatureAdded};
 ghost use Rattle.lab_store_tables.specs.Held.{IsTyped};
 ghost use Rattle.lab_store_laws.specs.Steps.{AppliesWhereKept};
-ghost use Rattle.lab_store_write.specs.Calls.{Stays, Steps, Writes, Given};
+ghost use Rattle.lab_store_write.specs.Calls.{Stays, Steps, Writes, MadeFrom};
 ghost use Rattle.lab_store_write_changes.specs.Framed.{spares_lab, Knows, StepsKnowing};
 
 use crate::changes::change_rows;
@@ -25,7 +25,7 @@ fn set_known<W: Writable>(
     id: Option<RowId>,
     person: &Person,
 ) -> Result<(), Error>
-    ensures { Writes W.lender W.state (Given (Knows lab.id known.now id)
+    ensures { Writes W.lender W.state (MadeFrom (Knows lab.id known.now id)
         (AppliesWhereKept lab.id (PersonSet person.now))) tx.old tx.new result }
 {
     let whose = person_id_by(tx, lab, known, id, &person.code)?;
@@ -40,7 +40,7 @@ fn touch_known<W: Writable>(
     id: Option<RowId>,
     session: &Session,
 ) -> Result<(), Error>
-    ensures { Writes W.lender W.state (Given (Knows lab.id known.now id)
+    ensures { Writes W.lender W.state (MadeFrom (Knows lab.id known.now id)
         (AppliesWhereKept lab.id (SessionSet session.now))) tx.old tx.new result }
 {
     let whose = person_id_by(tx, lab, known, id, &session.person)?;
@@ -56,7 +56,7 @@ fn enter_known<W: Writable>(
     wanted: Ordinal,
     row: &EntryRow,
 ) -> Result<(), Error>
-    ensures { Writes W.lender W.state (Given (Knows lab.id known.now id)
+    ensures { Writes W.lender W.state (MadeFrom (Knows lab.id known.now id)
         (AppliesWhereKept lab.id (RowAdded wanted row.now))) tx.old tx.new result }
 {
     let whose = person_id_by(tx, lab, known, id, &row.person)?;
@@ -73,28 +73,12 @@ fn sign_known<W: Writable>(
     version: Ordinal,
     signature: &Signature,
 ) -> Result<(), Error>
-    ensures { Writes W.lender W.state (Given (Knows lab.id known.now id)
+    ensures { Writes W.lender W.state (MadeFrom (Knows lab.id known.now id)
         (AppliesWhereKept lab.id (SignatureAdded wanted version signature.now)))
         tx.old tx.new result }
 {
     let whose = person_id_by(tx, lab, known, id, &signature.person)?;
     sign_version_of(tx, lab, wanted, version, whose, signature)
-}
-
-// Makes a change in which nobody is known.
-fn change_unknown<W: Writable>(
-    tx: &mut W,
-    lab: RowId,
-    known: &Option<PersonCode>,
-    id: Option<RowId>,
-    change: &Change,
-) -> Result<(), Error>
-    ensures { Writes W.lender W.state (Given (Knows lab.id known.now id)
-        (AppliesWhereKept lab.id change.now)) tx.old tx.new result }
-{
-    let _ = known;
-    let _ = id;
-    change_rows(tx, lab, change)
 }
 
 // Makes the change of the laboratory whose row has the id.
@@ -105,7 +89,7 @@ fn change_known<W: Writable>(
     id: Option<RowId>,
     change: &Change,
 ) -> Result<(), Error>
-    ensures { Writes W.lender W.state (Given (Knows lab.id known.now id)
+    ensures { Writes W.lender W.state (MadeFrom (Knows lab.id known.now id)
         (AppliesWhereKept lab.id change.now)) tx.old tx.new result }
 {
     match change {
@@ -117,7 +101,7 @@ fn change_known<W: Writable>(
             version,
             signature,
         } => sign_known(tx, lab, known, id, *record, *version, signature),
-        _ => change_unknown(tx, lab, known, id, change),
+        _ => change_rows(tx, lab, change),
     }
 }
 

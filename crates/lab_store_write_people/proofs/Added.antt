@@ -7,7 +7,7 @@ use Rattle.lab_people_access.specs.declared.sessions.Session.{Session}
 use Rattle.lab_store_tables.specs.Rows.{LabRow, session_id}
 use Rattle.lab_store_tables.specs.Changes.{in_lab, person_named, is_session, session_row_of, set_session, AddsSession, SetsSession}
 use Rattle.lab_store_tables.specs.Ready.{tables_of}
-use Rattle.lab_store_write.specs.Calls.{Steps, Finds, Given}
+use Rattle.lab_store_write.specs.Calls.{Steps, Finds, MadeFrom}
 use Rattle.lab_store_write_people.specs.Added.{with_session}
 
 -- a session: whose it is, the row, and the counter
@@ -35,7 +35,7 @@ session_added lab session person a b c d p q r = record {
 -- a session that is set: which it is, and the row
 pub session_set : (lab : ℤ) (session : Session) (id person : ℤ) (a b c : State) → Steps (Finds (λ t. option_map session_id (find (is_session lab session.token) t.sessions) ≡ Some id)) a b
     → Steps (λ before after. after ≡ set_session (session_row_of lab id person session) before) b c
-    → Steps (Given (λ t. person_named t lab session.person ≡ Some person) (SetsSession lab session)) a c
+    → Steps (MadeFrom (λ t. person_named t lab session.person ≡ Some person) (SetsSession lab session)) a c
 session_set lab session id person a b c p q = record {
   inside = q.inside;
   made = λ typed.

@@ -12,7 +12,7 @@ use Rattle.lab_store_tables.specs.Columns.{roles_sum}
 use Rattle.lab_store_tables.specs.Changes.{person_named, IsNamedIfAny, asker_of, person_row_of, set_person, AddsPerson, SetsPerson}
 use Rattle.lab_store_tables.specs.Ready.{tables_of}
 use Rattle.lab_store_write.specs.declared.statements.RowId.{RowId}
-use Rattle.lab_store_write.specs.Calls.{Steps, Finds, Given}
+use Rattle.lab_store_write.specs.Calls.{Steps, Finds, MadeFrom}
 use Rattle.lab_store_write.specs.Ids.{row_id}
 use Rattle.lab_store_write_people.specs.Persons.{password_cells, ask_cells, person_given, with_person}
 use Rattle.lab_store_write_people.proofs.PersonWrites.{person_values}
@@ -50,7 +50,7 @@ person_added lab person asker a b c p q = record {
 
 pub person_set : (lab : ℤ) (person : Person) (id : ℤ) (asker : Option ℤ) (a b c : State) → Steps (Finds (λ t. IsNamedIfAny t lab (asker_of person) asker)) a b
     → Steps (λ before after. after ≡ set_person (person_row_of lab id asker person) before) b c
-    → Steps (Given (λ t. person_named t lab person.code ≡ Some id) (SetsPerson lab person)) a c
+    → Steps (MadeFrom (λ t. person_named t lab person.code ≡ Some id) (SetsPerson lab person)) a c
 person_set lab person id asker a b c p q = record {
   inside = q.inside;
   made = λ typed.

@@ -2,7 +2,7 @@
 
 ghost use Rattle.std.specs.Prelude.{◌≡◌, Some, option_map};
 ghost use Rattle.lab_store_tables.specs.Changes.{person_named, IsNamedIfAny, AddsPerson, SetsPerson, person_row_of, set_person as with_row};
-ghost use Rattle.lab_store_write.specs.Calls.{Answers, Writes, Becomes, Finds, Given};
+ghost use Rattle.lab_store_write.specs.Calls.{Answers, Writes, Becomes, Finds, MadeFrom};
 ghost use Rattle.lab_store_write.specs.Ids.{row_id};
 ghost use Rattle.lab_store_write_people.specs.Persons.{asker_in, with_person};
 
@@ -152,7 +152,7 @@ pub fn set_person_of<W: Writable>(
     person: &Person,
 ) -> Result<(), Error>
     ensures { Writes W.lender W.state
-        (Given (λ t. person_named t lab.id person.now.code ≡ Some id.id)
+        (MadeFrom (λ t. person_named t lab.id person.now.code ≡ Some id.id)
         (SetsPerson lab.id person.now)) tx.old tx.new result }
 {
     let asker = asker_if_any(tx, lab, &person.ask)?;

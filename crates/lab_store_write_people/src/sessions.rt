@@ -3,7 +3,7 @@
 ghost use Rattle.std.specs.Prelude.{◌≡◌, Some};
 ghost use Rattle.lab_store_tables.specs.Rows.{LabRow};
 ghost use Rattle.lab_store_tables.specs.Changes.{in_lab, person_named, AddsSession, SetsSession, set_session as with_row, session_row_of};
-ghost use Rattle.lab_store_write.specs.Calls.{Writes, Becomes, Given};
+ghost use Rattle.lab_store_write.specs.Calls.{Writes, Becomes, MadeFrom};
 ghost use Rattle.lab_store_write_people.specs.Added.{with_session};
 
 use lab_forms_texts::Ordinal;
@@ -107,7 +107,7 @@ pub fn set_session_of<W: Writable>(
     session: &Session,
 ) -> Result<(), Error>
     ensures { Writes W.lender W.state
-        (Given (λ t. person_named t lab.id session.now.person ≡ Some person.id)
+        (MadeFrom (λ t. person_named t lab.id session.now.person ≡ Some person.id)
         (SetsSession lab.id session.now)) tx.old tx.new result }
 {
     let id = session_id_at(tx, lab, &session.token)?;

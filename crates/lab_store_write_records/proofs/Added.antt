@@ -8,7 +8,7 @@ use Rattle.lab_records_kept.specs.declared.records.Signature.{Signature}
 use Rattle.lab_store_tables.specs.Rows.{RecordRow, Tables, entry_id, signature_id}
 use Rattle.lab_store_tables.specs.Changes.{person_named, put_entry, put_signature, record_named, version_named, EntersRow, SignsVersion}
 use Rattle.lab_store_tables.specs.Ready.{tables_of}
-use Rattle.lab_store_write.specs.Calls.{Steps, Finds, Given}
+use Rattle.lab_store_write.specs.Calls.{Steps, Finds, MadeFrom}
 use Rattle.lab_store_write_records.specs.VersionsShown.{is_entry_of, is_signature_of, record_pair}
 use Rattle.lab_store_write_records.specs.EntriesAdded.{entry_at, with_entry, AddsEntryOf, signature_at, with_signature, AddsSignatureOf}
 
@@ -70,7 +70,7 @@ pair_of (Some kept) id current h =
 pub row_entered : (lab : ℤ) (wanted : ℕ) (one : Entry) (person id : ℤ) (current : ℕ) (version : ℤ) (a b c d : State)
     → Steps (Finds (λ t. option_map record_pair (record_named t lab wanted) ≡ Some (id, current))) a b
     → Steps (Finds (λ t. version_named t id current ≡ Some version)) b c → Steps (AddsEntryOf version person one) c d
-    → Steps (Given (λ t. person_named t lab one.person ≡ Some person) (EntersRow lab wanted one)) a d
+    → Steps (MadeFrom (λ t. person_named t lab one.person ≡ Some person) (EntersRow lab wanted one)) a d
 row_entered lab wanted one person id current version a b c d p q r = record {
   inside = r.inside;
   made = λ typed.
@@ -94,7 +94,7 @@ row_entered lab wanted one person id current version a b c d p q r = record {
 pub version_signed : (lab : ℤ) (wanted number : ℕ) (one : Signature) (person id : ℤ) (current : ℕ) (version : ℤ) (a b c d : State)
     → Steps (Finds (λ t. option_map record_pair (record_named t lab wanted) ≡ Some (id, current))) a b
     → Steps (Finds (λ t. version_named t id number ≡ Some version)) b c → Steps (AddsSignatureOf version person one) c d
-    → Steps (Given (λ t. person_named t lab one.person ≡ Some person) (SignsVersion lab wanted number one)) a d
+    → Steps (MadeFrom (λ t. person_named t lab one.person ≡ Some person) (SignsVersion lab wanted number one)) a d
 version_signed lab wanted number one person id current version a b c d p q r = record {
   inside = r.inside;
   made = λ typed.

@@ -7,7 +7,7 @@ use Rattle.lab_seal_versions.specs.Seals.{meaning_word}
 use Rattle.lab_store_tables.specs.Columns.{reason_column}
 use Rattle.lab_store_tables.specs.Rows.{EntryRow, SignatureRow, Tables, entry_id, signature_id}
 use Rattle.lab_store_tables.specs.Changes.{person_named, put_entry, put_signature, AddsEntry, AddsSignature}
-use Rattle.lab_store_write.specs.Calls.{Given}
+use Rattle.lab_store_write.specs.Calls.{MadeFrom}
 
 -- an entry under an id, at a place
 abbrev pub entry_at : ℤ → ℤ → ℕ → ℤ → Entry → EntryRow
@@ -30,7 +30,7 @@ with_entry version place person entry t =
 -- an entry more, whose person is the one of the id in whatever laboratory that one has the code
 abbrev pub AddsEntryOf : ℤ → ℤ → Entry → Tables → Tables → Type 0
 AddsEntryOf version person entry old new =
-    (lab : ℤ) → Given (λ t. person_named t lab entry.person ≡ Some person)
+    (lab : ℤ) → MadeFrom (λ t. person_named t lab entry.person ≡ Some person)
     (AddsEntry lab version entry) old new
 
 abbrev pub signature_at : ℤ → ℤ → ℕ → ℤ → Signature → SignatureRow
@@ -55,5 +55,5 @@ with_signature version place person signature t =
 -- a signature more, so too
 abbrev pub AddsSignatureOf : ℤ → ℤ → Signature → Tables → Tables → Type 0
 AddsSignatureOf version person signature old new =
-    (lab : ℤ) → Given (λ t. person_named t lab signature.person ≡ Some person)
+    (lab : ℤ) → MadeFrom (λ t. person_named t lab signature.person ≡ Some person)
     (AddsSignature lab version signature) old new

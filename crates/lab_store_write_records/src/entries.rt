@@ -3,7 +3,7 @@
 ghost use Rattle.std.specs.Prelude.{◌≡◌, Some};
 ghost use Rattle.lab_records_kept.specs.declared.changes.Change.TheVariants.{RowAdded};
 ghost use Rattle.lab_store_tables.specs.Changes.{AppliesIn, AddsEntry, person_named};
-ghost use Rattle.lab_store_write.specs.Calls.{Writes, Becomes, Given};
+ghost use Rattle.lab_store_write.specs.Calls.{Writes, Becomes, MadeFrom};
 ghost use Rattle.lab_store_write_records.specs.EntriesAdded.{with_entry, AddsEntryOf};
 
 use crate::named::{record_at, version_id_at};
@@ -90,7 +90,7 @@ pub fn enter_row_of<W: Writable>(
     entry: &EntryRow,
 ) -> Result<(), Error>
     ensures { Writes W.lender W.state
-        (Given (λ t. person_named t lab.id entry.now.person ≡ Some person.id)
+        (MadeFrom (λ t. person_named t lab.id entry.now.person ≡ Some person.id)
         (AppliesIn lab.id (RowAdded wanted entry.now))) tx.old tx.new result }
 {
     let kept = record_at(tx, lab, wanted)?;

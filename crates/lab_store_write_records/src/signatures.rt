@@ -3,7 +3,7 @@
 ghost use Rattle.std.specs.Prelude.{◌≡◌, Some};
 ghost use Rattle.lab_records_kept.specs.declared.changes.Change.TheVariants.{SignatureAdded};
 ghost use Rattle.lab_store_tables.specs.Changes.{AppliesIn, AddsSignature, person_named};
-ghost use Rattle.lab_store_write.specs.Calls.{Writes, Becomes, Given};
+ghost use Rattle.lab_store_write.specs.Calls.{Writes, Becomes, MadeFrom};
 ghost use Rattle.lab_store_write_records.specs.EntriesAdded.{with_signature, AddsSignatureOf};
 
 use crate::named::{record_at, version_id_at};
@@ -94,7 +94,7 @@ pub fn sign_version_of<W: Writable>(
     signature: &Signature,
 ) -> Result<(), Error>
     ensures { Writes W.lender W.state
-        (Given (λ t. person_named t lab.id signature.now.person ≡ Some person.id)
+        (MadeFrom (λ t. person_named t lab.id signature.now.person ≡ Some person.id)
         (AppliesIn lab.id (SignatureAdded wanted version signature.now))) tx.old tx.new result }
 {
     let kept = record_at(tx, lab, wanted)?;

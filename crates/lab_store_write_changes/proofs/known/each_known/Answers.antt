@@ -2,7 +2,7 @@ use Rattle.std.proofs.Common.{◌<◌, length, subst, arith}
 use Rattle.sqlite.specs.State.{HasCleanDisk}
 use Rattle.lab_records_kept.specs.declared.changes.Change.{Change}
 use Rattle.lab_store_laws.specs.Steps.{AppliesWhereKept}
-use Rattle.lab_store_write.specs.Calls.{Steps, Given}
+use Rattle.lab_store_write.specs.Calls.{Steps, MadeFrom}
 use Rattle.lab_store_write.proofs.Writers.{nothing_done, stays_then}
 use Rattle.lab_store_write_changes.specs.Framed.{Knows}
 use Rattle.lab_store_write_changes.proofs.KnownSteps.{none_known, one_more_known}
@@ -29,6 +29,6 @@ loop-change-preserved g c =
       λ inside clean. (did.made (inv.1 inside (early clean)) clean).inside,
       λ spared inside clean typed rules. one_more_known c.args.lab.id c.args.known.now c.args.id c.args.changes.now i c.change-item.result within spared old mid new typed rules
           (inv.2 spared inside (early clean) typed rules)
-          (subst (λ (one : Change). Steps (Given (Knows c.args.lab.id c.args.known.now c.args.id) (AppliesWhereKept c.args.lab.id one)) mid new) c.change-item.is
+          (subst (λ (one : Change). Steps (MadeFrom (Knows c.args.lab.id c.args.known.now c.args.id) (AppliesWhereKept c.args.lab.id one)) mid new) c.change-item.is
           (did.made (inv.1 inside (early clean)) clean)),
     )
