@@ -5,8 +5,8 @@ use Rattle.lab_store_tables.specs.Ready.{IsAtRest}
 use Rattle.lab_store_load.specs.declared.counts.Counted.{Counted}
 use Rattle.lab_store_load.specs.Counts.{IsCountedIn, IsOpenIn}
 
--- a connection at rest; and a laboratory that was counted, which is right for what the connection
--- shows, and then it is open
+-- a connection at rest; what was counted is right for what it shows; and where anything was, and no
+-- fault of the disk went unseen, it is open
 pub record IsKeeping (s : State) (counted : Option Counted) : Type 0 where
   pub at_rest : IsAtRest s
   pub right : IsCountedIn s counted

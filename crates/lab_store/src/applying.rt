@@ -64,8 +64,8 @@ fn commit_all<S: Alter>(
     tx.commit()
 }
 
-/// Makes the changes of the laboratory of the code by one commit, all of them or none; by none where there is no change. Its row
-/// isn't looked up, where it is that of the laboratory that was counted.
+/// Makes the changes of the laboratory of the code by one commit, all of them or none; by none where there is no change. The
+/// laboratory's row isn't looked up where it is the one that was counted.
 ///
 /// # Errors
 /// No laboratory of the code, or none of what a change names; a refusal of the store; or out of memory. The rows are
@@ -77,22 +77,20 @@ pub fn apply<S: Alter>(
     code: &LabCode,
     changes: &[Change],
 ) -> Result<(), ReadFault>
-    requires at_rest { IsAtRest (state S.Store tables.old.conn) }
+    requires keeping { IsKeeping (state S.Store tables.old.conn) counted.now }
     ensures at_rest { IsAtRest (state S.Store tables.new.conn) }
     ensures clean { HasCleanDisk (state S.Store tables.new.conn) →
         HasCleanDisk (state S.Store tables.old.conn) }
     ensures live { HasCleanDisk (state S.Store tables.new.conn) →
         IsTrue (state S.Store tables.new.conn).is_open →
         IsTrue (state S.Store tables.old.conn).is_open }
-    // Where what was counted is right:
-    ensures ends { IsKeeping (state S.Store tables.old.conn) counted.now →
-        IsReady (state S.Store tables.old.conn) → Ends (AreMadeIfAny code.now changes.now) result
+    ensures ends { IsReady (state S.Store tables.old.conn) →
+        Ends (AreMadeIfAny code.now changes.now) result
         (state S.Store tables.old.conn) (state S.Store tables.new.conn) }
     ensures quiet { changes.now ≡ [] → IsReady (state S.Store tables.old.conn) →
         LeavesNoMore (state S.Store tables.old.conn) (state S.Store tables.new.conn) }
-    ensures same { IsKeeping (state S.Store tables.old.conn) counted.now → changes.now ≡ [] →
-        HasCleanDisk (state S.Store tables.new.conn) → OnOk result
-        (IsUnchanged (state S.Store tables.old.conn) (state S.Store tables.new.conn)) }
+    ensures same { changes.now ≡ [] → HasCleanDisk (state S.Store tables.new.conn) →
+        OnOk result (IsUnchanged (state S.Store tables.old.conn) (state S.Store tables.new.conn)) }
 {
     let found = lab_id_at(alloc, tables, counted, code)?;
     if changes.is_empty() {

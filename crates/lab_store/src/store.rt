@@ -32,8 +32,9 @@ use std::marker::Model;
 
 /// The laboratories of a file, over a connection at rest that was created or opened by `lab_store_files`.
 ///
-/// The id of a laboratory's row is looked up once, and its persons are counted once. Both are kept
-/// until a request changes something: nobody else writes to the file.
+/// The id of the laboratory's row that was read last, and the number of its persons, are kept until
+/// a request changes something: a commit doesn't look the row up again, and a reading doesn't count
+/// again. Nobody else writes to the file.
 pub struct Store<S: Alter> {
     tables: Tables<S>,
     counted: Option<Counted>,

@@ -99,7 +99,7 @@ known_things = (refl, refl, refl, refl)
 pub known_counts : counts_by file head ≡ record { persons = 4; sessions = 2; records = 2; trail = 12 }
 known_counts = refl
 
--- so many were counted of either; what was counted of one is not right for the other, and no row is that of another's code
+-- so many were counted of either; what was counted of one is not right for the other, and no laboratory has the code zinc
 pub known_counted :
     IsCounted file (record { code = codes "aqua"; lab = pos 7; persons = 4 })
     × IsCounted file (record { code = codes "brick"; lab = pos 3; persons = 3 })

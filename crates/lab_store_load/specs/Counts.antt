@@ -1,5 +1,5 @@
--- A laboratory whose row was found and whose persons were counted, and when that is right. It may be
--- kept as long as the tables stay as they are.
+-- A laboratory whose row was found and whose persons were counted, and when that is right. It may
+-- be kept as long as the tables stay as they are.
 use Rattle.std.specs.Prelude.{◌≡◌, ℕ, ℤ, length, find, List, Option, Some, option_map, IfSome, IsTrue}
 use Rattle.sqlite.specs.State.{State, HasCleanDisk}
 use Rattle.lab_store_tables.specs.Rows.{Tables, lab_id}
@@ -20,6 +20,6 @@ pub record IsCounted (t : Tables) (counted : Counted) : Type 0 where
 abbrev pub IsCountedIn : State → Option Counted → Type 0
 IsCountedIn s counted = WhereShown s (IsKept s.now → IfSome counted (IsCounted (tables_of s)))
 
--- and the connection is open, where anything was counted
+-- and the connection is open, where anything was counted and no fault of the disk went unseen
 abbrev pub IsOpenIn : State → Option Counted → Type 0
 IsOpenIn s counted = HasCleanDisk s → IfSome counted (λ _. IsTrue s.is_open)

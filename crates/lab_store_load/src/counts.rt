@@ -1,4 +1,4 @@
-//! A laboratory whose row was found and whose persons were counted: both once, and kept from one call to the next.
+//! A laboratory whose row was found and whose persons were counted, kept from one call to the next.
 
 ghost use Rattle.std.specs.Prelude.{◌≡◌, Some, IfSome, IsTrue, OnOk, length};
 ghost use Rattle.sqlite.specs.State.{HasCleanDisk};
@@ -101,7 +101,8 @@ pub fn lab_id_at<D: Readable>(
 ) -> Result<Option<i64>, ReadFault>
     ensures reads { MayRead (λ t id. IfSome counted.now (IsCounted t) → id ≡ lab_id_of t code.now)
         (D.state conn.old) (D.state conn.new) result }
-    // A connection that answers is open, also where it isn't asked:
+    // Where it is open if anything was counted: a connection that answers is open, also where nothing
+    // is looked up.
     ensures opened { IsOpenIn (D.state conn.old) counted.now → HasCleanDisk (D.state conn.new) →
         OnOk result (IsTrue (D.state conn.old).is_open) }
 {

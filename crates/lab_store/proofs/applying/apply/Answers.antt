@@ -8,7 +8,8 @@ use Rattle.lab_store.proofs.After.{ends_ok, ends_err, found_row, counted_now}
 use Rattle.lab_store.proofs.applying.apply.Goals as goal
 
 pub returns-in-Ok-clause-ends : goal.returns-in-Ok-clause-ends
-returns-in-Ok-clause-ends g c keeping ready =
+returns-in-Ok-clause-ends g c ready =
+    let keeping = c.requires.keeping in
     let old = state g.S.Store c.args.tables.now.conn in
     let middle = state g.S.Store c.lab_id_at.new.conn.conn in
     let new = state g.S.Store c.commit_all.new.conn in
@@ -21,7 +22,8 @@ returns-in-Ok-clause-ends g c keeping ready =
     (Fault BadStore) _ tt c.in-Ok.ensures.ends
 
 pub returns-in-Err-clause-ends : goal.returns-in-Err-clause-ends
-returns-in-Err-clause-ends g c keeping ready =
+returns-in-Err-clause-ends g c ready =
+    let keeping = c.requires.keeping in
     let old = state g.S.Store c.args.tables.now.conn in
     let middle = state g.S.Store c.lab_id_at.new.conn.conn in
     let new = state g.S.Store c.commit_all.new.conn in

@@ -17,7 +17,7 @@ returns-in_err-apply-clause-crash g c fit clean ready =
     let old = state g.S.Store c.args.self.now in
     let code = c.args.code.now in
     let changes = c.args.changes in
-    let ends = ends_given g.S.Store code c.as_slice.result.now changes c.self.inside.tables.conn c.args.self.now (state g.S.Store c.apply.new.tables.conn) _ c.as_slice.ensures c.self.view_is (c.in_err-apply.ensures.ends (keeping_as _ _ _ c.take-counted.ensures.value c.self.invariant)) ready in
+    let ends = ends_given g.S.Store code c.as_slice.result.now changes c.self.inside.tables.conn c.args.self.now (state g.S.Store c.apply.new.tables.conn) _ c.as_slice.ensures c.self.view_is c.in_err-apply.ensures.ends ready in
     crashes (AreMadeIfAny code changes) (Changes code changes) old (state g.S.Store c.apply.new.tables.conn) ready (changes_law code changes (tables_of old) fit) (Err c.in_err-apply.field-0.0)
     ends (changes_as code changes) clean
 
@@ -26,7 +26,7 @@ returns-in_err-apply-clause-safe g c fit clean ready =
     let old = state g.S.Store c.args.self.now in
     let code = c.args.code.now in
     let changes = c.args.changes in
-    let ends = ends_given g.S.Store code c.as_slice.result.now changes c.self.inside.tables.conn c.args.self.now (state g.S.Store c.apply.new.tables.conn) _ c.as_slice.ensures c.self.view_is (c.in_err-apply.ensures.ends (keeping_as _ _ _ c.take-counted.ensures.value c.self.invariant)) ready in
+    let ends = ends_given g.S.Store code c.as_slice.result.now changes c.self.inside.tables.conn c.args.self.now (state g.S.Store c.apply.new.tables.conn) _ c.as_slice.ensures c.self.view_is c.in_err-apply.ensures.ends ready in
     stays_safe (AreMadeIfAny code changes) (Changes code changes) old (state g.S.Store c.apply.new.tables.conn) ready (changes_law code changes (tables_of old) fit) (Err c.in_err-apply.field-0.0)
     ends clean
 
@@ -35,7 +35,7 @@ returns-clause-changed g c fit clean ready =
     let old = state g.S.Store c.args.self.now in
     let code = c.args.code.now in
     let changes = c.args.changes in
-    let ends = ends_given g.S.Store code c.as_slice.result.now changes c.self.inside.tables.conn c.args.self.now (state g.S.Store c.apply.new.tables.conn) _ c.as_slice.ensures c.self.view_is (c.in_ok-apply.ensures.ends (keeping_as _ _ _ c.take-counted.ensures.value c.self.invariant)) ready in
+    let ends = ends_given g.S.Store code c.as_slice.result.now changes c.self.inside.tables.conn c.args.self.now (state g.S.Store c.apply.new.tables.conn) _ c.as_slice.ensures c.self.view_is c.in_ok-apply.ensures.ends ready in
     made_means (AreMadeIfAny code changes) (Changes code changes) old (state g.S.Store c.apply.new.tables.conn) ready (changes_law code changes (tables_of old) fit) (Ok c.in_ok-apply.field-0)
     ends clean
 
@@ -44,7 +44,7 @@ returns-clause-crash g c fit clean ready =
     let old = state g.S.Store c.args.self.now in
     let code = c.args.code.now in
     let changes = c.args.changes in
-    let ends = ends_given g.S.Store code c.as_slice.result.now changes c.self.inside.tables.conn c.args.self.now (state g.S.Store c.apply.new.tables.conn) _ c.as_slice.ensures c.self.view_is (c.in_ok-apply.ensures.ends (keeping_as _ _ _ c.take-counted.ensures.value c.self.invariant)) ready in
+    let ends = ends_given g.S.Store code c.as_slice.result.now changes c.self.inside.tables.conn c.args.self.now (state g.S.Store c.apply.new.tables.conn) _ c.as_slice.ensures c.self.view_is c.in_ok-apply.ensures.ends ready in
     crashes (AreMadeIfAny code changes) (Changes code changes) old (state g.S.Store c.apply.new.tables.conn) ready (changes_law code changes (tables_of old) fit) (Ok c.in_ok-apply.field-0)
     ends (changes_as code changes) clean
 
@@ -53,7 +53,7 @@ returns-clause-safe g c fit clean ready =
     let old = state g.S.Store c.args.self.now in
     let code = c.args.code.now in
     let changes = c.args.changes in
-    let ends = ends_given g.S.Store code c.as_slice.result.now changes c.self.inside.tables.conn c.args.self.now (state g.S.Store c.apply.new.tables.conn) _ c.as_slice.ensures c.self.view_is (c.in_ok-apply.ensures.ends (keeping_as _ _ _ c.take-counted.ensures.value c.self.invariant)) ready in
+    let ends = ends_given g.S.Store code c.as_slice.result.now changes c.self.inside.tables.conn c.args.self.now (state g.S.Store c.apply.new.tables.conn) _ c.as_slice.ensures c.self.view_is c.in_ok-apply.ensures.ends ready in
     stays_safe (AreMadeIfAny code changes) (Changes code changes) old (state g.S.Store c.apply.new.tables.conn) ready (changes_law code changes (tables_of old) fit) (Ok c.in_ok-apply.field-0)
     ends clean
 
@@ -63,7 +63,7 @@ returns-clause-durable g c fit some clean ready =
     let new = state g.S.Store c.apply.new.tables.conn in
     let code = c.args.code.now in
     let changes = c.args.changes in
-    let ends = ends_given g.S.Store code c.as_slice.result.now changes c.self.inside.tables.conn c.args.self.now (state g.S.Store c.apply.new.tables.conn) _ c.as_slice.ensures c.self.view_is (c.in_ok-apply.ensures.ends (keeping_as _ _ _ c.take-counted.ensures.value c.self.invariant)) ready in
+    let ends = ends_given g.S.Store code c.as_slice.result.now changes c.self.inside.tables.conn c.args.self.now (state g.S.Store c.apply.new.tables.conn) _ c.as_slice.ensures c.self.view_is c.in_ok-apply.ensures.ends ready in
     durable_now g.S.Store g.met.S.Store.stays g.met.S.Store.settled c.apply.new.tables.conn
     (reached (AreMadeIfAny code changes) (Changes code changes) old new ready (changes_law code changes (tables_of old) fit) (Ok c.in_ok-apply.field-0) ends) clean (ends.made clean).1
 
@@ -72,7 +72,7 @@ returns-clause-reached g c fit clean ready =
     let old = state g.S.Store c.args.self.now in
     let code = c.args.code.now in
     let changes = c.args.changes in
-    let ends = ends_given g.S.Store code c.as_slice.result.now changes c.self.inside.tables.conn c.args.self.now (state g.S.Store c.apply.new.tables.conn) _ c.as_slice.ensures c.self.view_is (c.in_ok-apply.ensures.ends (keeping_as _ _ _ c.take-counted.ensures.value c.self.invariant)) ready in
+    let ends = ends_given g.S.Store code c.as_slice.result.now changes c.self.inside.tables.conn c.args.self.now (state g.S.Store c.apply.new.tables.conn) _ c.as_slice.ensures c.self.view_is c.in_ok-apply.ensures.ends ready in
     reached (AreMadeIfAny code changes) (Changes code changes) old (state g.S.Store c.apply.new.tables.conn) ready (changes_law code changes (tables_of old) fit) (Ok c.in_ok-apply.field-0)
     ends
 
@@ -80,14 +80,14 @@ pub returns-in_err-apply-clause-shuts : goal.returns-in_err-apply-clause-shuts
 returns-in_err-apply-clause-shuts g c clean ready =
     let code = c.args.code.now in
     let changes = c.args.changes in
-    let ends = ends_given g.S.Store code c.as_slice.result.now changes c.self.inside.tables.conn c.args.self.now (state g.S.Store c.apply.new.tables.conn) _ c.as_slice.ensures c.self.view_is (c.in_err-apply.ensures.ends (keeping_as _ _ _ c.take-counted.ensures.value c.self.invariant)) ready in
+    let ends = ends_given g.S.Store code c.as_slice.result.now changes c.self.inside.tables.conn c.args.self.now (state g.S.Store c.apply.new.tables.conn) _ c.as_slice.ensures c.self.view_is c.in_err-apply.ensures.ends ready in
     world_shuts (state g.S.Store c.args.self.now) (state g.S.Store c.apply.new.tables.conn) clean ends.shuts
 
 pub returns-clause-shuts : goal.returns-clause-shuts
 returns-clause-shuts g c clean ready =
     let code = c.args.code.now in
     let changes = c.args.changes in
-    let ends = ends_given g.S.Store code c.as_slice.result.now changes c.self.inside.tables.conn c.args.self.now (state g.S.Store c.apply.new.tables.conn) _ c.as_slice.ensures c.self.view_is (c.in_ok-apply.ensures.ends (keeping_as _ _ _ c.take-counted.ensures.value c.self.invariant)) ready in
+    let ends = ends_given g.S.Store code c.as_slice.result.now changes c.self.inside.tables.conn c.args.self.now (state g.S.Store c.apply.new.tables.conn) _ c.as_slice.ensures c.self.view_is c.in_ok-apply.ensures.ends ready in
     world_shuts (state g.S.Store c.args.self.now) (state g.S.Store c.apply.new.tables.conn) clean ends.shuts
 
 pub invariant_of-self : goal.invariant_of-self
@@ -98,7 +98,7 @@ invariant_of-self-2 g c =
     let old = state g.S.Store c.self.inside.tables.conn in
     let new = state g.S.Store c.apply.new.tables.conn in
     let keeping = keeping_as old c.take-counted.result c.self.inside.counted c.take-counted.ensures.value c.self.invariant in
-    let same : c.args.changes ≡ [] → HasCleanDisk new → IsUnchanged old new = λ none clean. c.in_ok-apply.ensures.same keeping (c.as_slice.ensures ∙ none) clean in
+    let same : c.args.changes ≡ [] → HasCleanDisk new → IsUnchanged old new = λ none clean. c.in_ok-apply.ensures.same (c.as_slice.ensures ∙ none) clean in
     record {
       at_rest = c.in_ok-apply.ensures.at_rest;
       right =
