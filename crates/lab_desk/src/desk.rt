@@ -1,9 +1,9 @@
 //! The desk: one body for every keeper.
 
-ghost use Rattle.std.specs.Prelude.{◌≡◌, ◌≤◌, length, vec_capacity, [], true, false, IsSome, IfOk, IfErr, OnOk, OnErr, option_map};
+ghost use Rattle.std.specs.Prelude.{◌≡◌, ◌≤◌, ℕ, List, length, vec_capacity, [], true, false, IsSome, Ok, IfOk, IfErr, OnOk, OnErr, option_map};
 ghost use Rattle.lab_records_kept.specs.Worlds.{Passes, Given, Leaves, Lives, Quiet, CommitsAs, IsDurable};
 ghost use Rattle.lab_wire.specs.declared.replies.Answer.TheVariants.{Refused as RefusedAnswer};
-ghost use Rattle.lab_wire.specs.Asked.{asked};
+ghost use Rattle.lab_wire.specs.Asked.{asked, RequestFaultFits};
 ghost use Rattle.lab_wire.specs.Replies.{reply_text, memory_text};
 ghost use Rattle.lab_desk_runs.specs.Requests.{TellsFault};
 ghost use Rattle.lab_desk_runs.specs.Keeping.{Stays};
@@ -19,7 +19,10 @@ use lab_desk_runs::Event;
 use lab_forms_texts::{LabCode, OutOfMemory, Tick};
 use lab_records_kept::{Keeper, KeeperFault, Need};
 use lab_records_walks::newborn_is_legible;
-use lab_wire::{Answer, RequestFault, RequestRefusal, Routes, ask, memory_reply, reply_bytes};
+use lab_wire::{
+    Answer, Asked, Received, RequestFault, RequestRefusal, Routes, ask, ask_received, memory_reply,
+    reply_bytes,
+};
 use std::alloc::Global;
 use std::marker::Model;
 
@@ -101,12 +104,53 @@ impl<S: Keeper + Drop> Desk<S> {
         }) }
     {
         match ask(self.alloc, &self.routes, bytes) {
-            Ok(asked) => {
-                let answered = answer_asked(self.alloc, &mut self.keeper, tick, asked);
-                self.keep(tick, answered)
-            }
-            Err(RequestFault::Refused(refusal)) => self.refuse(tick, refusal),
-            Err(RequestFault::Memory) => self.exhaust(),
+            Ok(asked) => self.handle_asked(tick, asked),
+            Err(fault) => self.answer_fault(tick, fault),
+        }
+    }
+
+    /// Handles a request that was received, as `handle` handles its bytes.
+    pub(crate) fn handle_received(&mut self, tick: &Tick, request: &Received) -> bool
+        ensures { Handles S.Keeper self.old.keeper self.new.keeper (record {
+          tick = tick.now;
+          asks = asked request.now;
+          is_taken = result;
+          reply = self.new.reply;
+        }) }
+    {
+        match ask_received(self.alloc, &self.routes, request) {
+            Ok(asked) => self.handle_asked(tick, asked),
+            Err(fault) => self.answer_fault(tick, fault),
+        }
+    }
+
+    // Handles what some bytes ask.
+    fn handle_asked(&mut self, tick: &Tick, question: Asked) -> bool
+        ensures { (bytes : List ℕ) → asked bytes ≡ Ok question →
+            Handles S.Keeper self.old.keeper self.new.keeper (record {
+              tick = tick.now;
+              asks = asked bytes;
+              is_taken = result;
+              reply = self.new.reply;
+            }) }
+    {
+        let answered = answer_asked(self.alloc, &mut self.keeper, tick, question);
+        self.keep(tick, answered)
+    }
+
+    // Keeps the reply to bytes that were refused, or for which memory ran out.
+    fn answer_fault(&mut self, tick: &Tick, fault: RequestFault) -> bool
+        ensures { (bytes : List ℕ) → RequestFaultFits bytes fault →
+            Handles S.Keeper self.old.keeper self.new.keeper (record {
+              tick = tick.now;
+              asks = asked bytes;
+              is_taken = result;
+              reply = self.new.reply;
+            }) }
+    {
+        match fault {
+            RequestFault::Refused(refusal) => self.refuse(tick, refusal),
+            RequestFault::Memory => self.exhaust(),
         }
     }
 

@@ -68,7 +68,7 @@ impl<S: Keeper + Drop> Desk<S> {
     {
         match read_request(self.alloc(), reader, writer) {
             Ok(request) => {
-                self.handle(tick, request.as_slice());
+                self.handle_received(tick, &request);
                 drop(request);
                 Ok(())
             }

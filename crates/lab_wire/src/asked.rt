@@ -1,11 +1,29 @@
 //! What the bytes of a request ask: first the request, then where it goes and what it asks there.
-ghost use Rattle.std.specs.Prelude.{◌≡◌, Ok, IfOk, IfErr};
+ghost use Rattle.std.specs.Prelude.{◌≡◌, ℕ, List, Ok, IfOk, IfErr};
+ghost use Rattle.lab_wire_heads.specs.Requests.{parts_shown, request_in};
 ghost use Rattle.lab_wire.specs.Asked.{asked, RequestFaultFits};
 
 use crate::refusals::{RequestFault, RequestRefusal};
 use crate::{Asked, RouteFault, Routes, command_of};
-use lab_wire_heads::request_parts;
+use lab_wire_heads::{RequestParts, request_parts};
+use lab_wire_received::Received;
 use std::alloc::Global;
+
+// What bytes ask that have these parts.
+fn ask_of(alloc: Global, routes: &Routes, parts: &RequestParts<'_>) -> Result<Asked, RequestFault>
+    ensures asks { (bytes : List ℕ) → request_in bytes ≡ Ok (parts_shown parts.now) →
+        IfOk result (λ asks. asked bytes ≡ Ok asks) }
+    ensures fault { (bytes : List ℕ) → request_in bytes ≡ Ok (parts_shown parts.now) →
+        IfErr result (RequestFaultFits bytes) }
+{
+    match command_of(alloc, routes, parts) {
+        Ok(asks) => Ok(asks),
+        Err(RouteFault::Refused(refusal)) => {
+            Err(RequestFault::Refused(RequestRefusal::Route(refusal)))
+        }
+        Err(RouteFault::Memory) => Err(RequestFault::Memory),
+    }
+}
 
 /// Reads what the bytes of a request ask of which laboratory. What follows the request's body is passed over.
 ///
@@ -21,13 +39,22 @@ pub fn ask(alloc: Global, routes: &Routes, bytes: &[u8]) -> Result<Asked, Reques
     ensures fault { IfErr result (RequestFaultFits bytes.now) }
 {
     match request_parts(bytes) {
-        Ok(parts) => match command_of(alloc, routes, &parts) {
-            Ok(asks) => Ok(asks),
-            Err(RouteFault::Refused(refusal)) => {
-                Err(RequestFault::Refused(RequestRefusal::Route(refusal)))
-            }
-            Err(RouteFault::Memory) => Err(RequestFault::Memory),
-        },
+        Ok(parts) => ask_of(alloc, routes, &parts),
         Err(refusal) => Err(RequestFault::Refused(RequestRefusal::Head(refusal))),
     }
+}
+
+/// What a request that was received asks of which laboratory: its head isn't read again.
+///
+/// # Errors
+/// Those of `ask`, except `Head`.
+pub fn ask_received(
+    alloc: Global,
+    routes: &Routes,
+    request: &Received,
+) -> Result<Asked, RequestFault>
+    ensures asks { IfOk result (λ asks. asked request.now ≡ Ok asks) }
+    ensures fault { IfErr result (RequestFaultFits request.now) }
+{
+    ask_of(alloc, routes, &request.parts())
 }

@@ -13,7 +13,7 @@ mod route_refusals;
 mod routes;
 mod statuses;
 
-pub use asked::ask;
+pub use asked::{ask, ask_received};
 pub use commands::{Asked, command_of};
 pub use lab_forms_texts::{LabCode, Name, OutOfMemory, Tick};
 pub use lab_records_machine::{Command, Founder, Founding, Instruction, Reply};
@@ -23,7 +23,7 @@ pub use lab_wire_heads::{
     HeadRefusal, RequestParts, WriteFault, grammar_of_heads, request_parts, write_reply,
 };
 pub use lab_wire_members::{BodyFault, BodyRefusal};
-pub use lab_wire_received::read_request;
+pub use lab_wire_received::{Received, read_request};
 pub use refusals::{RequestFault, RequestRefusal};
 pub use replies::{Answer, memory_reply, reply_bytes};
 pub use route_refusals::{Allowed, RouteFault, RouteRefusal};

@@ -6,6 +6,7 @@ pub mod KnownHeads
 pub mod KnownMessages
 pub mod LineLemmas
 pub mod MessageLemmas
+pub mod PlaceLemmas
 pub mod ReadLemmas
 pub mod RequestLaws
 pub mod RequestLemmas

@@ -1,14 +1,15 @@
 -- The head of a request as lines and words that compute: where it ends, how long it may be, and
 -- what its request line and field lines are (RFC 9112, sections 2.1, 2.2, 3 and 5; RFC 9110,
 -- sections 5.1 and 7.2). The classes of bytes are those of the kit's `httparse`.
-use Rattle.std.specs.Prelude.{ℕ, suc, ◌+◌, Bool, true, false, ◌&&◌, ◌||◌, not, List, [], ◌∷◌, length, take, if◌then◌else◌, ◌==◌, nat_lt, nat_le, map, count_by, take_while, All, Option, Some, None, Result, Ok, Err, codes}
+use Rattle.std.specs.Prelude.{◌≡◌, ℕ, suc, ◌+◌, Bool, true, false, ◌&&◌, ◌||◌, not, List, [], ◌∷◌, length, take, if◌then◌else◌, ◌==◌, nat_lt, nat_le, map, count_by, take_while, All, Option, Some, None, Result, Ok, Err, codes, IsUtf8}
 use Rattle.std.specs.List.{list_all, list_any, slice_split, before_first, after_first}
 use Rattle.std.specs.Str.{is_utf8, bytes_eq, str_eq_ignore_ascii_case}
 use Rattle.std.specs.Str.Lines.{strip_carriage_return}
 use Rattle.httparse.specs.Ascii.{line_feed, carriage_return, space, colon}
 use Rattle.httparse.specs.Grammar.{is_token, is_uri_byte, is_value_byte, trim_ows, print_version}
-use Rattle.httparse.specs.Spans.{span_bytes, IsHeaderWithin}
+use Rattle.httparse.specs.Spans.{span_bytes, IsWithin, IsHeaderWithin}
 use Rattle.httparse.specs.declared.spans.HeaderSpan.{HeaderSpan}
+use Rattle.httparse.specs.declared.spans.Span.{Span}
 use Rattle.httparse.specs.Pieces.{is_newline}
 use Rattle.lab_wire_heads.specs.declared.heads.RequestHead.{RequestHead}
 use Rattle.lab_wire_heads.specs.declared.refusals.HeadRefusal.{HeadRefusal}
@@ -208,3 +209,14 @@ head_received read = record {
 -- its fields stand in the text
 abbrev pub AreWithin : RequestHead → Type 0
 AreWithin read = All (IsHeaderWithin (length read.text.now)) (take read.field_count read.fields)
+
+-- the part stands at the span in the bytes
+abbrev pub StandsAt : List ℕ → Span → List ℕ → Type 0
+StandsAt bytes span part = IsWithin (length bytes) span × (span_bytes bytes span ≡ part)
+
+-- method and target stand at their spans in the bytes that the head was read from, and the target
+-- is UTF-8
+pub record IsReadFrom (bytes : List ℕ) (read : RequestHead) : Type 0 where
+  pub method : StandsAt bytes read.method_span read.method.now
+  pub target : StandsAt bytes read.target_span read.target.now
+  pub text : IsUtf8 read.target.now

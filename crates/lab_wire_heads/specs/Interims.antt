@@ -29,11 +29,6 @@ expected_of good = record {
   is_interim_due = is_interim_due good.head;
 }
 
--- or behind no head
-abbrev pub expected_after : Result GoodHead HeadRefusal → Result ExpectedBody HeadRefusal
-expected_after (Ok good) = Ok (expected_of good)
-expected_after (Err refusal) = Err refusal
-
 -- the status line and an empty line: 25 bytes
 abbrev pub interim_lines : List ℕ
 interim_lines = codes "HTTP/1.1 100 Continue" ++ crlf_bytes ++ crlf_bytes

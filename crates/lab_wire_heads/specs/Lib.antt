@@ -1,3 +1,4 @@
+pub mod Accepted
 pub mod Dates
 pub mod Fields
 pub mod HeadGrammar

@@ -1,12 +1,12 @@
 //! The head of a request (RFC 9112): its limits, grammar, Host and the words of its request line.
-ghost use Rattle.std.specs.Prelude.{◌≡◌, ◌+◌, ◌≤◌, ◌==◌, ◌||◌, not, ℕ, List, length, take, All, IsTrue, IfOk, IfErr, IfSome, IfNone, Ok, Err, position, count_by};
+ghost use Rattle.std.specs.Prelude.{◌≡◌, ◌+◌, ◌≤◌, ◌==◌, ◌||◌, not, ℕ, List, length, take, All, IfOk, IfErr, IfSome, IfNone, Ok, Err, position, count_by};
 ghost use Rattle.httparse.specs.Grammar.{ReadsRequest, RequestHead as GrammarHead};
 ghost use Rattle.httparse.specs.Spans.{IsHeaderWithin, IsRequestWithin, IsRequestOf, span_bytes};
-ghost use Rattle.lab_wire_heads.specs.Heads.{is_line_feed, is_empty_line, without_front, front_length, head_limit, head_text, head_lines, has_end, is_over_limits, is_host, good_head, head_received, AreWithin};
+ghost use Rattle.lab_wire_heads.specs.Heads.{is_line_feed, is_empty_line, without_front, front_length, head_limit, head_text, head_lines, has_end, is_over_limits, is_host, good_head, head_received, AreWithin, IsReadFrom};
 
 use crate::refusals::HeadRefusal;
 use httparse::Status;
-use httparse::spans::{EMPTY_HEADER_SPAN, HeaderSpan, RequestSpans, parse_request};
+use httparse::spans::{EMPTY_HEADER_SPAN, HeaderSpan, RequestSpans, Span, parse_request};
 
 /// How many bytes may come before the end of a head, those in front of it counted.
 pub const HEAD_LIMIT: usize = 8192;
@@ -35,6 +35,10 @@ pub struct RequestHead<'b> {
     pub method: &'b [u8],
     /// The target, as written.
     pub target: &'b str,
+    /// Where the method stands in the bytes of the request.
+    pub method_span: Span,
+    /// Where the target stands there.
+    pub target_span: Span,
     /// The second number of its version: 0 or 1.
     pub minor_version: u8,
     /// The bytes in which the fields stand.
@@ -160,6 +164,7 @@ fn keeps_host_rule(minor_version: u8, hosts: usize) -> bool
 pub fn read_head(bytes: &[u8]) -> Result<RequestHead<'_>, HeadRefusal>
     ensures good { IfOk result (λ read. good_head bytes.now ≡ Ok (head_received read)) }
     ensures within { IfOk result AreWithin }
+    ensures places { IfOk result (IsReadFrom bytes.now) }
     ensures refused { IfErr result (λ refusal. good_head bytes.now ≡ Err refusal) }
 {
     let Text { front, text } = head_text(bytes);
@@ -180,6 +185,14 @@ pub fn read_head(bytes: &[u8]) -> Result<RequestHead<'_>, HeadRefusal>
     Ok(RequestHead {
         method: head.method.of(text),
         target,
+        method_span: Span {
+            start: front + head.method.start,
+            end: front + head.method.end,
+        },
+        target_span: Span {
+            start: front + head.path.start,
+            end: front + head.path.end,
+        },
         minor_version: head.version,
         text,
         fields,

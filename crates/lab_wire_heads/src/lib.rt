@@ -3,6 +3,7 @@
 //! bytes are sent.
 #![tactic(auto)]
 
+mod accepted;
 mod dates;
 mod expected;
 mod fields;
@@ -17,8 +18,9 @@ mod requests;
 mod sending;
 mod tokens;
 
+pub use accepted::{AcceptedHead, kept_head};
 pub use dates::http_date;
-pub use expected::{ExpectedBody, expected_body};
+pub use expected::ExpectedBody;
 pub use head_grammar::grammar_of_heads;
 pub use heads::{HEAD_LIMIT, RequestHead, read_head};
 pub use messages::message;

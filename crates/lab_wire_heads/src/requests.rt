@@ -1,7 +1,7 @@
 //! A request as its bytes have it: what is looked at of its head, and its body.
 
 ghost use Rattle.std.specs.Prelude.{◌≡◌, ◌+◌, nat_le, length, take, drop, if◌then◌else◌, IfOk, IfErr, Ok, Err, Some, None, option_map};
-ghost use Rattle.lab_wire_heads.specs.Heads.{head_received, AreWithin};
+ghost use Rattle.lab_wire_heads.specs.Heads.{head_received, AreWithin, IsReadFrom};
 ghost use Rattle.lab_wire_heads.specs.Lengths.{head_refusal};
 ghost use Rattle.lab_wire_heads.specs.Requests.{accepted_head, parts_shown, request_in};
 
@@ -31,6 +31,7 @@ pub struct RequestParts<'b> {
 pub(crate) fn accept(bytes: &[u8]) -> Result<RequestHead<'_>, HeadRefusal>
     ensures accepted { IfOk result (λ read. accepted_head bytes.now ≡ Ok (head_received read)) }
     ensures within { IfOk result AreWithin }
+    ensures places { IfOk result (IsReadFrom bytes.now) }
     ensures unrefused { IfOk result (λ read. head_refusal (head_received read).head ≡ None) }
     ensures refused { IfErr result (λ refusal. accepted_head bytes.now ≡ Err refusal) }
 {

@@ -1,9 +1,9 @@
 -- From what came of a head and of a body to what a reception is.
-use Rattle.std.proofs.Common.{◌≡◌, ℕ, ◌<◌, ◌≤◌, inl, inr, true, false, List, ◌++◌, length, take, refl, sym, ap, subst, ◌∙◌, arith, append_assoc, length-append, Option, Some, None, Result, Ok, Err}
-use Rattle.std.specs.Prelude.{if◌then◌else◌, nat_le, IfSome, IfOk, IfErr, is_ok}
+use Rattle.std.proofs.Common.{◌≡◌, ℕ, ◌<◌, ◌≤◌, inl, inr, true, false, List, ◌++◌, length, take, drop, sym, ap, subst, ◌∙◌, arith, append_assoc, length-append, Option, Some, None, Result, Ok, Err}
+use Rattle.std.specs.Prelude.{if◌then◌else◌, nat_le, IfSome, IfOk, IfErr, is_ok, IsUtf8}
 use Rattle.std.specs.Io.KnownBytes.{Consumes, Appends}
 use Rattle.std.proofs.KnownBytes.{Consumes-trans, Appends-nil}
-use Rattle.std.proofs.Math.Seq.{take-append_seam}
+use Rattle.std.proofs.Math.Seq.{take-append_seam, drop-append_seam, take-length}
 use Rattle.std.proofs.lemmas.List.{length-take-le}
 use Rattle.std.proofs.lemmas.Bool.{le-leb}
 use Rattle.std.proofs.lemmas.Bool.Decides.{nat_tests}
@@ -12,10 +12,15 @@ use Rattle.lab_wire_heads.specs.declared.refusals.HeadRefusal.TheVariants.{Short
 use Rattle.lab_wire_heads.specs.declared.refusals.HeadFault.{HeadFault}
 use Rattle.lab_wire_heads.specs.declared.refusals.HeadFault.TheVariants.{Refused, Read, Write, Memory}
 use Rattle.lab_wire_heads.specs.declared.expected.ExpectedBody.{ExpectedBody}
-use Rattle.lab_wire_heads.specs.Heads.{GoodHead, good_head}
+use Rattle.httparse.specs.Spans.{span_bytes, IsWithin}
+use Rattle.httparse.specs.declared.spans.Span.{Span}
+use Rattle.lab_wire_heads.specs.declared.accepted.AcceptedHead.{AcceptedHead}
+use Rattle.lab_wire_heads.specs.Accepted.{IsHeadAt, IsRequestAt}
+use Rattle.lab_wire_heads.specs.Heads.{GoodHead, good_head, StandsAt}
+use Rattle.lab_wire_heads.proofs.PlaceLemmas.{slice_more}
 use Rattle.lab_wire_heads.specs.Lengths.{body_length}
 use Rattle.lab_wire_heads.specs.Requests.{accepted_head, body_end, body_in, request_by, request_after, request_in}
-use Rattle.lab_wire_heads.specs.Interims.{is_interim_due, expected_of, expected_after, interim_after, interim_text}
+use Rattle.lab_wire_heads.specs.Interims.{is_interim_due, expected_of, interim_after, interim_text}
 use Rattle.lab_wire_heads.specs.Receptions.{head_stop, request_length}
 use Rattle.lab_wire_heads.proofs.FrontLemmas.{good_parts}
 use Rattle.lab_wire_heads.proofs.RequestLemmas.{request_refused}
@@ -23,18 +28,6 @@ use Rattle.lab_wire_heads.proofs.RequestLaws.{accepted_from, accepted_behind, re
 use Rattle.lab_wire_received.specs.Reading.{HasBody, IsBodyFault, OnMemory}
 use Rattle.lab_wire_received.specs.Receptions.{IsWholeRequest, IsReception, lines_if, IsInterimOf}
 use Rattle.lab_wire_received.proofs.StopLemmas.{stop_if}
-
--- ---- what is expected behind a head
-
-pub expected_ok : (found : Result GoodHead HeadRefusal) (body : ExpectedBody) → Ok body ≡ expected_after found
-    → (good : GoodHead) × (found ≡ Ok good) × (body ≡ expected_of good)
-expected_ok (Ok good) body is = (good, refl, cc)
-expected_ok (Err refusal) body is = absurd (cc)
-
-pub expected_err : (found : Result GoodHead HeadRefusal) (refusal : HeadRefusal) → Err refusal ≡ expected_after found
-    → found ≡ Err refusal
-expected_err (Ok good) refusal is = absurd (cc)
-expected_err (Err other) refusal is = cc
 
 -- ---- a head that is accepted, and nothing behind it
 
@@ -171,16 +164,14 @@ pub record IsFound (head : List ℕ) (body : ExpectedBody) : Type 0 where
   pub is : IsHead head good
   pub same : body ≡ expected_of good
 
-pub found_of : (room : List ℕ) (count : ℕ) (body : ExpectedBody) → count ≤ length room
-    → head_stop (take count room) ≡ count → Ok body ≡ expected_after (accepted_head (take count room))
-    → IsFound (take count room) body
-found_of room count body within own is =
-    let parts = expected_ok (accepted_head (take count room)) body is in
-    record {
-      good = parts.0;
-      is = record { accepted = parts.1; own = own ∙ sym (length-take-le count room within) };
-      same = parts.2;
-    }
+pub found_of : (room : List ℕ) (count : ℕ) (kept : AcceptedHead) → count ≤ length room
+    → head_stop (take count room) ≡ count → IsHeadAt (take count room) kept
+    → IsFound (take count room) kept.body
+found_of room count kept within own at = record {
+  good = at.good;
+  is = record { accepted = at.accepted; own = own ∙ sym (length-take-le count room within) };
+  same = at.body;
+}
 
 module _ (head : List ℕ) (body : ExpectedBody) (found : IsFound head body) where
   module _ (result : Result (List ℕ) HeadFault) (old mid new : Option (List ℕ)) (gave : Consumes old mid head) where
@@ -225,6 +216,55 @@ module _ (head : List ℕ) (body : ExpectedBody) (found : IsFound head body) whe
         → IfSome old (λ bytes. IsInterimOf (interim_text bytes) (Err (Write sent)) from to)
     interim_unsent from to wrote = interim_cut head found.good found.is from to sent old mid gave
         (subst (λ b. Appends from to (take sent (lines_if b.is_interim_due))) found.same wrote)
+
+-- ---- what is kept of the head shows the request
+
+within_more : (head body : List ℕ) (span : Span) → IsWithin (length head) span → IsWithin (length (head ++ body)) span
+within_more head body span within = (within.0, omega (arith, within.1, length-append head body))
+
+module _ (head body : List ℕ) (kept : AcceptedHead) (at : IsHeadAt head kept) (own : head_stop head ≡ length head)
+    (size : length body ≡ kept.body.length) where
+  stated : length body ≡ body_length at.good.head.fields
+  stated = size ∙ ap (λ (one : ExpectedBody). one.length) at.body
+
+  is_head : IsHead head at.good
+  is_head = record { accepted = at.accepted; own = own }
+
+  end_is_head : kept.end ≡ length head
+  end_is_head = at.end ∙ size_is head at.good is_head
+
+  shows : (span : Span) (part : List ℕ) → StandsAt head span part → span_bytes (head ++ body) span ≡ part
+  shows span part stands = slice_more head body span.start span.end stands.0.0 stands.0.1 ∙ stands.1
+
+  body_is : body_in (head ++ body) at.good ≡ drop kept.end (head ++ body)
+  body_is =
+      let behind : drop at.good.end (head ++ body) ≡ body =
+      ap (λ n. drop n (head ++ body)) (size_is head at.good is_head) ∙ drop-append_seam head body in
+      let all : take (body_length at.good.head.fields) body ≡ body =
+      ap (λ n. take n body) (sym stated) ∙ take-length body in
+      ap (take (body_length at.good.head.fields)) behind ∙ all
+      ∙ sym (ap (λ n. drop n (head ++ body)) end_is_head ∙ drop-append_seam head body)
+
+  stands_whole : IsRequestAt (head ++ body) kept
+  stands_whole = record {
+    method = within_more head body kept.method at.method.0;
+    target = within_more head body kept.target at.target.0;
+    text = subst IsUtf8 (sym (shows kept.target at.good.head.target at.target)) at.text;
+    end = omega (arith, end_is_head, length-append head body);
+    request = request_is head at.good is_head body stated
+        ∙ (λ i. Ok (record {
+          method = sym (shows kept.method at.good.head.method at.method) i;
+          target = sym (shows kept.target at.good.head.target at.target) i;
+          token = sym at.token i;
+          body = body_is i;
+        }));
+  }
+
+-- of bytes that came behind it
+pub request_behind_head : (head request : List ℕ) (old new : Option (List ℕ)) (kept : AcceptedHead) → IsHeadAt head kept
+    → head_stop head ≡ length head → HasBody head kept.body.length request old new → IsRequestAt request kept
+request_behind_head head request old new kept at own came =
+    subst (λ t. IsRequestAt t kept) (sym came.1) (stands_whole head came.0 kept at own came.2)
 
 -- ---- a head that is refused
 

@@ -2,14 +2,17 @@
 
 ghost use Rattle.std.specs.Prelude.{◌≡◌, ◌<◌, ◌≤◌, ◌+◌, length, take, IfOk, IfErr};
 ghost use Rattle.std.specs.Io.KnownBytes.{IsAtEnd};
+ghost use Rattle.lab_wire_heads.specs.Accepted.{IsHeadAt};
 ghost use Rattle.lab_wire_heads.specs.Heads.{head_limit};
 ghost use Rattle.lab_wire_heads.specs.Lengths.{body_limit};
+ghost use Rattle.lab_wire_heads.specs.Receptions.{head_stop};
 ghost use Rattle.lab_wire_received.specs.Reading.{CameBehind, HasBody, IsBodyFault, OnMemory};
 
+use crate::Received;
 use crate::asks::{ReadFault, read_some};
 use lab_forms_asks::ByteSource;
 use lab_forms_texts::Series;
-use lab_wire_heads::{HeadFault, HeadRefusal};
+use lab_wire_heads::{AcceptedHead, HeadFault, HeadRefusal};
 use std::alloc::Global;
 
 // Reads from that place on until the bytes are full or the reader ends. It answers up to where they came.
@@ -37,7 +40,7 @@ fn fill<R: ByteSource>(
     Ok(end)
 }
 
-/// Reads the body behind a head, so many bytes, and gives both.
+/// Reads the body behind the head, and returns the request. `kept` is what is kept of that head.
 ///
 /// # Errors
 /// The reader ended before (`ShortBody`), failed or was asked too often, or memory ran out.
@@ -46,21 +49,23 @@ pub(crate) fn read_body<R: ByteSource>(
     reader: &mut R,
     asks_left: &mut u32,
     head: &[u8],
-    count: usize,
-) -> Result<Series<u8>, HeadFault>
+    kept: AcceptedHead,
+) -> Result<Received, HeadFault>
     requires head { length head.now ≤ head_limit }
-    requires body { count ≤ body_limit }
-    ensures whole { IfOk result (λ request. HasBody head.now count request
+    requires body { kept.body.length ≤ body_limit }
+    requires kept { IsHeadAt head.now kept }
+    requires own { head_stop head.now ≡ length head.now }
+    ensures whole { IfOk result (λ request. HasBody head.now kept.body.length request
         (R.remaining reader.old) (R.remaining reader.new)) }
-    ensures fault { IfErr result (IsBodyFault (R.remaining reader.old) count) }
+    ensures fault { IfErr result (IsBodyFault (R.remaining reader.old) kept.body.length) }
     ensures unread { OnMemory result (reader.new ≡ reader.old) }
     ensures asks { R.asks reader.new + asks_left.new ≤ R.asks reader.old + asks_left.old }
 {
-    let whole = head.len() + count;
+    let whole = head.len() + kept.body.length;
     let mut bytes = Vec::from_slice(alloc, head)?;
     bytes.resize(whole, 0)?;
     if fill(reader, asks_left, &mut bytes, head.len())? < whole {
         return Err(HeadFault::Refused(HeadRefusal::ShortBody));
     }
-    Ok(Series::from_vec(bytes))
+    Ok(Received::new(Series::from_vec(bytes), kept))
 }

@@ -6,7 +6,9 @@ mod asks;
 mod bodies;
 mod heads;
 mod interims;
+mod received;
 mod requests;
 mod stages;
 
+pub use received::Received;
 pub use requests::read_request;

@@ -7,17 +7,17 @@ ghost use Rattle.lab_wire_heads.specs.Receptions.{head_stop};
 ghost use Rattle.lab_wire_received.specs.Reading.{OnMemory};
 ghost use Rattle.lab_wire_received.specs.Receptions.{IsReception, IsWholeRequest, IsInterimOf, most_asks};
 
+use crate::Received;
 use crate::asks::MOST_ASKS;
 use crate::bodies::read_body;
 use crate::heads::read_head;
 use crate::interims::send_interim;
 use lab_forms_asks::ByteSource;
-use lab_forms_texts::Series;
-use lab_wire_heads::{HEAD_LIMIT, HeadFault, expected_body};
+use lab_wire_heads::{HEAD_LIMIT, HeadFault, kept_head};
 use std::alloc::Global;
 use std::io::Write;
 
-/// Reads one request, and gives its bytes, head and body. What follows the body is left to the reader. A client that waits
+/// Reads one request, head and body. What follows the body is left to the reader. A client that waits
 /// with its body is sent the interim answer once its head is accepted; else nothing is written.
 ///
 /// The reader is asked for single bytes as far as the head goes, and at most 80,000 times in all.
@@ -32,7 +32,7 @@ pub fn read_request<R: ByteSource, W: Write>(
     alloc: Global,
     reader: &mut R,
     writer: &mut W,
-) -> Result<Series<u8>, HeadFault>
+) -> Result<Received, HeadFault>
     // The answer is by the reader's bytes alone, however they came.
     ensures exact { IfSome (R.remaining reader.old) (λ bytes. IsReception bytes result) }
     ensures rest { IfOk result (λ request.
@@ -52,7 +52,7 @@ pub fn read_request<R: ByteSource, W: Write>(
     let mut room = [0; HEAD_LIMIT];
     let count = read_head(reader, &mut asks_left, &mut room)?;
     let head = &room[..count];
-    let body = expected_body(head)?;
-    send_interim(writer, body.is_interim_due)?;
-    read_body(alloc, reader, &mut asks_left, head, body.length)
+    let kept = kept_head(head)?;
+    send_interim(writer, kept.body.is_interim_due)?;
+    read_body(alloc, reader, &mut asks_left, head, kept)
 }

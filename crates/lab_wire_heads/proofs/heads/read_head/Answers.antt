@@ -2,6 +2,7 @@ use Rattle.std.proofs.Common.{◌≡◌, List, ℕ, ◌+◌, length, true, false
 use Rattle.httparse.specs.Grammar.{print_version}
 use Rattle.lab_wire_heads.specs.Heads.{head_end, head_length}
 use Rattle.lab_wire_heads.proofs.HeadLaws.{reads_head}
+use Rattle.lab_wire_heads.proofs.PlaceLemmas.{stands_behind}
 use Rattle.lab_wire_heads.proofs.ReadLemmas.{from_text, front_text, too_long, bad_head, fields_of_spans, hosts_of_fields, checked_answer}
 use Rattle.lab_wire_heads.proofs.heads.read_head.Goals as goal
 
@@ -63,3 +64,18 @@ returns-clause-good c =
       };
       end = end i;
     }))
+
+pub returns-clause-places : goal.returns-clause-places
+returns-clause-places c =
+    let bytes : List ℕ = c.args.bytes.now in
+    let within = c.in-Some.ensures.within in
+    let text = c.head_text-front.ensures in
+    record {
+      method = stands_behind bytes c.head_text-front.result.text.now c.head_text-front.result.front c.in-Some.head.len
+          c.in-Some.head.method c.of-2.result.now text.front text.text text.fits within.section.len_fits within.method
+          c.of-2.ensures;
+      target = stands_behind bytes c.head_text-front.result.text.now c.head_text-front.result.front c.in-Some.head.len
+          c.in-Some.head.path c.in-Ok.target.now text.front text.text text.fits within.section.len_fits within.path
+          (c.in-Ok.ensures.cases.0 ∙ c.of.ensures);
+      text = rw c.in-Ok.ensures.cases.0 (c.in-Ok.ensures.cases.1);
+    }

@@ -5,7 +5,7 @@ use Rattle.std.specs.Prelude.{IfSome}
 use Rattle.lab_wire_received.specs.Receptions.{IsReception}
 use Rattle.lab_wire.specs.Asked.{asked}
 use Rattle.lab_wire.specs.declared.refusals.RequestRefusal.TheVariants.{Head}
-use Rattle.lab_desk.specs.Serving.{AreAsked, Serves}
+use Rattle.lab_desk.specs.Serving.{Serves}
 use Rattle.lab_desk_runs.proofs.Lasting.{still_stays}
 use Rattle.lab_desk.proofs.HandlingLemmas.{exhausted_so, refused_so}
 use Rattle.lab_desk.proofs.Receiving.{asked_as, refused_as, some_asked}
@@ -13,19 +13,15 @@ use Rattle.lab_desk.proofs.desk.Desk.receive.Goals as goal
 
 pub returns-in-Ok-clause-serves : goal.returns-in-Ok-clause-serves
 returns-in-Ok-clause-serves g c =
-    let are : AreAsked (g.R.ByteSource.remaining c.args.reader.now) (asked c.as_slice.result.now) =
-    subst (λ bytes. AreAsked (g.R.ByteSource.remaining c.args.reader.now) (asked bytes))
-    (sym c.as_slice.ensures)
-    (asked_as (g.R.ByteSource.remaining c.args.reader.now) c.in-Ok.request c.in-Ok.ensures.exact) in
     record {
       handled = record {
-        asks = asked c.as_slice.result.now;
-        asked_are = are;
-        is_taken = c.handle.result;
-        handles = c.handle.ensures;
+        asks = asked c.in-Ok.request;
+        asked_are = asked_as (g.R.ByteSource.remaining c.args.reader.now) c.in-Ok.request c.in-Ok.ensures.exact;
+        is_taken = c.handle_received.result;
+        handles = c.handle_received.ensures;
       };
-      stays = c.handle.ensures.stays;
-      passes = c.handle.ensures.passes;
+      stays = c.handle_received.ensures.stays;
+      passes = c.handle_received.ensures.passes;
     }
 
 pub returns-in-Err-Refused-clause-serves : goal.returns-in-Err-Refused-clause-serves
