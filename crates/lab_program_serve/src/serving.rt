@@ -20,6 +20,9 @@ use lab_wire_heads::write_reply;
 use std::alloc::Global;
 use std::io::{BufReader, Read, Write};
 
+// How many bytes are read ahead; most requests have fewer. The buffer is made for each connection, and zeroed.
+const BUFFER_SIZE: usize = 2048;
+
 // Tells that clients can connect, and to which port.
 fn announce<W: Write>(alloc: Global, output: &mut W, port: u16) -> Result<(), ServerFault>
     ensures { IsPrinted (listening_line port) result
@@ -54,7 +57,7 @@ pub fn serve_connection<S: Keeper + Drop, R: Read + Drop, W: Write>(
         (Stays (S.world desk.old.keeper) (S.world desk.new.keeper)) }
     ensures passes { Passes (S.world desk.old.keeper) (S.world desk.new.keeper) }
 {
-    let Ok(mut buffered) = BufReader::new(alloc, reader) else {
+    let Ok(mut buffered) = BufReader::with_capacity(alloc, BUFFER_SIZE, reader) else {
         return Err(ConnectionFault::Memory);
     };
     desk.serve_one(&mut buffered, writer, tick)?;
