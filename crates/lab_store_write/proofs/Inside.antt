@@ -1,5 +1,5 @@
 -- Calls inside a transaction: what a statement that ended well makes, and calls one after the other.
-use Rattle.std.proofs.Common.{◌≡◌, ◌⊎◌, inl, inr, ℕ, ◌+◌, ◌<◌, List, [], ◌∷◌, ◌++◌, take, length, get_or, Ok, Err, Result, OnOk, IsTrue, refl, sym, subst, ◌∙◌}
+use Rattle.std.proofs.Common.{◌⊎◌, inl, inr, ℕ, ◌+◌, ◌<◌, List, [], ◌∷◌, ◌++◌, take, length, get_or, Ok, Err, Result, IfOk, IsTrue, refl, sym, subst, ◌∙◌}
 use Rattle.std.proofs.lemmas.List.{take_more}
 use Rattle.sqlite_value.specs.Order.{Row}
 use Rattle.sqlite.specs.declared.error.Error.{Error}
@@ -19,16 +19,16 @@ pub record Wrote (t : Tables) (db : Database) : Type 0 where
   pub held : Holds db t
   pub sound : IsDatabase db
 
--- a statement that makes the tables these
-pub made_exactly : (sql : List ℕ) (params : Row) (old new : State) (made : Tables → Tables) (r : Result ℕ Error) → ExecutesInside 0 sql params old new r
-    → ((count : ℕ) → IsTyped old.now → Executes sql params old new (Ok count) → Wrote (made (tables_of old)) new.now)
-    → OnOk r (Steps (λ before after. after ≡ made before) old new)
-made_exactly sql params old new made (Ok count) ran wrote = record {
+-- a statement that makes a step, by the number of rows that it returns
+pub made_as : (sql : List ℕ) (params : Row) (old new : State) (step : ℕ → Tables → Tables → Type 0) (r : Result ℕ Error) → ExecutesInside 0 sql params old new r
+    → ((count : ℕ) → IsTyped old.now → Executes sql params old new (Ok count) → (t : Tables) × Wrote t new.now × step count (tables_of old) t)
+    → IfOk r (λ count. Steps (step count) old new)
+made_as sql params old new step (Ok count) ran wrote = record {
   inside = ran.1.mode;
-  made = λ typed. let it = wrote count typed ran.0 in (it.held.typed, it.held.tables);
-  sound = λ typed _. (wrote count typed ran.0).sound;
+  made = λ typed. let it = wrote count typed ran.0 in (it.1.held.typed, subst (step count (tables_of old)) (sym it.1.held.tables) it.2);
+  sound = λ typed _. (wrote count typed ran.0).1.sound;
 }
-made_exactly sql params old new made (Err e) ran wrote = tt
+made_as sql params old new step (Err e) ran wrote = tt
 
 pub ended_keeps : (old new : State) → IsUnchanged old new ⊎ IsRolledBack old new → KeepsCommit old new
 ended_keeps old new (inl it) = record { was_open = λ _. it.0.was_open; committed = λ _. it.0.committed_is }

@@ -1,33 +1,22 @@
--- Persons and sessions that are named by their keys: what each look-up means, and whom it finds.
-use Rattle.std.proofs.Common.{◌≡◌, ℕ, ℤ, ◌&&◌, List, [], ◌∷◌, bytes_eq, codes, slice_get, Option, Some, None, option_map, find, IsTrue, refl, sym, ap, ap₂, subst, ◌∙◌}
-use Rattle.std.specs.Ordering.{is_eq}
-use Rattle.std.proofs.lemmas.Map.Text.{is_eq-slice_cmp}
-use Rattle.sqlite_value.specs.declared.value.Value.TheVariants.{Int, Text, Blob}
-use Rattle.sqlite_value.specs.declared.keys.Collation.TheVariants.{Binary}
+-- Persons who are named by their keys: what a look-up means, and whom it finds.
+use Rattle.std.proofs.Common.{◌≡◌, ℕ, ℤ, ◌&&◌, List, [], ◌∷◌, codes, slice_get, Option, Some, None, option_map, IsTrue, refl, sym, ap, ap₂, subst, ◌∙◌}
+use Rattle.sqlite_value.specs.declared.value.Value.TheVariants.{Int, Text}
 use Rattle.sqlite_value.specs.Order.{Row}
-use Rattle.sqlite_value.proofs.OrderLemmas.{value_cmp-Blob}
 use Rattle.sqlite_sql.specs.Program.{overlay}
-use Rattle.sqlite_sql.specs.Ops.{binary, is_true}
 use Rattle.sqlite_sql.specs.Term.{Term, col}
-use Rattle.sqlite_sql.specs.declared.ops.BinaryOp.TheVariants.{Compare}
-use Rattle.sqlite_sql.specs.declared.ops.CompareOp.TheVariants.{Eq}
 use Rattle.sqlite_tied.specs.Compute.{everything}
 use Rattle.sqlite.specs.Listing.{understood}
 use Rattle.sqlite.specs.State.{State, Shown}
-use Rattle.lab_store_tables.specs.Rows.{PersonRow, SessionRow, tables_in, person_row, person_id, session_row, session_id}
-use Rattle.lab_store_tables.specs.Changes.{is_person, person_named, is_session, IsNamedIfAny}
+use Rattle.lab_store_tables.specs.Rows.{PersonRow, tables_in, person_row, person_id}
+use Rattle.lab_store_tables.specs.Changes.{is_person, person_named, IsNamedIfAny}
 use Rattle.lab_store_tables.specs.Held.{IsTyped}
 use Rattle.lab_store_columns.proofs.Texts.{Means, is_param}
-use Rattle.lab_store_columns.proofs.Sorted.{truth_is, equal_ints, equal_texts, and_true}
+use Rattle.lab_store_columns.proofs.Sorted.{equal_ints, equal_texts, and_true}
 use Rattle.lab_store_write.specs.Calls.{Steps, Finds}
 use Rattle.lab_store_write.specs.Ids.{id_read}
-use Rattle.lab_store_write.specs.Shown.{persons_shown, sessions_shown}
+use Rattle.lab_store_write.specs.Shown.{persons_shown}
 use Rattle.lab_store_write.proofs.Inside.{steps_weaker, steps_none}
 use Rattle.lab_store_write.proofs.Lookups.{by_key_query, rows_by_key, first_key}
-
-equal_blobs : (s t : List ℕ) → is_true (binary (Compare Eq Binary) (Blob s) (Blob t)) ≡ bytes_eq s t
-unfolding binary
-equal_blobs s t = truth_is _ ∙ ap is_eq (value_cmp-Blob s t) ∙ is_eq-slice_cmp s t
 
 -- ---- a person by the code
 
@@ -69,33 +58,3 @@ named_some lab code given id old new is it =
 pub named_none : (lab : ℤ) (given : Option (List ℕ)) (s : State) → given ≡ None → IsTrue s.in_transaction → Steps (Finds (λ t. IsNamedIfAny t lab given None)) s s
 named_none lab given s is inside =
     subst (λ (o : Option (List ℕ)). Steps (Finds (λ t. IsNamedIfAny t lab o None)) s s) (sym is) (steps_none (λ t. IsNamedIfAny t lab None None) s inside (λ t. refl))
-
--- ---- a session by the digest of its token
-
-abbrev pub session_text : List ℕ
-session_text = codes "SELECT id FROM sessions WHERE lab = ?1 AND token = ?2 ORDER BY id"
-
-abbrev session_tests : List Term
-session_tests = is_param 2 0 ∷ is_param 5 1 ∷ []
-
-pub session_means : Means session_text (by_key_query 5 session_tests (col 1 0 ∷ [])) (codes "id" ∷ [])
-unfolding understood everything
-session_means = record { read = (_, refl); command = refl; unlisted = refl; plain = (refl, refl) }
-
-pub sessions_read : (old new : State) (lab : ℤ) (token : List ℕ) (rows : List Row) → IsTyped old.now → Shown session_text (Int lab ∷ Blob token ∷ []) old new rows → rows ≡ sessions_shown lab token (tables_in old.now.trees)
-sessions_read old new lab token rows typed h =
-    let t = tables_in old.now.trees in
-    rows_by_key 5 session_id session_row (λ _. refl) t.sessions (overlay old.now.trees []) typed.sessions typed.rising.sessions session_text session_tests (col 1 0 ∷ []) (codes "id" ∷ []) session_means
-    (Int lab ∷ Blob token ∷ []) (is_session lab token) (λ (one : SessionRow). Int one.id ∷ []) (λ x. ap₂ ◌&&◌ (equal_ints x.lab lab) (and_true _ ∙ equal_blobs x.token token)) (λ x. refl)
-    old new typed.schema refl rows h
-
-pub session_found : (lab : ℤ) (token bytes : List ℕ) (shown rows : List Row) (id : ℤ) (old new : State) → bytes ≡ token → shown ≡ rows → Steps (Finds (λ t. rows ≡ sessions_shown lab bytes t)) old new
-    → option_map id_read (slice_get shown 0) ≡ Some id → Steps (Finds (λ t. option_map session_id (find (is_session lab token) t.sessions) ≡ Some id)) old new
-session_found lab token bytes shown rows id old new same slice it first =
-    steps_weaker (Finds (λ t. rows ≡ sessions_shown lab bytes t)) (Finds (λ t. option_map session_id (find (is_session lab token) t.sessions) ≡ Some id)) old new
-    (λ before after found. (
-      ap (λ (b : List ℕ). option_map session_id (find (is_session lab b) before.sessions)) (sym same) ∙ sym (first_key session_id (is_session lab bytes) before.sessions)
-          ∙ ap (λ (l : List Row). option_map id_read (slice_get l 0)) (sym (slice ∙ found.0)) ∙ first,
-      found.1,
-    ))
-    it

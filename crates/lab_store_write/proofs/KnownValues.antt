@@ -1,12 +1,12 @@
 -- Values from outside, computed on the definitions over the small file of lab_store_tables, in which two
--- laboratories have a dan, and a session of one token: whose rows a look-up shows (docs/TABLES.md).
+-- laboratories have a dan: whose row a look-up shows (docs/TABLES.md).
 use Rattle.std.proofs.Common.{◌≡◌, ℤ, pos, List, [], ◌∷◌, refl, ◌++◌, None}
 use Rattle.std.specs.Prelude.{codes}
 use Rattle.sqlite_value.specs.declared.value.Value.TheVariants.{Int}
 use Rattle.sqlite_value.specs.Order.{Row}
-use Rattle.lab_store_tables.proofs.KnownFile.{filled, file, told}
+use Rattle.lab_store_tables.proofs.KnownFile.{file, told}
 use Rattle.lab_store_write.specs.Ids.{id_read}
-use Rattle.lab_store_write.specs.Shown.{persons_shown, sessions_shown}
+use Rattle.lab_store_write.specs.Shown.{persons_shown}
 use Rattle.lab_records_kept.specs.declared.trails.Action.TheVariants.{Lock}
 use Rattle.lab_records_kept.specs.declared.trails.TrailRow.{TrailRow as Told}
 use Rattle.lab_store_write.specs.TrailAdded.{with_told}
@@ -15,11 +15,10 @@ use Rattle.lab_store_write.specs.TrailAdded.{with_told}
 abbrev only : ℤ → List Row
 only id = (Int id ∷ []) ∷ []
 
--- dan and the token are those of the one laboratory; brick has no eve
+-- the dan of that laboratory is shown; brick has no eve
 pub known_shown : (persons_shown (pos 7) (codes "dan") file ≡ only (pos 2)) × (persons_shown (pos 3) (codes "dan") file ≡ only (pos 1))
-    × (persons_shown (pos 3) (codes "eve") file ≡ []) × (sessions_shown (pos 7) (filled 32 41) file ≡ only (pos 3))
-    × (sessions_shown (pos 3) (filled 32 41) file ≡ only (pos 2)) × (id_read (Int (pos 7) ∷ Int (pos 9) ∷ []) ≡ pos 7)
-known_shown = (refl, refl, refl, refl, refl, refl)
+    × (persons_shown (pos 3) (codes "eve") file ≡ []) × (id_read (Int (pos 7) ∷ Int (pos 9) ∷ []) ≡ pos 7)
+known_shown = (refl, refl, refl, refl)
 
 abbrev locked : Told
 locked = record { number = 13; moment = 1600; person = None; action = Lock; subject = codes "dan" }

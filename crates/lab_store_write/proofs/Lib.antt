@@ -1,5 +1,6 @@
 pub mod Tables
 pub mod Writes
+pub mod ByKey
 pub mod Columns
 pub mod Inside
 pub mod Placed

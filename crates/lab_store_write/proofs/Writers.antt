@@ -14,22 +14,30 @@ use Rattle.lab_store_tables.specs.Held.{IsTyped}
 use Rattle.lab_store_tables.specs.Ready.{tables_of}
 use Rattle.lab_store_columns.proofs.Queries.{IsRead, if_then}
 use Rattle.lab_store_write.specs.Calls.{Steps, Stays, Answers, Writes, Becomes, Finds, MadeFrom, CountsBelow}
-use Rattle.lab_store_write.proofs.Inside.{Wrote, made_exactly, steps_weaker, found_then, known_then, keeps_then, none_then, turns_none, turns_more}
+use Rattle.lab_store_write.proofs.Inside.{Wrote, made_as, steps_weaker, found_then, known_then, keeps_then, none_then, turns_none, turns_more}
 use Rattle.lab_store_write.proofs.Lookups.{looked, looked_keeps}
 
 module _ {T : Type 0} {lender : T → ℕ × ℕ} {state : T → State} {old new : T} where
   -- ---- a statement
 
-  -- that makes these tables; its parameters are given in other words
+  -- that makes a step, by the number of rows that it returns; its parameters are given in other words
+  pub wrote_as : (sql : List ℕ) (params : Row) (step : ℕ → Tables → Tables → Type 0) {given : Row} {r : Result ℕ Error} → Stays lender state old new → given ≡ params
+      → (IsTrue (state old).in_transaction → HasCleanDisk (state new) → ExecutesInside 0 sql given (state old) (state new) r)
+      → ((count : ℕ) → IsTyped (state old).now → Executes sql params (state old) (state new) (Ok count) → (t : Tables) × Wrote t (state new).now × step count (tables_of (state old)) t)
+      → Answers lender state step old new r
+  wrote_as sql params step {given} {r} stays same ran makes = record {
+    stays = stays;
+    made = λ inside clean. made_as sql params (state old) (state new) step r
+        (subst (λ (row : Row). ExecutesInside 0 sql row (state old) (state new) r) same (ran inside clean)) makes;
+  }
+
+  -- that makes these tables
   pub wrote : (sql : List ℕ) (params : Row) (made : Tables → Tables) {given : Row} {r : Result ℕ Error} → Stays lender state old new → given ≡ params
       → (IsTrue (state old).in_transaction → HasCleanDisk (state new) → ExecutesInside 0 sql given (state old) (state new) r)
       → ((count : ℕ) → IsTyped (state old).now → Executes sql params (state old) (state new) (Ok count) → Wrote (made (tables_of (state old))) (state new).now)
       → Writes lender state (Becomes made) old new r
-  wrote sql params made {given} {r} stays same ran makes = record {
-    stays = stays;
-    made = λ inside clean. made_exactly sql params (state old) (state new) made r
-        (subst (λ (row : Row). ExecutesInside 0 sql row (state old) (state new) r) same (ran inside clean)) makes;
-  }
+  wrote sql params made stays same ran makes =
+      wrote_as sql params (λ _. Becomes made) stays same ran (λ count typed did. (made (tables_of (state old)), makes count typed did, refl))
 
   -- ---- a look-up
 

@@ -1,8 +1,9 @@
--- What an INSERT of one row and an UPDATE by id make of a table of typed rows.
+-- What an INSERT of one row and an UPDATE make of a table of typed rows.
 use Rattle.std.proofs.Common.{◌≡◌, ◌⊎◌, inl, inr, ℕ, ℤ, ◌<ℤ◌, pos, negsuc, List, [], ◌∷◌, ◌+ℤ◌, ◌/◌, map, filter, fold, drop, length, slice_get, Bool, true, false, cond, not, ◌==◌, None, Some, unwrap_or, Ok, Err, Result, refl, sym, ap, ap₂, subst, ◌∙◌, arith, int_eq, int_cmp, Greater}
 use Rattle.std.specs.Ordering.{match_ordering}
 use Rattle.std.specs.List.{AllByRecursion}
 use Rattle.std.proofs.lemmas.Int.{ints}
+use Rattle.std.proofs.lemmas.List.{length-map}
 use Rattle.std.proofs.lemmas.List.Folds.{fold-map}
 use Rattle.sqlite_value.specs.declared.value.Value.{Value}
 use Rattle.sqlite_value.specs.declared.value.Value.TheVariants.{Null, Int}
@@ -22,10 +23,13 @@ use Rattle.sqlite_schema.specs.declared.command.Command.TheVariants.{Update, Ins
 use Rattle.sqlite_schema.specs.declared.command.Source.TheVariants.{Values}
 use Rattle.sqlite_rules.specs.declared.error.Rowids.TheVariants.{Given, Chosen}
 use Rattle.sqlite_rules.specs.Cast.{cast, cast_row}
-use Rattle.sqlite_rules.specs.Edit.{edit_of, edited, put_all, without_all, id_in, next_rowid, taken_by, with_rowid}
+use Rattle.sqlite_rules.specs.Edit.{edit_of, edited, left_by, put_all, without_all, id_in, next_rowid, taken_by, with_rowid}
 use Rattle.sqlite_rules.specs.Action.{works}
 use Rattle.sqlite_rules.specs.Calls.{ids_of}
+use Rattle.sqlite_rules.specs.Lists.{Has}
 use Rattle.sqlite_rules.proofs.PlaceLemmas.{given}
+use Rattle.sqlite_rules.proofs.ProbeLemmas.{mapped_has}
+use Rattle.sqlite_rules.proofs.TableLemmas.{put_all_adds}
 use Rattle.sqlite_keyed.specs.Keyed.{IsKeyedBy, next_key, insert_by}
 use Rattle.sqlite_keyed.specs.Lists.{update_where, delete_where}
 use Rattle.sqlite_keyed.proofs.ListLemmas.{map-map, map_same, all-filter, all_map, all_weaker}
@@ -153,8 +157,16 @@ pub record Replaces (table : Table) (all : List Row) (old new : Database) : Type
   pub spared : AreSpared table.tree old.trees new.trees
   pub sound : IsDatabase new
 
-abbrev uncounted : Table → Table
+abbrev pub uncounted : Table → Table
 uncounted table = record table { is_counted = false }
+
+-- an update, by the rows that its query answered: each row that it made of these is there afterwards, and the statement returned their number
+pub record Updates (table : Table) (q : Query) (params : Row) (old new : Database) (count : ℕ) : Type 0 where
+  pub sources : List Row
+  pub answer : IsAnswer q (overlay old.trees []) params sources
+  pub replaced : Replaces table (edited old.trees (edit_of old.trees (uncounted table) (ids_of sources) Given 1 sources)) old new
+  pub puts : (source : Row) → Has sources source → Has (new.trees table.tree) (cast_row (uncounted table) (drop 1 source))
+  pub counted : count ≡ length sources
 
 module _ (at : ℕ) (table : Table) (there : slice_get lab_schema.tables at ≡ Some (uncounted table)) (sql : List ℕ) (params : Row) (old new : State) (count : ℕ)
     (schema : old.now.schema ≡ lab_schema) (plain : IsPlain (understood lab_schema sql)) (did : Executes sql params old new (Ok count)) where
@@ -205,36 +217,53 @@ module _ (at : ℕ) (table : Table) (there : slice_get lab_schema.tables at ≡ 
       w.last_rowid ∙ ap (λ (p : Tally × Database). unwrap_or p.0.last old.last_rowid) result ∙ ap (λ (it : Written). unwrap_or it.last old.last_rowid) (same_value counted.2)
       ∙ ap (λ l. unwrap_or (last_id (edit_of db (uncounted table) [] Chosen 0 l).news) old.last_rowid) (got.1.1 ∙ shown)
 
-  pub updated : (q : Query) → command_of (understood lab_schema sql) ≡ Update at (record { lets = []; body = q })
-      → (sources : List Row) → ((rows : List Row) → IsAnswer q (overlay old.now.trees []) params rows → rows ≡ sources)
-      → Replaces table (edited old.now.trees (edit_of old.now.trees (uncounted table) (ids_of sources) Given 1 sources)) old.now new.now
-  updated q is sources exact =
+  -- an update, whatever the order in which its query answers rows
+  pub answered : (q : Query) → command_of (understood lab_schema sql) ≡ Update at (record { lets = []; body = q }) → Updates table q params old.now new.now count
+  answered q is =
       let db = old.now.trees in
       let command = Update at (record { lets = []; body = q }) in
       let w = runs_as sql params old new lab_schema schema command is plain count did in
       let text = statement_of sql (understood lab_schema sql) in
       let does = subst (λ s. Does old.step_limit (mode_of old) params (record old.now { schema = s }) text None command (Ok (w.tally, new.now))) schema w.changed in
       let done = went (subst (λ found. AtPlace (λ one. OnRows (record { limit = old.step_limit; keys = Enforced; schema = lab_schema; table = one; params = params }) (mode_of old) None command db) found (Ok (w.tally, new.now))) there does) in
-      let now = ap (λ (p : Tally × Database). p.1) (same_value (went (went done.2).2).2) in
+      let result = same_value (went (went done.2).2).2 in
       let got = went done.1 in
       let put = went got.2 in
-      let trees : done.0.trees ≡ put.0 = ap (λ (it : Written). it.trees) (same_value put.2) in
+      let written = same_value put.2 in
       let edit = edit_of db (uncounted table) (ids_of got.0) Given 1 got.0 in
+      let news : edit.news ≡ map (λ s. cast_row (uncounted table) (drop 1 s)) got.0 = given _ _ in
       let step = one_step lab_schema Enforced db put.0 edit (no_works table.tree _ (taken_by db edit) edit.news refl) put.1 in
-      let at_now : new.now.trees ≡ put.0 = ap (λ (d : Database). d.trees) now ∙ trees in
+      let at_now : new.now.trees ≡ put.0 = ap (λ (p : Tally × Database). p.1.trees) result ∙ ap (λ (it : Written). it.trees) written in
+      let rows = ap (λ (tr : Trees). tr table.tree) at_now ∙ step.rows in
       record {
-        schema = ap (λ (d : Database). d.schema) now;
-        rows = ap (λ (tr : Trees). tr table.tree) at_now ∙ step.rows ∙ ap (λ l. edited db (edit_of db (uncounted table) (ids_of l) Given 1 l)) (exact got.0 (got.1.answer Null));
-        spared = subst (λ tr. AreSpared table.tree db tr) (sym at_now) step.tables;
-        sound = w.sound;
+        sources = got.0;
+        answer = got.1.answer Null;
+        replaced = record {
+          schema = ap (λ (p : Tally × Database). p.1.schema) result;
+          rows = rows;
+          spared = subst (λ tr. AreSpared table.tree db tr) (sym at_now) step.tables;
+          sound = w.sound;
+        };
+        puts = λ source has.
+            subst (λ l. Has l (cast_row (uncounted table) (drop 1 source))) (sym rows)
+            (put_all_adds edit.news (left_by db edit) _ step.fresh
+            (subst (λ l. Has l (cast_row (uncounted table) (drop 1 source))) (sym news) (mapped_has (λ s. cast_row (uncounted table) (drop 1 s)) got.0 source has)));
+        counted = w.counted ∙ ap (λ (p : Tally × Database). unwrap_or p.0.rows 0) result ∙ ap (λ (it : Written). length it.rows) written ∙ ap length news ∙ length-map _ _;
       }
 
--- ---- the query of an update by id
+  pub updated : (q : Query) → command_of (understood lab_schema sql) ≡ Update at (record { lets = []; body = q })
+      → (sources : List Row) → ((rows : List Row) → IsAnswer q (overlay old.now.trees []) params rows → rows ≡ sources)
+      → Replaces table (edited old.now.trees (edit_of old.now.trees (uncounted table) (ids_of sources) Given 1 sources)) old.now new.now
+  updated q is sources exact =
+      let it = answered q is in
+      subst (λ l. Replaces table (edited old.now.trees (edit_of old.now.trees (uncounted table) (ids_of l) Given 1 l)) old.now new.now) (exact it.sources it.answer) it.replaced
 
-abbrev pub by_id_query : ℕ → List Term → Query
-by_id_query tree shown = record {
+-- ---- the query of an update
+
+abbrev pub by_tests_query : ℕ → List Term → List Term → Query
+by_tests_query tree tests shown = record {
   from = inner tree end;
-  filter = op2 (Compare Eq Binary) (col 1 0) (col 0 0) ∷ [];
+  filter = tests;
   group = None;
   project = shown;
   distinct = false;
@@ -243,6 +272,10 @@ by_id_query tree shown = record {
   limit = lit (Int (negsuc 0));
   offset = lit (Int (pos 0));
 }
+
+-- of an update by id
+abbrev pub by_id_query : ℕ → List Term → Query
+by_id_query tree shown = by_tests_query tree (op2 (Compare Eq Binary) (col 1 0) (col 0 0) ∷ []) shown
 
 module _ {X : Type 0} (tree : ℕ) (key : X → ℤ) (to_row : X → Row) (keyed : (x : X) → column (to_row x) 0 ≡ Int (key x)) (xs : List X) (db : Trees) (stored : db tree ≡ map to_row xs) (rise : IsKeyedBy key xs) where
   pub shown_by_id : (shown : List Term) (id : ℤ) (given : Row) (source : X → Row) → ((x : X) → eval_all shown ((Int id ∷ given) ∷ to_row x ∷ []) ≡ source x)

@@ -1,14 +1,10 @@
--- What each look-up of an id shows: the ids of the rows that have the key, in their order.
+-- What a look-up of a person's id shows: the ids of the rows that have the key, in their order.
 use Rattle.std.specs.Prelude.{ℤ, ℕ, List, [], ◌∷◌, map, filter}
 use Rattle.sqlite_value.specs.declared.value.Value.TheVariants.{Int}
 use Rattle.sqlite_value.specs.Order.{Row}
-use Rattle.lab_store_tables.specs.Rows.{PersonRow, SessionRow, Tables}
-use Rattle.lab_store_tables.specs.Changes.{is_person, is_session}
+use Rattle.lab_store_tables.specs.Rows.{PersonRow, Tables}
+use Rattle.lab_store_tables.specs.Changes.{is_person}
 
 abbrev pub persons_shown : ℤ → List ℕ → Tables → List Row
 persons_shown lab code t =
     map (λ (one : PersonRow). Int one.id ∷ []) (filter (is_person lab code) t.persons)
-
-abbrev pub sessions_shown : ℤ → List ℕ → Tables → List Row
-sessions_shown lab token t =
-    map (λ (one : SessionRow). Int one.id ∷ []) (filter (is_session lab token) t.sessions)

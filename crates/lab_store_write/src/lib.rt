@@ -1,5 +1,5 @@
-//! Statements inside a transaction over the tables of a file: what each of them makes of the rows, who and which session
-//! is named, the row of a laboratory, and a row of the trail (21 CFR 11.10(e); ISO/IEC 17025:2017, 7.11.3).
+//! Statements inside a transaction over the tables of a file: what each of them makes of the rows, who is named, the row of
+//! a laboratory, and a row of the trail (21 CFR 11.10(e); ISO/IEC 17025:2017, 7.11.3).
 #![tactic(auto)]
 
 pub mod ids;
@@ -12,7 +12,7 @@ pub mod values;
 mod writable;
 
 pub use labs::{set_last, set_strays};
-pub use named::{first_id, id_of, person_id_at, person_id_by, person_if_any, session_id_at};
+pub use named::{first_id, id_of, person_id_at, person_id_by, person_if_any};
 pub use places::place_below;
 pub use statements::RowId;
 pub use trails::{add_last_told, add_told};

@@ -1,17 +1,15 @@
-//! Who and which session is named, by keys of the tables.
+//! Who is named, by the keys of the table of persons.
 
-ghost use Rattle.std.specs.Prelude.{◌≡◌, Some, option_map, slice_get, find, IfOk, IfSome};
-ghost use Rattle.lab_store_tables.specs.Rows.{session_id};
-ghost use Rattle.lab_store_tables.specs.Changes.{person_named, is_session, IsNamedIfAny};
+ghost use Rattle.std.specs.Prelude.{◌≡◌, Some, option_map, slice_get, IfOk, IfSome};
+ghost use Rattle.lab_store_tables.specs.Changes.{person_named, IsNamedIfAny};
 ghost use Rattle.lab_store_write.specs.Calls.{Answers, Finds};
 ghost use Rattle.lab_store_write.specs.Ids.{row_id, id_read};
-ghost use Rattle.lab_store_write.specs.Shown.{persons_shown, sessions_shown};
+ghost use Rattle.lab_store_write.specs.Shown.{persons_shown};
 
 use crate::statements::RowId;
-use crate::values::{blob_value, id_value, text_value};
+use crate::values::{id_value, text_value};
 use crate::writable::Writable;
 use lab_forms_texts::PersonCode;
-use lab_seal_hashes::Digest;
 use sqlite::{Error, Row};
 
 /// The id that a row shows first.
@@ -112,29 +110,4 @@ pub fn person_if_any<W: Writable>(
         }
         None => Ok(None),
     }
-}
-
-// The rows of the session whose token has the digest, in the laboratory.
-fn session_rows<W: Writable>(tx: &mut W, lab: RowId, token: &[u8]) -> Result<Vec<Row>, Error>
-    ensures { Answers W.lender W.state
-        (λ rows. Finds (λ t. rows.items ≡ sessions_shown lab.id token.now t)) tx.old tx.new result }
-{
-    tx.query_all(
-        "SELECT id FROM sessions WHERE lab = ?1 AND token = ?2 ORDER BY id",
-        &[id_value(lab), blob_value(token)],
-    )
-}
-
-/// The session whose token has the digest, in the laboratory.
-///
-/// # Errors
-/// Those of `Writable`, and that there is none.
-pub fn session_id_at<W: Writable>(tx: &mut W, lab: RowId, token: &Digest) -> Result<RowId, Error>
-    ensures { Answers W.lender W.state (λ one. Finds (λ t.
-        option_map session_id (find (is_session lab.id token.now) t.sessions) ≡ Some one.id))
-        tx.old tx.new result }
-{
-    let bytes = token.bytes();
-    let rows = session_rows(tx, lab, &bytes)?;
-    first_id(&rows)
 }

@@ -1,13 +1,13 @@
--- Steps of several calls: a session more, a session that is set.
-use Rattle.std.proofs.Common.{◌≡◌, ℤ, Some, option_map, find, ap, ◌∙◌}
+-- Steps of several calls: a session more.
+use Rattle.std.proofs.Common.{◌≡◌, ℤ, Some, ap, ◌∙◌}
 use Rattle.sqlite_keyed.specs.Keyed.{next_key}
 use Rattle.sqlite_keyed.proofs.KeyedLemmas.{next_key_is_free}
 use Rattle.sqlite.specs.State.{State}
 use Rattle.lab_people_access.specs.declared.sessions.Session.{Session}
 use Rattle.lab_store_tables.specs.Rows.{LabRow, session_id}
-use Rattle.lab_store_tables.specs.Changes.{in_lab, person_named, is_session, session_row_of, set_session, AddsSession, SetsSession}
+use Rattle.lab_store_tables.specs.Changes.{in_lab, person_named, AddsSession}
 use Rattle.lab_store_tables.specs.Ready.{tables_of}
-use Rattle.lab_store_write.specs.Calls.{Steps, Finds, MadeFrom}
+use Rattle.lab_store_write.specs.Calls.{Steps, Finds}
 use Rattle.lab_store_write_people.specs.Added.{with_session}
 
 -- a session: whose it is, the row, and the counter
@@ -30,24 +30,4 @@ session_added lab session person a b c d p q r = record {
       } in
       (three.0, added);
   sound = λ typed rules. let one = p.made typed in r.sound (q.made one.0).0 (q.sound one.0 (p.sound typed rules));
-}
-
--- a session that is set: which it is, and the row
-pub session_set : (lab : ℤ) (session : Session) (id person : ℤ) (a b c : State) → Steps (Finds (λ t. option_map session_id (find (is_session lab session.token) t.sessions) ≡ Some id)) a b
-    → Steps (λ before after. after ≡ set_session (session_row_of lab id person session) before) b c
-    → Steps (MadeFrom (λ t. person_named t lab session.person ≡ Some person) (SetsSession lab session)) a c
-session_set lab session id person a b c p q = record {
-  inside = q.inside;
-  made = λ typed.
-      let one = p.made typed in
-      let two = q.made one.0 in
-      let set : person_named (tables_of a) lab session.person ≡ Some person → SetsSession lab session (tables_of a) (tables_of c) = λ named. record {
-        id = id;
-        found = one.1.0;
-        person = person;
-        named = named;
-        made = two.1 ∙ ap (set_session (session_row_of lab id person session)) one.1.1;
-      } in
-      (two.0, set);
-  sound = λ typed rules. q.sound (p.made typed).0 (p.sound typed rules);
 }

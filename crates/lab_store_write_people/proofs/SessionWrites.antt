@@ -1,28 +1,54 @@
 -- What each statement on sessions means, and what it makes of the tables.
-use Rattle.std.proofs.Common.{◌≡◌, ℕ, ℤ, pos, List, [], ◌∷◌, codes, Ok, refl, ap, subst, int_eq}
+use Rattle.std.proofs.Common.{◌≡◌, inl, inr, ℕ, ℤ, ◌<ℤ◌, pos, Bool, true, false, not, ◌&&◌, cond, List, [], ◌∷◌, filter, slice_get, codes, option_map, Ok, refl, sym, ap, ap₂, subst, ◌∙◌, arith, int_eq, bytes_eq}
+use Rattle.std.specs.Ordering.{is_eq, is_ne}
+use Rattle.std.proofs.lemmas.Int.{ints}
+use Rattle.std.proofs.lemmas.Bool.{and_parts, and_from, not-true, both_ways}
+use Rattle.std.proofs.lemmas.Map.Text.{is_eq-slice_cmp}
+use Rattle.sqlite_value.specs.declared.keys.Collation.TheVariants.{Binary}
 use Rattle.sqlite_value.specs.declared.value.Value.TheVariants.{Null, Int, Blob}
-use Rattle.sqlite_value.specs.Order.{Row}
+use Rattle.sqlite_value.specs.Keys.{plain, first_key}
+use Rattle.sqlite_value.specs.Order.{Row, column}
+use Rattle.sqlite_value.proofs.OrderLemmas.{value_cmp-Int, value_cmp-Blob}
+use Rattle.sqlite_schema.specs.declared.schema.Constraint.TheVariants.{Unique}
+use Rattle.sqlite_schema.specs.declared.schema.Schema.{Schema}
 use Rattle.sqlite_schema.specs.declared.command.Command.TheVariants.{Insert, Update}
 use Rattle.sqlite_schema.specs.declared.command.Source.TheVariants.{Values}
+use Rattle.sqlite_schema.specs.Rules.{Obeys, agree, differ, clashes}
+use Rattle.sqlite_sql.specs.declared.ops.BinaryOp.TheVariants.{Compare}
+use Rattle.sqlite_sql.specs.declared.ops.CompareOp.TheVariants.{Eq}
+use Rattle.sqlite_sql.specs.Ops.{binary, is_true}
 use Rattle.sqlite_sql.specs.Term.{Term, lit, col}
 use Rattle.sqlite_tied.specs.Compute.{everything}
+use Rattle.sqlite_rules.specs.Lists.{Has}
 use Rattle.sqlite_rules.specs.Cast.{cast_row}
-use Rattle.sqlite_keyed.specs.Keyed.{next_key, insert_by}
+use Rattle.sqlite_rules.proofs.ListLemmas.{all_has, all_from, some_from, has_filtered, has_kept}
+use Rattle.sqlite_keyed.specs.Keyed.{IsKeyedBy, next_key, insert_by}
 use Rattle.sqlite_keyed.specs.Lists.{update_where}
-use Rattle.sqlite_keyed.proofs.KeyedLemmas.{IsKeyedBy-insert_by, IsKeyedBy-update_where, same_int}
+use Rattle.sqlite_keyed.specs.Rules.{AreApart}
+use Rattle.sqlite_keyed.proofs.ListLemmas.{ascending_weaker, slice_get-filter}
+use Rattle.sqlite_keyed.proofs.KeyedLemmas.{Less-from_lt, int_eq_apart, IsKeyedBy-insert_by, IsKeyedBy-update_where, same_int}
+use Rattle.sqlite.specs.Effect.{Database, IsDatabase}
 use Rattle.sqlite.specs.Listing.{understood}
 use Rattle.sqlite.specs.State.{State, Executes}
 use Rattle.sqlite.proofs.Callers.{IsPlain, command_of}
+use Rattle.lab_people_access.specs.declared.sessions.Session.{Session}
 use Rattle.lab_store_tables.specs.Schema.{lab_schema}
 use Rattle.lab_store_tables.specs.Schema as schema
-use Rattle.lab_store_tables.specs.Rows.{SessionRow, session_row, session_id, tables_in, number, flag}
-use Rattle.lab_store_tables.specs.Changes.{put_session, set_session}
+use Rattle.lab_store_tables.specs.Rows.{SessionRow, Tables, session_row, session_id, tables_in, number, flag}
+use Rattle.lab_store_tables.specs.Changes.{is_session, put_session, session_row_of}
 use Rattle.lab_store_tables.specs.Held.{IsTyped}
+use Rattle.lab_store_laws.proofs.LabLaws.{same_id}
+use Rattle.lab_store_laws.proofs.RowSet.{map_alike}
 use Rattle.lab_store_laws.proofs.HeldLaws.{stored_if_typed, held_if_stored}
+use Rattle.lab_store_columns.proofs.Texts.{is_param}
+use Rattle.lab_store_columns.proofs.Sorted.{truth_is, equal_ints, and_true}
+use Rattle.lab_store_columns.proofs.Lists.{int_alike, text_is, text_alike}
 use Rattle.lab_store_write.proofs.Tables.{stored_sessions, rising_sessions}
 use Rattle.lab_store_write.proofs.Columns.{cast_flag, session_stays}
-use Rattle.lab_store_write.proofs.Writes.{cast_int, cast_null, by_id_query, set_by_id, update_same, add_next}
+use Rattle.lab_store_write.proofs.Writes.{cast_int, cast_null, by_tests_query, add_next}
+use Rattle.lab_store_write.proofs.ByKey.{set_by_key}
 use Rattle.lab_store_write.proofs.Inside.{Wrote}
+use Rattle.lab_store_write_people.specs.Added.{SetsIfAny}
 
 -- ---- a row more of sessions
 
@@ -60,34 +86,116 @@ adds_session one old new count typed next did =
       sound = it.sound;
     }
 
--- ---- a row of sessions set, but its ids
+-- ---- values that are equal, and ids that differ
+
+equal_blobs : (s t : List ℕ) → is_true (binary (Compare Eq Binary) (Blob s) (Blob t)) ≡ bytes_eq s t
+unfolding binary
+equal_blobs s t = truth_is _ ∙ ap is_eq (value_cmp-Blob s t) ∙ is_eq-slice_cmp s t
+
+ids_differ : (a b : ℤ) → a <ℤ b → differ (Int a) (Int b) ≡ true
+unfolding binary
+ids_differ a b low = truth_is _ ∙ ap is_ne (value_cmp-Int a b ∙ Less-from_lt a b low)
+
+-- ---- the row of a token set
 
 abbrev pub set_session_text : List ℕ
-set_session_text = codes "UPDATE sessions SET lab = ?2, person = ?3, number = ?4, token = ?5, opened = ?6, last = ?7, closed = ?8, signed = ?9 WHERE id = ?1"
+set_session_text = codes "UPDATE sessions SET person = ?3, number = ?4, opened = ?5, last = ?6, closed = ?7, signed = ?8 WHERE lab = ?1 AND token = ?2"
+
+abbrev set_session_tests : List Term
+set_session_tests = is_param 2 0 ∷ is_param 5 1 ∷ []
 
 abbrev set_session_shown : List Term
-set_session_shown = col 1 0 ∷ col 1 0 ∷ lit Null ∷ col 0 1 ∷ col 0 2 ∷ col 0 3 ∷ col 0 4 ∷ col 0 5 ∷ col 0 6 ∷ col 0 7 ∷ col 0 8 ∷ []
+set_session_shown = col 1 0 ∷ col 1 0 ∷ lit Null ∷ col 1 2 ∷ col 0 2 ∷ col 0 3 ∷ col 1 5 ∷ col 0 4 ∷ col 0 5 ∷ col 0 6 ∷ col 0 7 ∷ []
 
 set_session_plain : IsPlain (understood lab_schema set_session_text)
 unfolding understood everything
 set_session_plain = (refl, refl)
 
-set_session_is : command_of (understood lab_schema set_session_text) ≡ Update 3 (record { lets = []; body = by_id_query 5 set_session_shown })
+set_session_is : command_of (understood lab_schema set_session_text) ≡ Update 3 (record { lets = []; body = by_tests_query 5 set_session_tests set_session_shown })
 unfolding understood everything
 set_session_is = refl
 
-pub sets_session : (row : SessionRow) (old new : State) (count : ℕ) → IsTyped old.now → Executes set_session_text (Int row.id ∷ session_values row) old new (Ok count)
-    → Wrote (set_session row (tables_in old.now.trees)) new.now
-sets_session row old new count typed did =
+-- the laboratory and the token, and then what is set
+abbrev pub set_session_values : ℤ → ℤ → Session → Row
+set_session_values lab person session = Int lab ∷ Blob session.token ∷ Int person ∷ number session.number ∷ number session.opened ∷ number session.last ∷ flag session.closed ∷ flag session.signed ∷ []
+
+module _ (lab : ℤ) (token : List ℕ) where
+  token_agrees : (a b : SessionRow) → is_session lab token a ≡ true → is_session lab token b ≡ true → agree plain (2 ∷ 5 ∷ []) (session_row a) (2 ∷ 5 ∷ []) (session_row b) ≡ true
+  unfolding first_key
+  token_agrees a b has_a has_b =
+      let one = and_parts (int_eq a.lab lab) (bytes_eq a.token token) has_a in
+      let two = and_parts (int_eq b.lab lab) (bytes_eq b.token token) has_b in
+      ap₂ ◌&&◌ (equal_ints a.lab b.lab) (and_true _ ∙ equal_blobs a.token b.token)
+      ∙ and_from _ _ (int_alike a.lab b.lab (same_int a.lab lab one.0 ∙ sym (same_int b.lab lab two.0)))
+      (text_alike a.token b.token (text_is a.token token one.1 ∙ sym (text_is b.token token two.1)))
+
+  -- a database that obeys its rules has no two rows of one laboratory with one token
+  one_token : (db : Database) → db.schema ≡ lab_schema → IsDatabase db → (a b : SessionRow) → is_session lab token a ≡ true → is_session lab token b ≡ true → a.id <ℤ b.id
+      → Has (db.trees 5) (session_row a) → Has (db.trees 5) (session_row b) → ⊥
+  one_token db schema rules a b is_a is_b low has_a has_b =
+      let places : List ℕ = 2 ∷ 5 ∷ [] in
+      let obeys = subst (λ (s : Schema). Obeys s db.trees) schema rules.obeys in
+      let rule = all_has _ (db.trees 5) (session_row b) (obeys.rules Unique).1.1.1.0 has_b in
+      let none = not-true _ (and_parts (not (clashes plain places (db.trees 5) (session_row b))) _ rule).0 in
+      let some : clashes plain places (db.trees 5) (session_row b) ≡ true =
+      some_from (λ (x : Row). agree plain places x places (session_row b) && differ (column x 0) (column (session_row b) 0)) (db.trees 5) (session_row a) has_a
+      (and_from _ _ (token_agrees a b is_a is_b) (ids_differ a.id b.id low)) in
+      both_ways _ none some
+
+-- a test that one row passes sets that row
+module _ (mine : SessionRow → Bool) (next : SessionRow → SessionRow) (xs : List SessionRow) (rise : IsKeyedBy session_id xs) (one : SessionRow) (found : filter mine xs ≡ one ∷ []) where
+  is_one : (x : SessionRow) → Has xs x → mine x ≡ true → x ≡ one
+  is_one x has is = go (subst (λ (l : List SessionRow). Has l x) found (has_kept mine xs x has is))
+    where
+      go : Has (one ∷ []) x → x ≡ one
+      go (inl same) = same
+      go (inr none) = absurd none
+
+  there : Has xs one × (mine one ≡ true)
+  there = has_filtered mine xs one (subst (λ (l : List SessionRow). Has l one) (sym found) (inl refl))
+
+  sets_one : (row : SessionRow) → row.id ≡ one.id → next one ≡ row → update_where mine next xs ≡ update_where (λ (x : SessionRow). int_eq x.id row.id) (λ (x : SessionRow). row) xs
+  sets_one row id is =
+      map_alike _ _ xs (all_from _ xs (λ x has. go x has (mine x) refl))
+    where
+      own : AreApart (λ (a b : SessionRow). int_eq a.id b.id) xs
+      own = ascending_weaker (λ (a b : SessionRow). a.id <ℤ b.id) (λ (a b : SessionRow). int_eq a.id b.id ≡ false) (λ a b low. grind (arith, ints)) xs rise
+
+      go : (x : SessionRow) → Has xs x → (b : Bool) → mine x ≡ b → cond b (next x) x ≡ cond (int_eq x.id row.id) row x
+      go x has true e =
+          let same = is_one x has e in
+          ap next same ∙ is ∙ sym (ap (λ (b : Bool). cond b row x) (int_alike x.id row.id (ap session_id same ∙ sym id)))
+      go x has false e =
+          let other : int_eq x.id row.id ≡ false =
+          int_eq_apart x.id row.id (λ same. let yes = ap mine (same_id session_id xs x one own has there.0 (same ∙ id)) ∙ there.1 in cc) in
+          sym (ap (λ (b : Bool). cond b row x) other)
+
+pub sets_session : (lab person : ℤ) (session : Session) (old new : State) (count : ℕ) → IsTyped old.now → Executes set_session_text (set_session_values lab person session) old new (Ok count)
+    → (t : Tables) × Wrote t new.now × SetsIfAny lab person session count (tables_in old.now.trees) t
+sets_session lab person session old new count typed did =
     let t = tables_in old.now.trees in
-    let mine = λ (one : SessionRow). int_eq one.id row.id in
-    let next = λ (one : SessionRow). record row { id = one.id } in
+    let mine = is_session lab session.token in
+    let next = λ (one : SessionRow). record one { person = person; number = session.number; opened = session.opened; last = session.last; closed = session.closed; signed = session.signed } in
     let rows = update_where mine next t.sessions in
-    let it = set_by_id schema.sessions session_id session_row (λ _. (refl, refl)) session_stays 3 refl (λ _. refl) set_session_text set_session_shown set_session_plain set_session_is row.id (session_values row) next (λ _. refl) (λ _. refl) old new count t.sessions typed.schema typed.sessions typed.rising.sessions did in
-    let same : rows ≡ update_where mine (λ (one : SessionRow). row) t.sessions = update_same mine next (λ (one : SessionRow). row) (λ one here. ap (λ (id : ℤ). record row { id = id }) (same_int one.id row.id here)) t.sessions in
-    subst (λ (l : List SessionRow). Wrote (record t { sessions = l }) new.now) same
-    (record {
-      held = held_if_stored new.now (record t { sessions = rows }) it.schema (stored_sessions old.now.trees new.now.trees t rows (stored_if_typed old.now typed) it.spared it.rows)
+    let it = set_by_key schema.sessions session_id session_row (λ _. (refl, refl)) session_stays 3 refl (λ _. refl) set_session_text set_session_tests set_session_shown set_session_plain set_session_is
+    (set_session_values lab person session) mine next (λ x. ap₂ ◌&&◌ (equal_ints x.lab lab) (and_true _ ∙ equal_blobs x.token session.token)) (λ _. refl) (λ _. refl)
+    (λ db named rules a b. one_token lab session.token db named rules (next a) (next b)) old new count t.sessions typed.schema typed.sessions typed.rising.sessions did in
+    let after = record t { sessions = rows } in
+    let wrote : Wrote after new.now = record {
+      held = held_if_stored new.now after it.replaced.schema (stored_sessions old.now.trees new.now.trees t rows (stored_if_typed old.now typed) it.replaced.spared it.replaced.rows)
           (rising_sessions t rows typed.rising (IsKeyedBy-update_where session_id mine next (λ _. refl) t.sessions typed.rising.sessions));
-      sound = it.sound;
-    })
+      sound = it.replaced.sound;
+    } in
+    let set : SetsIfAny lab person session count t after = λ asked.
+    let one = it.one asked.0 in
+    let row = session_row_of lab one.0.id person session in
+    let has = and_parts (int_eq one.0.lab lab) (bytes_eq one.0.token session.token) (there mine next t.sessions typed.rising.sessions one.0 one.1).1 in
+    let same : next one.0 ≡ row = λ i. record row { lab = same_int one.0.lab lab has.0 i; token = text_is one.0.token session.token has.1 i } in
+    record {
+      id = one.0.id;
+      found = ap (option_map session_id) (sym (slice_get-filter mine t.sessions) ∙ ap (λ (l : List SessionRow). slice_get l 0) one.1);
+      person = person;
+      named = asked.1;
+      made = ap (λ (l : List SessionRow). record t { sessions = l }) (sets_one mine next t.sessions typed.rising.sessions one.0 one.1 row refl same);
+    } in
+    (after, wrote, set)

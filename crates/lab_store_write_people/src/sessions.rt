@@ -2,15 +2,15 @@
 
 ghost use Rattle.std.specs.Prelude.{◌≡◌, Some};
 ghost use Rattle.lab_store_tables.specs.Rows.{LabRow};
-ghost use Rattle.lab_store_tables.specs.Changes.{in_lab, person_named, AddsSession, SetsSession, set_session as with_row, session_row_of};
-ghost use Rattle.lab_store_write.specs.Calls.{Writes, Becomes, MadeFrom};
-ghost use Rattle.lab_store_write_people.specs.Added.{with_session};
+ghost use Rattle.lab_store_tables.specs.Changes.{in_lab, person_named, AddsSession, SetsSession};
+ghost use Rattle.lab_store_write.specs.Calls.{Answers, Writes, Becomes, MadeFrom};
+ghost use Rattle.lab_store_write_people.specs.Added.{with_session, SetsIfAny};
 
 use lab_forms_texts::Ordinal;
 use lab_people_access::Session;
 use lab_store_write::statements::run;
 use lab_store_write::values::{blob_value, flag_value, id_value, moment_value, ordinal_value};
-use lab_store_write::{RowId, Writable, person_id_at, session_id_at};
+use lab_store_write::{RowId, Writable, person_id_at};
 use sqlite::Error;
 
 // Adds the row.
@@ -66,28 +66,25 @@ pub fn add_session<W: Writable>(tx: &mut W, lab: RowId, session: &Session) -> Re
     Ok(())
 }
 
-// Sets the row.
+// Sets the row of the laboratory that has the token, and returns how many rows it set.
 fn update_session<W: Writable>(
     tx: &mut W,
-    id: RowId,
     lab: RowId,
     person: RowId,
     session: &Session,
 ) -> Result<usize, Error>
-    ensures { Writes W.lender W.state
-        (Becomes (with_row (session_row_of lab.id id.id person.id session.now)))
+    ensures { Answers W.lender W.state (SetsIfAny lab.id person.id session.now)
         tx.old tx.new result }
 {
     let token = session.token.bytes();
     run(
         tx,
-        "UPDATE sessions SET lab = ?2, person = ?3, number = ?4, token = ?5, opened = ?6, last = ?7, closed = ?8, signed = ?9 WHERE id = ?1",
+        "UPDATE sessions SET person = ?3, number = ?4, opened = ?5, last = ?6, closed = ?7, signed = ?8 WHERE lab = ?1 AND token = ?2",
         &[
-            id_value(id),
             id_value(lab),
+            blob_value(&token),
             id_value(person),
             ordinal_value(session.number),
-            blob_value(&token),
             moment_value(session.opened),
             moment_value(session.last),
             flag_value(session.closed),
@@ -110,8 +107,10 @@ pub fn set_session_of<W: Writable>(
         (MadeFrom (λ t. person_named t lab.id session.now.person ≡ Some person.id)
         (SetsSession lab.id session.now)) tx.old tx.new result }
 {
-    let id = session_id_at(tx, lab, &session.token)?;
-    update_session(tx, id, lab, person, session)?;
+    let count = update_session(tx, lab, person, session)?;
+    if count == 0 {
+        return Err(Error::QueryReturnedNoRows);
+    }
     Ok(())
 }
 

@@ -8,16 +8,15 @@ use Rattle.sqlite_sql.specs.Term.{Term, col}
 use Rattle.sqlite_tied.specs.Compute.{everything}
 use Rattle.sqlite.specs.Listing.{understood}
 use Rattle.sqlite.specs.State.{State, Shown}
-use Rattle.lab_store_tables.specs.Rows.{RecordRow, VersionRow, EntryRow, SignatureRow, Tables, tables_in, record_row, record_id, version_row, version_id, entry_row, entry_id, signature_row, signature_id, number}
-use Rattle.lab_store_tables.specs.Changes.{is_record_row, record_named, is_version_row, version_named}
+use Rattle.lab_store_tables.specs.Rows.{RecordRow, EntryRow, SignatureRow, Tables, tables_in, record_row, record_id, entry_row, entry_id, signature_row, signature_id, number}
+use Rattle.lab_store_tables.specs.Changes.{is_record_row, record_named}
 use Rattle.lab_store_tables.specs.Held.{IsTyped}
 use Rattle.lab_store_columns.proofs.Texts.{Means, is_param}
 use Rattle.lab_store_columns.proofs.Sorted.{equal_ints, equal_numbers, and_true}
 use Rattle.lab_store_write.specs.Calls.{Steps, Finds}
-use Rattle.lab_store_write.specs.Ids.{id_read}
 use Rattle.lab_store_write.proofs.Inside.{steps_weaker}
-use Rattle.lab_store_write.proofs.Lookups.{by_key_query, rows_by_key, first_key}
-use Rattle.lab_store_write_records.specs.VersionsShown.{records_shown, versions_shown, is_entry_of, is_signature_of, entries_shown, signatures_shown, record_read, record_pair}
+use Rattle.lab_store_write.proofs.Lookups.{by_key_query, rows_by_key}
+use Rattle.lab_store_write_records.specs.VersionsShown.{records_shown, is_entry_of, is_signature_of, entries_shown, signatures_shown, record_read, record_pair}
 
 -- ---- a record, with its current version
 
@@ -59,40 +58,6 @@ record_found lab given wanted shown rows pair old new same slice it first =
     (λ before after found. (
       ap (λ (n : ℕ). option_map record_pair (record_named before lab n)) (sym same) ∙ sym (first_record lab given before)
           ∙ ap (λ (l : List Row). option_map record_read (slice_get l 0)) (sym (slice ∙ found.0)) ∙ first,
-      found.1,
-    ))
-    it
-
--- ---- a version of a record
-
-abbrev pub version_text : List ℕ
-version_text = codes "SELECT id FROM versions WHERE record = ?1 AND number = ?2 ORDER BY id"
-
-abbrev version_tests : List Term
-version_tests = is_param 2 0 ∷ is_param 3 1 ∷ []
-
-pub version_means : Means version_text (by_key_query 18 version_tests (col 1 0 ∷ [])) (codes "id" ∷ [])
-unfolding understood everything
-version_means = record { read = (_, refl); command = refl; unlisted = refl; plain = (refl, refl) }
-
-pub versions_read : (old new : State) (kept : ℤ) (wanted : ℕ) (rows : List Row) → IsTyped old.now
-    → Shown version_text (Int kept ∷ number wanted ∷ []) old new rows → rows ≡ versions_shown kept wanted (tables_in old.now.trees)
-versions_read old new kept wanted rows typed h =
-    let t = tables_in old.now.trees in
-    rows_by_key 18 version_id version_row (λ _. refl) t.versions (overlay old.now.trees []) typed.versions typed.rising.versions
-    version_text version_tests (col 1 0 ∷ []) (codes "id" ∷ []) version_means
-    (Int kept ∷ number wanted ∷ []) (is_version_row kept wanted) (λ (one : VersionRow). Int one.id ∷ [])
-    (λ x. ap₂ ◌&&◌ (equal_ints x.kept kept) (and_true _ ∙ equal_numbers x.number wanted)) (λ x. refl)
-    old new typed.schema refl rows h
-
-pub version_found : (kept : ℤ) (given wanted : ℕ) (shown rows : List Row) (id : ℤ) (old new : State) → given ≡ wanted → shown ≡ rows
-    → Steps (Finds (λ t. rows ≡ versions_shown kept given t)) old new
-    → option_map id_read (slice_get shown 0) ≡ Some id → Steps (Finds (λ t. version_named t kept wanted ≡ Some id)) old new
-version_found kept given wanted shown rows id old new same slice it first =
-    steps_weaker (Finds (λ t. rows ≡ versions_shown kept given t)) (Finds (λ t. version_named t kept wanted ≡ Some id)) old new
-    (λ before after found. (
-      ap (λ (n : ℕ). version_named before kept n) (sym same) ∙ sym (first_key version_id (is_version_row kept given) before.versions)
-          ∙ ap (λ (l : List Row). option_map id_read (slice_get l 0)) (sym (slice ∙ found.0)) ∙ first,
       found.1,
     ))
     it

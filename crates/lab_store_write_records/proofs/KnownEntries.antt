@@ -1,15 +1,15 @@
 -- Values from outside, computed on the definitions over the small file of lab_store_tables: which rows a
 -- look-up shows, in the order of their ids, and the row that each call adds (docs/TABLES.md).
-use Rattle.std.proofs.Common.{◌≡◌, ◌++◌, ℤ, pos, [], ◌∷◌, Some, refl}
+use Rattle.std.proofs.Common.{◌≡◌, ◌++◌, ℤ, pos, [], ◌∷◌, Some, None, refl}
 use Rattle.std.specs.Prelude.{codes}
-use Rattle.sqlite_value.specs.declared.value.Value.TheVariants.{Int}
+use Rattle.sqlite_value.specs.declared.value.Value.TheVariants.{Null, Int}
 use Rattle.sqlite_value.specs.Order.{Row}
 use Rattle.lab_seal_versions.specs.declared.seals.Meaning.TheVariants.{Rejection}
 use Rattle.lab_seal_versions.specs.declared.rows.EntryRow.{EntryRow as Entry}
 use Rattle.lab_records_kept.specs.declared.records.Signature.{Signature}
 use Rattle.lab_store_tables.proofs.KnownFile.{filled, file, entry, signature}
 use Rattle.lab_store_write_records.specs.EntriesAdded.{with_entry, with_signature}
-use Rattle.lab_store_write_records.specs.VersionsShown.{records_shown, versions_shown, entries_shown, signatures_shown, record_read}
+use Rattle.lab_store_write_records.specs.VersionsShown.{records_shown, current_of, version_in_record, versions_shown, entries_shown, signatures_shown, record_read}
 
 -- a row that shows an id
 abbrev shown : ℤ → Row
@@ -17,11 +17,17 @@ shown id = Int id ∷ []
 
 -- ---- look-ups
 
--- of the one laboratory, the number and the version alone
+-- of the one laboratory and the number alone
 pub known_keys : (records_shown (pos 7) 1 file ≡ (Int (pos 3) ∷ Int (pos 2) ∷ []) ∷ [])
-    × (records_shown (pos 3) 2 file ≡ []) × (versions_shown (pos 3) 2 file ≡ shown (pos 3) ∷ [])
-    × (versions_shown (pos 1) 2 file ≡ []) × (record_read (Int (pos 3) ∷ Int (pos 2) ∷ []) ≡ (pos 3, 2))
-known_keys = (refl, refl, refl, refl, refl)
+    × (records_shown (pos 3) 2 file ≡ []) × (record_read (Int (pos 3) ∷ Int (pos 2) ∷ []) ≡ (pos 3, 2))
+known_keys = (refl, refl, refl)
+
+-- the current version, or another one; NULL where the record has none of the number, and no row where there is no record
+pub known_versions : (versions_shown current_of (pos 7) 1 file ≡ shown (pos 3) ∷ []) × (versions_shown (λ _. 1) (pos 7) 1 file ≡ shown (pos 1) ∷ [])
+    × (versions_shown current_of (pos 3) 1 file ≡ shown (pos 2) ∷ []) × (versions_shown (λ _. 3) (pos 7) 1 file ≡ (Null ∷ []) ∷ [])
+    × (versions_shown current_of (pos 3) 2 file ≡ []) × (version_in_record current_of file (pos 7) 1 ≡ Some (pos 3))
+    × (version_in_record (λ _. 3) file (pos 7) 1 ≡ None) × (version_in_record current_of file (pos 3) 2 ≡ None)
+known_versions = (refl, refl, refl, refl, refl, refl, refl, refl)
 
 -- in the order of their ids, which isn't that of their places
 pub known_parents : (entries_shown (pos 1) file ≡ shown (pos 1) ∷ shown (pos 2) ∷ shown (pos 5) ∷ [])

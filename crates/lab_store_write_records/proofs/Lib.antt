@@ -10,3 +10,4 @@ pub mod KnownRecords
 pub mod RecordKeyLemmas
 pub mod RecordWrites
 pub mod RecordsInTurn
+pub mod VersionKeyLemmas

@@ -1,17 +1,16 @@
 -- Steps of several calls that add rows in turn: versions and records.
-use Rattle.std.proofs.Common.{◌≡◌, ℕ, ℤ, Some, option_map, sym, ap, subst, ◌∙◌}
+use Rattle.std.proofs.Common.{◌≡◌, ℕ, ℤ, Option, Some, None, option_map, refl, sym, ap, subst, ◌∙◌}
 use Rattle.sqlite_keyed.specs.Keyed.{next_key}
 use Rattle.sqlite_keyed.proofs.KeyedLemmas.{next_key_is_free}
 use Rattle.sqlite.specs.State.{State}
 use Rattle.lab_records_kept.specs.declared.records.Record.{Record}
 use Rattle.lab_records_kept.specs.declared.records.Version.{Version}
-use Rattle.lab_store_tables.specs.Rows.{LabRow, Tables, record_id, version_id}
+use Rattle.lab_store_tables.specs.Rows.{LabRow, RecordRow, Tables, record_id, version_id}
 use Rattle.lab_store_tables.specs.Changes.{in_lab, person_named, form_named, record_named, InTurn, IsFree, put_record, record_row_of, put_version, version_row_of, set_current, AddsEntry, AddsSignature, AddsVersion, AddsRecord, OpensVersion}
 use Rattle.lab_store_tables.specs.Ready.{tables_of}
 use Rattle.lab_store_write.specs.Calls.{Steps, Finds}
 use Rattle.lab_store_write_records.specs.VersionsShown.{record_pair}
 use Rattle.lab_store_write_records.specs.RecordsAdded.{with_record, with_version}
-use Rattle.lab_store_write_records.proofs.Added.{pair_of}
 
 pub version_added : (lab kept : ℤ) (version : Version) (opener id : ℤ) (a b c d e : State)
     → Steps (Finds (λ t. person_named t lab version.opener ≡ Some opener)) a b
@@ -70,6 +69,12 @@ record_added lab kept form id a b c d e p q r s = record {
   sound = λ typed rules. let one = p.made typed in let two = q.made one.0 in s.sound (r.made two.0).0 (r.sound two.0 (q.sound one.0 (p.sound typed rules)));
 }
 
+-- the row that a pair was read of
+row_of_pair : (o : Option RecordRow) (id : ℤ) (current : ℕ) → option_map record_pair o ≡ Some (id, current)
+    → (kept : RecordRow) × (o ≡ Some kept) × (kept.id ≡ id)
+row_of_pair None id current h = absurd cc
+row_of_pair (Some kept) id current h = let same : (kept.id, kept.current) ≡ (id, current) = cc in (kept, refl, ap (λ (p : ℤ × ℕ). p.0) same)
+
 pub version_opened : (lab : ℤ) (wanted : ℕ) (version : Version) (id : ℤ) (current : ℕ) (a b c d : State)
     → Steps (Finds (λ t. option_map record_pair (record_named t lab wanted) ≡ Some (id, current))) a b
     → Steps (AddsVersion lab id version) b c → Steps (λ before after. after ≡ set_current id version.origin.number before) c d
@@ -80,7 +85,7 @@ version_opened lab wanted version id current a b c d p q r = record {
       let one = p.made typed in
       let two = q.made one.0 in
       let three = r.made two.0 in
-      let it = pair_of (record_named (tables_of a) lab wanted) id current one.1.0 in
+      let it = row_of_pair (record_named (tables_of a) lab wanted) id current one.1.0 in
       let opened : OpensVersion lab wanted version (tables_of a) (tables_of d) = record {
         kept = it.0;
         found = it.1;

@@ -1,11 +1,13 @@
--- What each look-up shows: the rows that have the key, or a parent, in the order of their ids.
-use Rattle.std.specs.Prelude.{ℕ, ℤ, Bool, List, [], ◌∷◌, map, filter}
+-- What each look-up shows: the rows that have a key or a parent, by their ids, or NULL where a
+-- record has no such version.
+use Rattle.std.specs.Prelude.{ℕ, ℤ, Bool, List, [], ◌∷◌, map, filter, flat_map, Option, option_and_then}
 use Rattle.std.specs.Ordering.{int_eq}
-use Rattle.sqlite_value.specs.declared.value.Value.TheVariants.{Int}
+use Rattle.sqlite_value.specs.declared.value.Value.{Value}
+use Rattle.sqlite_value.specs.declared.value.Value.TheVariants.{Null, Int}
 use Rattle.sqlite_value.specs.Order.{Row, column}
 use Rattle.sqlite_rules.specs.Edit.{id_in}
 use Rattle.lab_store_tables.specs.Rows.{RecordRow, VersionRow, EntryRow, SignatureRow, Tables, number, number_in}
-use Rattle.lab_store_tables.specs.Changes.{is_record_row, is_version_row}
+use Rattle.lab_store_tables.specs.Changes.{is_record_row, record_named, is_version_row, version_named}
 
 -- a record by its id and its current version
 abbrev pub records_shown : ℤ → ℕ → Tables → List Row
@@ -13,9 +15,27 @@ records_shown lab wanted t =
     map (λ (one : RecordRow). Int one.id ∷ number one.current ∷ [])
     (filter (is_record_row lab wanted) t.records)
 
-abbrev pub versions_shown : ℤ → ℕ → Tables → List Row
-versions_shown kept wanted t =
-    map (λ (one : VersionRow). Int one.id ∷ []) (filter (is_version_row kept wanted) t.versions)
+-- ---- a version of the record of a number; the version's number may stand in the record
+
+abbrev pub current_of : RecordRow → ℕ
+current_of kept = kept.current
+
+abbrev pub version_in_record : (RecordRow → ℕ) → Tables → ℤ → ℕ → Option ℤ
+version_in_record which t lab wanted =
+    option_and_then (λ (kept : RecordRow). version_named t kept.id (which kept))
+    (record_named t lab wanted)
+
+-- the ids of versions, or a row of NULL where there are none
+abbrev pub ids_or_null : List VersionRow → List Row
+ids_or_null [] = (Null ∷ []) ∷ []
+ids_or_null (one ∷ others) = map (λ (one : VersionRow). Int one.id ∷ []) (one ∷ others)
+
+-- for each record of the number its rows, so that the first row is the first record's
+abbrev pub versions_shown : (RecordRow → ℕ) → ℤ → ℕ → Tables → List Row
+versions_shown which lab wanted t =
+    flat_map (λ (kept : RecordRow).
+    ids_or_null (filter (is_version_row kept.id (which kept)) t.versions))
+    (filter (is_record_row lab wanted) t.records)
 
 -- ---- rows of one parent
 
@@ -40,3 +60,6 @@ record_read row = (id_in (column row 0), number_in (column row 1))
 
 abbrev pub record_pair : RecordRow → ℤ × ℕ
 record_pair kept = (kept.id, kept.current)
+
+abbrev pub first_value : Row → Value
+first_value row = column row 0

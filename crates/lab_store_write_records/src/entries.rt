@@ -6,7 +6,7 @@ ghost use Rattle.lab_store_tables.specs.Changes.{AppliesIn, AddsEntry, person_na
 ghost use Rattle.lab_store_write.specs.Calls.{Writes, Becomes, MadeFrom};
 ghost use Rattle.lab_store_write_records.specs.EntriesAdded.{with_entry, AddsEntryOf};
 
-use crate::named::{record_at, version_id_at};
+use crate::named::current_version_at;
 use crate::places::entry_place;
 use crate::texts::note_or_null;
 use lab_forms_texts::Ordinal;
@@ -93,10 +93,8 @@ pub fn enter_row_of<W: Writable>(
         (MadeFrom (λ t. person_named t lab.id entry.now.person ≡ Some person.id)
         (AppliesIn lab.id (RowAdded wanted entry.now))) tx.old tx.new result }
 {
-    let kept = record_at(tx, lab, wanted)?;
-    let version = version_id_at(tx, kept.id, kept.current)?;
-    add_entry_of(tx, version, person, entry)?;
-    Ok(())
+    let version = current_version_at(tx, lab, wanted)?;
+    add_entry_of(tx, version, person, entry)
 }
 
 /// Adds an entry in the current version of a record.

@@ -1,13 +1,14 @@
 //! Records and versions that are named by keys of the tables.
 
 ghost use Rattle.std.specs.Prelude.{◌≡◌, Some, option_map, slice_get, IfOk};
-ghost use Rattle.lab_store_tables.specs.Changes.{record_named, version_named};
+ghost use Rattle.sqlite_value.specs.declared.value.Value.TheVariants.{Int};
+ghost use Rattle.lab_store_tables.specs.Changes.{record_named};
 ghost use Rattle.lab_store_write.specs.Calls.{Answers, Finds};
-ghost use Rattle.lab_store_write_records.specs.VersionsShown.{records_shown, versions_shown, record_read, record_pair};
+ghost use Rattle.lab_store_write_records.specs.VersionsShown.{records_shown, record_read, record_pair, current_of, version_in_record, versions_shown, first_value};
 
 use lab_forms_texts::Ordinal;
-use lab_store_write::values::{id_value, ordinal_value, small_value};
-use lab_store_write::{RowId, Writable, first_id};
+use lab_store_write::values::{id_value, ordinal_value};
+use lab_store_write::{RowId, Writable};
 use sqlite::{Error, Row};
 
 /// A record, with the number of its current version.
@@ -66,29 +67,81 @@ pub fn record_at<W: Writable>(tx: &mut W, lab: RowId, wanted: Ordinal) -> Result
     first_record(&rows)
 }
 
-// The rows of the version of the record.
-fn version_rows<W: Writable>(tx: &mut W, kept: RowId, wanted: u32) -> Result<Vec<Row>, Error>
+// The version that the first row shows. Where there is no row, or the row shows NULL, no version is named.
+fn first_version(rows: &[Row]) -> Result<RowId, Error>
+    ensures { IfOk result (λ one.
+        option_map first_value (slice_get rows.now 0) ≡ Some (Int one.id)) }
+{
+    let shown = match rows.first() {
+        Some(row) => row.get(0)?,
+        None => None,
+    };
+    match shown {
+        Some(id) => Ok(RowId { id }),
+        None => Err(Error::QueryReturnedNoRows),
+    }
+}
+
+// The rows of the current version of the record of the number, in the laboratory.
+fn current_rows<W: Writable>(tx: &mut W, lab: RowId, wanted: Ordinal) -> Result<Vec<Row>, Error>
     ensures { Answers W.lender W.state
-        (λ rows. Finds (λ t. rows.items ≡ versions_shown kept.id wanted t)) tx.old tx.new result }
+        (λ rows. Finds (λ t. rows.items ≡ versions_shown current_of lab.id wanted t))
+        tx.old tx.new result }
 {
     tx.query_all(
-        "SELECT id FROM versions WHERE record = ?1 AND number = ?2 ORDER BY id",
-        &[id_value(kept), small_value(wanted)],
+        "SELECT versions.id FROM records LEFT JOIN versions ON versions.record = records.id AND versions.number = records.current WHERE records.lab = ?1 AND records.number = ?2 ORDER BY records.id, versions.id",
+        &[id_value(lab), ordinal_value(wanted)],
     )
 }
 
-/// The version of the record.
+/// The current version of the record of the number, in the laboratory.
 ///
 /// # Errors
 /// Those of `Writable`, and that there is none.
-pub(crate) fn version_id_at<W: Writable>(
+pub(crate) fn current_version_at<W: Writable>(
     tx: &mut W,
-    kept: RowId,
-    wanted: u32,
+    lab: RowId,
+    wanted: Ordinal,
 ) -> Result<RowId, Error>
     ensures { Answers W.lender W.state
-        (λ one. Finds (λ t. version_named t kept.id wanted ≡ Some one.id)) tx.old tx.new result }
+        (λ one. Finds (λ t. version_in_record current_of t lab.id wanted ≡ Some one.id))
+        tx.old tx.new result }
 {
-    let rows = version_rows(tx, kept, wanted)?;
-    first_id(&rows)
+    let rows = current_rows(tx, lab, wanted)?;
+    first_version(&rows)
+}
+
+// The rows of the version of the record of the number, in the laboratory.
+fn version_rows<W: Writable>(
+    tx: &mut W,
+    lab: RowId,
+    wanted: Ordinal,
+    version: Ordinal,
+) -> Result<Vec<Row>, Error>
+    ensures { Answers W.lender W.state
+        (λ rows. Finds (λ t. rows.items ≡ versions_shown (λ _. version) lab.id wanted t))
+        tx.old tx.new result }
+{
+    tx.query_all(
+        "SELECT versions.id FROM records LEFT JOIN versions ON versions.record = records.id AND versions.number = ?3 WHERE records.lab = ?1 AND records.number = ?2 ORDER BY records.id, versions.id",
+        &[id_value(lab), ordinal_value(wanted), ordinal_value(version)],
+    )
+}
+
+/// The version of the record of the number, in the laboratory.
+///
+/// # Errors
+/// Those of `Writable`, and that there is none.
+pub(crate) fn version_at<W: Writable>(
+    tx: &mut W,
+    lab: RowId,
+    wanted: Ordinal,
+    version: Ordinal,
+) -> Result<RowId, Error>
+    ensures { Answers W.lender W.state
+        (λ one. Finds (λ t. version_in_record (λ _. version) t lab.id wanted ≡ Some one.id))
+        tx.old tx.new result }
+{
+    let rows = version_rows(tx, lab, wanted, version)?;
+    first_version(&rows)
 }

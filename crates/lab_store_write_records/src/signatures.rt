@@ -6,7 +6,7 @@ ghost use Rattle.lab_store_tables.specs.Changes.{AppliesIn, AddsSignature, perso
 ghost use Rattle.lab_store_write.specs.Calls.{Writes, Becomes, MadeFrom};
 ghost use Rattle.lab_store_write_records.specs.EntriesAdded.{with_signature, AddsSignatureOf};
 
-use crate::named::{record_at, version_id_at};
+use crate::named::version_at;
 use crate::places::signature_place;
 use crate::texts::reason_or_null;
 use lab_forms_texts::Ordinal;
@@ -97,10 +97,8 @@ pub fn sign_version_of<W: Writable>(
         (MadeFrom (λ t. person_named t lab.id signature.now.person ≡ Some person.id)
         (AppliesIn lab.id (SignatureAdded wanted version signature.now))) tx.old tx.new result }
 {
-    let kept = record_at(tx, lab, wanted)?;
-    let signed = version_id_at(tx, kept.id, version.get())?;
-    add_signature_of(tx, signed, person, signature)?;
-    Ok(())
+    let signed = version_at(tx, lab, wanted, version)?;
+    add_signature_of(tx, signed, person, signature)
 }
 
 /// Adds a signature of a version of a record.

@@ -1,8 +1,13 @@
-use Rattle.lab_store_write.proofs.Writers.{and_two}
+use Rattle.std.proofs.Common.{◌≡◌, Some}
+use Rattle.lab_store_write.specs.declared.statements.RowId.{RowId}
+use Rattle.lab_store_write.proofs.Inside.{steps_weaker}
+use Rattle.lab_store_write.proofs.Writers.{and_given, answers_as}
+use Rattle.lab_store_write_records.specs.VersionsShown.{current_of, version_in_record}
 use Rattle.lab_store_write_records.proofs.Added.{row_entered}
 use Rattle.lab_store_write_records.proofs.entries.enter_row_of.Goals as goal
 
 pub returns : goal.returns
 returns g c =
-    and_two c.in_ok-kept.ensures c.in_ok-version.ensures c.in_ok-add_entry_of.ensures
-    (row_entered c.args.lab.id c.args.wanted c.args.entry.now c.args.person.id c.in_ok-kept.kept.id.id c.in_ok-kept.kept.current c.in_ok-version.version.id _ _ _ _)
+    and_given (λ (one : RowId) t. version_in_record current_of t c.args.lab.id c.args.wanted ≡ Some one.id) c.in_ok-version.ensures
+    (answers_as c.add_entry_of.ensures (λ _. steps_weaker _ _ _ _
+    (row_entered c.args.lab.id c.args.wanted c.args.entry.now c.args.person.id c.in_ok-version.version.id)))

@@ -1,0 +1,16 @@
+use Rattle.std.proofs.Common.{◌≡◌, [], ◌∷◌}
+use Rattle.sqlite_value.specs.declared.value.Value.TheVariants.{Int}
+use Rattle.sqlite.specs.Values.{bound}
+use Rattle.lab_store_write_records.specs.VersionsShown.{current_of, versions_shown}
+use Rattle.lab_store_tables.specs.Rows.{number}
+use Rattle.lab_store_write.proofs.Writers.{rows_found}
+use Rattle.lab_store_write_records.proofs.VersionKeyLemmas.{current_text, current_means, current_read}
+use Rattle.lab_store_write_records.proofs.named.current_rows.Goals as goal
+
+pub returns : goal.returns
+returns g c =
+    let it = c.query_all.ensures in
+    let given : bound (c.id_value.result ∷ c.ordinal_value.result ∷ []) ≡ Int c.args.lab.id ∷ number c.args.wanted ∷ [] = λ i. c.id_value.ensures i
+    ∷ c.ordinal_value.ensures i ∷ [] in
+    rows_found current_text current_means.read (Int c.args.lab.id ∷ number c.args.wanted ∷ []) (versions_shown current_of c.args.lab.id c.args.wanted)
+    given it.same_lender it.survives it.ok it.err (current_read _ _ c.args.lab.id c.args.wanted)
