@@ -1,4 +1,4 @@
-//! Codes of persons, by the ids of their rows.
+//! Codes of persons, by the ids of their rows. While several rows are read, each code is looked up once.
 
 ghost use Rattle.std.specs.Prelude.{◌≡◌, Some, option_map, slice_get, IfOk, IfErr, IsTrue};
 ghost use Rattle.lab_store_tables.specs.Meaning.{code_of};

@@ -49,7 +49,7 @@ pub struct EntryHead {
     pub value: Note,
     /// The value's unit.
     pub unit: Unit,
-    /// Whose row entered it.
+    /// The id of the person who entered it.
     pub person: i64,
     /// When it was entered.
     pub moment: Moment,
