@@ -7,7 +7,8 @@
 
 `labdesk serve` answers a batch of each kind over the file, as in bench/beside.py, by `valgrind --tool=callgrind`. Each
 function's own instructions, less those of what it calls, are counted to whose it is, by its name. A function that was put into its
-caller is counted to the caller.
+caller is counted to the caller. Below the table is printed how many statements a request of each kind
+runs: the calls of two functions of `sqlite`.
 """
 import collections
 import datetime
@@ -36,11 +37,13 @@ WHOSE = (
     ("`labdesk`", r"^lab_"),
     ("others", r""),
 )
+# The functions of `sqlite` that run a statement: one reads, one writes.
+RUNS = r"Connection::query_near\b|Transaction::execute\b"
 
 
-def own(dump):
-    """Each function's own instructions, by its name."""
-    names, counts, function, is_call = {}, collections.Counter(), None, False
+def instructions_and_calls(dump):
+    """Each function's own instructions, by its name, and how often each was called."""
+    names, counts, calls, function, called, is_call = {}, collections.Counter(), collections.Counter(), None, None, False
     with open(dump, errors="replace") as lines:
         for line in lines:
             if line.startswith(("fn=", "cfn=")):
@@ -50,14 +53,17 @@ def own(dump):
                     names[number] = name
                 if kind == "fn":
                     function = number
+                else:
+                    called = number
             elif line.startswith("calls="):
                 is_call = True
+                calls[names[called]] += int(line[len("calls="):].split()[0])
             elif re.match(r"[+*\d-]", line):
                 # (the line behind a call has what was called)
                 if not is_call:
                     counts[names[function]] += int(line.split()[-1])
                 is_call = False
-    return counts
+    return counts, calls
 
 
 def whose(counts):
@@ -68,8 +74,8 @@ def whose(counts):
 
 
 def measured(size, program, room):
-    """Each function's instructions a request, by the kind of request."""
-    found = {}
+    """Each function's instructions a request, by the kind of request, and the statements that it runs."""
+    found, statements = {}, {}
     file = str(room / "file")
     size.make(file)
     tokens, measure = begin(file, int(time.time())), Instructions(room)
@@ -83,8 +89,10 @@ def measured(size, program, room):
                     server.ask(one)
                 measure.end()
                 # (the first batch counts for nothing)
-                found[kind] = {name: count / len(requests) for name, count in own(measure.dumps()[-1]).items()}
-    return {kind: found[kind] for kind in SHOWN}
+                counts, calls = instructions_and_calls(measure.dumps()[-1])
+                found[kind] = {name: count / len(requests) for name, count in counts.items()}
+                statements[kind] = sum(count for name, count in calls.items() if re.search(RUNS, name)) / len(requests)
+    return {kind: found[kind] for kind in SHOWN}, statements
 
 
 def main(words):
@@ -96,7 +104,7 @@ def main(words):
     words = words[1:] if functions else words
     program = os.path.abspath(words[0]) if words else proved_program()
     with tempfile.TemporaryDirectory() as name:
-        found = measured(size, program, pathlib.Path(name))
+        found, statements = measured(size, program, pathlib.Path(name))
     row(["Whose instructions"] + [f"{KINDS[kind]}, thousands | share" for kind in SHOWN])
     print("|" + "---|" * (1 + 2 * len(SHOWN)))
     shares, totals = [whose(found[kind]) for kind in SHOWN], [sum(found[kind].values()) for kind in SHOWN]
@@ -107,6 +115,7 @@ def main(words):
         print(f"\n{KINDS[kind]}")
         for name, count in collections.Counter(found[kind]).most_common(40):
             print(f"{count:12,.0f}  {name}")
+    print("\nStatements a request: " + ", ".join(f"{KINDS[kind]} {count:.1f}" for kind, count in statements.items()))
     print(f"\n{datetime.date.today()}, load {os.getloadavg()[0]:.1f}")
     return 0
 
