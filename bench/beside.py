@@ -12,9 +12,10 @@ are played over another copy by a small C program (bench/plays.c). In the end bo
 All kinds of requests are asked for in batches, by turns. The first batch of each counts for nothing, and a figure is that of the least
 of the others, by the request. So the copying of the log into the file, at a thousand pages, is in none of them. A figure is either the
 instructions that the process which has the file runs outside the kernel, by `valgrind --tool=callgrind`; these are nearly the same
-from run to run. Or it is the processor's time of that process, the kernel's for it included. `labdesk` reads the request and writes the
-reply besides, and hashes; the C program does neither. The password of an opening and of a signature has 10,000 rounds of PBKDF2.
-What these take is taken off, and told below the table: a ninth of what an opening costs more by a password of 100,000 rounds.
+from run to run. Or it is the processor's time of that process, the kernel's for it included. The speed of a machine that others share
+changes by itself. So times are taken six times over all sizes, and the figure is the least of the six runs. `labdesk` reads the request and
+writes the reply besides, and hashes; the C program does neither. The password of an opening and of a signature has 10,000 rounds of
+PBKDF2. What these take is taken off, and told below the table: a ninth of what an opening costs more by a password of 100,000 rounds.
 
 It wants the Debian packages gcc and libsqlite3-dev, and valgrind for the instructions. A file has to be open within a quarter of an hour,
 or its sessions have ended before the first request.
@@ -38,8 +39,9 @@ from statements import Play  # noqa: E402
 import files  # noqa: E402
 
 GRIND = ["valgrind", "-q", "--tool=callgrind", "--instr-atstart=no"]
-# A batch that counts for nothing, and how many follow by which measure.
+# By which measure how many batches follow the one that counts for nothing, and how many runs there are.
 COUNTED = {"instructions": 2, "time": BATCHES - 1}
+RUNS = {"instructions": 1, "time": 6}
 WITH_PASSWORD = ("signing", "opening")
 # The openings by a password of 100,000 rounds, in a batch.
 LONG = 2
@@ -103,20 +105,21 @@ def total(dump):
     return int(re.search(r"^(?:summary|totals): (\d+)", dump.read_text(), re.M)[1])
 
 
-# ---- a size
+# ---- a run
 
 
 class Run:
-    """A size by a measure: what each request took of labdesk, and of the library."""
+    """A run over a size by a measure: what each request took of labdesk, and of the library."""
 
-    def __init__(self, size, base, room, measure, rounds):
-        self.size, self.measure, self.known = size, measure, rounds
+    def __init__(self, size, base, room, measure, long):
+        self.size, self.measure, self.long = size, measure, long
         self.ours, self.theirs, self.play = (str(room / name) for name in ("ours", "theirs", "play"))
         for file in (self.ours, self.theirs):
             forget(file + "-wal")
             forget(file + "-shm")
         shutil.copy(base, self.ours)
-        self.tokens = begin(self.ours, int(time.time()))
+        # (in the second before this one, so that the first reading of each session has to note its moment)
+        self.tokens = begin(self.ours, int(time.time()) - 1)
         shutil.copy(self.ours, self.theirs)
         self.batches, self.figures = [], {}
 
@@ -128,7 +131,7 @@ class Run:
             for batch in range(1 + COUNTED[type(self.measure).__name__.lower()]):
                 for kind in self.size.kinds:
                     self.batch(server, play, kind, self.size.requests(kind, batch))
-                if self.known is None:
+                if self.long:
                     self.batch(server, play, "long", [self.size.opens("dan") for _ in range(LONG)])
         with open(self.play, "w") as file:
             file.writelines(line + "\n" for line in play.lines)
@@ -155,14 +158,7 @@ class Run:
 
     def least(self, kind):
         """Of labdesk and of the library."""
-        ours, theirs = min(self.figures[kind][1:]), min(self.beside[kind][1:])
-        return ours - self.rounds() if kind in WITH_PASSWORD else ours, theirs
-
-    def rounds(self):
-        """What 10,000 rounds take. It is measured once, at the first size."""
-        if self.known is not None:
-            return self.known
-        return (min(self.figures["long"][1:]) - min(self.figures["opening"][1:])) / 9
+        return min(self.figures[kind][1:]), min(self.beside[kind][1:])
 
 
 def same_rows(*paths):
@@ -202,15 +198,27 @@ def head(measures):
     print("|" + "---|" * len(words))
 
 
-def table(measures, runs):
-    head(measures)
+def least(runs, kind):
+    """The least of several runs, of labdesk and of the library."""
+    return tuple(map(min, zip(*(run.least(kind) for run in runs))))
+
+
+def password(runs):
+    """What 10,000 rounds take: the long opening has 100,000."""
+    return (least(runs, "long")[0] - least(runs, "opening")[0]) / 9
+
+
+def table(sizes, runs, rounds):
+    """The runs are those of a measure over a size; the rounds are what a password takes by each measure."""
+    head(runs)
     for kind, called in KINDS.items():
-        for size, by in runs:
+        for size in sizes:
             if kind not in size.kinds:
                 continue
             words = [called, size.name]
-            for measure in measures:
-                ours, theirs = by[measure].least(kind)
+            for measure in runs:
+                ours, theirs = least(runs[measure][size], kind)
+                ours -= rounds[measure] if kind in WITH_PASSWORD else 0
                 words += [SHOW[measure](ours), SHOW[measure](theirs), f"{ours / theirs:.1f}"]
             row(words)
 
@@ -220,18 +228,24 @@ def forget(file):
         os.remove(file)
 
 
-def measured(program, plays, size, room, rounds):
-    """The size by each measure; and by each the rounds are known from then on."""
-    base, by, begun = str(room / "base"), {}, time.time()
-    forget(base)
-    size.make(base)
-    for name in rounds:
-        by[name] = Run(size, base, room, {"time": Time, "instructions": Instructions}[name](room), rounds[name])
-        by[name].serve(program)
-        by[name].played(plays)
-        rounds[name] = by[name].rounds()
-    print(f"{size.name}: {os.path.getsize(base) / 1e6:.1f} MB, {time.time() - begun:.0f} s", file=sys.stderr, flush=True)
-    return by
+def runs_of(program, plays, measure, bases, room):
+    """The runs by a measure, by their size. All sizes are run over before one is run over again."""
+    runs = {size: [] for size in bases}
+    for _ in range(RUNS[measure]):
+        for number, (size, base) in enumerate(bases.items()):
+            run = Run(size, base, room, {"time": Time, "instructions": Instructions}[measure](room), number == 0)
+            run.serve(program)
+            run.played(plays)
+            runs[size].append(run)
+    return runs
+
+
+def made(size, path):
+    """A file of that size."""
+    begun = time.time()
+    size.make(path)
+    print(f"{size.name}: {os.path.getsize(path) / 1e6:.1f} MB, {time.time() - begun:.0f} s", file=sys.stderr, flush=True)
+    return path
 
 
 def main(words):
@@ -242,9 +256,10 @@ def main(words):
     with tempfile.TemporaryDirectory() as name:
         room = pathlib.Path(name)
         plays = compiled("plays.c", room, "-lsqlite3")
-        rounds = dict.fromkeys(measures)
-        runs = [(size, measured(program, plays, size, room, rounds)) for size in sizes]
-        table(measures, runs)
+        bases = {size: made(size, str(room / f"base{number}")) for number, size in enumerate(sizes)}
+        runs = {measure: runs_of(program, plays, measure, bases, room) for measure in measures}
+    rounds = {measure: password(runs[measure][sizes[0]]) for measure in measures}
+    table(sizes, runs, rounds)
     told = " and ".join(SHOW[measure](rounds[measure]) for measure in measures)
     print(f"\n10,000 rounds of PBKDF2: {told}; {datetime.date.today()}, load {os.getloadavg()[0]:.1f}")
     return 0
