@@ -108,7 +108,8 @@ def main():
     watcher.join()
     with open(sys.argv[1]) as said:
         last = said.read().splitlines()[-1]
-    used = resource.getrusage(resource.RUSAGE_CHILDREN).ru_utime
+    children = resource.getrusage(resource.RUSAGE_CHILDREN)
+    used = children.ru_utime + children.ru_stime
     wall = time.time() - began
     print(f"{last}: {wall / 60:.1f} min on the wall, {used / 60:.0f} min of processor time, {os.cpu_count()} cores, huge pages {huge_pages()}")
     print(f"{'crate':<24} {'check':>6} {'tests':>6} {'edits':>6}")
