@@ -9,5 +9,5 @@ mod places;
 pub use changes::{change, insert_person};
 pub use places::{
     enter, open, place_for_form, place_for_person, place_of_person, place_of_record,
-    place_of_session, place_of_version, sign,
+    place_of_session, sign,
 };

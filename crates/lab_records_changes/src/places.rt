@@ -3,13 +3,13 @@ ghost use Rattle.std.specs.Prelude.{◌≡◌, ◌≤◌, bytes_eq, is_some, len
 ghost use Rattle.std.specs.List.{position_or_len};
 ghost use Rattle.lab_people_access.specs.Persons.{has_code};
 ghost use Rattle.lab_people_access.specs.Sessions.{has_token};
-ghost use Rattle.lab_records_kept.specs.Lookups.{comes_before, has_number, is_numbered, last_of, version_of};
+ghost use Rattle.lab_records_kept.specs.Lookups.{comes_before, has_number, last_of, version_of};
 ghost use Rattle.lab_records_kept.specs.Changes.{in_last, in_version, with_row, with_signature, entered_in, opened_in, signed_in};
 
 use lab_forms_texts::{Rule, Text};
 use lab_records_kept::{
     Digest, EntryRow, EntryRows, FormVersion, Key, Ordinal, OutOfMemory, Person, PersonCode,
-    Record, Series, Session, Signature, Version,
+    Record, Series, Session, Signature, Version, place_of_version,
 };
 use std::alloc::Global;
 use std::cmp::Ordering;
@@ -75,15 +75,6 @@ fn later_form(forms: &[FormVersion], code: &Key) -> Option<usize>
     ensures { result ≡ position (λ one. comes_before code.now one.code) forms.now }
 {
     forms.iter().position(|one| comes_before(code, &one.code))
-}
-
-/// Where the version of the number stands.
-pub fn place_of_version(versions: &[Version], number: Ordinal) -> Option<usize>
-    ensures { result ≡ position (is_numbered number) versions.now }
-{
-    versions
-        .iter()
-        .position(|version| version.origin.number() == number)
 }
 
 /// Where the session of the token stands, if there is one.

@@ -9,7 +9,7 @@ ghost use Rattle.lab_records_machine.specs.Makings.{has_lines};
 use lab_forms_texts::{LabCode, Moment, Ordinal, OutOfMemory, PersonCode, Series};
 use lab_people_access::Person;
 use lab_records_copies::{CopyOrder, CopyRow, copy_rows};
-use lab_records_kept::{FormVersion, Record, Slice};
+use lab_records_kept::{FormVersion, FoundRecord, Record, Slice};
 use lab_records_machine::{Done, Reply};
 use lab_records_rules::{
     CommandFault, PersonLine, RecordState, person_line, read_form, read_record, read_version,
@@ -34,7 +34,7 @@ pub fn form_read_done(form: Option<FormVersion>) -> Done
 pub fn record_read_done(
     alloc: Global,
     lab: &LabCode,
-    filed: Option<Record>,
+    filed: Option<FoundRecord>,
 ) -> Result<Done, OutOfMemory>
     ensures done { IfOk result (λ done. done
         ≡ then_read_done (reading_record lab.now filed) Reply.RecordRead) }
@@ -56,7 +56,7 @@ pub fn record_read_done(
 pub fn version_read_done(
     alloc: Global,
     lab: &LabCode,
-    filed: Option<Record>,
+    filed: Option<FoundRecord>,
     version: Ordinal,
 ) -> Result<Done, OutOfMemory>
     ensures done { IfOk result (λ done. done

@@ -127,7 +127,7 @@ pub fn entering_done(
     match enter(
         alloc,
         &slice.code,
-        slice.filed.as_ref(),
+        slice.filed_kept(),
         item,
         reason,
         caller,
@@ -194,7 +194,7 @@ pub fn amending_done(
     match amend(
         alloc,
         &slice.code,
-        slice.filed.as_ref(),
+        slice.filed_kept(),
         reason,
         altered,
         caller,
@@ -298,7 +298,7 @@ fn signing_done(
     match sign(
         alloc,
         &slice.code,
-        slice.filed.as_ref(),
+        slice.filed_kept(),
         asked.version,
         asked.digest,
         asked.signing,

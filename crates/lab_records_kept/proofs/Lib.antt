@@ -1,3 +1,4 @@
 pub mod ReleaseLemmas
+pub mod FoundLemmas
 pub mod KnownValues
 pub mod KnownLaboratories

@@ -1,6 +1,7 @@
 //! Which part of a laboratory is needed, and that part.
-ghost use Rattle.std.specs.Prelude.{◌≡◌};
+ghost use Rattle.std.specs.Prelude.{◌≡◌, option_copied};
 
+use crate::found::FoundRecord;
 use crate::records::{FormVersion, Record};
 use crate::trails::TrailRow;
 use lab_forms_texts::{Key, LabCode, Moment, Name, Ordinal, PersonCode, Series};
@@ -96,7 +97,7 @@ pub struct Slice {
     /// The version of a form that is needed, where it is there.
     pub form: Option<FormVersion>,
     /// The record that is needed, where it is there.
-    pub filed: Option<Record>,
+    pub filed: Option<FoundRecord>,
     /// The persons that are needed.
     pub persons: Series<Person>,
     /// The records that are needed.
@@ -145,7 +146,20 @@ impl Slice {
             records: _,
             trail: _,
         } = self;
-        filed
+        match filed {
+            Some(found) => Some(found.into_kept()),
+            None => None,
+        }
+    }
+
+    /// The record that is needed.
+    pub fn filed_kept(&self) -> Option<&Record>
+        ensures { option_copied result ≡ self.now.filed }
+    {
+        match &self.filed {
+            Some(found) => Some(found.kept()),
+            None => None,
+        }
     }
 
     /// The laboratory's code and name, alone.

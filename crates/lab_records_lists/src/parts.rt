@@ -5,8 +5,8 @@ ghost use Rattle.lab_records_kept.specs.Parts.{part, counts_of, form_meant, reco
 
 use crate::lookups::{exact_form, last_form, person_of, record_about, record_of, session_of};
 use lab_records_kept::{
-    Counts, Digest, FormVersion, FormWanted, Lab, ListWanted, Need, Ordinal, OutOfMemory, Person,
-    PersonCode, Record, RecordWanted, Series, Session, Slice, TrailRow,
+    Counts, Digest, FormVersion, FormWanted, FoundRecord, Lab, ListWanted, Need, Ordinal,
+    OutOfMemory, Person, PersonCode, Record, RecordWanted, Series, Session, Slice, TrailRow,
 };
 use std::alloc::Global;
 
@@ -22,7 +22,7 @@ struct Callers {
 struct Named {
     person: Option<Person>,
     form: Option<FormVersion>,
-    filed: Option<Record>,
+    filed: Option<FoundRecord>,
 }
 
 /// The list that is needed; the others are empty.
@@ -184,7 +184,10 @@ fn form_named(lab: &Lab, wanted: &Option<FormWanted>) -> Result<Option<FormVersi
     }
 }
 
-fn record_named(lab: &Lab, wanted: &Option<RecordWanted>) -> Result<Option<Record>, OutOfMemory>
+fn record_named(
+    lab: &Lab,
+    wanted: &Option<RecordWanted>,
+) -> Result<Option<FoundRecord>, OutOfMemory>
     ensures kept { IfOk result
         (λ kept. kept ≡ option_and_then (record_meant lab.now) wanted.now) }
     ensures memory { OnErr result (IsSome (option_and_then (record_meant lab.now) wanted.now)) }
@@ -216,7 +219,7 @@ fn form_copied(found: Option<&FormVersion>) -> Result<Option<FormVersion>, OutOf
     }
 }
 
-fn wanted_record(lab: &Lab, wanted: &RecordWanted) -> Result<Option<Record>, OutOfMemory>
+fn wanted_record(lab: &Lab, wanted: &RecordWanted) -> Result<Option<FoundRecord>, OutOfMemory>
     ensures kept { IfOk result (λ kept. kept ≡ record_meant lab.now wanted.now) }
     ensures memory { OnErr result (IsSome (record_meant lab.now wanted.now)) }
 {
@@ -227,12 +230,12 @@ fn wanted_record(lab: &Lab, wanted: &RecordWanted) -> Result<Option<Record>, Out
     }
 }
 
-fn record_copied(found: Option<&Record>) -> Result<Option<Record>, OutOfMemory>
+fn record_copied(found: Option<&Record>) -> Result<Option<FoundRecord>, OutOfMemory>
     ensures copy { IfOk result (λ copy. copy ≡ option_copied found.entry) }
     ensures memory { OnErr result (IsSome (option_copied found.entry)) }
 {
     match found {
-        Some(kept) => Ok(Some(kept.copy()?)),
+        Some(kept) => Ok(Some(FoundRecord::new(kept.copy()?))),
         None => Ok(None),
     }
 }

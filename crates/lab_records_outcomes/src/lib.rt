@@ -4,6 +4,7 @@
 
 mod endings;
 mod outcome;
+mod subjects;
 mod telling;
 mod trail_rows;
 

@@ -5,6 +5,7 @@ ghost use Rattle.lab_records_kept.specs.Trails.{row_of};
 ghost use Rattle.lab_records_machine.specs.Cases.{more_strays};
 ghost use Rattle.lab_records_outcomes.specs.Deciding.{IsFailureWritten, trail_row_if_room, trail_rows_if_room, failure_changes};
 
+use crate::subjects::subject_of;
 use lab_forms_texts::{Moment, Ordinal, OutOfMemory, PersonCode, Series};
 use lab_people_access::{Closing, Failure, Person};
 use lab_records_kept::{COUNT_LIMIT, Change, Deed, Occasion, TrailRow};
@@ -38,7 +39,7 @@ pub fn row_of(
     ensures { IfOk result (λ row. row ≡ row_of number moment (Some person.now) deed.now) }
 {
     let person = person.copy()?;
-    let subject = deed.subject(alloc)?;
+    let subject = subject_of(alloc, deed)?;
     Ok(TrailRow {
         number,
         moment,

@@ -8,7 +8,9 @@ use crate::refusals::Refusal;
 use lab_forms::Form;
 use lab_forms_texts::{Key, Moment, Name, Ordinal, OutOfMemory, PersonCode, Series};
 use lab_people_access::PeopleRefusal;
-use lab_records_kept::{FORM_VERSIONS_LIMIT, FormVersion, RECORDS_LIMIT, Record, Version};
+use lab_records_kept::{
+    FORM_VERSIONS_LIMIT, FormVersion, FoundRecord, RECORDS_LIMIT, Record, Version,
+};
 use lab_seal_versions::{EntryRows, Format, Origin};
 use std::alloc::Global;
 
@@ -54,7 +56,7 @@ pub fn make_form(code: Key, form: Form, last: Option<FormVersion>) -> Result<For
 pub fn open_record(
     alloc: Global,
     form: Option<FormVersion>,
-    found: Option<Record>,
+    found: Option<FoundRecord>,
     sample: Name,
     caller: PersonCode,
     moment: Moment,
@@ -69,9 +71,9 @@ pub fn open_record(
         );
     };
     match found {
-        Some(kept) => fail(
-            CommandFault::Refused(Refusal::RecordExists(kept.number)),
-            (kept, form, sample, caller),
+        Some(found) => fail(
+            CommandFault::Refused(Refusal::RecordExists(found.kept().number)),
+            (found, form, sample, caller),
         ),
         None => {
             drop(found);

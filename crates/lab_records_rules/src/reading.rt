@@ -1,5 +1,5 @@
 //! What is read: a version of a form, a record, a version of a record, and a line of each record and each person.
-ghost use Rattle.std.specs.Prelude.{◌≡◌, IfOk, map};
+ghost use Rattle.std.specs.Prelude.{◌≡◌, Some, IfOk, map, slice_get};
 ghost use Rattle.lab_records_kept.specs.Digests.{digest_of};
 ghost use Rattle.lab_records_kept.specs.Lookups.{version_of};
 ghost use Rattle.lab_records_kept.specs.Values.{altered_at, values_at, version_state};
@@ -12,7 +12,7 @@ use crate::refusals::Refusal;
 use crate::values::values_told;
 use lab_forms_texts::{Key, LabCode, Moment, Ordinal, OutOfMemory, Series};
 use lab_people_access::Person;
-use lab_records_kept::{FormVersion, Record, Version};
+use lab_records_kept::{FormVersion, FoundRecord, Record, Version};
 use lab_seal_versions::{Digest, EntryRow, State};
 use std::alloc::Global;
 
@@ -36,14 +36,15 @@ pub fn read_form(form: Option<FormVersion>) -> Result<FormVersion, Refusal>
 pub fn read_record(
     alloc: Global,
     lab: &LabCode,
-    kept: Option<Record>,
+    found: Option<FoundRecord>,
 ) -> Result<RecordRead, CommandFault>
-    ensures { Follows (reading_record lab.now kept) result }
+    ensures { Follows (reading_record lab.now found) result }
 {
-    let Some(kept) = kept else {
+    let Some(found) = found else {
         return Err(CommandFault::Refused(Refusal::NoSuchRecord));
     };
-    let versions = version_lines(alloc, lab, &kept)?;
+    let versions = version_lines(alloc, lab, &found)?;
+    let kept = found.into_kept();
     let number = kept.number;
     let (form, sample) = kept.into_heading();
     Ok(RecordRead {
@@ -58,29 +59,33 @@ pub fn read_record(
 fn version_lines(
     alloc: Global,
     lab: &LabCode,
-    kept: &Record,
+    found: &FoundRecord,
 ) -> Result<Series<VersionState>, OutOfMemory>
-    ensures { IfOk result (λ lines. lines ≡ map (version_line lab.now kept.now) kept.now.versions) }
+    ensures { IfOk result
+        (λ lines. lines ≡ map (version_line lab.now found.now) found.now.versions) }
 {
     let mut lines = Series::new(alloc);
-    for version in kept.versions.as_slice() {
-        lines.push(version_line(alloc, lab, kept, version)?)?;
+    for (place, version) in found.kept().versions.as_slice().iter().enumerate() {
+        lines.push(version_line(alloc, lab, found, place, version)?)?;
     }
     Ok(lines)
 }
 
+// The state and the digest of the version at the place.
 fn version_line(
     alloc: Global,
     lab: &LabCode,
-    kept: &Record,
+    found: &FoundRecord,
+    place: usize,
     version: &Version,
 ) -> Result<VersionState, OutOfMemory>
-    ensures { IfOk result (λ line. line ≡ version_line lab.now kept.now version.now) }
+    requires { slice_get found.now.versions place ≡ Some version.now }
+    ensures { IfOk result (λ line. line ≡ version_line lab.now found.now version.now) }
 {
-    let digest = kept.digest_of(alloc, lab, version)?;
+    let digest = found.digest_at(alloc, lab, place, version)?;
     Ok(VersionState {
         version: version.origin.number(),
-        state: kept.state_of(version),
+        state: found.kept().state_of(version),
         digest,
     })
 }
@@ -92,14 +97,14 @@ fn version_line(
 pub fn read_version(
     alloc: Global,
     lab: &LabCode,
-    kept: Option<Record>,
+    found: Option<FoundRecord>,
     number: Ordinal,
 ) -> Result<VersionRead, CommandFault>
-    ensures { Follows (reading_version lab.now kept number) result }
+    ensures { Follows (reading_version lab.now found number) result }
 {
-    match kept {
-        Some(kept) => read_found(alloc, lab, kept, number),
-        None => fail(CommandFault::Refused(Refusal::NoSuchRecord), kept),
+    match found {
+        Some(found) => read_found(alloc, lab, found, number),
+        None => fail(CommandFault::Refused(Refusal::NoSuchRecord), found),
     }
 }
 
@@ -107,18 +112,21 @@ pub fn read_version(
 fn read_found(
     alloc: Global,
     lab: &LabCode,
-    kept: Record,
+    found: FoundRecord,
     number: Ordinal,
 ) -> Result<VersionRead, CommandFault>
-    ensures { Follows (reading_found lab.now kept (version_of kept.versions number)) result }
+    ensures { Follows (reading_found lab.now found (version_of found.versions number)) result }
 {
-    let read = match kept.version(number) {
-        Some(version) => version_parts(alloc, lab, &kept, version),
-        None => return fail(CommandFault::Refused(Refusal::NoSuchVersion), kept),
+    let read = match found.place_of(number) {
+        Some(place) => {
+            let version = &found.kept().versions.as_slice()[place];
+            version_parts(alloc, lab, &found, place, version)
+        }
+        None => return fail(CommandFault::Refused(Refusal::NoSuchVersion), found),
     };
     match read {
-        Ok(parts) => Ok(version_read(kept, parts)),
-        Err(_) => fail(CommandFault::Memory, kept),
+        Ok(parts) => Ok(version_read(found.into_kept(), parts)),
+        Err(_) => fail(CommandFault::Memory, found),
     }
 }
 
@@ -132,28 +140,30 @@ struct VersionReadParts {
     values: Series<EntryRow>,
 }
 
-// What a version of a record comes to, with a copy of it.
+// What the version at the place comes to, with a copy of it.
 fn version_parts(
     alloc: Global,
     lab: &LabCode,
-    kept: &Record,
+    found: &FoundRecord,
+    place: usize,
     version: &Version,
 ) -> Result<VersionReadParts, OutOfMemory>
+    requires { slice_get found.now.versions place ≡ Some version.now }
     ensures version { IfOk result (λ parts. parts.version ≡ version.now) }
-    ensures state { IfOk result (λ parts. parts.state ≡ version_state kept.now version.now) }
-    ensures digest { IfOk result (λ parts. parts.digest ≡ digest_of lab.now kept.now version.now) }
+    ensures state { IfOk result (λ parts. parts.state ≡ version_state found.now version.now) }
+    ensures digest { IfOk result (λ parts. parts.digest ≡ digest_of lab.now found.now version.now) }
     ensures altered { IfOk result
-        (λ parts. parts.altered ≡ altered_at kept.now version.now.origin.number) }
+        (λ parts. parts.altered ≡ altered_at found.now version.now.origin.number) }
     ensures values { IfOk result
-        (λ parts. parts.values ≡ values_at kept.now version.now.origin.number) }
+        (λ parts. parts.values ≡ values_at found.now version.now.origin.number) }
 {
     let number = version.origin.number();
-    let digest = kept.digest_of(alloc, lab, version)?;
-    let told = values_told(alloc, kept, number)?;
+    let digest = found.digest_at(alloc, lab, place, version)?;
+    let told = values_told(alloc, found.kept(), number)?;
     let version_copy = version.copy()?;
     Ok(VersionReadParts {
         version: version_copy,
-        state: kept.state_of(version),
+        state: found.kept().state_of(version),
         digest,
         altered: told.altered,
         values: told.values,

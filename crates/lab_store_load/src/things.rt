@@ -8,7 +8,7 @@ ghost use Rattle.lab_store_load.specs.Readable.{HasFormOf, HasFiledOf, HasThings
 ghost use Rattle.lab_store_columns.specs.Causes.{HasItsCause};
 ghost use Rattle.lab_store_columns.specs.Reads.{Reads, MayRead};
 
-use lab_records_kept::{FormVersion, FormWanted, Need, Record, RecordWanted};
+use lab_records_kept::{FormVersion, FormWanted, FoundRecord, Need, RecordWanted};
 use lab_store_columns::{ReadFault, Readable};
 use lab_store_read_forms::{about_at, exact_form_at, last_form_at, numbered_at};
 use lab_store_read_records::LabHead;
@@ -20,7 +20,7 @@ pub struct Things {
     /// The version of a form, where it is there.
     pub form: Option<FormVersion>,
     /// The record, where it is there.
-    pub filed: Option<Record>,
+    pub filed: Option<FoundRecord>,
 }
 
 // The version of a form.
@@ -66,7 +66,7 @@ fn filed_wanted<D: Readable>(
     conn: &mut D,
     lab: &LabHead,
     wanted: &RecordWanted,
-) -> Result<Option<Record>, ReadFault>
+) -> Result<Option<FoundRecord>, ReadFault>
     ensures reads { Reads (λ t filed. filed ≡ record_meant (lab_by t lab.now) wanted.now)
         (D.state conn.old) (D.state conn.new) result }
     ensures cause { HasItsCause (λ t. HasFiledOf t lab.now.id wanted.now)
@@ -86,7 +86,7 @@ fn filed_if<D: Readable>(
     conn: &mut D,
     lab: &LabHead,
     wanted: &Option<RecordWanted>,
-) -> Result<Option<Record>, ReadFault>
+) -> Result<Option<FoundRecord>, ReadFault>
     ensures reads { MayRead (λ t filed. filed
         ≡ option_and_then (record_meant (lab_by t lab.now)) wanted.now)
         (D.state conn.old) (D.state conn.new) result }

@@ -1,3 +1,4 @@
+pub mod Chains
 pub mod Below
 pub mod ByCodeExact
 pub mod ByCodeKeys

@@ -16,7 +16,7 @@ use crate::forms_behind::form_behind;
 use crate::heads::FormAt;
 use crate::wholes::{record_by_form, record_whole};
 use lab_forms_texts::{Key, LabCode, Name, Ordinal};
-use lab_records_kept::{FormVersion, Record};
+use lab_records_kept::{FormVersion, FoundRecord, Record};
 use lab_store_columns::{ReadFault, Readable};
 use lab_store_read_records::{RecordHead, record_about, record_at, records_within};
 use std::alloc::Global;
@@ -27,7 +27,7 @@ fn record_if<D: Readable>(
     conn: &mut D,
     code: &LabCode,
     head: Option<RecordHead>,
-) -> Result<Option<Record>, ReadFault>
+) -> Result<Option<FoundRecord>, ReadFault>
     ensures reads { MayRead (λ t kept. kept ≡ option_map (record_by t code.now) head)
         (D.state conn.old) (D.state conn.new) result }
     ensures cause { HasItsCause (λ t. IfSome head (HasParts t))
@@ -52,7 +52,7 @@ pub fn numbered_at<D: Readable>(
     code: &LabCode,
     lab: i64,
     number: Ordinal,
-) -> Result<Option<Record>, ReadFault>
+) -> Result<Option<FoundRecord>, ReadFault>
     ensures reads { Reads (λ t kept. kept ≡ record_of (records_of t code.now lab) number)
         (D.state conn.old) (D.state conn.new) result }
     ensures cause { HasItsCause (λ t. HasFirst (HasWholeRecord t) (records_shown t lab number))
@@ -73,7 +73,7 @@ pub fn about_at<D: Readable>(
     lab: i64,
     form: &Key,
     sample: &Name,
-) -> Result<Option<Record>, ReadFault>
+) -> Result<Option<FoundRecord>, ReadFault>
     ensures reads { Reads (λ t kept. kept
         ≡ record_about (records_of t code.now lab) form.now sample.now)
         (D.state conn.old) (D.state conn.new) result }
@@ -101,7 +101,7 @@ fn add_formed<D: Readable>(
         (D.state conn.old) (D.state conn.new) result }
 {
     let kept = record_by_form(alloc, conn, code, head, form)?;
-    made.push(kept)?;
+    made.push(kept.into_kept())?;
     Ok(())
 }
 

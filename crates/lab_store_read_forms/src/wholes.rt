@@ -12,7 +12,7 @@ ghost use Rattle.lab_store_read_forms.specs.Readable.{HasParts};
 
 use crate::form_at;
 use lab_forms_texts::{LabCode, Series};
-use lab_records_kept::{FormVersion, Record};
+use lab_records_kept::{FormVersion, FoundRecord, Record};
 use lab_store_columns::{ReadFault, Readable};
 use lab_store_read_records::{RecordHead, VersionLeaf, chain, leaves_at};
 use std::alloc::Global;
@@ -24,12 +24,13 @@ fn record_with(
     head: RecordHead,
     form: FormVersion,
     leaves: Vec<VersionLeaf>,
-) -> Result<Record, ReadFault>
+) -> Result<FoundRecord, ReadFault>
     ensures value { IfOk result
         (λ kept. kept ≡ record_with lab.now head form (map leaf_of leaves.items)) }
     ensures fault { IfErr result
         (λ fault. fault ≡ storage → ¬ ArePlaced false (map leaf_of leaves.items)) }
 {
+    let code = lab.copy()?;
     let mut cover = Record {
         number: head.number,
         form,
@@ -37,7 +38,7 @@ fn record_with(
         versions: Series::new(alloc),
     };
     cover.versions = chain(alloc, lab, &cover, leaves)?;
-    Ok(cover)
+    Ok(FoundRecord::chained(cover, code))
 }
 
 /// The record of the row and the form, of the laboratory with the code, with all its versions.
@@ -50,7 +51,7 @@ pub(crate) fn record_by_form<D: Readable>(
     lab: &LabCode,
     head: RecordHead,
     form: FormVersion,
-) -> Result<Record, ReadFault>
+) -> Result<FoundRecord, ReadFault>
     ensures reads { Reads (λ t kept. kept ≡ record_with lab.now head form (leaves_of t head.id))
         (D.state conn.old) (D.state conn.new) result }
     ensures cause { HasItsCause (λ t. HasParts t head)
@@ -69,7 +70,7 @@ pub fn record_whole<D: Readable>(
     conn: &mut D,
     lab: &LabCode,
     head: RecordHead,
-) -> Result<Record, ReadFault>
+) -> Result<FoundRecord, ReadFault>
     ensures reads { Reads (λ t kept. kept ≡ record_by t lab.now head)
         (D.state conn.old) (D.state conn.new) result }
     ensures cause { HasItsCause (λ t. HasParts t head)

@@ -1,7 +1,7 @@
 //! All that a slice of a laboratory has, as a text: behind each thing stands a bar.
 use lab_forms_texts::OutOfMemory;
 use lab_records_kept::{
-    Ask, FormVersion, Password, Person, Record, Signature, Slice, TrailRow, Version,
+    Ask, FormVersion, FoundRecord, Password, Person, Record, Signature, Slice, TrailRow, Version,
 };
 use lab_seal_hashes::Verifier;
 use std::fmt::Debug;
@@ -119,9 +119,9 @@ fn push_found_form(text: &mut Vec<u8>, form: &Option<FormVersion>) -> Pushed {
     }
 }
 
-fn push_found_record(text: &mut Vec<u8>, record: &Option<Record>) -> Pushed {
-    match record {
-        Some(record) => push_record(text, record),
+fn push_found_record(text: &mut Vec<u8>, found: &Option<FoundRecord>) -> Pushed {
+    match found {
+        Some(found) => push_record(text, found.kept()),
         None => push(text, &"no record"),
     }
 }

@@ -2,7 +2,7 @@ use Rattle.std.proofs.Common.{◌≡◌, ◌++◌}
 use Rattle.std.specs.Prelude.{string_bytes, take}
 use Rattle.std.specs.List.{flat_map}
 use Rattle.lab_records_kept.specs.Trails.{spaced_role}
-use Rattle.lab_records_kept.proofs.subjects.push_each_role.Given as goal
+use Rattle.lab_records_outcomes.proofs.subjects.push_each_role.Given as goal
 
 abbrev pub invariant-loop-role : goal.invariant-loop-role
 invariant-loop-role l =

@@ -3,47 +3,43 @@ ghost use Rattle.std.specs.Prelude.{◌≡◌, ◌++◌, OnOk, IfOk, codes, deci
 ghost use Rattle.std.specs.List.{flat_map};
 ghost use Rattle.lab_records_kept.specs.Trails.{occasion_word, spaced_role, slashed, subject_text};
 
-use crate::trails::{Deed, Occasion, Subject};
 use itoa::Buffer;
 use lab_forms_texts::{Key, Ordinal, OutOfMemory, PersonCode};
 use lab_people_access::Role;
+use lab_records_kept::{Deed, Occasion, Subject};
 use std::alloc::Global;
 
-impl Occasion {
-    /// The word by which it is known.
-    pub fn word(self) -> &'static str
-        ensures { result.now ≡ occasion_word self }
-    {
-        match self {
-            Occasion::Opening => "open",
-            Occasion::Changing => "password",
-            Occasion::Signing => "sign",
-        }
+/// The subject of a deed, as the trail writes it. The only error is out of memory.
+///
+/// # Errors
+/// Memory ran out.
+pub(crate) fn subject_of(alloc: Global, deed: &Deed) -> Result<Subject, OutOfMemory>
+    ensures { IfOk result (λ subject. subject ≡ subject_text deed.now) }
+{
+    let mut text = String::new(alloc);
+    push_subject(alloc, &mut text, deed)?;
+    Ok(Subject::new(text))
+}
+
+// The word by which an occasion is known.
+fn occasion_word(occasion: Occasion) -> &'static str
+    ensures { result.now ≡ occasion_word occasion }
+{
+    match occasion {
+        Occasion::Opening => "open",
+        Occasion::Changing => "password",
+        Occasion::Signing => "sign",
     }
 }
 
-impl Deed {
-    /// Its subject, as the trail writes it. The only error is out of memory.
-    ///
-    /// # Errors
-    /// Memory ran out.
-    pub fn subject(&self, alloc: Global) -> Result<Subject, OutOfMemory>
-        ensures { IfOk result (λ subject. subject ≡ subject_text self.now) }
-    {
-        let mut text = String::new(alloc);
-        push_subject(alloc, &mut text, self)?;
-        Ok(Subject::new(text))
-    }
-}
-
-#[tactic(auto, unfolding(crate::specs::Trails::roles_text))]
+#[tactic(auto, unfolding(lab_records_kept::specs::Trails::roles_text))]
 fn push_subject(alloc: Global, text: &mut String, deed: &Deed) -> Result<(), OutOfMemory>
     ensures { OnOk result (string_bytes text.new ≡ string_bytes text.old ++ subject_text deed.now) }
 {
     match deed {
         Deed::Found { lab } => push_text(text, lab.as_str()),
         Deed::Open { session } | Deed::Close { session } => push_number(text, *session),
-        Deed::Refuse { occasion } => push_text(text, occasion.word()),
+        Deed::Refuse { occasion } => push_text(text, occasion_word(*occasion)),
         Deed::Lock { person }
         | Deed::Password { person }
         | Deed::Issue { person }
