@@ -52,6 +52,8 @@ class Day:
     def leave(self, code):
         self.screen.do("close_the_session")
         self.screen.one('[data-do="open_a_session"]')
+        # (the page forgets a session before the server has closed it)
+        self.screen.wait(lambda: self.last_row()[:2] == ("close", code), f"{code}'s session is closed")
         same(f"{code}'s session is closed", self.last_row()[:2], ("close", code))
 
     def refused(self, what, word, name=None):
