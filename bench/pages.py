@@ -90,6 +90,7 @@ def entry_of(record, number):
 
 def measure_entry(screen, port):
     from room import Asker, password_of
+    from screen import entry_row
     dan = Asker(port, "aqua", "dan", password_of("dan"))
     screen.load()
     screen.fill(lab="aqua", code="dan", password=password_of("dan"))
@@ -97,18 +98,14 @@ def measure_entry(screen, port):
     screen.go("#/opening")
     screen.fill(form="water", sample="Measured")
     screen.do("open_a_record")
-    screen.wait(lambda: screen.all('form[data-key="note"]'), "the record is there")
+    screen.wait(lambda: screen.all('[data-key="note"] [name="value"]'), "the record is there")
     record = int(screen.place().rpartition("/")[2])
     shown = []
     for number in range(ROUNDS):
-        form = screen.one('form[data-key="note"]')
-        if number:
-            screen.do("replace", form)
-            screen.fill(form, reason="measured")
-        screen.fill(form, value=f"value {number}")
+        row = entry_row(screen, "note")
+        screen.fill(row, value=f"value {number}", **({"reason": "measured"} if number else {}))
         screen.run(WATCHED)
-        # (in a text of several lines Control and Enter send)
-        screen.one('[name="value"]', form).send_keys(screen.keys.CONTROL, screen.keys.ENTER)
+        screen.one('[name="value"]', row).send_keys(screen.keys.CONTROL, screen.keys.ENTER)
         screen.wait(lambda: screen.run("return window.timed") is not None, "the entry is shown")
         shown.append(screen.run("return window.timed"))
         screen.settle()

@@ -7,7 +7,10 @@ different persons signed.
 
 It prints 'good' and how many record, version, entry and signature rows the copy has, with status 0; or 'bad', the first flaw and its
 row, with status 1. Where the copy can't be read it says why, with status 2. The file is read byte by byte, as Latin-1, so that
-lengths are those of bytes."""
+lengths are those of bytes.
+
+Beside 'good' it prints a line on standard error for each row that no server writes and that no rule of a check forbids: a remark. The
+verdict and the status stay. At most a hundred are printed."""
 import csv
 import datetime
 import hashlib
@@ -40,6 +43,7 @@ FIELDS = {kind: dict(field.split("=") for field in f"lab=lab {fields}".split()) 
 FOLLOWS = {"copy": "record end", "record": "version", "version": "entry signature version record end",
            "entry": "entry signature version record end", "signature": "signature version record end", "end": ""}
 STATES = {"": "open", "authorship": "signed", "authorship review": "released", "authorship rejection": "rejected"}
+MOST = 100
 WITH_APPROVAL = {**STATES, "authorship review": "reviewed", "authorship review approval": "released",
                  "authorship review rejection": "rejected"}
 
@@ -80,9 +84,59 @@ def reads(row, older):
     return not (older and newer.get(kind))
 
 
+class Remarks:
+    """Notes what a good copy may have, and no server writes, as docs/COPIES.md lists it."""
+
+    def __init__(self):
+        self.lines, self.count = [], 0
+        # Where a form and a sample were, and which unit a key of a form had.
+        self.samples, self.units = {}, {}
+
+    def add(self, at, text):
+        self.count += 1
+        if self.count <= MOST:
+            self.lines.append(f"remark row {at}: {text}")
+
+    def look(self, it, kind, at):
+        if kind == "copy":
+            self.made = it["moment"]
+        elif kind == "record":
+            self.look_at_record(it, at)
+        elif kind in ("version", "entry", "signature"):
+            if it["moment"] < self.before:
+                self.add(at, "its moment is before that of a row above it")
+            if it["moment"] > self.made:
+                self.add(at, "its moment is after that of the copy")
+            self.before = max(self.before, it["moment"])
+            getattr(self, f"look_at_{kind}")(it, at)
+
+    def look_at_record(self, it, at):
+        self.form, self.before, self.values = (it["key"], it["version"]), "", {}
+        other = self.samples.setdefault((it["key"], it["value"]), it["record"])
+        if other != it["record"]:
+            self.add(at, f"record {other} has this form and sample, too")
+
+    def look_at_version(self, it, at):
+        self.version, self.known, self.is_first_row = it, dict(self.values), True
+
+    def look_at_entry(self, it, at):
+        if self.version["reason"] and self.is_first_row and any(it[name] != self.version[name] for name in ("person", "moment", "reason")):
+            self.add(at, "the first value of an amendment has not its person, its moment and its reason")
+        if it["key"] in self.values and not it["reason"]:
+            self.add(at, "a second value, and no reason")
+        if self.units.setdefault((*self.form, it["key"]), it["unit"]) != it["unit"]:
+            self.add(at, "another unit than this key has elsewhere")
+        self.values[it["key"]], self.is_first_row = it["value"], False
+
+    def look_at_signature(self, it, at):
+        if it["value"] == "authorship" and self.version["reason"] and self.values == self.known:
+            self.add(at, "a signature of an amendment that alters nothing")
+
+
 class Copy:
     def __init__(self):
         self.asked = self.record = self.version = self.last = None
+        self.remarks = Remarks()
         self.counts = dict.fromkeys(["record", "version", "entry", "signature"], 0)
 
     def is_in_place(self, it, kind):
@@ -148,11 +202,12 @@ class Copy:
         if kind in self.counts:
             self.counts[kind] += 1
         self.last = kind
+        self.remarks.look(it, kind, at)
 
 
 def check(file):
     lines = io.TextIOWrapper(file, "latin-1", newline="")
-    first = next(lines, "").removeprefix("\xef\xbb\xbf")  # a byte order mark
+    first = re.sub("^\xef\xbb\xbf", "", next(lines, ""))  # a byte order mark
     copy = Copy()
     for at, row in enumerate((row for row in csv.reader(itertools.chain([first], lines)) if row), 1):
         if at > 1:
@@ -162,23 +217,31 @@ def check(file):
     if copy.last != "end":
         copy.end_version()
         raise Bad("no_end")
-    return copy.counts.values()
+    return copy
 
 
 def main(words):
-    if len(words) > 1 or words[:1] in (["-h"], ["--help"]):
+    if words in (["-h"], ["--help"]):
+        print(__doc__.strip())
+        return 0
+    if len(words) > 1:
         print(__doc__, file=sys.stderr)
         return 2
     csv.field_size_limit(2**31 - 1)
     try:
         with open(words[0], "rb") if words else sys.stdin.buffer as file:
-            print("good", *check(file))
+            copy = check(file)
+        print("good", *copy.counts.values())
     except Bad as flaw:
         print("bad", *flaw.args)
         return 1
     except OSError as fault:
         print(f"check_copy.py: {fault}", file=sys.stderr)
         return 2
+    for line in copy.remarks.lines:
+        print(line, file=sys.stderr)
+    if copy.remarks.count > MOST:
+        print(f"and {copy.remarks.count - MOST} remarks more", file=sys.stderr)
     return 0
 
 

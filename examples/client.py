@@ -2,26 +2,39 @@
 """A client of one laboratory, with nothing but Python's standard library. docs/CLIENT.md says why it does what it does.
 
     client.py URL LAB CODE records                            prints each record: number, form, sample, state
-    client.py URL LAB CODE trail                              prints each row of the trail: number, moment, person, action, subject
+    client.py URL LAB CODE trail [AFTER]                      prints each row of the trail: number, moment, person, action, subject
+    client.py URL LAB CODE released [AFTER]                   prints the versions that the trail's rows behind AFTER released, with values
+    client.py URL LAB CODE last records|trail                 prints the last number of a list
+    client.py URL LAB CODE form FORM                          prints the newest version of a form, and its fields
     client.py URL LAB CODE record FORM SAMPLE                 opens a record, or finds the one that is there
     client.py URL LAB CODE enter RECORD KEY VALUE UNIT [WHY]  enters a value
     client.py URL LAB CODE sign RECORD VERSION MEANING [WHY]  shows a version, asks, and signs what was shown
     client.py URL LAB CODE copy FIRST LAST FILE               joins inspection copies of hundreds into one file
 
 The password is asked for at the terminal; where there is none, it is the first line of standard input. The status is 0 where the command
-was done, 1 where it was refused, and 3 where it isn't known whether it was done.
+was done, 1 where it was refused or certainly not done, as where no server was reached, 2 where the words of the command line are wrong,
+and 3 where it isn't known whether it was done. While the script waits, it says so on standard error.
 """
+import contextlib
 import getpass
 import http.client
 import json
 import os
+import re
 import sys
+import threading
 import time
 import urllib.parse
 
 # Refused for these, a request changed nothing, and may be sent again as it was.
-AGAIN = ("memory", "random_repeated", "short_body", "clock_behind")
-PAGE, TRIES, PAUSE, PATIENCE = 100, 4, 1.0, 120
+AGAIN = ("random_repeated", "short_body", "clock_behind")
+# Refused for these, a request may have been done all the same.
+UNSURE = ("storage", "memory")
+PAGE, TRIES, PAUSE = 100, 4, 1.0
+# The greatest number that anything has.
+MOST = 1_000_000_000
+# In seconds: how long a reply is waited for, until a connection and its TLS stand, and after how long a line says that the script waits.
+PATIENCE, CONNECTING, QUIET = 120, 5, 10
 
 
 class Refused(Exception):
@@ -33,24 +46,90 @@ class Refused(Exception):
 
 
 class Unknown(Exception):
-    """The reply was lost, or was `storage`: the command may have been done."""
+    """The reply was lost, or was `storage` or `memory`: the command may have been done."""
+
+
+class NotDone(Exception):
+    """The command was certainly not done: no server was reached, or nginx refused the request without asking the server."""
+
+
+def say(text):
+    print(f"client.py: {text}", file=sys.stderr, flush=True)
+
+
+def pause(attempt, why):
+    """Waits before a request is sent again."""
+    say(f"{why}: it is asked again after {PAUSE * (attempt + 1):g} s")
+    time.sleep(PAUSE * (attempt + 1))
+
+
+def connected(there):
+    """A connection to a server. Until it stands, nothing of a request is sent."""
+    kind = http.client.HTTPSConnection if there.scheme == "https" else http.client.HTTPConnection
+    connection = kind(there.hostname, there.port, timeout=CONNECTING)
+    try:
+        connection.connect()
+    except OSError as fault:
+        connection.close()
+        advice = "is the server running, and is its address right?"
+        if there.scheme == "https" and not isinstance(fault, ConnectionRefusedError):
+            advice = "is this the port of nginx, and does this machine know its certificate? The port of labdesk itself wants http://"
+        raise NotDone(f"no connection to {there.scheme}://{there.netloc}: {fault or repr(fault)}; {advice}") from fault
+    connection.sock.settimeout(PATIENCE)
+    return connection
+
+
+@contextlib.contextmanager
+def saying_so():
+    """While a reply is waited for, a line says so every few seconds."""
+    is_over, begun = threading.Event(), time.monotonic()
+
+    def watch():
+        while not is_over.wait(QUIET):
+            say(f"no reply for {time.monotonic() - begun:.0f} s; others may be served before, so {PATIENCE} s are waited for")
+
+    threading.Thread(target=watch, daemon=True).start()
+    try:
+        yield
+    finally:
+        is_over.set()
 
 
 def sent(url, method, path, token, body):
     """Sends a request once. Gives the status, the type and the bytes of the reply."""
     there = urllib.parse.urlsplit(url)
-    kind = http.client.HTTPSConnection if there.scheme == "https" else http.client.HTTPConnection
-    connection = kind(there.hostname, there.port, timeout=PATIENCE)
     fields = {} if token is None else {"Authorization": f"LabSession {token}"}
     text = None if body is None else json.dumps(body, ensure_ascii=False).encode()
+    connection = connected(there)
     try:
-        connection.request(method, there.path.rstrip("/") + path, text, fields)
-        reply = connection.getresponse()
-        return reply.status, reply.headers.get_content_type(), reply.read()
+        with saying_so():
+            connection.request(method, there.path.rstrip("/") + path, text, fields)
+            reply = connection.getresponse()
+            return reply.status, reply.headers.get_content_type(), reply.read()
     except (OSError, http.client.HTTPException) as fault:
         raise Unknown(f"{method} {path}: {fault!r}") from fault
     finally:
         connection.close()
+
+
+def not_the_laboratorys(method, place, status):
+    """What a reply means that isn't the laboratory's: nginx gives a status of 400 to 499 without asking the server."""
+    what = f"{method} {place}: status {status} isn't the laboratory's"
+    if status == 429:
+        return NotDone(f"{what}: nginx has too many requests just now; wait a minute, and ask once")
+    return NotDone(f"{what}: is the address right?") if 400 <= status < 500 else Unknown(what)
+
+
+def last_that(is_there):
+    """The last number that is there, of numbers from 1 on without gaps, and 0 where there is none: it is doubled, and then halved."""
+    low, high = 0, 1
+    while high <= MOST and is_there(high):
+        low, high = high, 2 * high
+    high = min(high, MOST + 1)
+    while high - low > 1:
+        middle = (low + high) // 2
+        low, high = (middle, high) if is_there(middle) else (low, middle)
+    return low
 
 
 class Client:
@@ -58,23 +137,37 @@ class Client:
 
     def __init__(self, url, lab, code, password):
         self.url, self.lab, self.code, self.password, self.token = url, lab, code, password, None
+        self.is_reached = False
 
     # ---- requests
+
+    def send_once(self, method, place, body, token):
+        """Sends a request. Where the server was reached before, as before it is started anew, it is waited for."""
+        for attempt in range(TRIES):
+            try:
+                replied = sent(self.url, method, f"/labs/{self.lab}{place}", token, body)
+                self.is_reached = True
+                return replied
+            except NotDone as fault:
+                if not self.is_reached or attempt == TRIES - 1:
+                    raise
+                pause(attempt, fault)
+        return None
 
     def send(self, method, place, body=None, token=None):
         """Sends a request, and sends it again after a refusal that changed nothing."""
         for attempt in range(TRIES):
-            status, media, data = sent(self.url, method, f"/labs/{self.lab}{place}", token, body)
+            status, media, data = self.send_once(method, place, body, token)
             if status == 200:
                 return json.loads(data) if media == "application/json" else data
             if media != "application/json":
-                raise Unknown(f"{method} {place}: status {status} isn't the laboratory's")
+                raise not_the_laboratorys(method, place, status)
             members = json.loads(data)
-            if members["error"] == "storage":
-                raise Unknown(f"{method} {place}: storage")
+            if members["error"] in UNSURE:
+                raise Unknown(f"{method} {place}: {members['error']}")
             if members["error"] not in AGAIN or attempt == TRIES - 1:
                 raise Refused(status, members)
-            time.sleep(PAUSE * (attempt + 1))
+            pause(attempt, f"{method} {place}: {members['error']}")
         return None
 
     def open(self):
@@ -100,10 +193,10 @@ class Client:
         for attempt in range(TRIES):
             try:
                 return self.send(method, place, body) if place == "/open" else self.ask(method, place, body)
-            except Unknown:
+            except Unknown as fault:
                 if attempt == TRIES - 1:
                     raise
-                time.sleep(PAUSE * (attempt + 1))
+                pause(attempt, fault)
         return None
 
     def do(self, place, body, done):
@@ -112,26 +205,60 @@ class Client:
         for attempt in range(TRIES):
             try:
                 return self.ask("POST", place, body)
-            except Unknown:
+            except Unknown as fault:
                 if attempt == TRIES - 1:
                     raise
-                time.sleep(PAUSE * (attempt + 1))
-                found = done()
+                pause(attempt, fault)
+                found = self.looked(done, fault)
                 if found is not None:
                     return found
         return None
 
+    def looked(self, done, fault):
+        """What `done` finds. Where no server is reached any more, it stays unknown."""
+        try:
+            return done()
+        except NotDone as still:
+            raise Unknown(f"{fault}; then {still}") from still
+
     # ---- readings
 
-    def pages(self, place):
-        """The elements of a list, a hundred numbers at a time. Numbers have no gaps, so a page that isn't full is the last."""
-        first = 1
+    def pages(self, place, after=0):
+        """The elements of a list behind a number, a hundred numbers at a time. Numbers have no gaps, so a page that isn't full is the last."""
+        first = after + 1
         while True:
             page = self.read("GET", f"{place}?from={first}&to={first + PAGE - 1}")[place[1:]]
             yield from page
             if len(page) < PAGE:
                 return
             first += PAGE
+
+    def last_number(self, place):
+        """The last number of a list, and 0 where it is empty."""
+        return last_that(lambda number: self.read("GET", f"{place}?from={number}&to={number}")[place[1:]])
+
+    def form(self, code, version):
+        """A version of a form, or nothing where there is none."""
+        try:
+            return self.read("GET", f"/forms/{code}/{version}")
+        except Refused as refusal:
+            if refusal.word != "no_such_form":
+                raise
+        return None
+
+    def newest_form(self, code):
+        """The newest version of a form, or nothing where there is none."""
+        version = last_that(lambda number: self.form(code, number))
+        return self.form(code, version) if version else None
+
+    def released(self, after=0):
+        """The row of the trail that released a version, and the version, for each row behind that number."""
+        for row in self.pages("/trail", after):
+            if row["action"] == "sign":
+                record, version, meaning = row["subject"].split("/")
+                there = self.version(record, version)
+                if there["state"] == "released" and there["signatures"][-1]["meaning"] == meaning:
+                    yield row, there
 
     def version(self, record, version):
         return self.read("GET", f"/records/{record}/versions/{version}")
@@ -264,8 +391,17 @@ def run(client, command, words):
         for one in client.pages("/records"):
             print(one["record"], one["form"], one["sample"], one["state"])
     elif command == "trail":
-        for one in client.pages("/trail"):
+        for one in client.pages("/trail", *map(int, words)):
             print(one["number"], one["moment"], one["person"] or "-", one["action"], one["subject"])
+    elif command == "released":
+        for row, one in client.released(*map(int, words)):
+            values = ", ".join(f"{value['key']} {value['value']} {value['unit']}".rstrip() for value in one["values"])
+            print(f"{row['number']} {one['record']}/{one['version']} {one['sample']}: {values}")
+    elif command == "last":
+        print(client.last_number(f"/{words[0]}"))
+    elif command == "form":
+        form = client.newest_form(*words)
+        print(f"{words[0]} {form['version']}: {' '.join(field['key'] for field in form['fields'])}" if form else f"no form {words[0]}")
     elif command == "record":
         print("record", client.record(*words))
     elif command == "enter":
@@ -282,22 +418,28 @@ def run(client, command, words):
         print(f"{path}: {records_of(copy)} records")
 
 
-WORDS = {"records": (0,), "trail": (0,), "record": (2,), "enter": (4, 5), "sign": (3, 4), "copy": (3,)}
+WORDS = {"records": (0,), "trail": (0, 1), "released": (0, 1), "last": (1,), "form": (1,), "record": (2,), "enter": (4, 5), "sign": (3, 4), "copy": (3,)}
 
 
 def main(words):
-    if len(words) < 4 or len(words) - 4 not in WORDS.get(words[3], ()):
-        print(__doc__, file=sys.stderr)
+    if words in (["-h"], ["--help"]):
+        print(__doc__.strip())
+        return 0
+    if len(words) < 4 or len(words) - 4 not in WORDS.get(words[3], ()) or not re.match("https?://[^/]", words[0]):
+        say("the words are 'URL LAB CODE COMMAND ..'; '--help' lists the commands")
         return 2
     url, lab, code, command, *further = words
     client = Client(url, lab, code, asked_once(typed_password))
     try:
         run(client, command, further)
     except Refused as refusal:
-        print(f"client.py: refused: {refusal}", file=sys.stderr)
+        say(f"refused: {refusal}")
+        return 1
+    except NotDone as fault:
+        say(f"not done: {fault}")
         return 1
     except Unknown as fault:
-        print(f"client.py: not known whether it was done: {fault}", file=sys.stderr)
+        say(f"not known whether it was done: {fault}")
         return 3
     finally:
         close(client)
@@ -309,7 +451,7 @@ def close(client):
     if client.token is not None:
         try:
             client.send("POST", "/close", {}, client.token)
-        except (Refused, Unknown):
+        except (Refused, Unknown, NotDone):
             pass
 
 

@@ -106,6 +106,9 @@ def flaws_of(old, new, counts):
 
 
 def main(words):
+    if words in (["-h"], ["--help"]):
+        print(__doc__.strip())
+        return 0
     if len(words) != 2:
         print(__doc__, file=sys.stderr)
         return 2

@@ -103,6 +103,10 @@ class Day:
         first, self.next_word = self.next_word, self.next_word + 8
         return first
 
+    def tick(self, time, request):
+        """The moment and the words of a request."""
+        return seconds_at(time), self.words()
+
     def found(self, time, lab, name, *founders, refused=None):
         """A founding, by three founders: code, name and password of each."""
         moment, words = seconds_at(time), self.words()
@@ -127,8 +131,9 @@ class Day:
     def ask(self, time, lab, who, command, *args, refused=None):
         """A command in the session of somebody, who may have none; gives the members of the reply, or the text of a copy. `refused`
         is the number of the refusal that it should come to."""
-        moment, words, token = seconds_at(time), self.words(), self.sessions.get((lab, who))
+        token = self.sessions.get((lab, who))
         request = request_of(lab, command, args, None if command == "open" else token)
+        moment, words = self.tick(time, request)
         after = copy.deepcopy(self.labs[lab])
         number = None
         try:
@@ -333,6 +338,12 @@ def whole_day(day=None):
 
 
 def main(words):
+    if words in (["-h"], ["--help"]):
+        print(__doc__.strip())
+        return
+    if words not in ([], ["--check"], ["--answers"]):
+        print("day.py: the words are '[--check | --answers]'; '--help' says more", file=sys.stderr)
+        sys.exit(2)
     day, path = whole_day(), f"{HERE}/day.events"
     if words == ["--answers"]:
         sys.stdout.buffer.write(b"".join(day.answers))
@@ -340,10 +351,8 @@ def main(words):
         if open(path, "rb").read() != b"".join(day.events):
             sys.exit("examples/day.events isn't as examples/day.py writes it")
         print(f"{len(day.events)} events")
-    elif not words:
-        open(path, "wb").write(b"".join(day.events))
     else:
-        sys.exit(__doc__)
+        open(path, "wb").write(b"".join(day.events))
 
 
 if __name__ == "__main__":

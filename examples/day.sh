@@ -9,6 +9,16 @@
 # expected one. What it made stays in a folder, which it names.
 set -euo pipefail
 unset CDPATH
+case ${1:-} in
+-h | --help)
+    sed -n '2,/^[^#]/s/^# \{0,1\}//p' "${BASH_SOURCE[0]}"
+    exit 0
+    ;;
+-*)
+    echo "day.sh: the words are '[PROGRAM]'; '--help' says more" >&2
+    exit 2
+    ;;
+esac
 top=$(dirname "$(dirname "$(readlink -f "${BASH_SOURCE[0]}")")")
 labdesk=${1:-$top/labdesk}
 for tool in curl jq; do

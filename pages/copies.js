@@ -4,10 +4,12 @@
 import { take_an_inspection_copy } from './api.js';
 import { checked_copy, line_of, rows_of, text_of } from './checking.js';
 import {
-  button, buttons, element, facts, field, given, heading, input, moment, paragraph, replace, save_file, say, section, table,
+  button, buttons, element, facts, field, given, heading, input, moment, paragraph, replace, save_file, section, table,
 } from './elements.js';
+import { is_left } from './life.js';
 import { AT_ONCE, hundreds, number_of } from './numbers.js';
-import { last_record } from './records.js';
+import { last_record } from './reading.js';
+import { say } from './saying.js';
 import { refuse, sending_form } from './sending.js';
 import { ask, who } from './session.js';
 import { texts } from './texts.js';
@@ -21,7 +23,7 @@ export async function copies_view(place) {
   const from = input('from', { inputmode: 'numeric', size: 12, value: '1' });
   const to = input('to', { inputmode: 'numeric', size: 12 });
   const made = sending_form({
-    command: 'take_an_inspection_copy', submit: words.take, about: { no_number: 'to', no_range: 'to', no_records: 'to' },
+    command: 'take_an_inspection_copy', submit: words.take, about: { no_number: 'to', no_range: 'to' }, keeps: false,
     send: async (values) => take(number_of(values.from), number_of(values.to), taken),
   }, field(words.from, from), field(words.to, to, words.to_hint));
   replace(place, heading(words.title), paragraph(words.intro), made, taken);
@@ -38,6 +40,7 @@ async function take(from, to, place) {
   for (const [start, end] of hundreds(from, last)) {
     const bytes = await ask(take_an_inspection_copy, start, end);
     copies.push({ from: start, to: end, bytes, verdict: await checked_copy(bytes) });
+    if (is_left(place)) return;
     if (progress.is_stopped()) break;
     progress.show(copies.length);
   }
@@ -114,7 +117,7 @@ export function checking_view(place) {
   const shown = element('div', { 'data-part': 'checked', tabindex: '-1' });
   const file = input('copy', { type: 'file', accept: '.csv,text/csv' });
   const made = sending_form({
-    command: 'check_a_copy', submit: words.check_it, about: { no_file: 'copy' }, send: async () => {
+    command: 'check_a_copy', submit: words.check_it, about: { no_file: 'copy' }, keeps: false, send: async () => {
       if (!file.files.length) refuse('no_file');
       replace(shown, paragraph(words.checking));
       await check(file.files[0], shown);
@@ -131,11 +134,23 @@ async function check(file, shown) {
   replace(shown, element('div', { class: is_good ? 'good' : 'refusal', role: 'alert', 'data-verdict': verdict.verdict },
     paragraph(element('strong', null, is_good ? words.good : words.bad), ' ', verdict_of(verdict)),
     paragraph(is_good ? words.good_text(verdict.counts) : words.flaws[verdict.verdict]),
-    !is_good && verdict.row && paragraph(words.at_row(verdict.row))),
+    !is_good && verdict.row && paragraph(words.at_row(verdict.row), ' ', record_at(bytes, verdict.row))),
   is_good && facts_of_copy(bytes),
   paragraph(words.file_digest, ' ', element('code', { class: 'digest', 'data-part': 'file_digest' }, digits)),
   paragraph(words.cannot_know));
   shown.focus();
+}
+
+// Of which record a row of a copy is, by the rows up to it.
+function record_at(bytes, row) {
+  let [at, record, version] = [0, null, ''];
+  for (const [kind, , number, number_of_version, , value] of rows_of(bytes)) {
+    at += 1;
+    if (kind === 'record') [record, version] = [[number, text_of(value ?? '')], ''];
+    if (kind === 'version') version = number_of_version;
+    if (at === row) break;
+  }
+  return record && words.in_record(...record, version);
 }
 
 // What the copy row of a good copy says.

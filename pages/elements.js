@@ -2,6 +2,7 @@
 
 import { texts } from './texts.js';
 import { marked, pieces_of } from './unseen.js';
+import { while_waiting } from './waiting.js';
 
 let last_id = 0;
 
@@ -68,10 +69,9 @@ export function reading() {
   return element('p', { class: 'reading' }, texts.reading);
 }
 
-// The heading of a view, which takes the focus once the view is shown.
-export function heading(text) {
-  document.title = texts.title(text);
-  return element('h1', { tabindex: '-1' }, text);
+// The heading of a view, which takes the focus once the view is shown, and is the title of the browser's page.
+export function heading(...children) {
+  return element('h1', { tabindex: '-1' }, children);
 }
 
 export function section(title, attributes, ...children) {
@@ -95,14 +95,14 @@ export function link_row(label, links) {
   return element('nav', { 'aria-label': label, class: 'versions' }, element('ol', null, items));
 }
 
-// A button. While what it does isn't done, another click does nothing.
+// A button. While what it does isn't done it says so, and another click does nothing.
 export function button(command, text, click, attributes) {
   const made = element('button', { type: 'button', 'data-do': command, ...attributes }, text);
   made.addEventListener('click', async (event) => {
     if (made.getAttribute('aria-busy')) return;
     made.setAttribute('aria-busy', 'true');
     try {
-      await click(event);
+      await while_waiting(made, texts.busy, () => click(event));
     } finally {
       made.removeAttribute('aria-busy');
     }
@@ -117,7 +117,8 @@ export function facts(pairs) {
     element('div', null, element('dt', null, label), element('dd', { 'data-part': part }, content))));
 }
 
-// A table. A row is { attributes, cells }. Roles are named, since narrow pages lay tables out as lists.
+// A table. A row is { attributes, cells }, and its first cell is its header. Roles are named, since narrow pages lay tables out as
+// lists.
 export function table(caption, columns, rows) {
   const head = columns.map((text) => element('th', { scope: 'col', role: 'columnheader' }, text));
   return element('table', { role: 'table' },
@@ -126,9 +127,10 @@ export function table(caption, columns, rows) {
     element('tbody', { role: 'rowgroup' }, rows.map((row) => table_row(columns, row))));
 }
 
-function table_row(columns, { attributes, cells }) {
-  return element('tr', { role: 'row', ...attributes },
-    cells.map((cell, at) => element('td', { role: 'cell', 'data-label': columns[at] }, element('div', null, cell))));
+export function table_row(columns, { attributes, cells }) {
+  const about = (at) => (at ? { role: 'cell' } : { role: 'rowheader', scope: 'row' });
+  return element('tr', { role: 'row', ...attributes }, cells.map((cell, at) =>
+    element(at ? 'td' : 'th', { ...about(at), 'data-label': columns[at] }, element('div', null, cell))));
 }
 
 export function input(name, attributes) {
@@ -145,13 +147,18 @@ export function choice(name, options, chosen, attributes) {
     element('option', { value, selected: value === chosen, dir: 'auto' }, marked(text))));
 }
 
-// A control with its label and hint.
+// A control with its label and hint. What stands behind it, as a unit, is part of its name.
 export function field(label, control, hint, behind) {
   control.id ||= fresh_id(control.name);
+  const name = behind ? fresh_id('label') : null;
+  if (behind) {
+    behind.id ||= fresh_id('behind');
+    control.setAttribute('aria-labelledby', `${name} ${behind.id}`);
+  }
   const about = hint ? element('p', { class: 'hint', id: fresh_id('hint') }, hint) : null;
   if (about) control.setAttribute('aria-describedby', about.id);
   return element('div', { class: 'field', 'data-field': control.name },
-    element('label', { for: control.id }, label), about,
+    element('label', { for: control.id, id: name }, label), about,
     behind ? element('span', { class: 'beside' }, control, behind) : control);
 }
 
@@ -159,6 +166,12 @@ export function field(label, control, hint, behind) {
 export function filter_form(...fields) {
   return element('form', { class: 'filter', 'data-form': 'filter', 'aria-label': texts.filter,
     submit: (event) => event.preventDefault() }, fields);
+}
+
+// A filter that is folded at first where the window is narrow, unless it filters.
+export function folded_filter(made, filter) {
+  const is_open = matchMedia('(min-width: 46rem)').matches || Object.values(filter).some(Boolean);
+  return element('details', { open: is_open }, element('summary', null, texts.filter), made);
 }
 
 // A control of a filter: a list to choose from, and any of it at first.
@@ -171,6 +184,15 @@ export function filter_choice(name, options, filter, changed) {
   });
 }
 
+// Offers more in a list to choose from, in the order of their values.
+export function offer(list, options) {
+  const there = new Set([...list.options].map(({ value }) => value));
+  for (const [value, text] of options.filter(([one]) => !there.has(one))) {
+    const behind = [...list.options].find((one) => one.value > value) ?? null;
+    list.insertBefore(element('option', { value, dir: 'auto' }, marked(text)), behind);
+  }
+}
+
 export function checkbox(name, label, attributes) {
   const control = element('input', { type: 'checkbox', name, id: fresh_id(name || 'box'), ...attributes });
   return element('div', { class: 'check', 'data-field': name }, control, element('label', { for: control.id }, label));
@@ -178,7 +200,7 @@ export function checkbox(name, label, attributes) {
 
 // A password, which its owner may look at while it is typed.
 export function password_field(name, label, hint, autocomplete = 'off') {
-  const control = input(name, { type: 'password', autocomplete });
+  const control = input(name, { type: 'password', autocomplete, 'data-secret': true });
   const shown = checkbox('', texts.passwords.show, {
     change: (event) => { control.type = event.target.checked ? 'text' : 'password'; },
   });
@@ -187,26 +209,15 @@ export function password_field(name, label, hint, autocomplete = 'off') {
   return made;
 }
 
-// A short message in the line that screen readers read out. It stays until the next one, or until the person does something that
-// sends a command or shows another view.
-let said_at = 0;
-let acted_at = 0;
-
-export function say(...children) {
-  replace(document.getElementById('said'), children);
-  said_at = performance.now();
-}
-
-export function forget_said() {
-  if (said_at < acted_at) say();
-}
-
-for (const event of ['keydown', 'pointerdown', 'click']) {
-  addEventListener(event, () => { acted_at = performance.now(); }, { capture: true });
-}
-
 export function replace(place, ...children) {
   place.replaceChildren(...children.flat(Infinity).filter((child) => child));
+}
+
+// Replaces what stands in a place. If that takes the focus away, the first button there has it, or else the heading of the view.
+export function replace_focused(place, ...children) {
+  const had_focus = place.contains(document.activeElement);
+  replace(place, ...children);
+  if (had_focus) (place.querySelector('button') ?? place.closest('[data-page]')?.querySelector('h1'))?.focus();
 }
 
 // The focus of a view that is shown: where a person types first, or else its heading.

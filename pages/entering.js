@@ -1,181 +1,231 @@
-// Entering values into an open version, and amending a settled one: a control for each field, made from the form.
+// Entering values into an open version: a table with a row for each field of its form. One button sends all that is typed, one value
+// after the other, and each row says what came of its own.
 
-import { amend_a_record, enter_a_value } from './api.js';
-import {
-  area, button, choice, element, field, fresh_id, given, heading, input, link, paragraph, reading, replace, say, section,
-} from './elements.js';
-import { record_place } from './places.js';
-import { bytes_of, flaw_of_value } from './rules.js';
-import { refuse, sending_form } from './sending.js';
-import { ask } from './session.js';
+import { what_to_type } from './controls.js';
+import { button, buttons, element, given, section, table } from './elements.js';
+import { enter_at, is_about_reason, is_about_value } from './entries.js';
+import { is_left, view_of } from './life.js';
+import { column_of } from './pasting.js';
+import { empty, entry_row, is_open, is_typed, place_of, put, show_body, stand, tell, typed_in } from './rows.js';
+import { flaw_of_value } from './rules.js';
+import { forget_said, say } from './saying.js';
+import { clear_refusals, is_here, refuse, show_refusal, tell_refusal } from './sending.js';
+import { who } from './session.js';
+import { value_in } from './showing.js';
 import { texts } from './texts.js';
-import { marked } from './unseen.js';
-import { facts_of, history_of, label_of, value_in, value_of } from './versions.js';
+import { while_pressed, while_silent } from './waiting.js';
 
 const words = texts.entering;
-const ABOUT_ENTRY = {
-  bad_value: 'value', wrong_unit: 'value', out_of_range: 'value', no_such_field: 'value', bad_body: 'value', no_value: 'value',
-  reason_wanted: 'reason', bad_name: 'reason',
-};
 
-// A control for a value of a field, and the part of the page with its hint, unit and advice: { part, control }. What a text of
-// several lines counts isn't read out at each key.
-function value_control(about, name, label) {
-  const control = control_of(about, name);
-  const live = about.kind === 'text' ? null : 'polite';
-  const advice = element('p', { class: 'advice', 'data-part': 'advice', 'aria-live': live, id: fresh_id('advice') });
-  const unit = about.unit && element('span', { class: 'unit', 'data-part': 'unit' }, given(about.unit));
-  const part = field(label, control, hint_of(about), unit);
-  part.append(advice);
-  control.setAttribute('aria-describedby', `${control.getAttribute('aria-describedby')} ${advice.id}`);
-  const advise = () => { advice.textContent = advice_of(about, control.value); };
-  control.addEventListener('change', advise);
-  control.addEventListener('input', () => { if (advice.textContent || about.kind === 'text') advise(); });
-  return { part, control };
-}
-
-function control_of({ kind, choices, size }, name) {
-  if (kind === 'choice') return choice(name, [['', texts.choose], ...choices.map((text) => [text, text])], '');
-  if (kind === 'yesno') return choice(name, [['', texts.choose], ['yes', words.yes], ['no', words.no]], '');
-  if (kind === 'text') return area(name, { dir: 'auto', rows: size > 120 ? 3 : 1 });
-  return input(name, { size: kind === 'date' ? 12 : 18 });
-}
-
-// What fits a field, in words.
-export function hint_of({ kind, decimals, min, max, size, choices }) {
-  if (kind === 'number') return [words.number(decimals), words.bounds(min, max), words.limits].filter(Boolean).join(' ');
-  if (kind === 'text') return words.text(size);
-  if (kind === 'choice') return words.choice(choices.length);
-  return kind === 'date' ? words.date : words.yesno;
-}
-
-// What the server would say about a value, before it is sent; and how long a text is by now.
-function advice_of(about, value) {
-  if (value === '') return '';
-  const flaw = flaw_of_value(about, value);
-  const length = about.kind === 'text' ? words.length(bytes_of(value), about.size) : '';
-  return flaw ? `${words.flaws[flaw]} ${length}`.trim() : length;
-}
-
-// The part of the page where values are entered. `read_again` reads the version anew after each entry and updates this part too.
+// The part of the page where values are entered. `read_again` reads the version anew after entries by a form, updates this part too,
+// and gives whether it was read.
 export function entering_part(history, read_again) {
-  const entries = history.form.fields.map((about, at) => entry_form(about, history, async () => {
-    await read_again();
-    const next = entries.slice(at + 1).find((entry) => entry.is_empty());
-    (next ?? entries[at]).focus();
-  }));
-  const about = { class: 'entering', 'data-part': 'entering' };
-  const part = section(words.title, about, paragraph(words.intro), entries.map(({ made }) => made));
-  return {
-    part,
-    update: (newer) => {
-      const shown = newer.versions.at(-1);
-      part.hidden = shown.state !== 'open' || newer.record.current !== shown.version;
-      for (const entry of entries) entry.update(shown);
-    },
+  const sheet = { form: history.form, rows: history.form.fields.map(entry_row), read_again };
+  sheet.sender = element('button', { type: 'submit', 'data-do': 'enter_a_value' }, words.enter_all);
+  sheet.typed = element('span', { role: 'status', 'data-part': 'typed' });
+  sheet.take_back = button('take_back', words.take_back, () => take_back(sheet));
+  sheet.take_back.hidden = true;
+  sheet.made = element('form', { 'data-form': 'enter_a_value', 'data-keep': true, novalidate: true, autocomplete: 'off' },
+    table(words.caption, [words.field, words.value, words.what_stands], sheet.rows),
+    buttons(sheet.sender, sheet.take_back, sheet.typed));
+  listen(sheet);
+  const part = section(words.title, { class: 'entering', 'data-part': 'entering' }, sheet.made,
+    element('p', { class: 'hint' }, words.intro));
+  const update = (newer) => {
+    sheet.shown = newer.versions.at(-1);
+    sheet.at = { record: sheet.shown.record, version: sheet.shown.version, count: sheet.shown.rows.length };
+    part.hidden = sheet.shown.state !== 'open' || newer.record.current !== sheet.shown.version;
+    for (const row of sheet.rows) stand(row, value_in(sheet.shown, row.about.key), entry_of(newer.versions, row.about.key));
   };
+  update(history);
+  return { part, update };
 }
 
-// The form of one field. Where the field has a value, that one is shown, and another is entered in its place with a reason.
-function entry_form(about, history, entered) {
-  const { record } = history.record;
-  const { part, control } = value_control(about, 'value', label_of(about));
-  const reason = field(words.reason, area('reason', { dir: 'auto' }), words.reason_hint);
-  const body = element('div', { id: `entry-${about.key}` }, part, reason);
-  const standing = element('p', { class: 'standing' });
-  const made = sending_form({
-    command: 'enter_a_value', submit: words.enter, submit_name: words.enter_field(marked(about.label)),
-    attributes: { 'data-key': about.key, class: 'entry', 'data-keep': true },
-    about: (refusal) => {
-      if (refusal.word === 'reason_wanted') reason.hidden = false;
-      return ABOUT_ENTRY[refusal.word];
-    },
-    send: async (values) => {
-      await enter(record, about, values, reason.hidden);
-      made.reset();
-      for (const advice of made.querySelectorAll('.advice')) advice.textContent = '';
-      delete made.dataset.standing;
-      await entered();
-    },
-  }, standing, body);
-  const fold = folding(made, body, words.replace_field(marked(about.label)));
-  const update = (shown) => {
-    const value = value_in(shown, about.key);
-    reason.hidden = !value;
-    if (made.dataset.standing === standing_text(value)) return;
-    made.dataset.standing = standing_text(value);
-    replace(standing, value && [element('span', null, given(about.label), ': ', value_of(value, 'standing')), fold.opener]);
-    fold.show(!value || control.value !== '');
-  };
-  update(history.versions.at(-1));
-  return { made, update, is_empty: () => !body.hidden, focus: () => (body.hidden ? fold.opener : control).focus() };
-}
+// The entry by which a value stands.
+const entry_of = (versions, wanted) => versions.flatMap(({ rows }) => rows).findLast(({ key }) => key === wanted);
 
-const standing_text = (value) => (value ? JSON.stringify([value.value, value.unit]) : '');
-
-// Hides the controls of a field that has a value, behind a button.
-function folding(made, body, name) {
-  const opener = button('replace', words.replace, () => {
-    show(body.hidden);
-    if (!body.hidden) body.querySelector('[name="value"]').focus();
-  }, { 'aria-controls': body.id, 'aria-label': name });
-  const show = (is_shown) => {
-    body.hidden = !is_shown;
-    made.querySelector('.buttons').hidden = !is_shown;
-    opener.setAttribute('aria-expanded', is_shown);
-  };
-  return { opener, show };
-}
-
-async function enter(record, about, { value, reason }, is_first) {
-  if (value === '') refuse('no_value');
-  const reply = await ask(enter_a_value, {
-    record, key: about.key, value, unit: about.unit ?? '', reason: is_first ? undefined : reason || undefined,
+function listen(sheet) {
+  const { made, rows } = sheet;
+  made.addEventListener('submit', (event) => {
+    event.preventDefault();
+    enter_all(sheet);
   });
-  const entered = [given(about.label), ' ', given(value), about.unit && [' ', given(about.unit)]];
-  say(words.said_entered, ' ', entered, '. ', words.said_rows(reply.rows));
+  made.addEventListener('keydown', (event) => go_down(sheet, event));
+  made.addEventListener('paste', (event) => paste(sheet, event));
+  made.addEventListener('input', ({ target }) => {
+    const row = rows.find(({ control }) => control === target);
+    if (row) tell(row, target.value === '' ? null : 'typed');
+    count_typed(sheet);
+  });
 }
 
-// Amending: each value that stands, with a control for another one beside it.
-export async function amending_view(place, number) {
-  replace(place, heading(words.amending_title(number)), reading());
-  const history = await history_of(number);
-  replace(place, heading(words.amending_title(number)), paragraph(words.amending_intro),
-    section(words.stands, null, facts_of(history.versions.at(-1), history.record)), amending_form(history),
-    paragraph(link(record_place(number), words.leave_it)));
+function count_typed({ rows, typed }) {
+  const text = words.typed(rows.filter(is_typed).length);
+  if (typed.textContent !== text) typed.textContent = text;
 }
 
-function amending_form({ record, versions, form }) {
-  const shown = versions.at(-1);
-  const rows = form.fields.map((about) => amending_row(about, value_in(shown, about.key)));
-  return sending_form({
-    command: 'amend_a_record', submit: words.amend, attributes: { 'data-keep': true },
-    about: (refusal) => about_amendment(refusal, form, rows),
-    send: async ({ reason }) => {
-      const typed = form.fields.map(({ key, unit }, at) => ({ key, value: rows[at].control.value, unit: unit ?? '' }));
-      const altered = typed.filter(({ value }) => value !== '');
-      const reply = await ask(amend_a_record, { record: record.record, reason: reason || undefined, altered });
-      say(words.said_amended(reply.record, reply.version));
-      location.hash = record_place(record.record);
-    },
-  },
-  rows.map(({ part }) => part),
-  field(words.amending_reason, area('reason', { dir: 'auto' }), words.reason_hint));
+// Enter goes to the next control, and behind the last one enters all; with Control it enters all at once. Shift and Enter begins
+// another line of a text. A key that is held down doesn't run through the table.
+function go_down({ made }, event) {
+  const { key, target } = event;
+  if (key !== 'Enter' || event.isComposing || !target.name) return;
+  if (event.shiftKey && target.matches('textarea')) return;
+  event.preventDefault();
+  if (event.repeat) return;
+  const controls = [...made.querySelectorAll('[name]')].filter((control) => !control.closest('[hidden]'));
+  const next = event.ctrlKey || event.metaKey ? null : controls[controls.indexOf(target) + 1];
+  if (next) next.focus();
+  else made.requestSubmit();
 }
 
-function amending_row(about, value) {
-  const { part, control } = value_control(about, `value_${about.key}`, [words.other_value, ' ', given(about.label)]);
-  const standing = element('div', { class: 'standing' }, paragraph(label_of(about)),
-    paragraph(words.stands_now, ' ', value_of(value, 'standing')));
-  return { part: element('div', { class: 'amend-row', 'data-key': about.key }, standing, part), control };
+// ---- a column that is pasted
+
+// Several lines that are pasted fill the rows below, each as if it was typed; a text keeps its lines. Nothing is sent.
+function paste(sheet, event) {
+  const at = sheet.rows.findIndex(({ control }) => control === event.target);
+  const column = at < 0 || sheet.rows[at].about.kind === 'text' ? null : column_of(event.clipboardData.getData('text'));
+  if (!column) return;
+  event.preventDefault();
+  if (column.is_wide) say(words.paste_is_wide);
+  else fill(sheet, at, column.cells);
 }
 
-// Of a value that doesn't fit the server doesn't say which: it is the first that these pages see.
-function about_amendment({ word, key }, { fields }, rows) {
-  if (word === 'not_altered') return rows[fields.findIndex((about) => about.key === key)]?.control;
-  if (word === 'reason_wanted') return 'reason';
-  if (word === 'nothing_altered') return rows[0].control;
-  if (word === 'bad_name') return 'reason';
-  const flaws = (control, at) => control.value !== '' && flaw_of_value(fields[at], control.value) === word;
-  return rows.find(({ control }, at) => flaws(control, at))?.control ?? null;
+function fill(sheet, first, cells) {
+  const rows = sheet.rows.slice(first, first + cells.length);
+  const pairs = rows.map((row, at) => ({ row, cell: cells[at], before: row.control.value, was_open: is_open(row) }))
+    .filter(({ row, cell }) => cell !== '' && cell !== standing_in(sheet, row));
+  sheet.pasted = pairs.filter(({ row, cell }) => {
+    show_body(row, true);
+    return put(row, cell);
+  });
+  const wrong = pairs.filter(({ row, cell }) => flaw_of_value(row.about, cell)).length;
+  sheet.take_back.hidden = !sheet.pasted.length;
+  say(words.said_pasted(sheet.pasted.length, wrong, cells.length - rows.length));
+}
+
+const standing_in = ({ shown }, { about }) => value_in(shown, about.key)?.value;
+
+// What was typed over since then stays.
+function take_back(sheet) {
+  for (const { row, before, was_open } of sheet.pasted.filter(({ row, cell }) => row.control.value === cell)) {
+    put(row, before);
+    show_body(row, was_open);
+  }
+  sheet.take_back.hidden = true;
+  sheet.rows.find(is_open)?.control.focus();
+}
+
+// ---- what is sent
+
+// Enters all that is typed, in order. What isn't about a value alone stops it: what is left stays typed. Where it isn't known whether
+// a value was entered, the page looks, and sends nothing.
+async function enter_all(sheet) {
+  const { made, sender, rows } = sheet;
+  if (sender.getAttribute('aria-busy')) return;
+  clear_refusals(made);
+  forget_said();
+  const unknown = rows.filter(({ look }) => look);
+  const steps = unknown.length ? unknown.map((row) => ({ row, send: row.look })) : rows.filter(is_typed).map((row) => step_of(sheet, row));
+  if (steps.length) await send_all(sheet, { steps, began: document.activeElement, entered: [], refused: [], looked: false });
+  else tell_none(sheet);
+}
+
+// A row is busy until it is sent, and the button until the version is read again.
+async function send_all(sheet, came) {
+  const { made, sender } = sheet;
+  const places = came.steps.map(({ row }) => place_of(row));
+  sheet.take_back.hidden = true;
+  for (const busy of [sender, ...places]) busy.setAttribute('aria-busy', 'true');
+  sender.setAttribute('aria-disabled', 'true');
+  try {
+    await while_pressed(sender, texts.sending, () => take_all(sheet, came));
+    for (const place of places) place.removeAttribute('aria-busy');
+    say_what_came(sheet, came);
+    if (is_left(made)) return;
+    const is_read = !came.entered.length || await sheet.read_again(made);
+    if (is_read && !is_left(made)) go_on(sheet, came);
+  } finally {
+    for (const name of ['aria-busy', 'aria-disabled']) sender.removeAttribute(name);
+  }
+}
+
+function tell_none({ made, rows }) {
+  const about = rows.find(({ control }) => control === document.activeElement) ?? rows.find(is_open);
+  try {
+    refuse('no_value');
+  } catch (refusal) {
+    show_refusal(made, refusal, () => about?.control);
+  }
+}
+
+function step_of(sheet, row) {
+  const sent = typed_in(row);
+  return { row, send: () => enter(sheet, row, sent) };
+}
+
+// One value after the other, as long as the same person is signed in.
+async function take_all(sheet, came) {
+  const { lab, code } = who();
+  for (const { row, send } of came.steps) {
+    if (who()?.lab !== lab || who()?.code !== code || !await take(sheet, row, send, came)) return;
+  }
+}
+
+// Takes a step, and gives whether the next one follows.
+async function take({ form, made, sender }, row, send, came) {
+  tell(row, 'sending');
+  row.look = null;
+  try {
+    const looked = await while_silent(sender, send);
+    came.looked ||= looked;
+    came.entered.push(row);
+    return true;
+  } catch (refusal) {
+    row.look = refusal.look ?? null;
+    tell(row, row.look ? null : 'typed');
+    came.refused.push(row);
+    tell_at(row, form, refusal);
+    return is_about_value(refusal);
+  } finally {
+    place_of(row).removeAttribute('aria-busy');
+  }
+}
+
+function tell_at(row, form, refusal) {
+  if (refusal.word === 'reason_wanted') row.reason.hidden = false;
+  const about = is_about_reason(refusal) && !row.reason.hidden ? row.reason.querySelector('[name]') : row.control;
+  tell_refusal(about, refusal, what_to_type(refusal.word, form, row.about, row.control.value));
+}
+
+// Enters a value, and gives whether that was looked up.
+function enter(sheet, row, sent) {
+  return enter_at(sheet.at, row.about, sent, (looked) => {
+    empty(row, sent);
+    stand(row, { value: sent.value, unit: row.about.unit ?? '' });
+    tell(row, is_typed(row) ? 'typed' : 'entered');
+    count_typed(sheet);
+    return looked;
+  });
+}
+
+function say_what_came({ made, shown }, { steps, entered, refused, looked }) {
+  if (!entered.length && !is_left(made)) return;
+  const [one] = entered;
+  const unknown = refused.filter(({ look }) => look).length;
+  const counts = { entered: entered.length, refused: refused.length - unknown, unknown, left: steps.length - entered.length - refused.length };
+  const what = steps.length === 1 && one ? [given(one.about.label), ' ', words.said_entered] : words.said_all(counts);
+  say(texts.record(shown.record), ': ', what, looked && [' ', texts.said_looked]);
+}
+
+// The focus goes to what was refused first, to the next field without a value, or to the signature; but not away from who types
+// elsewhere by now.
+function go_on({ made, rows, sender }, { steps, began, refused }) {
+  const active = rows.find((row) => place_of(row).contains(document.activeElement));
+  const is_elsewhere = active && !refused.includes(active) && (is_typed(active)
+    || (document.activeElement !== began && !steps.some(({ row }) => row === active)));
+  if (!is_here(made) || is_elsewhere) return;
+  const [wrong] = refused.flatMap((row) => [...place_of(row).querySelectorAll('[aria-invalid]')]);
+  const is_next = (row) => is_open(row) && row.control.value === '';
+  const next = rows.slice(rows.indexOf(steps.at(-1).row) + 1).find(is_next) ?? rows.find(is_next);
+  (wrong ?? next?.control ?? view_of(made).querySelector('[data-do="authorship"]') ?? sender).focus();
 }

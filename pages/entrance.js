@@ -1,11 +1,13 @@
 // Signing in, signing in again over a page that stays as it is, and changing the password.
 
-import { change_the_password } from './api.js';
-import { button, element, facts, field, given, heading, input, paragraph, password_field, replace, say } from './elements.js';
-import { password_place } from './places.js';
+import { Refusal, change_the_password } from './api.js';
+import { button, element, facts, field, given, heading, input, paragraph, password_field, replace } from './elements.js';
+import { write } from './outcomes.js';
+import { first_place, password_place } from './places.js';
 import { bytes_of } from './rules.js';
+import { say } from './saying.js';
 import { clear_refusals, refuse, sending_form, show_refusal } from './sending.js';
-import { ask, ask_once, card_of, password_changed, sign_in, sign_out, who } from './session.js';
+import { ask, ask_once, card_of, is_password_due, password_changed, sign_in, sign_out, who } from './session.js';
 import { texts } from './texts.js';
 
 const words = texts.entrance;
@@ -25,7 +27,7 @@ export function entrance_view(place) {
   const lab = input('lab', { value: last_lab, 'data-first': !last_lab });
   const code = input('code', { autocomplete: 'username', 'data-first': Boolean(last_lab) });
   const made = sending_form({
-    command: 'open_a_session', submit: words.sign_in, about: ABOUT_OPENING, send: (values) => enter(values),
+    command: 'open_a_session', submit: words.sign_in, about: ABOUT_OPENING, keeps: false, send: (values) => enter(values),
   },
   field(words.lab, lab, words.lab_hint), element('p', { class: 'named' }, named),
   field(words.code, code, words.code_hint),
@@ -74,25 +76,45 @@ export function password_view(place) {
   replace(place, heading(due ? words.title_due : words.title_change),
     paragraph(due ? words.intro_due : words.intro_change), change_form(() => {
       say(words.said_changed);
-      if (location.hash === password_place()) location.hash = '';
+      if (location.hash === password_place()) location.replace(first_place());
     }));
 }
 
-// The form that changes the password. `change` asks the command.
-function change_form(done, change = ask) {
+// The form that changes the password. `by` asks the command.
+function change_form(done, by = ask) {
   const old = typed;
   typed = null;
   return sending_form({
-    command: 'change_the_password', submit: words.change, about: ABOUT_CHANGE, send: async (values) => {
+    command: 'change_the_password', submit: words.change, about: ABOUT_CHANGE, send: (values) => {
       if (values.again !== values.new) refuse('again_differs');
-      await change(change_the_password, { old: values.old ?? old, new: values.new });
-      await password_changed();
-      done();
+      const was_due = who().due;
+      return write(change_the_password, { old: values.old ?? old, new: values.new }, {
+        by, look: () => look_for_change(was_due), done: ({ is_unsure }) => {
+          if (is_unsure) refuse('password_not_known');
+          return read_roles(done);
+        },
+      });
     },
   },
   known_code(),
   old === null ? password_field('old', words.old, words.old_hint, 'current-password') : paragraph(words.old_typed),
   new_password_field(), password_field('again', words.again, words.again_hint, 'new-password'));
+}
+
+// A password that isn't due any more was changed. Of one that wasn't due only another opening would tell.
+async function look_for_change(was_due) {
+  if (!was_due) return { is_unsure: true };
+  return await is_password_due() ? null : {};
+}
+
+// The password is changed. Where only the reading of the roles fails, the next try reads, and changes nothing.
+async function read_roles(done) {
+  try {
+    await password_changed();
+  } catch {
+    throw Object.assign(new Refusal(0, { error: 'roles_not_read', number: 0 }), { look: () => read_roles(done) });
+  }
+  done();
 }
 
 // The new password with how long it is by now, in bytes.

@@ -1,77 +1,55 @@
 // Forms: a version of one beside the version before, and the making of the next.
 
-import { make_a_form, read_a_form } from './api.js';
+import { Refusal, make_a_form } from './api.js';
 import {
   action, actions, area, button, buttons, checkbox, choice, element, facts, field, given, heading, input, link, link_row,
-  paragraph, reading, replace, say, section, table,
+  paragraph, reading, replace, section, table,
 } from './elements.js';
-import { hint_of } from './entering.js';
-import { form_place, forms_place, making_place } from './places.js';
-import { is_key, suspect_field } from './rules.js';
-import { forms_seen, load_newest_forms, remember_forms } from './records.js';
+import { go, is_left, view_of } from './life.js';
+import { write } from './outcomes.js';
+import { form_place, forms_place, grid_place, making_place, opening_place } from './places.js';
+import { form_of, form_or_null, last_version } from './reading.js';
+import { is_key, suspects } from './rules.js';
+import { forms_seen, load_newest, remember_forms } from './records.js';
+import { say } from './saying.js';
 import { refuse, sending_form, show_refusal } from './sending.js';
-import { ask, has, keep, kept_as, may_see_persons } from './session.js';
+import { has, may_see_persons } from './session.js';
+import { hint_of } from './showing.js';
+import { slip_of_code, text_of_slip } from './slips.js';
 import { texts } from './texts.js';
 import { forms_in_trail } from './trail.js';
 
 const words = texts.forms;
-const MOST_VERSIONS = 99;
 const KINDS = ['number', 'text', 'choice', 'date', 'yesno'];
 const DECIMALS = ['0', '1', '2', '3', '4', '5', '6'].map((count) => [count, count]);
-
-// A version of a form, which never changes.
-export async function form_of(form, version) {
-  const name = `form ${form} ${version}`;
-  return kept_as(name) ?? keep(name, await ask(read_a_form, form, version));
-}
-
-async function form_or_null(form, version) {
-  try {
-    return await form_of(form, version);
-  } catch (refusal) {
-    if (refusal.word === 'no_such_form') return null;
-    throw refusal;
-  }
-}
-
-// The number of a form's last version, 0 where there is no such form. No command says it, so versions are asked for.
-async function last_version(form, known = 0) {
-  let low = known;
-  let high = known + 1;
-  while (high <= MOST_VERSIONS && await form_or_null(form, high)) {
-    low = high;
-    high *= 2;
-  }
-  high = Math.min(high, MOST_VERSIONS + 1);
-  while (high - low > 1) {
-    const middle = Math.floor((low + high) / 2);
-    if (await form_or_null(form, middle)) low = middle;
-    else high = middle;
-  }
-  return low;
-}
 
 export async function forms_view(place) {
   const list = element('div', { 'data-part': 'forms' }, reading());
   const go = sending_form({
-    command: 'go_to_form', submit: words.go, attributes: { class: 'inline' }, about: { no_key: 'form', no_such_form: 'form' },
-    send: ({ form }) => go_to(form.trim()),
+    command: 'go_to_form', submit: words.go, about: { no_key: 'form', no_such_form: 'form' }, keeps: false,
+    attributes: { class: 'inline' }, send: ({ form }) => place_of(form.trim()),
   }, field(words.code, input('form'), words.code_hint));
   replace(place, heading(words.title), has('manager') && actions(action(making_place(), words.make_one)), go, list);
-  await load_newest_forms();
+  await load_newest();
   draw_forms(list);
 }
 
-async function go_to(form) {
+async function place_of(form) {
   if (!is_key(form)) refuse('no_key');
   const last = await last_version(form);
   if (!last) refuse('no_such_form');
-  location.hash = form_place(form, last);
+  return form_place(form, last);
 }
 
 function draw_forms(list) {
   const seen = forms_seen();
-  const go_there = (form) => go_to(form).catch((refusal) => show_refusal(list, refusal));
+  const go_there = async (form) => {
+    try {
+      go(view_of(list), await place_of(form));
+    } catch (refusal) {
+      show_refusal(list, refusal);
+    }
+  };
   const items = seen.map((form) => element('li', { 'data-form-code': form },
     button('go_to_form', form, () => go_there(form), { class: 'as-link' })));
   replace(list, element('h2', null, words.seen), seen.length ? element('ul', null, items) : paragraph(words.none_seen),
@@ -80,7 +58,8 @@ function draw_forms(list) {
 
 async function look_in_trail(list) {
   try {
-    const found = await forms_in_trail((rows) => say(words.said_looking(rows)));
+    const found = await forms_in_trail((rows) => !is_left(list) && say(words.said_looking(rows)));
+    if (is_left(list)) return;
     remember_forms(found);
     draw_forms(list);
     say(words.said_looked(found.size));
@@ -103,7 +82,9 @@ export async function form_view(place, form, version) {
       [words.approval, shown.approval ? words.with_approval : words.without_approval, 'approval']]),
     section(words.fields, null, fields_table(shown, before)),
     before && section(words.compared(version - 1), { 'data-part': 'compared' }, differences_of(before, shown)),
-    has('manager') && actions(action(making_place(form, last), words.make_next)), paragraph(link(forms_place(), words.back)));
+    actions(has('manager') && action(making_place(form, last), words.make_next), has('analyst') && [
+      action(opening_place(form), texts.versions.open_another(form), 'open_another'), ' ',
+      link(grid_place(form), texts.versions.open_many(form), { 'data-do': 'open_many' })]), paragraph(link(forms_place(), words.back)));
 }
 
 function fields_table({ fields }, before) {
@@ -158,46 +139,75 @@ function is_reordered(before, after) {
 }
 
 // The making of a form, or of its next version, which begins as the version before.
-export async function making_view(place, form, version) {
-  replace(place, heading(form ? words.next_title(form) : words.making_title), reading());
-  const before = form ? await form_of(form, version) : null;
-  const editor = editor_of(before);
+export async function making_view(view, form, version) {
+  replace(view, heading(form ? words.next_title(form) : words.making_title), reading());
+  const editor = editor_of(form ? await form_of(form, version) : null);
   const made = sending_form({
-    command: 'make_a_form', submit: before ? words.make_next : words.make, attributes: { 'data-keep': true },
-    about: (refusal) => about_making(refusal, editor, made), send: async (values) => {
-      const { fields, approval } = editor.read();
-      const reply = await ask(make_a_form, { form: before ? form : values.form.trim(), approval, fields });
-      remember_forms([reply.form]);
-      say(words.said_made(reply.form, reply.version));
-      location.hash = form_place(reply.form, reply.version);
-    },
-  }, before ? null : field(words.code, input('form'), words.code_hint), editor.part);
-  replace(place, heading(form ? words.next_title(form) : words.making_title), paragraph(words.making_intro), made,
+    command: 'make_a_form', submit: form ? words.make_next : words.make, about: (refusal) => about_making(refusal, editor, made),
+    send: (values) => make(form ?? values.form.trim(), editor),
+  }, form ? null : field(words.code, input('form'), words.code_hint), editor.part);
+  replace(view, heading(form ? words.next_title(form) : words.making_title), paragraph(words.making_intro), made,
     paragraph(link(forms_place(), words.back)));
 }
 
-// The editor of fields and approval: { part, read, parts }, where read gives { fields, approval } as they are typed.
+// Makes the version behind the one with which the editor's fields are compared. Where no reply says whether it was made, it is
+// there, or it isn't.
+async function make(form, editor) {
+  await look_for_newer(form, editor);
+  const [known, typed] = [editor.known(), editor.read()];
+  return write(make_a_form, { form, ...typed }, {
+    look: async () => {
+      const next = await form_or_null(form, known + 1);
+      return next && is_alike(typed, next) ? next : null;
+    },
+    done: ({ version, looked }) => {
+      remember_forms([form]);
+      say(words.said_made(form, version), version > known + 1 && [' ', words.said_between(version - 1)],
+        looked && [' ', texts.said_looked]);
+      return form_place(form, version);
+    },
+  });
+}
+
+// A version that somebody made meanwhile isn't undone unseen: what is typed is compared with it, and nothing is sent yet.
+async function look_for_newer(form, editor) {
+  const last = is_key(form) ? await last_version(form, editor.known()) : editor.known();
+  if (last === editor.known()) return;
+  editor.compare_with(await form_of(form, last));
+  throw new Refusal(0, { error: 'form_grew', number: 0, form, version: last });
+}
+
+// Whether two forms have the same fields, whatever the order of their members.
+function is_alike(one, other) {
+  const told = ({ approval, fields }) => JSON.stringify([approval, fields.map((about) => Object.entries(about).sort())]);
+  return told(one) === told(other);
+}
+
+// The editor of fields and approval: { part, list, read, known, compare_with }. `read` gives { fields, approval } as they are typed,
+// `known` the number of the version with which they are compared, 0 of none, and `compare_with` compares them with another one.
 function editor_of(before) {
   const approval = checkbox('approval', words.approval_box, { checked: before?.approval ?? false });
   const list = element('div', { 'data-part': 'fields' });
-  const compared = element('div', { 'data-part': 'compared' });
-  const add = (about) => list.append(field_editor(about, list));
+  const compared = element('div');
   const read = () => ({ approval: approval.querySelector('input').checked, fields: [...list.children].map(read_field) });
-  for (const about of before?.fields ?? [{ kind: 'number' }]) add(about);
+  for (const about of before?.fields ?? [{ kind: 'number' }]) list.append(field_editor(about, list));
   number_fields(list);
   const add_one = button('add_field', words.add, () => {
-    add({ kind: 'number' });
-    number_fields(list);
+    list.append(field_editor({ kind: 'number' }, list));
+    number_fields(list, true);
     list.lastElementChild.querySelector('[name="key"]').focus();
   });
-  const part = element('div', null, approval, list, buttons(add_one),
-    before && section(words.compared(before.version), null, compared));
-  const compare = () => before && replace(compared, differences_of(before, read()));
-  part.addEventListener('input', compare);
-  part.addEventListener('change', compare);
-  part.addEventListener('click', compare);
+  let newest = before;
+  const compare = () => newest && replace(compared,
+    section(words.compared(newest.version), { 'data-part': 'compared' }, differences_of(newest, read())));
+  const part = element('div', { input: compare, change: compare, click: compare }, approval, list, buttons(add_one), compared);
   compare();
-  return { part, read, list };
+  return {
+    part, list, read, known: () => newest?.version ?? 0, compare_with: (form) => {
+      newest = form;
+      compare();
+    },
+  };
 }
 
 function field_editor(about, list) {
@@ -223,6 +233,7 @@ function draw_rest(rest, { kind, unit = '', decimals = 2, min = '', max = '', si
       field(words.decimals, choice('decimals', DECIMALS, String(decimals)), words.decimals_hint),
       field(words.min, input('min', { value: min }), words.bound_hint),
       field(words.max, input('max', { value: max }), words.bound_hint),
+      element('p', { class: 'hint bounds' }, words.bounds_hint),
     ],
     text: () => [field(words.size, input('size', { value: String(size), inputmode: 'numeric' }), words.size_hint)],
     choice: () => [field(words.choices, area('choices', { rows: 4, dir: 'auto' }), words.choices_hint)],
@@ -247,7 +258,9 @@ function read_field(made) {
   return about;
 }
 
-function number_fields(list) {
+// Numbers the fields of an editor anew. One in which fields were added, moved or removed is altered, like one that is typed into.
+function number_fields(list, is_altered = false) {
+  if (is_altered) list.closest('form').setAttribute('data-altered', '');
   for (const [at, made] of [...list.children].entries()) {
     made.dataset.at = at + 1;
     made.querySelector('legend').textContent = words.field_number(at + 1);
@@ -259,7 +272,7 @@ function move(made, list, by, pressed) {
   if (!other) return;
   if (by < 0) other.before(made);
   else other.after(made);
-  number_fields(list);
+  number_fields(list, true);
   pressed.focus();
   say(words.said_moved(made.dataset.at));
 }
@@ -267,15 +280,19 @@ function move(made, list, by, pressed) {
 function remove(made, list) {
   const near = made.nextElementSibling ?? made.previousElementSibling;
   made.remove();
-  number_fields(list);
+  number_fields(list, true);
   (near?.querySelector('[name="key"]') ?? list.parentNode.querySelector('[data-do="add_field"]')).focus();
   say(words.said_removed);
 }
 
 function about_making({ word }, { list, read }, made) {
-  if (word === 'bad_name' && made.elements.form && !is_key(made.elements.form.value.trim())) return made.elements.form;
-  const found = suspect_field(read().fields, word);
-  if (!found) return null;
-  const control = list.children[found.at].querySelector(`[name="${found.name}"]`);
-  return { control, what_to_do: words.advice[word]?.[found.name] };
+  const code = made.elements.form;
+  const slip = code && slip_of_code(code.value.trim());
+  const flaws = suspects(read().fields).map((one) => ({
+    word: one.word, control: list.children[one.at].querySelector(`[name="${one.name}"]`),
+    what_to_do: words.advice[one.word]?.[one.name] ?? texts.refusals[one.word].what_to_do,
+  }));
+  if (slip) flaws.unshift({ word: 'bad_name', control: code, what_to_do: text_of_slip(slip) });
+  const first = flaws.find((one) => one.word === word);
+  return first ? { ...first, others: flaws.filter((one) => one !== first) } : null;
 }

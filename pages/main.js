@@ -1,19 +1,21 @@
 // The start of the pages: the head with its links and the countdown, and the view that the place in the address names.
 
-import { amending_view } from './entering.js';
-import {
-  button, buttons, element, focus_view, forget_said, given, heading, link, named, paragraph, replace, say,
-} from './elements.js';
+import { amending_view } from './amending.js';
+import { button, buttons, element, focus_view, given, heading, link, named, paragraph, replace } from './elements.js';
 import { again_dialog, entrance_view, password_view } from './entrance.js';
-import { keep_what_is_typed } from './leaving.js';
 import { checking_view, copies_view } from './copies.js';
+import { records_view } from './finding.js';
 import { form_view, forms_view, making_view } from './forms.js';
+import { grid_view } from './grid.js';
+import { ask_first, guard_views } from './leaving.js';
+import { begin_view, is_over, name_view } from './life.js';
 import { enrolling_view, person_view, persons_view } from './persons.js';
+import { opening_view } from './opening.js';
 import {
-  PATTERNS, checking_place, copies_place, enrolling_place, first_place, forms_place, making_place, opening_place, password_place,
-  persons_place, records_place, trail_place, waiting_place,
+  PATTERNS, checking_place, copies_place, day_place, enrolling_place, first_place, forms_place, grid_place, making_place,
+  opening_place, password_place, persons_place, records_place, trail_place,
 } from './places.js';
-import { opening_view, records_view, waiting_view } from './records.js';
+import { forget_said, say } from './saying.js';
 import { show_refusal } from './sending.js';
 import {
   back_again, go_on, has, is_opening_again, may_copy, may_read, may_see_persons, on_session, on_session_ended, seconds_left,
@@ -23,10 +25,11 @@ import { signing_view } from './signing.js';
 import { texts } from './texts.js';
 import { trail_view } from './trail.js';
 import { paper_view, version_view } from './versions.js';
+import { day_view } from './worklist.js';
 
 const WARNING_SECONDS = 120;
 const VIEWS = {
-  records: records_view, waiting: waiting_view, opening: opening_view, record: version_view, version: version_view,
+  day: day_view, records: records_view, opening: opening_view, grid: grid_view, record: version_view, version: version_view,
   signing: signing_view, amending: amending_view, paper: paper_view, forms: forms_view, form: form_view, making: making_view,
   persons: persons_view, person: person_view, enrolling: enrolling_view, trail: trail_view, copies: copies_view,
   checking: checking_view, password: password_view,
@@ -39,7 +42,7 @@ let shown_for = null;
 // The links of the head: place, text, and who has use for it. Who isn't signed in has use for two.
 const LINKS_OUTSIDE = [[first_place(), texts.links.sign_in], [checking_place(), texts.links.checking]];
 const LINKS = [
-  [waiting_place(), texts.links.waiting, () => has('reviewer', 'manager')],
+  [day_place(), texts.links.day, () => has('analyst', 'reviewer', 'manager')],
   [records_place(), texts.links.records, may_read],
   [forms_place(), texts.links.forms, may_read],
   [persons_place(), texts.links.persons, may_see_persons],
@@ -50,12 +53,12 @@ const LINKS = [
 ];
 
 function home() {
-  if (has('reviewer', 'manager') && !has('analyst')) return waiting_place();
+  if (has('analyst', 'reviewer', 'manager')) return day_place();
   if (may_read()) return records_place();
   return may_see_persons() ? persons_place() : password_place();
 }
 
-// The view of the place in the address: its name, the view, and what it is about.
+// The view of the place in the address: its name, the function that fills it, and what it is about.
 function view_of_place() {
   const person = who();
   for (const [name, pattern] of Object.entries(PATTERNS)) {
@@ -72,34 +75,37 @@ function number_or_text(group) {
   return /^[0-9]+$/.test(group) ? Number(group) : group;
 }
 
-function unknown_view(place) {
-  replace(place, heading(texts.unknown_place), paragraph(link(home(), texts.go_home)));
+function unknown_view(view) {
+  replace(view, heading(texts.unknown_place), paragraph(link(home(), texts.go_home)));
 }
 
 async function show() {
   if (who() && !who().due && ['', first_place()].includes(location.hash)) {
+    main.setAttribute('aria-busy', 'true');
     location.replace(home());
     return;
   }
-  const [name, view, about] = view_of_place();
-  const place = element('div', { 'data-page': name });
-  replace(main, place);
+  const [name, fill, about] = view_of_place();
+  const view = begin_view(main, name);
   main.setAttribute('aria-busy', 'true');
   draw_links();
   forget_said();
   scrollTo(0, 0);
   try {
-    const shown = view(place, ...about);
-    focus_view(place);
-    await shown;
+    const filled = fill(view, ...about);
+    name_view(view);
+    focus_view(view);
+    await filled;
   } catch (refusal) {
-    for (const unread of place.querySelectorAll('.reading')) unread.remove();
-    show_refusal(place, refusal);
-    place.append(buttons(button('read_again', texts.read_again, show)));
+    if (is_over(view)) return;
+    for (const unread of view.querySelectorAll('.reading')) unread.remove();
+    show_refusal(view, refusal);
+    view.append(buttons(button('read_again', texts.read_again, show)));
   }
-  if (!place.isConnected) return;
+  if (is_over(view)) return;
+  name_view(view);
   main.removeAttribute('aria-busy');
-  if (document.activeElement === document.body) focus_view(place);
+  if (document.activeElement === document.body) focus_view(view);
 }
 
 function draw_head() {
@@ -119,7 +125,7 @@ function person_part({ name, code, roles, due }) {
     named('person', texts.signed_in_as, ' ', name ? [given(name), ` (${code})`] : code),
     named('roles', !due && roles_text),
     element('span', { class: 'left' }, texts.left, ' ', element('span', { id: 'left', role: 'timer' })),
-    button('close_the_session', texts.sign_out, leave));
+    button('close_the_session', texts.sign_out, () => ask_first(leave)));
 }
 
 function draw_links() {
@@ -139,8 +145,10 @@ function read_again(event) {
 // Whether the view is one of a link's, by its place.
 function is_within(place) {
   if (place === first_place()) return location.hash !== checking_place();
-  const others = { [records_place()]: opening_place(), [forms_place()]: making_place(), [persons_place()]: enrolling_place() };
-  return [place, others[place]].some((start) => start && location.hash.startsWith(start));
+  const others = {
+    [records_place()]: [opening_place(), grid_place('')], [forms_place()]: [making_place()], [persons_place()]: [enrolling_place()],
+  };
+  return [place, ...others[place] ?? []].some((start) => location.hash.startsWith(start));
 }
 
 async function leave() {
@@ -200,8 +208,7 @@ on_session((person) => {
   show();
 });
 
-addEventListener('hashchange', show);
-keep_what_is_typed(main);
+guard_views(show);
 const skip = document.getElementById('skip');
 skip.textContent = texts.skip;
 skip.addEventListener('click', (event) => {

@@ -23,6 +23,17 @@ export async function last_number(read, known = 0) {
   return low + (await read(low, end_of(low))).length - 1;
 }
 
+// The first number from 1 to `last` of which `is_before` doesn't hold, or the one behind them. It holds of the first ones alone.
+export async function first_number(last, is_before) {
+  let [low, high] = [1, last + 1];
+  while (low < high) {
+    const middle = Math.floor((low + high) / 2);
+    if (await is_before(middle)) low = middle + 1;
+    else high = middle;
+  }
+  return low;
+}
+
 function end_of(first) {
   return Math.min(first + AT_ONCE - 1, GREATEST);
 }

@@ -1,15 +1,18 @@
-// The places of the pages, behind the # of the address. No place has a token, a password or a name of a sample.
+// The places of the pages, behind the # of the address. No place has a token or a password. That of a list has its filter.
 
 const NUMBER = '([1-9][0-9]{0,9})';
 const KEY = '([a-z][a-z0-9_]{0,23})';
 
 export const first_place = () => '#/';
-export const records_place = () => '#/records';
-export const waiting_place = () => '#/waiting';
-export const opening_place = () => '#/opening';
+export const day_place = () => '#/day';
+export const records_place = (filter) => `#/records${query_of(filter)}`;
+export const opening_place = (form) => (form ? `#/opening/${form}` : '#/opening');
+export const grid_place = (form) => `#/grid/${form}`;
 export const record_place = (record) => `#/records/${record}`;
 export const version_place = (record, version) => `#/records/${record}/versions/${version}`;
 export const signing_place = (record, version, meaning) => `#/records/${record}/versions/${version}/${meaning}`;
+// The same on the way from one record that waits to the next.
+export const signing_on_place = (record, version, meaning) => `${signing_place(record, version, meaning)}/next`;
 export const amending_place = (record) => `#/records/${record}/amending`;
 export const paper_place = (record) => `#/records/${record}/paper`;
 export const forms_place = () => '#/forms';
@@ -18,19 +21,20 @@ export const making_place = (form, version) => (form ? `#/making/${form}/${versi
 export const persons_place = () => '#/persons';
 export const person_place = (code) => `#/persons/${code}`;
 export const enrolling_place = () => '#/enrolling';
-export const trail_place = () => '#/trail';
+export const trail_place = (filter) => `#/trail${query_of(filter)}`;
 export const copies_place = () => '#/copies';
 export const checking_place = () => '#/checking';
 export const password_place = () => '#/password';
 
 // The views by their places, each with a name and a pattern whose groups are what the view is about.
 export const PATTERNS = {
-  records: /^#\/records$/,
-  waiting: /^#\/waiting$/,
-  opening: /^#\/opening$/,
+  day: /^#\/day$/,
+  records: /^#\/records(\?.*)?$/,
+  opening: new RegExp(`^#/opening(?:/${KEY})?$`),
+  grid: new RegExp(`^#/grid/${KEY}$`),
   record: new RegExp(`^#/records/${NUMBER}$`),
   version: new RegExp(`^#/records/${NUMBER}/versions/${NUMBER}$`),
-  signing: new RegExp(`^#/records/${NUMBER}/versions/${NUMBER}/(authorship|review|approval|rejection)$`),
+  signing: new RegExp(`^#/records/${NUMBER}/versions/${NUMBER}/(authorship|review|approval|rejection)(/next)?$`),
   amending: new RegExp(`^#/records/${NUMBER}/amending$`),
   paper: new RegExp(`^#/records/${NUMBER}/paper$`),
   forms: /^#\/forms$/,
@@ -39,8 +43,19 @@ export const PATTERNS = {
   persons: /^#\/persons$/,
   person: /^#\/persons\/([a-z][a-z0-9-]{1,15})$/,
   enrolling: /^#\/enrolling$/,
-  trail: /^#\/trail$/,
+  trail: /^#\/trail(\?.*)?$/,
   copies: /^#\/copies$/,
   checking: /^#\/checking$/,
   password: /^#\/password$/,
 };
+
+// A filter as the address has it, without what is empty, and read from there: of the members that are named each is a text.
+export function query_of(filter = {}) {
+  const given = Object.entries(filter).filter(([, value]) => value);
+  return given.length ? `?${new URLSearchParams(given)}` : '';
+}
+
+export function filter_of_query(query, names) {
+  const given = new URLSearchParams(query ?? '');
+  return Object.fromEntries(names.map((name) => [name, given.get(name) ?? '']));
+}

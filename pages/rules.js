@@ -49,14 +49,12 @@ function flaw_of_number({ decimals, min, max }, value) {
   return below || above ? 'out_of_range' : null;
 }
 
-// Of the fields of a form that is to be made, the first thing that the server would refuse as that word: { at, name }.
-export function suspect_field(fields, word) {
-  for (const [at, field] of fields.entries()) {
-    const name = word === 'bad_name' ? bad_name_in(field) : word === 'bad_field' ? bad_rule_in(field) : null;
-    if (name) return { at, name };
-    if (word === 'key_twice' && fields.findIndex(({ key }) => key === field.key) < at) return { at, name: 'key' };
-  }
-  return null;
+// Of the fields of a form that is to be made, all that the server would refuse: each a field, a name in it, and the word.
+export function suspects(fields) {
+  return fields.flatMap((field, at) => [
+    { at, name: bad_name_in(field), word: 'bad_name' }, { at, name: bad_rule_in(field), word: 'bad_field' },
+    { at, name: fields.findIndex(({ key }) => key === field.key) < at && 'key', word: 'key_twice' },
+  ]).filter(({ name }) => name);
 }
 
 function bad_name_in({ key, label, unit, choices }) {

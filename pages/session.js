@@ -21,7 +21,7 @@ let person = null;
 let open_again = null;
 let opening = null;
 const listeners = new Set();
-const kept = new Map();
+let kept = new Map();
 
 // What pages may know: { lab, lab_name, code, name, roles, due, signed, opened, asked }, or null. The name is null where the
 // person may not read the persons.
@@ -48,15 +48,8 @@ export function on_session_ended(asker) {
   open_again = asker;
 }
 
-// What is read once a session, by a name of its own.
-export function keep(name, value) {
-  kept.set(name, value);
-  return value;
-}
-
-export function kept_as(name) {
-  return kept.get(name);
-}
+// What is read once a session, by names. Who waits for a reply asks for them before: the reply may come in another session.
+export const notes = () => kept;
 
 export async function card_of(lab) {
   if (!is_lab_code(lab)) throw new Refusal(0, { error: 'no_lab_code', number: 0 });
@@ -68,7 +61,7 @@ export async function sign_in(lab, code, password) {
   const opened = Date.now();
   const reply = await open_a_session({ lab }, { code, password });
   const before = { door, person };
-  if (person?.lab !== lab || person.code !== code) kept.clear();
+  if (person?.lab !== lab || person.code !== code) kept = new Map();
   door = { lab, token: reply.token };
   person = { lab, lab_name: card.name, code, name: null, roles: new Set(), due: reply.due, signed: false, opened, asked: opened };
   try {
@@ -94,7 +87,7 @@ export async function sign_out() {
 function forget() {
   door = null;
   person = null;
-  kept.clear();
+  kept = new Map();
   tell();
 }
 
@@ -104,14 +97,15 @@ function tell() {
 
 // The password was changed: the session goes on, and its next signature wants the code again.
 export async function password_changed() {
+  if (!person) return;
   Object.assign(person, { due: false, signed: false });
   await learn_roles();
   tell();
 }
 
-// Something was signed in this session; the reply to a signature has the person's printed name.
-export function has_signed(name) {
-  Object.assign(person, { signed: true, name });
+// Something was signed in the session of `signer`; the reply to a signature has the person's printed name.
+export function has_signed(signer, name) {
+  Object.assign(signer, { signed: true, name });
   tell();
 }
 
@@ -128,9 +122,17 @@ export async function ask(command, ...words) {
   }
 }
 
+// The records to which something was written in this session, until what was read of them before is read again.
+export function altered_records() {
+  if (!kept.has('altered')) kept.set('altered', new Set());
+  return kept.get('altered');
+}
+
 // Asks a command once, whatever becomes of it.
 export async function ask_once(command, ...words) {
   const asked = Date.now();
+  const { record } = words[0] ?? {};
+  if (record && record !== NO_RECORD) altered_records().add(record);
   try {
     const reply = await command(door ?? {}, ...words);
     prolong(asked);
@@ -164,6 +166,17 @@ export function seconds_left(now = Date.now()) {
 // Any request by a live session prolongs it, also one that is refused for a role.
 export async function go_on() {
   await granted(() => ask(read_records, 1, 1));
+}
+
+// Whether the password is still due, by a request that changes nothing.
+export async function is_password_due() {
+  try {
+    await granted(() => ask_once(read_records, 1, 1));
+    return false;
+  } catch (refusal) {
+    if (refusal.word === 'password_due') return true;
+    throw refusal;
+  }
 }
 
 // The reply to an opening doesn't have the person's roles. Who may read the persons finds them there. For anybody else the roles

@@ -1,44 +1,28 @@
 // A version of a record as it stands: what is known of it, its values beside those of the version before, every entry, and the
 // signatures. The same is shown on the screen, before a signature, and on paper.
 
-import { read_a_record, read_a_version } from './api.js';
 import {
   action, actions, button, buttons, element, facts, given, heading, link, link_row, moment, named, paragraph, reading, replace,
   section, table,
 } from './elements.js';
 import { entering_part } from './entering.js';
-import { form_of } from './forms.js';
-import { amending_place, form_place, paper_place, record_place, signing_place, version_place } from './places.js';
-import { state_of } from './records.js';
-import { show_refusal } from './sending.js';
-import { ask, has, keep, kept_as, who } from './session.js';
+import { amending_place, grid_place, opening_place, paper_place, record_place, signing_place, version_place } from './places.js';
+import { history_of, is_just_opened } from './reading.js';
+import { read_anew } from './sending.js';
+import { has, who } from './session.js';
+import { facts_of, head_of, label_of, state_of, value_in, value_of, value_text } from './showing.js';
 import { texts } from './texts.js';
 
 const words = texts.versions;
 
-// A record up to one of its versions, or to its last: { record, versions, form }; each version is as the server gave it. All
-// versions before a last one are settled and never change, so each is read once.
-export async function history_of(number, version) {
-  const record = await ask(read_a_record, number);
-  const last = version ?? record.current;
-  const versions = [];
-  for (let at = 1; at < Math.min(last, record.current); at += 1) versions.push(await settled_version(number, at));
-  versions.push(await ask(read_a_version, number, last));
-  return { record, versions, form: await form_of(record.form, record.form_version) };
-}
-
-async function settled_version(number, version) {
-  const name = `version ${number} ${version}`;
-  return kept_as(name) ?? keep(name, await ask(read_a_version, number, version));
-}
-
-export async function version_view(place, number, version) {
-  const body = element('div', null, reading());
-  replace(place, heading(texts.record(number)), body);
-  const [doing, article, read] = [element('div'), element('div'), element('div')];
+export async function version_view(view, number, version) {
+  const [head, body] = [element('div', { class: 'record-head' }, heading(texts.record(number))), element('div', null, reading())];
+  replace(view, head, body);
+  const [doing, missed, article, read] = ['div', 'div', 'div', 'div'].map((name) => element(name));
   let entering = null;
   const read_again = async () => {
     const history = await history_of(number, version);
+    replace(head, head_of(shown_of(history)));
     replace(article, article_of(history));
     replace(doing, doing_of(history));
     replace(read, read_line());
@@ -46,9 +30,11 @@ export async function version_view(place, number, version) {
     return history;
   };
   const history = await read_again();
-  if (may_enter(history)) entering = entering_part(history, read_again);
-  const again = button('read_again', words.read_again, () => read_again().catch((refusal) => show_refusal(body, refusal)));
-  replace(body, versions_line(history), doing, entering?.part, article, read, buttons(again));
+  if (may_enter(history)) entering = entering_part(history, (made) => read_anew(missed, read_again, made));
+  const again = button('read_again', words.read_again, () => read_anew(missed, read_again));
+  const parts = entering ? [missed, entering.part, doing, versions_line(history)] : [versions_line(history), doing, missed];
+  replace(body, parts, article, read, buttons(again));
+  if (entering && is_just_opened(number)) entering.part.querySelector('[name="value"]').dataset.first = '';
 }
 
 const shown_of = ({ versions }) => versions.at(-1);
@@ -64,27 +50,39 @@ function versions_line(history) {
   })));
 }
 
-// What this person may do with the version now, and what comes next. The server decides in the end, and says why not.
+// Whether this person entered a value of a version, or signed it.
+export const is_own = ({ rows, signatures }) => [...rows, ...signatures].some(({ person }) => person === who().code);
+
+// Whether this person may sign a version now. The server decides in the end.
+export function may_sign(history, meaning) {
+  const shown = shown_of(history);
+  const is_pending = ['signed', 'reviewed'].includes(shown.state);
+  const may = {
+    authorship: shown.state === 'open' && has('analyst') && is_own(shown),
+    review: shown.state === 'signed' && has('reviewer') && !is_own(shown),
+    approval: shown.state === 'reviewed' && shown.approval && has('manager') && !is_own(shown),
+    rejection: is_pending && has('reviewer', 'manager') && !is_own(shown),
+  };
+  return may[meaning];
+}
+
+// What this person may do with the version now, and what comes next.
 function doing_of(history) {
-  const { record, rows, signatures } = shown_of(history);
-  const is_own = [...rows, ...signatures].some(({ person }) => person === who().code);
+  const { record, form } = shown_of(history);
+  const others = has('analyst') ? [
+    link(opening_place(form), words.open_another(form), { 'data-do': 'open_another' }),
+    link(grid_place(form), words.open_many(form), { 'data-do': 'open_many' }),
+  ] : [];
   return [
-    actions(...acts_of(history, is_own), button('print', words.print, () => print()),
+    actions(...acts_of(history), ...others, button('print', words.print, () => print()),
       link(paper_place(record), words.paper, { 'data-do': 'paper' })),
-    element('p', { class: 'note', 'data-part': 'note' }, note_of(history, is_own)),
+    element('p', { class: 'note', 'data-part': 'note' }, note_of(history, is_own(shown_of(history)))),
   ];
 }
 
-function acts_of(history, is_own) {
-  const { record, state, version, approval } = shown_of(history);
-  const is_pending = ['signed', 'reviewed'].includes(state);
-  const may = {
-    authorship: state === 'open' && has('analyst') && is_own,
-    review: state === 'signed' && has('reviewer') && !is_own,
-    approval: state === 'reviewed' && approval && has('manager') && !is_own,
-    rejection: is_pending && has('reviewer', 'manager') && !is_own,
-  };
-  const signing = Object.keys(may).filter((meaning) => may[meaning]);
+function acts_of(history) {
+  const { record, state, version } = shown_of(history);
+  const signing = Object.keys(texts.meanings).filter((meaning) => may_sign(history, meaning));
   const may_amend = is_last(history) && ['released', 'rejected'].includes(state) && has('analyst');
   return [
     ...signing.map((meaning) => action(signing_place(record, version, meaning), texts.meanings[meaning].act, meaning)),
@@ -93,13 +91,13 @@ function acts_of(history, is_own) {
 }
 
 // What comes next with the version, and why this person can't do it, if so.
-function note_of(history, is_own) {
+function note_of(history, is_own_work) {
   const { record, state } = shown_of(history);
   if (!is_last(history)) return [words.not_last, ' ', link(record_place(record), words.go_to_last)];
   if (state === 'open') {
-    return [has('analyst') && !is_own ? words.sign_once_entered : words.next.open, ' ', missing_in(history)];
+    return [has('analyst') && !is_own_work ? words.sign_once_entered : words.next.open, ' ', missing_in(history)];
   }
-  if (is_own && ['signed', 'reviewed'].includes(state) && has('reviewer', 'manager')) return words.own_work;
+  if (is_own_work && ['signed', 'reviewed'].includes(state) && has('reviewer', 'manager')) return words.own_work;
   return words.next[state];
 }
 
@@ -121,23 +119,6 @@ export function article_of({ record, versions, form }) {
     section(words.signatures, null, signatures_of(shown)));
   if (article.querySelector('.unseen')) article.append(element('p', { 'data-part': 'unseen' }, words.unseen));
   return article;
-}
-
-export function facts_of(shown, record) {
-  const lab = who();
-  const form = words.form_and_version(shown.form, shown.form_version);
-  return facts([
-    [words.lab, [given(lab.lab_name), ` (${lab.lab})`], 'lab'],
-    [texts.records.record, shown.record, 'record'],
-    [texts.records.sample, given(shown.sample), 'sample'],
-    [texts.records.form, link(form_place(shown.form, shown.form_version), form), 'form'],
-    [texts.records.version, words.version_of(shown.version, record.current), 'version'],
-    [texts.records.state, state_of(shown.state)],
-    [words.opener, [shown.opener, ', ', moment(shown.moment, 'opened')], 'opener'],
-    shown.reason && [words.reason, given(shown.reason), 'reason'],
-    [words.approval, shown.approval ? words.with_approval : words.without_approval, 'approval'],
-    [words.digest, element('code', { class: 'digest' }, shown.digest), 'digest'],
-  ]);
 }
 
 // The standing values, each with who entered it, and from the second version on beside the value of the version before.
@@ -163,24 +144,6 @@ function values_row(versions, field) {
 function value_before(before, { key }, is_altered) {
   const value = value_in(before, key);
   return is_altered && value ? element('s', { 'data-part': 'value_before' }, value_text(value)) : value_of(value, 'value_before');
-}
-
-export function value_in({ values }, key) {
-  return values.find((value) => value.key === key);
-}
-
-export function value_of(value, name = 'value') {
-  if (!value) return element('span', { class: 'none' }, words.no_value);
-  return element('span', { class: 'value', 'data-part': name }, value_text(value));
-}
-
-function value_text({ value, unit }) {
-  return [given(value), unit && [' ', given(unit)]];
-}
-
-export function label_of({ label, key, required }) {
-  return [given(label, 'label'), ' ', element('span', { class: 'key' }, key),
-    required && [' ', element('span', { class: 'required' }, texts.required)]];
 }
 
 // Every entry of a key in these versions, in order, each with its version.
@@ -209,7 +172,7 @@ function entries_table({ rows, version }, form) {
     return {
       attributes: { 'data-entry': at + 1 },
       cells: [at + 1, field ? given(field.label) : row.key, is_replaced ? replaced_value(row) : value_of(row),
-        named('person', row.person), moment(row.moment), given(row.reason, 'reason')],
+        named('person', row.person), moment(row.moment), row.reason && given(row.reason, 'reason')],
     };
   }));
 }
@@ -243,5 +206,6 @@ export async function paper_view(place, number) {
   const history = await history_of(number);
   const articles = history.versions.map((_, at) => article_of({ ...history, versions: history.versions.slice(0, at + 1) }));
   const print_it = button('print', words.print, () => print());
-  replace(place, heading(texts.record(number)), actions(print_it, link(record_place(number), words.back)), read_line(), articles);
+  const head = element('div', { class: 'record-head' }, head_of(shown_of(history), '', words.all(history.versions.length)));
+  replace(place, head, actions(print_it, link(record_place(number), words.back)), read_line(), articles);
 }

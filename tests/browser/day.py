@@ -4,7 +4,7 @@ import re
 
 from room import Asker, password_of, same, say
 from seeing import RECORDS, VERSION, compare_form, compare_persons, compare_records, compare_trail, compare_version, seen
-from screen import HOURS_AHEAD
+from screen import HOURS_AHEAD, entry_row
 from selenium.webdriver.common.keys import Keys
 
 LAB, NAME = "aqua", "Aqua Lab"
@@ -97,8 +97,8 @@ class Day:
         screen.do("enrol_a_person")
         screen.wait(lambda: screen.place() == f"#/persons/{code}", "the person's page is shown")
 
-    def half(self, code, command):
-        """Asks for, or confirms, a one-time password, and reads the half that is shown once."""
+    def half(self, code, command, picture=None):
+        """Asks for, or confirms, a one-time password, reads the half that is shown once, and hides it."""
         screen = self.screen
         if screen.place() != f"#/persons/{code}":
             screen.go("#/persons")
@@ -106,6 +106,9 @@ class Day:
         screen.do(command)
         half = screen.part("half").replace("\n", "").replace(" ", "")
         say(re.fullmatch(ONE_TIME, half), f"half of {code}'s one-time password is shown, 32 digits")
+        if picture:
+            self.picture(picture)
+        screen.do("hide_half")
         return half
 
     def let_people_in(self):
@@ -113,12 +116,10 @@ class Day:
         screen = self.screen
         for code, name, roles in PEOPLE:
             self.enrol(code, name, roles)
-            self.halves[code] = self.half(code, "ask_for_a_one_time_password")
-        self.picture("one-time-password")
+            self.halves[code] = self.half(code, "ask_for_a_one_time_password", "one-time-password" if code == "hal" else None)
+        say(screen.parts("half") == [], "a half that is hidden isn't shown any more")
         screen.do("confirm_a_one_time_password")
         self.refused("who asked confirms, which", "same_person")
-        screen.do("hide_half")
-        say(screen.parts("half") == [], "a half that is hidden isn't shown any more")
         screen.go("#/persons")
         compare_persons(screen, self.reader, "the persons")
         self.picture("persons")
@@ -237,11 +238,8 @@ class Day:
 
     def enter(self, key, value, reason=None):
         screen = self.screen
-        form = screen.one(f'form[data-key="{key}"]')
-        if not screen.all('[name="value"]', form):
-            screen.do("replace", form)
-        screen.fill(form, value=value, **({"reason": reason} if reason is not None else {}))
-        screen.do("enter_a_value", form)
+        screen.fill(entry_row(screen, key), value=value, **({"reason": reason} if reason is not None else {}))
+        screen.do("enter_a_value")
 
     def number(self):
         return int(re.search(r"\d+", self.screen.place())[0])
@@ -252,7 +250,7 @@ class Day:
         self.open_record("water", "Well 1")
         screen.wait(lambda: screen.place() == "#/records/1", "the record is shown")
         screen.settle()
-        entry = screen.one('form[data-key="lead"]')
+        entry = entry_row(screen, "lead")
         hint = entry.text
         say("mg/L" in hint and "0" in hint and "40" in hint and "2" in hint and not screen.all('[name="reason"]', entry),
             f"unit, decimals and range stand beside a number, and no reason is asked for: {hint!r}")
@@ -378,11 +376,11 @@ class Day:
     def leave_what_is_typed(self):
         """A link doesn't lead away from what is typed and not sent, unless the person says so."""
         screen = self.screen
-        form = screen.one('form[data-key="lead"]')
-        screen.fill(form, value="1")
+        row = entry_row(screen, "lead")
+        screen.fill(row, value="1")
         screen.one('a[href="#/records"]').click()
         screen.do("stay")
-        there = screen.place(), screen.one('[name="value"]', form).get_attribute("value")
+        there = screen.place(), screen.one('[name="value"]', row).get_attribute("value")
         same("a link asks before what is typed is lost; who stays has it", there, ("#/records/4", "1"))
         screen.one('a[href="#/records"]').click()
         screen.do("leave")
@@ -394,14 +392,14 @@ class Day:
     def reviewer(self):
         screen = self.screen
         self.come("fay")
-        same("what waits is what a reviewer sees first", screen.place(), "#/waiting")
-        compare_records(screen, self.inspector, "what waits", ("signed", "reviewed"))
+        same("the day is what a reviewer sees first", screen.place(), "#/day")
+        compare_records(screen, self.inspector, "what waits", ("signed",))
         screen.go("#/records/1")
         self.sign("fay", 1, "review", "released")
-        screen.go("#/waiting")
+        screen.go("#/day")
         screen.go("#/records/2")
         self.sign("fay", 2, "review", "reviewed", first=False)
-        screen.go("#/waiting")
+        screen.go("#/day")
         screen.go("#/records/3")
         screen.do("rejection")
         screen.fill(password=self.passwords["fay"])
@@ -416,6 +414,8 @@ class Day:
         """A released record is amended: the old value stands beside the new one."""
         screen = self.screen
         self.come("dan")
+        same("the day is what an analyst sees first", screen.place(), "#/day")
+        self.picture("my-day")
         self.to_record(1)
         screen.do("amend")
         standing = [one.text for one in screen.all('[data-part="standing"]')]
@@ -442,7 +442,7 @@ class Day:
     def manager(self):
         screen = self.screen
         self.come("gus")
-        same("what waits is what a manager sees first", screen.place(), "#/waiting")
+        same("the day is what a manager sees first", screen.place(), "#/day")
         self.picture("waiting")
         screen.go("#/records/2")
         self.sign("gus", 2, "approval", "released")
@@ -493,7 +493,8 @@ class Day:
         screen.fill(code="eve", name="Eve Ems")
         screen.do("enrol_a_person")
         self.refused("a code that somebody had", "code_taken", "code")
-        screen.go("#/persons")
+        screen.one('a[href="#/persons"]').click()
+        screen.do("leave")
         self.leave("ann")
 
     # ---- the session
@@ -504,26 +505,25 @@ class Day:
         screen.load()
         screen.tab_to('[name="lab"]')
         screen.press(LAB, Keys.TAB, "dan", Keys.TAB, self.passwords["dan"], Keys.ENTER)
-        screen.wait(lambda: screen.place() == "#/records", "dan is signed in by the keyboard alone")
+        screen.wait(lambda: screen.place() == "#/day", "dan is signed in by the keyboard alone")
         screen.settle()
         screen.tab_to('a[href="#/records/4"]')
         screen.press(Keys.ENTER)
         screen.wait(lambda: screen.place() == "#/records/4", "the record is opened by the keyboard alone")
         screen.settle()
-        screen.tab_to('form[data-key="lead"] [name="value"]')
-        screen.press("3.1", Keys.ENTER)
+        screen.tab_to('[data-key="lead"] [name="value"]')
+        screen.press("3.1", Keys.ENTER, Keys.ENTER)
         screen.settle()
         compare_version(screen, self.inspector, 4, 1, "a value, by the keyboard alone")
 
     def session_ends(self):
         """A session that ended on the server: the person signs in again, and what was typed is entered."""
         screen = self.screen
-        form = screen.one('form[data-key="note"]')
-        screen.fill(form, value="typed before the end")
+        screen.fill(entry_row(screen, "note"), value="typed before the end")
         another = "another word of dan"
         self.asker("dan").post("password", old=self.passwords["dan"], new=another)
         self.passwords["dan"] = another
-        screen.one('[data-do="enter_a_value"]', form).click()
+        screen.one('[data-do="enter_a_value"]').click()
         dialog = screen.one("dialog[open]")
         self.picture("session-ended")
         screen.fill(dialog, password="not the right one")
@@ -543,9 +543,8 @@ class Day:
         say(re.search(r"\b1[45]\b|1[45]:", left), f"how long the session lives is in the head: {left!r}")
         screen.wait(lambda: screen.one("#left").text != left, "it counts down")
         screen.run("const real = Date.now.bind(Date); window.ahead = 0; Date.now = () => real() + window.ahead;")
-        form = screen.one('form[data-key="lead"]')
-        screen.do("replace", form)
-        screen.fill(form, value="3.2", reason="read again")
+        row = entry_row(screen, "lead")
+        screen.fill(row, value="3.2", reason="read again")
         screen.run("window.ahead = 800_000")
         ending = screen.one("#ending")
         say(ending.get_attribute("role") == "alert" and len(ending.text) > 20, f"two minutes before its end a warning is there: {ending.text!r}")
@@ -556,9 +555,9 @@ class Day:
         screen.fill(dialog, password=self.passwords["dan"])
         screen.one('[data-do="open_a_session_again"]', dialog).click()
         screen.wait(lambda: not screen.all("dialog[open]"), "the dialog is gone")
-        value, reason = (screen.one(f'[name="{name}"]', form).get_attribute("value") for name in ("value", "reason"))
+        value, reason = (screen.one(f'[name="{name}"]', row).get_attribute("value") for name in ("value", "reason"))
         same("at its end the person signs in again, and what was typed is there", (value, reason), ("3.2", "read again"))
-        screen.do("enter_a_value", form)
+        screen.do("enter_a_value")
         compare_version(screen, self.inspector, 4, 1, "and is entered")
         screen.driver.refresh()
         screen.one('[data-do="open_a_session"]')

@@ -1,6 +1,6 @@
 """A laboratory whose every text is markup, script, a very long word, right-to-left, emoji or a formula: nothing runs, nothing breaks."""
 from room import Asker, Refused, found, let_in, password_of, same, say
-from screen import NARROW, WIDE
+from screen import NARROW, WIDE, entry_row
 from seeing import compare_form, compare_persons, compare_records, compare_trail, compare_version
 
 LAB = "wild"
@@ -144,12 +144,9 @@ def as_analyst(screen, wild):
     fits(screen, "an analyst's list")
     screen.go("#/records/2")
     fits(screen, "the entering")
-    form = screen.one('form[data-key="choice"]')
-    screen.fill(form, value=TEXTS[2])
-    screen.do("enter_a_value", form)
-    form = screen.one('form[data-key="text7"]')
-    screen.fill(form, value=TEXTS[5] + TEXTS[0])
-    screen.do("enter_a_value", form)
+    screen.fill(entry_row(screen, "choice"), value=TEXTS[2])
+    screen.fill(entry_row(screen, "text7"), value=TEXTS[5] + TEXTS[0])
+    screen.do("enter_a_value")
     compare_version(screen, wild.hal, 2, 1, "texts that are markup, entered by the page")
     screen.do("authorship")
     fits(screen, "the signing")

@@ -28,6 +28,43 @@ document.addEventListener("securitypolicyviolation", (event) =>
 window.hacked = [];
 window.alert = window.confirm = window.prompt = (text) => { window.hacked.push(String(text)); return false; };
 """
+# Texts whose colour is too near to what is behind them (WCAG 2.2, 1.4.3), and controls whose frame is (1.4.11): each with its contrast.
+CONTRASTS = """
+const channel = (value) => (value / 255 <= 0.04045 ? value / 255 / 12.92 : ((value / 255 + 0.055) / 1.055) ** 2.4);
+const luminance = ([red, green, blue]) => 0.2126 * channel(red) + 0.7152 * channel(green) + 0.0722 * channel(blue);
+const parts = (colour) => colour.match(/[\\d.]+/g).map(Number);
+const behind = (one) => {
+    for (let at = one; at; at = at.parentElement) {
+        const colour = parts(getComputedStyle(at).backgroundColor);
+        if (colour.length < 4 || colour[3] === 1) return colour;
+    }
+    return [255, 255, 255];
+};
+const contrast = (one, other) => {
+    const [more, less] = [luminance(one), luminance(other)].sort((first, second) => second - first);
+    return (more + 0.05) / (less + 0.05);
+};
+const is_seen = (one) => one.checkVisibility({ visibilityProperty: true }) && one.getClientRects().length > 0;
+const found = [];
+const look = (one, colour, back, least) => {
+    const there = contrast(parts(colour), back);
+    if (there < least) found.push([there.toFixed(2), one.outerHTML.slice(0, 80)]);
+};
+const texts = document.createTreeWalker(document.body, NodeFilter.SHOW_TEXT);
+while (texts.nextNode()) {
+    const one = texts.currentNode.parentElement;
+    if (!texts.currentNode.data.trim() || !is_seen(one) || one.closest("option, caption")) continue;
+    const { color, fontSize, fontWeight } = getComputedStyle(one);
+    const is_large = parseFloat(fontSize) >= 24 || (fontWeight >= 700 && parseFloat(fontSize) >= 18.66);
+    look(one, color, behind(one), is_large ? 3 : 4.5);
+}
+for (const one of document.querySelectorAll("input:not([type=checkbox]), select, textarea")) {
+    if (!is_seen(one)) continue;
+    look(one, getComputedStyle(one).color, behind(one), 4.5);
+    look(one, getComputedStyle(one).borderTopColor, behind(one.parentElement), 3);
+}
+return found;
+"""
 SEEN = """
 const [selector, within] = arguments;
 return [...(within ?? document).querySelectorAll(selector)]
@@ -149,6 +186,14 @@ class Screen:
         """By how many pixels the page is wider than its window."""
         return self.run("return document.documentElement.scrollWidth - document.documentElement.clientWidth")
 
+    def low_contrasts(self):
+        """Texts and frames that are hard to see, in light and in dark colours."""
+        found = []
+        for scheme in ("dark", "light"):
+            self.driver.execute_cdp_cmd("Emulation.setEmulatedMedia", {"features": [{"name": "prefers-color-scheme", "value": scheme}]})
+            found += [(scheme, *one) for one in self.run(CONTRASTS)]
+        return found
+
     # ---- doing
 
     def do(self, word, within=None):
@@ -194,7 +239,9 @@ class Screen:
             field.send_keys(str(value))
         elif all(ord(one) < 0x10000 for one in value):
             emptied = (Keys.CONTROL, "a", Keys.NULL, Keys.DELETE) if there else ()
-            field.send_keys(*emptied, value)
+            # (Enter alone may lead on)
+            lines = value.replace("\n", Keys.SHIFT + Keys.ENTER + Keys.NULL) if kind == "textarea" else value
+            field.send_keys(*emptied, lines)
         else:
             # (chromedriver types no character beyond the first plane)
             self.run("arguments[0].value = arguments[1]; arguments[0].dispatchEvent(new Event('input', {bubbles: true}));"
@@ -252,6 +299,14 @@ class Screen:
         """Role and name of each node that a screen reader comes to."""
         nodes = self.driver.execute_cdp_cmd("Accessibility.getFullAXTree", {})["nodes"]
         return [(node["role"]["value"], node.get("name", {}).get("value", "").strip()) for node in nodes if not node["ignored"] and "role" in node]
+
+
+def entry_row(screen, key):
+    """The row in which a field's value is entered; where a value stands, with the control for another one."""
+    row = screen.one(f'[data-part="entering"] [data-key="{key}"]')
+    if not screen.all('[name="value"]', row):
+        screen.do("replace", row)
+    return row
 
 
 def looked_over(screen, what):

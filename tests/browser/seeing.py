@@ -71,9 +71,11 @@ def compare_version(screen, asker, record, version, what):
 
 
 def compare_records(screen, asker, what, states=None):
+    """All records, the newest first; or those of some states, the oldest first."""
     rows = [one for one in asker.get("records?from=1&to=100")["records"] if not states or one["state"] in states]
-    wanted = [{name: one[name] for name in ("record", "sample", "form", "current", "state")} for one in reversed(rows)]
-    same(f"{what}: {len(rows)} records, the newest first, as the server tells them", seen(screen, RECORDS), wanted)
+    wanted = [{name: one[name] for name in ("record", "sample", "form", "current", "state")} for one in rows]
+    first = "oldest" if states else "newest"
+    same(f"{what}: {len(rows)} records, the {first} first, as the server tells them", seen(screen, RECORDS), wanted if states else wanted[::-1])
 
 
 def compare_persons(screen, asker, what):

@@ -3,21 +3,28 @@ import io
 import time
 import traceback
 
+from bench import look_at_bench
 from copying import look_at_altered, look_at_mutated
 from day import FOUNDERS, LAB, NAME, Day
+from entering import look_at_entering
 from hostile import found_wild, look_at_hostile
+from losing import found_calm, look_at_losing
 from many import found_many, look_at_many, look_at_no_server, look_at_too_often
 from paper import look_at_copies, look_at_paper
 from room import SAID, Refused, Stop, found, program_of, say, serving
 from screen import NARROW, WIDE, Screen, looked_over
+from seeking import look_at_seeking
 from selenium.common.exceptions import WebDriverException
 from serving_site import look_at_files, look_at_headers, look_at_the_starter
+from working import found_busy, look_at_working
 
 # The pictures of docs/pages/, each at two widths.
-KEPT = ("sign-in", "records", "entering", "version", "signing", "waiting", "making-a-form", "one-time-password", "trail", "checking", "paper")
+KEPT = ("sign-in", "records", "entering", "version", "signing", "my-day", "waiting", "making-a-form", "one-time-password", "trail", "checking", "paper")
 TALLEST = 1600
 PAPER = 794
 COLOURS = 64
+# A window of 1280 pixels at 400 per cent.
+SMALL = (320, 256)
 NAMED = {"button", "textbox", "searchbox", "combobox", "checkbox", "link", "listbox", "spinbutton"}
 # Controls that are seen and that the tabulator passes by.
 UNREACHED = """
@@ -45,13 +52,15 @@ class Pictures:
         nameless = [one for one in self.screen.controls() if one[0] in NAMED and not one[1]]
         unreached = self.screen.run(UNREACHED)
         over = {}
-        for width, size in (("wide", WIDE), ("at 200 per cent", (WIDE[0] // 2, WIDE[1] // 2)), ("narrow", NARROW)):
+        for width, size in (("wide", WIDE), ("at 200 per cent", (WIDE[0] // 2, WIDE[1] // 2)), ("narrow", NARROW), ("at 400 per cent", SMALL)):
             self.screen.size(*size)
             over[width] = self.screen.overflow()
         self.screen.size(*WIDE)
         good = not nameless and not unreached and not any(over.values())
         say(good, f"{name}: each control has a name for screen readers, the tabulator comes to it, and nothing is wider than the window"
             + ("" if good else f": {nameless[:3]} {unreached[:3]} {over}"))
+        low = self.screen.low_contrasts()
+        say(not low, f"{name}: each text and each frame of a control is well seen, in light and in dark colours {low[:3] or ''}".rstrip())
 
 
 def keep(png, path, margin):
@@ -84,6 +93,13 @@ def morning_to_evening(day, program, room):
     looked_over(day.screen, "a session's end")
 
 
+def look_at_calm(screen, port):
+    """What is looked at in one laboratory."""
+    calm = look_at_losing(screen, port)
+    look_at_bench(calm)
+    look_at_entering(calm)
+
+
 def play_over(served, program, room, pictures):
     screen = Screen(served.address, room)
     parts = []
@@ -94,6 +110,8 @@ def play_over(served, program, room, pictures):
                  ("the site", lambda: (look_at_headers(served), look_at_files(served))),
                  ("the day", lambda: morning_to_evening(day, program, room)),
                  ("what is kept", lambda: day.nothing_is_kept(served.log())),
+                 ("work that isn't lost", lambda: (look_at_calm(screen, served.port), looked_over(screen, "work that isn't lost"))),
+                 ("what waits", lambda: (look_at_seeking(look_at_working(screen, served.port)), looked_over(screen, "what waits"))),
                  ("hostile texts", lambda: (look_at_hostile(screen, program, served.port), looked_over(screen, "hostile texts"))),
                  ("many records", lambda: (look_at_many(screen, program, served.port), looked_over(screen, "many records"))),
                  ("no reply", lambda: (look_at_too_often(screen), look_at_no_server(screen, served)))]
@@ -114,6 +132,8 @@ def play(room, words, pictures):
     try:
         found(program, file, LAB, NAME, FOUNDERS)
         found_wild(program, file)
+        found_calm(program, file)
+        found_busy(program, file)
         found_many(program, file)
         with serving(program, file) as served:
             play_over(served, program, room, pictures)
