@@ -1,13 +1,12 @@
 -- All laboratories of an old file, moved, and the new file finished.
-use Rattle.std.proofs.Common.{◌≡◌, inl, inr, ℕ, List, length, Ok, Err, Result, IfOk, IfErr, sym, subst}
+use Rattle.std.proofs.Common.{◌≡◌, inl, inr, ℕ, List, length, Ok, Err, Result, IfErr, sym, subst}
 use Rattle.std.specs.Prelude.{All}
 use Rattle.sqlite.specs.Effect.{Database}
 use Rattle.sqlite.specs.State.{State, HasCleanDisk}
 use Rattle.lab_store_tables.specs.Rows.{Tables}
-use Rattle.lab_store_columns.proofs.Queries.{if_then}
 use Rattle.lab_move_tables.specs.OldRows.{IsOldFile, old_tables}
 use Rattle.lab_move_tables.specs.Reading.{ReadsOld, old_tables_of}
-use Rattle.lab_move_rows.proofs.OldReaders.{may_and, may_then}
+use Rattle.lab_move_rows.proofs.OldReaders.{may_then}
 use Rattle.lab_move_files.specs.Commits.{MakesAtOnce}
 use Rattle.lab_move_files.specs.Unfinished.{Finishes}
 use Rattle.lab_move_labs.specs.Laboratories.{codes_of}
@@ -19,10 +18,10 @@ use Rattle.lab_move.proofs.Steps.{step_more, steps_as, steps_fail}
 
 -- ---- finished behind the last one
 
-pub counted : {E F : Type 0} (codes : List (List ℕ)) {old new : State} (r : Result ℕ F)
-    → ReadsOld {T = Unit {0}} {E = E} (λ t _. All (IsSoundIn t) codes) old new (Ok tt)
-    → IfOk r (λ count. count ≡ length codes) → ReadsOld (AreCounted codes) old new r
-counted codes {old} r read count = may_and read (λ file all. if_then r (λ n is. (sym is, all)) count)
+pub counted : {E F : Type 0} (codes : List (List ℕ)) {old mid new : State} {r : Result ℕ F}
+    → ReadsOld {T = Unit {0}} {E = E} (λ t _. All (IsSoundIn t) codes) old mid (Ok tt)
+    → ReadsOld (λ t count. count ≡ length codes) mid new r → ReadsOld (AreCounted codes) old new r
+counted codes read next = may_then read next (λ file all n is. (sym is, all))
 
 pub finishes_all : {B E F : Type 0} (codes : List (List ℕ)) {before after old mid new : State} {r : Result B F}
     → Fills {A = Unit {0}} {E = E} (HasThese before after codes) (Ok tt) old mid
@@ -31,6 +30,15 @@ finishes_all codes {before} {after} {old} {mid} p q =
     step_more (steps_as (Ok tt) p (λ db h begun. inl (h begun)) (λ db h. h)) q (λ h begun. (h begun).file)
     (λ db h next begun. inr (finished before after codes mid.now db next (h begun)))
     (λ db h next begun. finished before after codes mid.now db next (h begun))
+
+-- by what was read up to a later moment
+pub all_later : {B F : Type 0} (codes : List (List ℕ)) (r : Result B F) {before after late old new : State} → (HasCleanDisk late → HasCleanDisk after)
+    → FillsAll (IsWholeOf before after codes) r old new → FillsAll (IsWholeOf before late codes) r old new
+all_later codes r {before} {after} {late} clean it =
+    steps_as r it (λ db h begun. elim (h begun) [ inl filling ↦ inl filling | inr whole ↦ inr (later db whole) ]) (λ db h begun. later db (h begun))
+  where
+    later : (db : Database) → IsWholeOf before after codes db → IsWholeOf before late codes db
+    later db whole = record { file = whole.file; sound = whole.sound; same = λ so. whole.same (so.0, clean so.1) }
 
 pub fails_all : {A B E F : Type 0} (codes : List (List ℕ)) {before after old new : State} {e : E} (f : F)
     → Fills {A = A} (HasThese before after codes) (Err e) old new

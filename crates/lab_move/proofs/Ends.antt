@@ -45,7 +45,7 @@ on_err_with : {A E P Q : Type 0} (r : Result A E) → (P → Q) → OnErr r P �
 on_err_with (Ok a) f p = tt
 on_err_with (Err e) f p = f p
 
-begun_of : (was db : Database) → IsBlank was → Begins was db → IsBegun db
+pub begun_of : (was db : Database) → IsBlank was → Begins was db → IsBegun db
 begun_of was db blank it = let made = it blank in record { filling = made.0; empty = made.1 }
 
 module _ {S : Type 0} (g : Ghosts S) {old new : State} (blank : IsBlank old.now) where

@@ -1,9 +1,11 @@
 pub mod OldVerdicts
 pub mod Codes
+pub mod Counts
 pub mod Steps
 pub mod FilledFiles
 pub mod Ends
 pub mod OneLab
 pub mod EachLab
 pub mod AllLabs
+pub mod CountedFiles
 pub mod Causes

@@ -21,6 +21,7 @@ use Rattle.lab_forms_texts.specs.declared.refusals.Fault.{Fault}
 use Rattle.lab_forms_texts.specs.declared.refusals.Fault.TheVariants as reading
 use Rattle.lab_records_kept.specs.declared.faults.BadStore.{BadStore}
 use Rattle.lab_store_tables.specs.Rows.{DeskRow, Tables, desk_row, desk_id, number}
+use Rattle.lab_store_tables.specs.Family.{Desk}
 use Rattle.lab_store_columns.proofs.Queries.{IsRead}
 use Rattle.lab_store_columns.proofs.Sorted.{only_answer}
 use Rattle.lab_store_files.specs.declared.faults.FileFault.{FileFault}
@@ -90,7 +91,7 @@ number_read old new rows named h =
     let db = overlay old.now.trees [] in
     let desk = (old_tables old.now.trees).desk in
     let read = reads_as number_query [] old new old_schema file.schema _ desk_is desk_plain desk_unlisted rows h in
-    only_answer desk_query db [] (last_table db 0 desk_row desk_id desk file.desk file.rising.desk (at_end db)) (λ _. true) (λ x. refl) refl refl
+    only_answer desk_query db [] (last_table db 0 desk_row desk_id desk (file.stored.at Desk) (file.rising.at Desk) (at_end db)) (λ _. true) (λ x. refl) refl refl
     (desk_short desk named.named) rows (read.answer Null)
     ∙ desk_shown desk named.named
 

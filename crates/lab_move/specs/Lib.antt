@@ -1,3 +1,5 @@
 pub mod Faults
+pub mod Arrows
 pub mod OldFiles
+pub mod Counting
 pub mod Moving

@@ -1,7 +1,7 @@
 -- What a file that is to be moved is: one of schema 2, of an older or a newer one, or none in which
 -- laboratories are kept (21 CFR 11.10(a), "the ability to discern invalid or altered records"). The
 -- one row of the table `desk` says which schema it has.
-use Rattle.std.specs.Prelude.{◌≡◌, ◌⊎◌, ℕ, ℤ, pos, int_lt, unsigned_abs, Bool, true, false, ◌==◌, if◌then◌else◌, IsTrue, List, [], ◌∷◌, Option, Some, None, Result, Ok, Err}
+use Rattle.std.specs.Prelude.{◌≡◌, ◌⊎◌, ℕ, ℤ, pos, int_lt, unsigned_abs, Bool, true, false, ◌==◌, ◌&&◌, if◌then◌else◌, IsTrue, List, [], ◌∷◌, Option, Some, None, Result, Ok, Err}
 use Rattle.std.specs.List.{list_all}
 use Rattle.std.specs.Option.{option_map_or}
 use Rattle.sqlite_value.specs.Order.{Row}
@@ -16,6 +16,7 @@ use Rattle.lab_store_files.specs.declared.faults.FileFault.TheVariants.{NotADesk
 use Rattle.lab_store_files.specs.Faults.{FailedInStore}
 use Rattle.lab_store_files.specs.Schemas.{table_named, has_columns, has_number}
 use Rattle.lab_store_files.specs.Verdicts.{number_query, number_shown}
+use Rattle.lab_move.specs.Arrows.{has_id, has_arrows}
 use Rattle.lab_move_tables.specs.OldSchema.{persons, forms, versions}
 use Rattle.lab_move_tables.specs.OldRows.{IsOldFile, old_tables}
 use Rattle.lab_move.specs.declared.old_tables.OldTable.{OldTable}
@@ -47,10 +48,15 @@ all_tables =
     Desk ∷ Labs ∷ Persons ∷ Sessions ∷ Forms ∷ Fields ∷ Choices ∷ Records ∷ Versions ∷ Entries
     ∷ Signatures ∷ Trail ∷ []
 
--- the table is there, with its columns
+-- the table has ours' columns, an id and ours' references, in whatever order, and however they were
+-- written; of a key that it lacks its rows are tried when they are placed in the new file
+abbrev pub is_like : Table → Table → Bool
+is_like ours table = has_columns ours table && (has_id table && has_arrows ours table)
+
+-- the table is there, and is like ours
 abbrev pub has_table : Schema → OldTable → Bool
 has_table schema one =
-    option_map_or (has_columns (own_table one)) (table_named schema (own_table one).name) false
+    option_map_or (is_like (own_table one)) (table_named schema (own_table one).name) false
 
 -- all of them are
 abbrev pub is_whole : Schema → Bool

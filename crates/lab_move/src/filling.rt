@@ -1,20 +1,24 @@
 //! The laboratories of an old file, carried into a new one, one after the other, and the new file
 //! finished.
 
-ghost use Rattle.std.specs.Prelude.{◌≡◌, length, All, OnOk, IfOk, IfErr, Some};
+ghost use Rattle.std.specs.Prelude.{◌≡◌, length, All, OnOk, IfOk, IfErr, IsTrue, Some};
 ghost use Rattle.sqlite.specs.Held.{state};
 ghost use Rattle.lab_records_kept.specs.declared.labs.Lab.{Lab as AnyLab};
 ghost use Rattle.lab_records_kept.specs.Bound.{IsBound};
 ghost use Rattle.lab_records_kept.specs.Dual.{IsDual};
-ghost use Rattle.lab_store_tables.specs.Ready.{IsAtRest};
+ghost use Rattle.sqlite.specs.State.{HasCleanDisk};
+ghost use Rattle.lab_store_tables.specs.Ready.{IsAtRest, IsMadeBy, tables_of};
 ghost use Rattle.lab_move_tables.specs.Reading.{ReadsOld, old_tables_of};
 ghost use Rattle.lab_move_files.specs.Commits.{MakesAtOnce};
-ghost use Rattle.lab_move_files.specs.Unfinished.{Finishes};
+ghost use Rattle.lab_move_files.specs.Unfinished.{Finishes, IsBeingFilled};
+ghost use Rattle.lab_move_laws.specs.Namings.{NamesSchema};
 ghost use Rattle.lab_move_writing.specs.Carrying.{Carries};
 ghost use Rattle.lab_move_labs.specs.declared.faults.WholeFault.TheVariants.{NotKept};
 ghost use Rattle.lab_move_labs.specs.Laboratories.{codes_of};
-ghost use Rattle.lab_move.specs.Moving.{Blames, BlamesFirst, BlamesFirstOfAll, CarriesFrom, Fills, FillsAll, HasThese, AreCounted, IsRead, IsSoundIn, IsSoundLab, IsUnsoundIn, IsWhole, IsWholeOf};
+ghost use Rattle.lab_move.specs.Counting.{HasAsMany};
+ghost use Rattle.lab_move.specs.Moving.{Blames, BlamesFirst, BlamesFirstOfAll, CarriesFrom, Fills, FillsAll, HasThese, AreCounted, IsBegun, IsRead, IsSoundIn, IsSoundLab, IsUnsoundIn, IsWhole, IsWholeOf};
 
+use crate::counting::compare_counts;
 use crate::faults::{MoveFault, store_fault};
 use crate::testing::{not_sound, test_lab};
 use lab_forms_texts::LabCode;
@@ -151,12 +155,36 @@ fn finish_with<T: Alter>(new: &mut Connection<T>, codes: &[LabCode]) -> Result<u
     requires at_rest { IsAtRest (state T.Store new.old) }
     ensures finished { MakesAtOnce (Finishes (state T.Store new.old).now) result
         (state T.Store new.old) (state T.Store new.new) }
+    ensures named { MakesAtOnce (IsMadeBy NamesSchema (state T.Store new.old)) result
+        (state T.Store new.old) (state T.Store new.new) }
     ensures count { IfOk result (λ count. count ≡ length codes.now) }
     ensures fault { IfErr result (Blames (λ _. ⊥)) }
 {
     match finish(new) {
         Ok(()) => Ok(codes.len() as u64),
         Err(fault) => Err(MoveFault::File(store_fault(fault))),
+    }
+}
+
+// Names the schema of the new file, where no row of the old one was left behind.
+fn finish_compared<D: Readable, T: Alter>(
+    old: &mut D,
+    new: &mut Connection<T>,
+    codes: &[LabCode],
+) -> Result<u64, MoveFault>
+    requires at_rest { IsAtRest (state T.Store new.old) }
+    ensures reads { ReadsOld (λ _ count. count ≡ length codes.now)
+        (D.state old.old) (D.state old.new) result }
+    ensures finished { MakesAtOnce (Finishes (state T.Store new.old).now) result
+        (state T.Store new.old) (state T.Store new.new) }
+    ensures counted { HasCleanDisk (D.state old.new) → HasCleanDisk (state T.Store new.new) →
+        IsBeingFilled (state T.Store new.old).now →
+        OnOk result (HasAsMany (D.state old.old).now (tables_of (state T.Store new.new))) }
+    ensures fault { IfErr result (Blames (λ _. ⊥)) }
+{
+    match compare_counts(old, new) {
+        Ok(()) => finish_with(new, codes),
+        Err(fault) => Err(MoveFault::File(fault)),
     }
 }
 
@@ -172,10 +200,13 @@ fn move_all<D: Readable, T: Alter, P: MoveProgress>(
     ensures reads { ReadsOld (AreCounted codes.now) (D.state old.old) (D.state old.new) result }
     ensures fills { FillsAll (IsWholeOf (D.state old.old) (D.state old.new) codes.now) result
         (state T.Store new.old) (state T.Store new.new) }
+    ensures counted { HasCleanDisk (D.state old.new) → HasCleanDisk (state T.Store new.new) →
+        IsTrue (state T.Store new.old).is_open → IsBegun (state T.Store new.old).now →
+        OnOk result (HasAsMany (D.state old.old).now (tables_of (state T.Store new.new))) }
     ensures fault { IfErr result (BlamesFirst (D.state old.old) (D.state old.new) codes.now) }
 {
     match move_each(alloc, old, new, codes, progress) {
-        Ok(()) => finish_with(new, codes),
+        Ok(()) => finish_compared(old, new, codes),
         Err(fault) => Err(fault),
     }
 }
@@ -184,8 +215,8 @@ fn move_all<D: Readable, T: Alter, P: MoveProgress>(
 /// one more. Answers how many they are.
 ///
 /// # Errors
-/// The first laboratory that isn't sound, in the order of the codes' bytes; a refusal of the store
-/// of either; or out of memory.
+/// The first laboratory that isn't sound, in the order of the codes' bytes; a row that belongs to
+/// none; a refusal of the store of either; or out of memory.
 pub(crate) fn fill<D: Readable, T: Alter, P: MoveProgress>(
     alloc: Global,
     old: &mut D,
@@ -197,6 +228,9 @@ pub(crate) fn fill<D: Readable, T: Alter, P: MoveProgress>(
         (D.state old.old) (D.state old.new) result }
     ensures fills { FillsAll (IsWhole (D.state old.old) (D.state old.new)) result
         (state T.Store new.old) (state T.Store new.new) }
+    ensures counted { HasCleanDisk (D.state old.new) → HasCleanDisk (state T.Store new.new) →
+        IsTrue (state T.Store new.old).is_open → IsBegun (state T.Store new.old).now →
+        OnOk result (HasAsMany (D.state old.old).now (tables_of (state T.Store new.new))) }
     ensures fault { IfErr result (BlamesFirstOfAll (D.state old.old) (D.state old.new)) }
 {
     match codes(alloc, old) {

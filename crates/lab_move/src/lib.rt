@@ -4,6 +4,8 @@
 //! 8.4.2).
 #![tactic(auto)]
 
+mod arrows;
+mod counting;
 mod faults;
 mod filling;
 mod moving;

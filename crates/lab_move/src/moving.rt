@@ -12,6 +12,7 @@ ghost use Rattle.lab_move_tables.specs.Reading.{ReadsOld, old_tables_of};
 ghost use Rattle.lab_move_files.specs.Commits.{MakesAtOnce};
 ghost use Rattle.lab_move_files.specs.Unfinished.{Begins, IsBeingFilled};
 ghost use Rattle.lab_move.specs.declared.faults.MoveFault.TheVariants.{File};
+ghost use Rattle.lab_move.specs.Counting.{HasAsMany};
 ghost use Rattle.lab_move.specs.Faults.{is_early};
 ghost use Rattle.lab_move.specs.Moving.{HasCause, IsMoved, IsRefused, IsStart, LeavesUnfinished};
 
@@ -59,7 +60,8 @@ fn begin<S: Alter, T: Alter>(old: &mut OldFile<S>, new: &mut Connection<T>) -> R
 /// # Errors
 /// The old file is none of schema 2, or has an older or a newer schema; the new one has a table of
 /// a name that is wanted; the rows of a laboratory aren't well kept, or it isn't bound or not under
-/// dual control; the store refused, or a row is none that is written; or memory ran out.
+/// dual control; the store refused, a row is none that is written, or belongs to no laboratory; or
+/// memory ran out.
 pub fn migrate<S: Alter, T: Alter, P: MoveProgress>(
     alloc: Global,
     old: &mut OldFile<S>,
@@ -74,6 +76,11 @@ pub fn migrate<S: Alter, T: Alter, P: MoveProgress>(
         IsOldFile (state S.Store old.old.conn).now → HasCleanDisk (state S.Store old.new.conn) →
         IfOk result (IsMoved (old_tables_of (state S.Store old.old.conn))
         (tables_of (state T.Store new.new))) }
+    // No row is left behind, whoever wrote the old file and whatever its rows say: each of its tables
+    // has as many as that of the new one:
+    ensures counted { IsBlank (state T.Store new.old).now → HasCleanDisk (state T.Store new.new) →
+        HasCleanDisk (state S.Store old.new.conn) → OnOk result
+        (HasAsMany (state S.Store old.old.conn).now (tables_of (state T.Store new.new))) }
     // The new file is then all that a start asks, whoever wrote the old one:
     ensures ready { IsBlank (state T.Store new.old).now → HasCleanDisk (state T.Store new.new) →
         OnOk result (IsStart (state T.Store new.new)) }

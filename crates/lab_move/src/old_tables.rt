@@ -1,9 +1,12 @@
-//! The twelve tables of schema 2 by name, and which columns each has.
+//! The twelve tables of schema 2 by name, and which columns and references each has.
 
 ghost use Rattle.std.specs.Prelude.{◌≡◌};
+ghost use Rattle.std.specs.List.{list_all};
 ghost use Rattle.lab_store_files.specs.Schemas.{has_columns};
-ghost use Rattle.lab_move.specs.OldFiles.{own_table};
+ghost use Rattle.lab_move.specs.Arrows.{has_arrow, has_arrows};
+ghost use Rattle.lab_move.specs.OldFiles.{is_like, own_table};
 
+use crate::arrows::{has_arrow, has_id};
 use crate::schemas::has_all;
 use sqlite_schema::schema::Table;
 
@@ -89,6 +92,37 @@ const TRAIL: [&str; 7] = [
     "id", "lab", "number", "moment", "person", "action", "subject",
 ];
 
+// The references of each table: a column, and the table whose ids it holds.
+
+const OF_PERSONS: [(&str, &str); 2] = [("lab", "labs"), ("asker", "persons")];
+
+const OF_SESSIONS: [(&str, &str); 2] = [("lab", "labs"), ("person", "persons")];
+
+const OF_FORMS: [(&str, &str); 1] = [("lab", "labs")];
+
+const OF_FIELDS: [(&str, &str); 1] = [("form", "forms")];
+
+const OF_CHOICES: [(&str, &str); 1] = [("field", "fields")];
+
+const OF_RECORDS: [(&str, &str); 2] = [("lab", "labs"), ("form", "forms")];
+
+const OF_VERSIONS: [(&str, &str); 2] = [("record", "records"), ("opener", "persons")];
+
+const OF_ENTRIES: [(&str, &str); 2] = [("version", "versions"), ("person", "persons")];
+
+const OF_SIGNATURES: [(&str, &str); 2] = [("version", "versions"), ("person", "persons")];
+
+const OF_TRAIL: [(&str, &str); 2] = [("lab", "labs"), ("person", "persons")];
+
+// Whether the table has each of the references.
+fn has_each(table: &Table, arrows: &[(&str, &str)]) -> bool
+    ensures { result ≡ list_all (λ arrow. has_arrow table.now arrow.0.now arrow.1.now) arrows.now }
+{
+    arrows
+        .iter()
+        .all(|arrow| has_arrow(table, arrow.0, arrow.1))
+}
+
 impl OldTable {
     /// The tables, in the order in which they are made.
     pub(crate) const ALL: [OldTable; 12] = [
@@ -126,8 +160,8 @@ impl OldTable {
         }
     }
 
-    /// Whether a table of a file has each of the columns.
-    pub(crate) fn has_columns_in(self, table: &Table) -> bool
+    // Whether a table of a file has each of the columns.
+    fn has_columns_in(self, table: &Table) -> bool
         ensures { result ≡ has_columns (own_table self) table.now }
     {
         match self {
@@ -144,5 +178,32 @@ impl OldTable {
             OldTable::Signatures => has_all(table, SIGNATURES.as_slice()),
             OldTable::Trail => has_all(table, TRAIL.as_slice()),
         }
+    }
+
+    // Whether it has each of the references.
+    fn has_arrows_in(self, table: &Table) -> bool
+        ensures { result ≡ has_arrows (own_table self) table.now }
+    {
+        match self {
+            OldTable::Desk => true,
+            OldTable::Labs => true,
+            OldTable::Persons => has_each(table, OF_PERSONS.as_slice()),
+            OldTable::Sessions => has_each(table, OF_SESSIONS.as_slice()),
+            OldTable::Forms => has_each(table, OF_FORMS.as_slice()),
+            OldTable::Fields => has_each(table, OF_FIELDS.as_slice()),
+            OldTable::Choices => has_each(table, OF_CHOICES.as_slice()),
+            OldTable::Records => has_each(table, OF_RECORDS.as_slice()),
+            OldTable::Versions => has_each(table, OF_VERSIONS.as_slice()),
+            OldTable::Entries => has_each(table, OF_ENTRIES.as_slice()),
+            OldTable::Signatures => has_each(table, OF_SIGNATURES.as_slice()),
+            OldTable::Trail => has_each(table, OF_TRAIL.as_slice()),
+        }
+    }
+
+    /// Whether a table of a file is like this one: it has the columns, an id and the references.
+    pub(crate) fn is_like(self, table: &Table) -> bool
+        ensures { result ≡ is_like (own_table self) table.now }
+    {
+        self.has_columns_in(table) && has_id(table) && self.has_arrows_in(table)
     }
 }

@@ -114,7 +114,8 @@ fn number_rows<D: Readable>(tables: &mut D) -> Result<Vec<Row>, FileFault>
 }
 
 /// Looks whether a file is one of schema 2, by the one row of the table `desk`, and by whether each
-/// table and column is there. Nothing is written. What the rows say isn't looked at.
+/// table, column and reference is there, however they were written. Nothing is written. What the
+/// rows say isn't looked at.
 ///
 /// # Errors
 /// None of these files, an older or a newer schema with its number, a refusal of the store, or out

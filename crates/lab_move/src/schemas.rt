@@ -38,12 +38,12 @@ fn has_table(schema: &Schema, one: OldTable) -> bool
     ensures { result ≡ has_table schema.now one }
 {
     match table_named(schema, one.name()) {
-        Some(table) => one.has_columns_in(table),
+        Some(table) => one.is_like(table),
         None => false,
     }
 }
 
-/// Whether all tables are there, with their columns.
+/// Whether all tables are there, each with its columns, an id and its references.
 pub(crate) fn is_whole(schema: &Schema) -> bool
     ensures { result ≡ is_whole schema.now }
 {

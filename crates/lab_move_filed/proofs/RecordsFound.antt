@@ -3,6 +3,9 @@ use Rattle.std.proofs.Common.{◌≡◌, ◌≤◌, ℕ, ℤ, Bool, true, false,
 use Rattle.std.specs.List.{list_all, AllByRecursion}
 use Rattle.std.specs.Option.{option_map_or}
 use Rattle.std.proofs.lemmas.Bool.{and_parts}
+use Rattle.std.proofs.lemmas.Bool.Decides.{nat_tests}
+use Rattle.std.proofs.lemmas.List.{length-map}
+use Rattle.sqlite_value.specs.Order.{Row, column}
 use Rattle.sqlite_trees.specs.Tree.{Trees}
 use Rattle.sqlite_keyed.specs.Keyed.{IsKeyedBy, get_by}
 use Rattle.sqlite_keyed.proofs.ListLemmas.{slice_get-filter, map-map, map_same, filter_same, all_from_test}
@@ -11,7 +14,7 @@ use Rattle.lab_seal_versions.specs.declared.rows.EntryRow.{EntryRow as Entry}
 use Rattle.lab_records_kept.specs.declared.records.FormVersion.{FormVersion}
 use Rattle.lab_records_kept.specs.declared.records.Record.{Record}
 use Rattle.lab_records_kept.specs.declared.records.Signature.{Signature}
-use Rattle.lab_store_tables.specs.Rows.{FormRow, RecordRow, VersionRow, EntryRow, SignatureRow, Tables, form_id}
+use Rattle.lab_store_tables.specs.Rows.{FormRow, RecordRow, VersionRow, EntryRow, SignatureRow, Tables, form_id, number_in}
 use Rattle.lab_store_tables.specs.Columns.{meaning_in}
 use Rattle.lab_store_tables.specs.WellKept.{lab_of_form, is_same, names_its_form}
 use Rattle.lab_store_tables.specs.Meaning.{Leaf, entry_in, entries_of, signature_in, signatures_of, leaf_in, leaves_of, form_in, form_at, record_in, records_of, by_form}
@@ -24,37 +27,48 @@ use Rattle.lab_store_read_records.specs.Shown.{record_read}
 use Rattle.lab_store_read_forms.specs.Wholes.{record_with}
 use Rattle.lab_move_tables.specs.OldRows.{old_tables}
 use Rattle.lab_move_tables.specs.Owned.{own_forms, own_records, own_versions, own_entries, own_signatures, lab_of}
-use Rattle.lab_move_tables.specs.KeptLabs.{is_theirs, are_kept_entries, are_kept_signatures, is_kept_version, are_so_many, are_kept_versions, is_kept_record, are_so_many_records, are_kept_records}
-use Rattle.lab_move_rows.specs.Shown.{record_shown, records_shown, version_shown, versions_shown, entry_shown, entries_shown, signature_shown, signatures_shown}
-use Rattle.lab_move_rows.specs.Checks.{are_numbered, are_owned}
+use Rattle.lab_move_tables.specs.KeptLabs.{run, is_theirs, are_kept_entries, are_kept_signatures, is_kept_version, are_so_many, are_kept_versions, is_kept_record, are_so_many_records, are_kept_records}
+use Rattle.lab_move_rows.specs.Shown.{record_shown, records_shown, version_shown, versions_shown, entry_shown, entries_shown, entry_place_shown, entry_places_shown, signature_shown, signatures_shown, signature_place_shown, signature_places_shown}
+use Rattle.lab_move_rows.specs.Checks.{are_owned}
 use Rattle.lab_move_filed.specs.declared.heads.FormAt.{FormAt}
 use Rattle.lab_move_filed.specs.declared.heads.VersionHead.{VersionHead}
 use Rattle.lab_move_people.specs.Kept.{where_kept, are_counted}
 use Rattle.lab_move_filed.specs.Forms.{form_of, form_at_in, forms_at_of, form_among}
 use Rattle.lab_move_filed.specs.Records.{entry_read, signature_read, version_read, version_head, leaf_with, record_if, leaf_by, is_kept_leaf, version_heads_tried, named_form, is_kept_record_head, record_by, record_heads_tried, are_kept_records_by, records_by}
 use Rattle.lab_move_people.proofs.Conditions.{unkept, kept_test, kept_is, first_fails, same_where}
-use Rattle.lab_move_people.proofs.Numbered.{numbered_is, counted_is, owned_is, list_all-map}
+use Rattle.lab_move_people.proofs.Numbered.{counted_is, owned_is, list_all-map}
 use Rattle.lab_move_people.proofs.OldOnes.{IsOldVersion, old_versions, old_entries, old_signatures, all_same}
 
 -- ---- entries and signatures
 
+same_number : (n : ℕ) → (n == n) ≡ true
+same_number n = grind (arith, nat_tests)
+
+-- as many are shown as there are places
+counted_by : {X : Type 0} (show place : X → Row) (at : ℕ) (number : X → ℕ) → ((x : X) → number_in (column (show x) at) ≡ number x) → (xs : List X)
+    → are_counted at (length (map place xs)) (map show xs) ≡ run number xs
+counted_by show place at number is xs =
+    counted_is show at (length (map place xs)) number is xs
+    ∙ ap (λ b. b && run number xs) (ap (λ n. length xs == n) (length-map xs place) ∙ same_number (length xs))
+
 pub entries_done : (trees : Trees) (lab version : ℤ) → let t = old_tables trees in
-    where_kept (are_numbered 6 (entries_shown t version) && are_owned 7 lab (entries_shown t version)) (map entry_read (entries_shown t version)) ≡ where_kept (are_kept_entries t lab version) (entries_of t version)
+    where_kept (are_counted 6 (length (entry_places_shown t version)) (entries_shown t version) && are_owned 7 lab (entries_shown t version)) (map entry_read (entries_shown t version))
+    ≡ where_kept (are_kept_entries t lab version) (entries_of t version)
 entries_done trees lab version =
     let t = old_tables trees in
     let own = own_entries t version in
-    ap₂ where_kept (ap₂ ◌&&◌ (numbered_is (entry_shown t) 6 (λ (one : EntryRow). one.place) (λ one. refl) own)
+    ap₂ where_kept (ap₂ ◌&&◌ (counted_by (entry_shown t) entry_place_shown 6 (λ (one : EntryRow). one.place) (λ one. refl) own)
     (owned_is (entry_shown t) 7 lab (λ (one : EntryRow). lab_of t one.person) (λ one. refl) own))
     (map-map entry_read (entry_shown t) own
     ∙ all_same _ (λ one. entry_read (entry_shown t one)) (entry_in t) (λ one old. λ i. record (entry_in t one) { reason = old i }) own (old_entries trees version))
 
 pub signatures_done : (trees : Trees) (lab version : ℤ) → let t = old_tables trees in
-    where_kept (are_numbered 7 (signatures_shown t version) && are_owned 8 lab (signatures_shown t version)) (map signature_read (signatures_shown t version))
+    where_kept (are_counted 7 (length (signature_places_shown t version)) (signatures_shown t version) && are_owned 8 lab (signatures_shown t version)) (map signature_read (signatures_shown t version))
     ≡ where_kept (are_kept_signatures t lab version) (signatures_of t version)
 signatures_done trees lab version =
     let t = old_tables trees in
     let own = own_signatures t version in
-    ap₂ where_kept (ap₂ ◌&&◌ (numbered_is (signature_shown t) 7 (λ (one : SignatureRow). one.place) (λ one. refl) own)
+    ap₂ where_kept (ap₂ ◌&&◌ (counted_by (signature_shown t) signature_place_shown 7 (λ (one : SignatureRow). one.place) (λ one. refl) own)
     (owned_is (signature_shown t) 8 lab (λ (one : SignatureRow). lab_of t one.person) (λ one. refl) own))
     (map-map signature_read (signature_shown t) own
     ∙ all_same _ (λ one. signature_read (signature_shown t one)) (signature_in t) (λ one old. λ i. record (signature_in t one) { meaning = meaning_in one.meaning (old i) }) own (old_signatures trees version))

@@ -1,15 +1,15 @@
 //! Rows that persons entered in a version.
 
-ghost use Rattle.std.specs.Prelude.{◌≡◌, ◌&&◌, map, IfOk};
+ghost use Rattle.std.specs.Prelude.{◌≡◌, ◌&&◌, length, map, IfOk};
 ghost use Rattle.lab_store_tables.specs.Meaning.{entries_of};
 ghost use Rattle.lab_move_tables.specs.KeptLabs.{are_kept_entries};
 ghost use Rattle.lab_move_tables.specs.Reading.{ReadsOld};
-ghost use Rattle.lab_move_rows.specs.Checks.{are_numbered, are_owned};
-ghost use Rattle.lab_move_people.specs.Kept.{where_kept};
+ghost use Rattle.lab_move_rows.specs.Checks.{are_owned};
+ghost use Rattle.lab_move_people.specs.Kept.{where_kept, are_counted};
 ghost use Rattle.lab_move_filed.specs.Records.{entry_read};
 
-use lab_move_people::cells::reason_of;
-use lab_move_rows::{are_numbered, are_owned, entry_rows};
+use lab_move_people::cells::{are_counted, reason_of};
+use lab_move_rows::{are_owned, entry_places, entry_rows};
 use lab_seal_versions::{EntryRow, EntryRows};
 use lab_store_columns::cells::{moment_of, text_of};
 use lab_store_columns::{ReadFault, Readable};
@@ -47,12 +47,17 @@ fn entries_of_rows(alloc: Global, rows: &[Row]) -> Result<Vec<EntryRow>, ReadFau
     Ok(made)
 }
 
-// The entries that rows show, where they are numbered and their persons are of the laboratory.
-fn entries_tried(alloc: Global, rows: &[Row], lab: i64) -> Result<Option<EntryRows>, ReadFault>
+// The entries that rows show, where they are as many as the places, are numbered, and their persons are of the laboratory.
+fn entries_tried(
+    alloc: Global,
+    rows: &[Row],
+    places: &[Row],
+    lab: i64,
+) -> Result<Option<EntryRows>, ReadFault>
     ensures { IfOk result (λ found. found ≡ where_kept
-        (are_numbered 6 rows.now && are_owned 7 lab rows.now) (map entry_read rows.now)) }
+        (are_counted 6 (length places.now) rows.now && are_owned 7 lab rows.now) (map entry_read rows.now)) }
 {
-    if !are_numbered(rows, 6)? {
+    if !are_counted(rows, 6, places.len() as u64)? {
         return Ok(None);
     }
     if !are_owned(rows, 7, lab)? {
@@ -62,7 +67,7 @@ fn entries_tried(alloc: Global, rows: &[Row], lab: i64) -> Result<Option<EntryRo
 }
 
 /// The entries of the version with the id, in the order of their places, where these run from 1 on and their persons are of the
-/// laboratory.
+/// laboratory. An entry whose person isn't there is missing among the rows, and not among the places.
 ///
 /// # Errors
 /// The store refused, a row is none that is written, or memory ran out.
@@ -77,5 +82,6 @@ pub(crate) fn entries_at<D: Readable>(
         (D.state conn.old) (D.state conn.new) result }
 {
     let rows = entry_rows(conn, version)?;
-    entries_tried(alloc, &rows, lab)
+    let places = entry_places(conn, version)?;
+    entries_tried(alloc, &rows, &places, lab)
 }

@@ -1,19 +1,19 @@
 //! Signatures of a version.
 
-ghost use Rattle.std.specs.Prelude.{◌≡◌, ◌&&◌, map, IfOk, IfSome};
+ghost use Rattle.std.specs.Prelude.{◌≡◌, ◌&&◌, length, map, IfOk, IfSome};
 ghost use Rattle.sqlite_value.specs.Order.{column, bytes};
 ghost use Rattle.lab_store_tables.specs.Columns.{meaning_in};
 ghost use Rattle.lab_store_tables.specs.Meaning.{signatures_of};
 ghost use Rattle.lab_move_tables.specs.OldRows.{reason_in};
 ghost use Rattle.lab_move_tables.specs.KeptLabs.{are_kept_signatures};
 ghost use Rattle.lab_move_tables.specs.Reading.{ReadsOld};
-ghost use Rattle.lab_move_rows.specs.Checks.{are_numbered, are_owned};
-ghost use Rattle.lab_move_people.specs.Kept.{where_kept};
+ghost use Rattle.lab_move_rows.specs.Checks.{are_owned};
+ghost use Rattle.lab_move_people.specs.Kept.{where_kept, are_counted};
 ghost use Rattle.lab_move_filed.specs.Records.{signature_read};
 
 use lab_forms_texts::{Keys, Note, Series, Text};
-use lab_move_people::cells::reason_of;
-use lab_move_rows::{are_numbered, are_owned, signature_rows};
+use lab_move_people::cells::{are_counted, reason_of};
+use lab_move_rows::{are_owned, signature_places, signature_rows};
 use lab_records_kept::Signature;
 use lab_seal_versions::{Meaning, Seal};
 use lab_store_columns::cells::{digest_of, moment_of, text_of};
@@ -81,16 +81,17 @@ fn signatures_of_rows(alloc: Global, rows: &[Row]) -> Result<Vec<Signature>, Rea
     Ok(made)
 }
 
-// The signatures that rows show, where they are numbered and their persons are of the laboratory.
+// The signatures that rows show, where they are as many as the places, are numbered, and their persons are of the laboratory.
 fn signatures_tried(
     alloc: Global,
     rows: &[Row],
+    places: &[Row],
     lab: i64,
 ) -> Result<Option<Series<Signature>>, ReadFault>
     ensures { IfOk result (λ found. found ≡ where_kept
-        (are_numbered 7 rows.now && are_owned 8 lab rows.now) (map signature_read rows.now)) }
+        (are_counted 7 (length places.now) rows.now && are_owned 8 lab rows.now) (map signature_read rows.now)) }
 {
-    if !are_numbered(rows, 7)? {
+    if !are_counted(rows, 7, places.len() as u64)? {
         return Ok(None);
     }
     if !are_owned(rows, 8, lab)? {
@@ -100,7 +101,7 @@ fn signatures_tried(
 }
 
 /// The signatures of the version with the id, in the order of their places, where these run from 1 on and their persons are of
-/// the laboratory.
+/// the laboratory. A signature whose person isn't there is missing among the rows, and not among the places.
 ///
 /// # Errors
 /// The store refused, a row is none that is written, or memory ran out.
@@ -115,5 +116,6 @@ pub(crate) fn signatures_at<D: Readable>(
         (D.state conn.old) (D.state conn.new) result }
 {
     let rows = signature_rows(conn, version)?;
-    signatures_tried(alloc, &rows, lab)
+    let places = signature_places(conn, version)?;
+    signatures_tried(alloc, &rows, &places, lab)
 }

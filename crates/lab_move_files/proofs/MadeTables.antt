@@ -18,16 +18,17 @@ use Rattle.sqlite.specs.Effect.{Database}
 use Rattle.sqlite.specs.Does.{Tally, Does, lacks_sequence}
 use Rattle.sqlite.specs.State.{State, HasCleanDisk, mode_of, Writes, Executes, ExecutesInside}
 use Rattle.sqlite.proofs.Callers.{runs_as}
+use Rattle.lab_store_tables.specs.Family.{empty_tables}
 use Rattle.lab_store_tables.specs.Schema.{sessions, sessions_of_person, sessions_of_person_text, lab_schema}
 use Rattle.lab_store_tables.specs.Rows.{Tables}
 use Rattle.lab_store_tables.specs.Meaning.{meaning}
 use Rattle.lab_store_tables.specs.WellKept.{AreWellKept}
-use Rattle.lab_store_laws.proofs.HeldLaws.{held_if_stored}
+use Rattle.lab_store_laws.proofs.Tables.{held_if_stored, none_stored, none_rising}
 use Rattle.lab_store_files.specs.NewFiles.{no_schema, IsEmptyUnder, IsBlank}
 use Rattle.lab_store_write.specs.Calls.{Stays}
 use Rattle.lab_store_write.proofs.Writers.{stays_then}
 use Rattle.lab_move_files.specs.Tables.{own_tables, schema_of}
-use Rattle.lab_move_files.specs.Unfinished.{no_rows, IsUnfinished, Begins, Makes}
+use Rattle.lab_move_files.specs.Unfinished.{IsUnfinished, Begins, Makes}
 use Rattle.lab_move_files.proofs.Statements.{MakesTable, AreMadeFrom, all_made, index_makes, index_text, index_plain, index_is, whole_is}
 
 -- a part that gave a value did not stop on the way
@@ -109,27 +110,10 @@ index_done old new (Err e) h was = tt
 -- ---- tables without rows
 
 pub none_held : (db : Database) → IsEmptyUnder lab_schema db → IsUnfinished db
-none_held db was =
-    let e = was.empty in
-    held_if_stored db no_rows was.schema_is
-    (record {
-      desk = e.0;
-      labs = e.1.0;
-      persons = e.1.1.0;
-      sessions = e.1.1.1.0;
-      forms = e.1.1.1.1.0;
-      fields = e.1.1.1.1.1.0;
-      choices = e.1.1.1.1.1.1.0;
-      records = e.1.1.1.1.1.1.1.0;
-      versions = e.1.1.1.1.1.1.1.1.0;
-      entries = e.1.1.1.1.1.1.1.1.1.0;
-      signatures = e.1.1.1.1.1.1.1.1.1.1.0;
-      trail = e.1.1.1.1.1.1.1.1.1.1.1.0;
-    })
-    (record { desk = tt; labs = tt; persons = tt; sessions = tt; forms = tt; fields = tt; choices = tt; records = tt; versions = tt; entries = tt; signatures = tt; trail = tt })
+none_held db was = held_if_stored db empty_tables was.schema_is (none_stored db.trees was.empty) none_rising
 
 -- they are well kept
-pub none_are_kept : AreWellKept no_rows
+pub none_are_kept : AreWellKept empty_tables
 none_are_kept = record {
   ids = refl;
   keys = refl;

@@ -1,8 +1,7 @@
 -- What the statement that names the schema means, and what it makes of the tables.
-use Rattle.std.proofs.Common.{◌≡◌, ℕ, pos, List, [], ◌∷◌, codes, map, Ok, refl, sym, ap, subst, ◌∙◌}
+use Rattle.std.proofs.Common.{◌≡◌, ℕ, pos, List, [], ◌∷◌, codes, Ok, refl, sym, ap, subst, ◌∙◌}
 use Rattle.sqlite_value.specs.declared.value.Value.TheVariants.{Null, Int}
 use Rattle.sqlite_value.specs.Order.{Row}
-use Rattle.sqlite_trees.specs.Tree.{Trees}
 use Rattle.sqlite_schema.specs.declared.command.Command.TheVariants.{Insert}
 use Rattle.sqlite_schema.specs.declared.command.Source.TheVariants.{Values}
 use Rattle.sqlite_sql.specs.Term.{Term, lit}
@@ -16,51 +15,18 @@ use Rattle.sqlite.specs.State.{State, Executes, ExecutesInside}
 use Rattle.sqlite.proofs.Callers.{IsPlain, command_of}
 use Rattle.lab_store_tables.specs.Schema.{lab_schema, desk}
 use Rattle.lab_store_tables.specs.Rows.{DeskRow, Tables, desk_row, desk_id, tables_in, number}
-use Rattle.lab_store_tables.specs.Held.{IsTyped, AreRising}
+use Rattle.lab_store_tables.specs.Held.{IsTyped}
 use Rattle.lab_store_tables.specs.Meaning.{meaning}
 use Rattle.lab_store_tables.specs.WellKept.{is_desk, AreWellKept, IsWellKept}
 use Rattle.lab_store_tables.specs.Ready.{tables_of}
-use Rattle.lab_store_laws.specs.Stored.{AreStored}
-use Rattle.lab_store_laws.proofs.HeldLaws.{stored_if_typed, held_if_stored}
+use Rattle.lab_store_tables.specs.Family.{Desk}
+use Rattle.lab_store_laws.proofs.Tables.{held_if_stored, stored_with, rising_with}
 use Rattle.lab_store_write.specs.Calls.{Steps}
-use Rattle.lab_store_write.proofs.Tables.{apart, AreSpared}
+use Rattle.lab_store_write.proofs.Columns.{stays}
 use Rattle.lab_store_write.proofs.Writes.{cast_int, cast_null, add_next}
 use Rattle.lab_store_write.proofs.Inside.{Wrote}
 use Rattle.lab_move_files.specs.Unfinished.{Finishes}
 use Rattle.lab_move_laws.specs.Namings.{naming_row, put_naming, NamesSchema}
-
-stored_desk : (old new : Trees) (t : Tables) (rows : List DeskRow) → AreStored old t → AreSpared 0 old new → new 0 ≡ map desk_row rows
-    → AreStored new (record t { desk = rows })
-stored_desk old new t rows stored spared put = record {
-  desk = put;
-  labs = spared.1.0 (apart 1 0 refl) ∙ stored.labs;
-  persons = spared.1.1.0 (apart 3 0 refl) ∙ stored.persons;
-  sessions = spared.1.1.1.0 (apart 5 0 refl) ∙ stored.sessions;
-  forms = spared.1.1.1.1.0 (apart 8 0 refl) ∙ stored.forms;
-  fields = spared.1.1.1.1.1.0 (apart 10 0 refl) ∙ stored.fields;
-  choices = spared.1.1.1.1.1.1.0 (apart 13 0 refl) ∙ stored.choices;
-  records = spared.1.1.1.1.1.1.1.0 (apart 15 0 refl) ∙ stored.records;
-  versions = spared.1.1.1.1.1.1.1.1.0 (apart 18 0 refl) ∙ stored.versions;
-  entries = spared.1.1.1.1.1.1.1.1.1.0 (apart 20 0 refl) ∙ stored.entries;
-  signatures = spared.1.1.1.1.1.1.1.1.1.1.0 (apart 22 0 refl) ∙ stored.signatures;
-  trail = spared.1.1.1.1.1.1.1.1.1.1.1.0 (apart 25 0 refl) ∙ stored.trail;
-}
-
-rising_desk : (t : Tables) (rows : List DeskRow) → AreRising t → IsKeyedBy desk_id rows → AreRising (record t { desk = rows })
-rising_desk t rows rising up = record {
-  desk = up;
-  labs = rising.labs;
-  persons = rising.persons;
-  sessions = rising.sessions;
-  forms = rising.forms;
-  fields = rising.fields;
-  choices = rising.choices;
-  records = rising.records;
-  versions = rising.versions;
-  entries = rising.entries;
-  signatures = rising.signatures;
-  trail = rising.trail;
-}
 
 -- ---- the statement
 
@@ -81,9 +47,6 @@ naming_is = refl
 abbrev naming_tail : Row
 naming_tail = Null ∷ number 3 ∷ []
 
-desk_cast : (one : DeskRow) → cast_row desk (desk_row one) ≡ desk_row one
-desk_cast one = λ i. cast_int one.id i ∷ cast_null i ∷ cast_int (pos one.number) i ∷ []
-
 new_cast : cast_row desk (Null ∷ naming_tail) ≡ Null ∷ naming_tail
 new_cast = λ i. cast_null i ∷ cast_null i ∷ cast_int (pos 3) i ∷ []
 
@@ -97,19 +60,19 @@ module _ (old new : State) (count : ℕ) (typed : IsTyped old.now) (did : Execut
   named : Wrote (put_naming (next_key desk_id t.desk) t) new.now
   named =
       let rows = insert_by desk_id t.desk row in
-      let it = add_next desk desk_id desk_row (λ _. (refl, refl)) desk_cast 0 refl (λ _. refl) naming_text naming_terms 3 naming_plain naming_is
-      [] naming_tail row old new count t.desk refl refl refl new_cast typed.schema typed.desk typed.rising.desk did in
+      let it = add_next desk desk_id desk_row (λ _. (refl, refl)) (stays Desk) 0 refl (λ _. refl) naming_text naming_terms 3 naming_plain naming_is
+      [] naming_tail row old new count t.desk refl refl refl new_cast typed.schema (typed.stored.at Desk) (typed.rising.at Desk) did in
       record {
         held = held_if_stored new.now (put_naming (next_key desk_id t.desk) t) it.schema
-            (stored_desk old.now.trees new.now.trees t rows (stored_if_typed old.now typed) it.spared it.rows)
-            (rising_desk t rows typed.rising (IsKeyedBy-insert_by desk_id t.desk row typed.rising.desk));
+            (stored_with Desk old.now.trees new.now.trees t rows typed.stored it.spared it.rows)
+            (rising_with Desk t rows typed.rising (IsKeyedBy-insert_by desk_id t.desk row (typed.rising.at Desk)));
         sound = it.sound;
       }
 
   names : NamesSchema (tables_of old) (tables_of new)
   names = record {
     id = next_key desk_id t.desk;
-    free = next_key_is_free desk_id t.desk typed.rising.desk;
+    free = next_key_is_free desk_id t.desk (typed.rising.at Desk);
     made = named.held.tables;
   }
 

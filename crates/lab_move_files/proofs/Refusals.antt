@@ -11,6 +11,7 @@ use Rattle.lab_store_tables.specs.Schema.{lab_schema}
 use Rattle.lab_store_tables.specs.Rows.{DeskRow, desk_row, desk_id, number}
 use Rattle.lab_store_tables.specs.Held.{IsTyped}
 use Rattle.lab_store_tables.specs.Ready.{tables_of}
+use Rattle.lab_store_tables.specs.Family.{Desk}
 use Rattle.lab_store_columns.proofs.Sorted.{only_answer}
 use Rattle.lab_store_files.specs.declared.faults.FileFault.{FileFault}
 use Rattle.lab_store_files.specs.declared.faults.FileFault.TheVariants.{NotADeskFile}
@@ -27,7 +28,7 @@ none_shown : (old new : State) (rows : List Row) → IsTyped old.now → (tables
 none_shown old new rows typed none h =
     let db = overlay old.now.trees [] in
     let read = reads_as number_query [] old new lab_schema typed.schema _ query_is query_plain query_unlisted rows h in
-    only_answer desk_query db [] (last_table db 0 desk_row desk_id (tables_of old).desk typed.desk typed.rising.desk (at_end db)) (λ _. true) (λ x. refl) refl refl
+    only_answer desk_query db [] (last_table db 0 desk_row desk_id (tables_of old).desk (typed.stored.at Desk) (typed.rising.at Desk) (at_end db)) (λ _. true) (λ x. refl) refl refl
     (subst (λ (desk : List DeskRow). length (filter (λ _. true) desk) ≤ 1) (sym none) (omega arith)) rows (read.answer Null)
     ∙ ap (λ (desk : List DeskRow). map number_row (filter (λ _. true) desk)) none
 

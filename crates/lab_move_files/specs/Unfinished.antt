@@ -5,7 +5,8 @@ use Rattle.std.specs.Prelude.{◌≡◌, ℕ, List, [], None, Result, OnOk, IsTr
 use Rattle.sqlite.specs.Effect.{Database}
 use Rattle.sqlite.specs.State.{State, HasCleanDisk}
 use Rattle.lab_records_kept.specs.Worlds.{SameMeaning}
-use Rattle.lab_store_tables.specs.Rows.{Tables, tables_in}
+use Rattle.lab_store_tables.specs.Rows.{tables_in}
+use Rattle.lab_store_tables.specs.Family.{empty_tables}
 use Rattle.lab_store_tables.specs.Held.{IsTyped, Holds}
 use Rattle.lab_store_tables.specs.Meaning.{meaning}
 use Rattle.lab_store_tables.specs.Ready.{IsKept}
@@ -13,24 +14,8 @@ use Rattle.lab_store_tables.specs.WellKept.{AreWellKept}
 use Rattle.lab_store_files.specs.NewFiles.{IsBlank}
 use Rattle.lab_store_write.specs.Calls.{Stays}
 
-abbrev pub no_rows : Tables
-no_rows = record {
-  desk = [];
-  labs = [];
-  persons = [];
-  sessions = [];
-  forms = [];
-  fields = [];
-  choices = [];
-  records = [];
-  versions = [];
-  entries = [];
-  signatures = [];
-  trail = [];
-}
-
 abbrev pub IsUnfinished : Database → Type 0
-IsUnfinished db = Holds db no_rows
+IsUnfinished db = Holds db empty_tables
 
 -- one that is being filled: its rows are well kept, but none names their schema
 pub record IsBeingFilled (db : Database) : Type 0 where

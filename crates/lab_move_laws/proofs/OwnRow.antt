@@ -15,7 +15,9 @@ use Rattle.lab_store_tables.specs.WellKept.{same_lab, are_apart, have_parents, a
 use Rattle.lab_store_tables.specs.Held.{AreRising}
 use Rattle.lab_store_tables.specs.Changes.{IsFree}
 use Rattle.lab_store_tables.specs.Placing.{lab_row_of, put_lab}
+use Rattle.lab_store_tables.specs.Family.{Labs}
 use Rattle.lab_store_laws.specs.ByRules.{IsByRules}
+use Rattle.lab_store_laws.proofs.Tables.{rising_with}
 use Rattle.lab_store_laws.proofs.Bridges.{apart_from_test}
 use Rattle.lab_store_laws.proofs.FoundingKept.{lab_more}
 use Rattle.lab_store_laws.proofs.Kept.{well_kept}
@@ -92,7 +94,7 @@ module _ (t : Tables) (rising : AreRising t) (well : AreWellKept t) (lab : Lab) 
   }
 
   pub row_found : find (has_code lab.code) after.labs ≡ Some row
-  row_found = find_alone lab_id t.labs row free (has_code lab.code) rising.labs ((bytes_eq-Decides lab.code lab.code).1 refl) absent
+  row_found = find_alone lab_id t.labs row free (has_code lab.code) (rising.at Labs) ((bytes_eq-Decides lab.code lab.code).1 refl) absent
 
   other_code : (other : List ℕ) → other ≢ lab.code → bytes_eq lab.code other ≡ false
   other_code other differs = go (bytes_eq lab.code other) refl
@@ -108,17 +110,4 @@ module _ (t : Tables) (rising : AreRising t) (well : AreWellKept t) (lab : Lab) 
   row_kept rules = well_kept after rules (lab_more t well lab id free)
 
   pub still_rising : AreRising after
-  still_rising = record {
-    desk = rising.desk;
-    labs = IsKeyedBy-insert_by lab_id t.labs row rising.labs;
-    persons = rising.persons;
-    sessions = rising.sessions;
-    forms = rising.forms;
-    fields = rising.fields;
-    choices = rising.choices;
-    records = rising.records;
-    versions = rising.versions;
-    entries = rising.entries;
-    signatures = rising.signatures;
-    trail = rising.trail;
-  }
+  still_rising = rising_with Labs t (insert_by lab_id t.labs row) rising (IsKeyedBy-insert_by lab_id t.labs row (rising.at Labs))

@@ -26,6 +26,7 @@ use Rattle.lab_store_tables.specs.Meaning.{lab_in, has_code, meaning, leaves_of,
 use Rattle.lab_store_tables.specs.WellKept.{AreWellKept}
 use Rattle.lab_store_tables.specs.Changes.{IsFree, InTurn, AddsVersion, AddsRecord, form_named, record_row_of, put_record, in_lab}
 use Rattle.lab_store_tables.specs.Held.{AreRising}
+use Rattle.lab_store_tables.specs.Family.{Records, Versions, Entries, Signatures}
 use Rattle.lab_store_laws.proofs.NumberLaws.{length_sorted, numbered_last}
 use Rattle.lab_store_laws.proofs.LevelLaws.{had_by}
 use Rattle.lab_store_laws.proofs.LabLaws.{alike}
@@ -93,9 +94,9 @@ module _ (t : Tables) (rising : AreRising t) (well : AreWellKept t) (code : List
   steady : AreSteady start
   steady = record {
     persons = parts.ids.persons;
-    versions = rising.versions;
-    entries = rising.entries;
-    signatures = rising.signatures;
+    versions = (rising.at Versions);
+    entries = (rising.at Entries);
+    signatures = (rising.at Signatures);
     entries_led = all_from_test (λ (one : EntryRow). has_key version_id t.versions one.version) t.entries parts.arrows.entries;
     signatures_led = all_from_test (λ (one : SignatureRow). has_key version_id t.versions one.version) t.signatures parts.arrows.signatures;
   }
@@ -167,7 +168,7 @@ module _ (t : Tables) (rising : AreRising t) (well : AreWellKept t) (code : List
         ≡ cond (int_eq lab row.id) (records_of t of lab ++ record_in uncounted of new ∷ []) (records_of t of lab)
     records_more of lab =
         numbered_last record_id (λ (one : RecordRow). one.lab) (λ (one : RecordRow). one.number) (record_in uncounted of) t.records
-        rising.records parts.numbers.records new free next lab
+        (rising.at Records) parts.numbers.records new free next lab
         ∙ ap (λ had. cond (int_eq lab row.id) (had ++ record_in uncounted of new ∷ []) had) (old_records of lab)
 
     its_records : records_of uncounted row.code row.id ≡ records_of t row.code row.id ++ kept ∷ []

@@ -1,5 +1,5 @@
 -- What every row has that stands for one of schema 2, among those of one parent too.
-use Rattle.std.proofs.Common.{◌≡◌, ℕ, ℤ, Bool, true, false, List, [], ◌∷◌, map, filter, Option, Some, None, option_map, refl, ap₂, int_eq, Ordering}
+use Rattle.std.proofs.Common.{◌≡◌, ℕ, ℤ, Bool, false, List, [], ◌∷◌, map, filter, Option, option_map, refl, ap₂, int_eq, Ordering}
 use Rattle.std.specs.List.{AllByRecursion}
 use Rattle.sqlite_value.specs.declared.value.Value.{Value}
 use Rattle.sqlite_value.specs.declared.value.Value.TheVariants.{Null, Int, Real, Text, Blob}
@@ -25,7 +25,8 @@ reason_twice (Int n) = refl
 reason_twice (Real x) = refl
 reason_twice (Text []) = refl
 reason_twice (Text (first ∷ others)) = refl
-reason_twice (Blob b) = refl
+reason_twice (Blob []) = refl
+reason_twice (Blob (first ∷ others)) = refl
 
 -- beside what is there stands the other
 pub beside_filled : (value : Value) (other : Option ℕ) → is_null value ≡ false → beside (optional_in bytes value) other ≡ other

@@ -65,7 +65,7 @@ selected (Ok it) c h = go (is_select it.command) h
     go false e = absurd cc
 selected (Err e) c h = absurd cc
 
-understood_bare : (sql : List ℕ) → IsRead (first sql) → (s : Schema) (c : Compiled) → understood s sql ≡ Ok c → IsBare c
+pub understood_bare : (sql : List ℕ) → IsRead (first sql) → (s : Schema) (c : Compiled) → understood s sql ≡ Ok c → IsBare c
 unfolding understood
 understood_bare sql read s c h = go (reads_listing s sql) h
   where

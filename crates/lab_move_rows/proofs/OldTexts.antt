@@ -205,6 +205,28 @@ pub entry_means : MeansOld entry_text (children_query 20 (child_tests 7) entry_c
 unfolding understood everything
 entry_means = record { read = (_, refl); command = refl; unlisted = refl; plain = (refl, refl) }
 
+-- ---- places of entries, and of signatures
+
+abbrev place_names : List (List ℕ)
+place_names = codes "place" ∷ []
+
+abbrev pub place_columns : List Term
+place_columns = col 1 3 ∷ []
+
+abbrev pub entry_place_text : List ℕ
+entry_place_text = codes "SELECT place FROM entries WHERE version = ?1 ORDER BY place"
+
+pub entry_place_means : MeansOld entry_place_text (own_query 20 (is_param 2 0 ∷ []) place_columns 3) place_names
+unfolding understood everything
+entry_place_means = record { read = (_, refl); command = refl; unlisted = refl; plain = (refl, refl) }
+
+abbrev pub signature_place_text : List ℕ
+signature_place_text = codes "SELECT place FROM signatures WHERE version = ?1 ORDER BY place"
+
+pub signature_place_means : MeansOld signature_place_text (own_query 22 (is_param 2 0 ∷ []) place_columns 3) place_names
+unfolding understood everything
+signature_place_means = record { read = (_, refl); command = refl; unlisted = refl; plain = (refl, refl) }
+
 -- ---- signature
 
 abbrev pub signature_text : List ℕ

@@ -109,6 +109,13 @@ entry_shown t one =
 abbrev pub entries_shown : Tables → ℤ → List Row
 entries_shown t version = map (entry_shown t) (own_entries t version)
 
+-- the entries by their places alone
+abbrev pub entry_place_shown : EntryRow → Row
+entry_place_shown one = number one.place ∷ []
+
+abbrev pub entry_places_shown : Tables → ℤ → List Row
+entry_places_shown t version = map entry_place_shown (own_entries t version)
+
 abbrev pub signature_shown : Tables → SignatureRow → Row
 signature_shown t one =
     Text (code_of t one.person) ∷ Text one.name ∷ Text one.meaning ∷ optional Text one.reason
@@ -117,6 +124,13 @@ signature_shown t one =
 
 abbrev pub signatures_shown : Tables → ℤ → List Row
 signatures_shown t version = map (signature_shown t) (own_signatures t version)
+
+-- the signatures by their places alone
+abbrev pub signature_place_shown : SignatureRow → Row
+signature_place_shown one = number one.place ∷ []
+
+abbrev pub signature_places_shown : Tables → ℤ → List Row
+signature_places_shown t version = map signature_place_shown (own_signatures t version)
 
 -- ---- the trail
 

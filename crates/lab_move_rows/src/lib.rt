@@ -14,5 +14,7 @@ pub use checks::{are_numbered, are_owned};
 pub use forms::{choice_rows, field_rows, form_rows};
 pub use labs::{code_rows, lab_rows};
 pub use people::{owner_rows, person_rows, session_rows};
-pub use records::{entry_rows, record_rows, signature_rows, version_rows};
+pub use records::{
+    entry_places, entry_rows, record_rows, signature_places, signature_rows, version_rows,
+};
 pub use trails::told_rows;

@@ -2,7 +2,7 @@
 
 ghost use Rattle.std.specs.Prelude.{◌≡◌};
 ghost use Rattle.lab_move_tables.specs.Reading.{ReadsOld};
-ghost use Rattle.lab_move_rows.specs.Shown.{records_shown, versions_shown, entries_shown, signatures_shown};
+ghost use Rattle.lab_move_rows.specs.Shown.{records_shown, versions_shown, entries_shown, entry_places_shown, signatures_shown, signature_places_shown};
 
 use lab_store_columns::asking::rows_by_one;
 use lab_store_columns::{ReadFault, Readable};
@@ -53,6 +53,21 @@ pub fn entry_rows<D: Readable>(conn: &mut D, version: i64) -> Result<Vec<Row>, R
     )
 }
 
+/// The places of all entries of the version with the id, in their order, also of those whose person isn't there.
+///
+/// # Errors
+/// The store refused, or memory ran out.
+pub fn entry_places<D: Readable>(conn: &mut D, version: i64) -> Result<Vec<Row>, ReadFault>
+    ensures { ReadsOld (λ t rows. rows.items ≡ entry_places_shown t version)
+        (D.state conn.old) (D.state conn.new) result }
+{
+    rows_by_one(
+        conn,
+        "SELECT place FROM entries WHERE version = ?1 ORDER BY place",
+        version,
+    )
+}
+
 /// The signatures of the version with the id, in the order of their places, each with the code and the laboratory of its person.
 ///
 /// # Errors
@@ -64,6 +79,21 @@ pub fn signature_rows<D: Readable>(conn: &mut D, version: i64) -> Result<Vec<Row
     rows_by_one(
         conn,
         "SELECT persons.code, signatures.name, signatures.meaning, signatures.reason, signatures.moment, signatures.digest, signatures.seal, signatures.place, persons.lab FROM signatures, persons WHERE signatures.version = ?1 AND persons.id = signatures.person ORDER BY signatures.place",
+        version,
+    )
+}
+
+/// The places of all signatures of the version with the id, in their order, also of those whose person isn't there.
+///
+/// # Errors
+/// The store refused, or memory ran out.
+pub fn signature_places<D: Readable>(conn: &mut D, version: i64) -> Result<Vec<Row>, ReadFault>
+    ensures { ReadsOld (λ t rows. rows.items ≡ signature_places_shown t version)
+        (D.state conn.old) (D.state conn.new) result }
+{
+    rows_by_one(
+        conn,
+        "SELECT place FROM signatures WHERE version = ?1 ORDER BY place",
         version,
     )
 }

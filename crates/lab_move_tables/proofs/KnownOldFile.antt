@@ -1,15 +1,14 @@
 -- Values from outside, so that a wrong rule in the definitions does not check: the small file of
 -- lab_store_tables with what schema 2 had of it, and that its laboratories are well kept; and rows that are not.
-use Rattle.std.proofs.Common.{◌≡◌, ℕ, ℤ, pos, ◌==◌, Bool, true, false, List, [], ◌∷◌, map, Option, Some, None, refl}
-use Rattle.std.specs.Prelude.{if◌then◌else◌, codes}
+use Rattle.std.proofs.Common.{◌≡◌, ℕ, pos, true, false, List, [], ◌∷◌, map, Some, None, refl}
+use Rattle.std.specs.Prelude.{codes}
 use Rattle.sqlite_value.specs.Order.{Row}
 use Rattle.sqlite_value.specs.declared.value.Value.TheVariants.{Null, Int, Text}
-use Rattle.lab_seal_versions.specs.declared.versions.Format.TheVariants.{One}
-use Rattle.lab_records_kept.specs.declared.labs.Lab.{Lab}
-use Rattle.lab_store_tables.specs.Rows.{FormRow, VersionRow, LabRow, Tables, desk_row, lab_row, session_row, field_row, choice_row, record_row, entry_row, signature_row, trail_row}
-use Rattle.lab_store_tables.specs.Meaning.{meaning}
-use Rattle.lab_store_tables.proofs.KnownFile.{file, desk, lab, version, session, entry, told, filled}
-use Rattle.lab_move_tables.specs.OldRows.{old_person_row, old_form_row, old_version_row, old_version_from, old_tables, reason_in}
+use Rattle.lab_store_tables.specs.Rows.{FormRow, VersionRow, LabRow, Tables}
+use Rattle.lab_store_tables.specs.Family.{trees_by}
+use Rattle.lab_store_tables.proofs.KnownFile.{file, desk, lab, session, entry, told, filled}
+use Rattle.lab_move_tables.specs.OldSheets.{before}
+use Rattle.lab_move_tables.specs.OldRows.{old_tables, reason_in}
 use Rattle.lab_move_tables.specs.KeptLabs.{is_kept_lab}
 
 -- without an approval, and with texts of format 1
@@ -28,19 +27,7 @@ lifted = record file {
 
 -- each table's rows in its own tree
 abbrev pub trees : ℕ → List Row
-trees n =
-    if n == 0 then map desk_row lifted.desk
-    else (if n == 1 then map lab_row lifted.labs
-    else (if n == 3 then map old_person_row lifted.persons
-    else (if n == 5 then map session_row lifted.sessions
-    else (if n == 8 then map old_form_row lifted.forms
-    else (if n == 10 then map field_row lifted.fields
-    else (if n == 13 then map choice_row lifted.choices
-    else (if n == 15 then map record_row lifted.records
-    else (if n == 18 then map old_version_row lifted.versions
-    else (if n == 20 then map entry_row lifted.entries
-    else (if n == 22 then map signature_row lifted.signatures
-    else (if n == 25 then map trail_row lifted.trail else [])))))))))))
+trees = trees_by before lifted
 
 -- what is read of these rows is what they were written of
 pub known_tables : old_tables trees ≡ lifted

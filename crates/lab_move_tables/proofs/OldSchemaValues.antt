@@ -6,6 +6,9 @@ use Rattle.sqlite_schema.specs.declared.schema.Schema.{Schema}
 use Rattle.sqlite_tied.specs.Compute.{everything}
 use Rattle.sqlite.specs.Listing.{understood}
 use Rattle.lab_store_tables.specs.Schema.{desk, labs, sessions, fields, choices, records, entries, signatures, trail}
+use Rattle.lab_store_tables.specs.Sheets.{create_text}
+use Rattle.lab_store_tables.specs.Family.{Persons, Forms, Versions}
+use Rattle.lab_move_tables.specs.OldSheets.{before}
 use Rattle.lab_move_tables.specs.OldSchema.{persons_text, forms_text, versions_text, persons, forms, versions, old_schema}
 
 abbrev no_schema : Schema
@@ -29,3 +32,7 @@ pub schema_is : created (created (created (created (created (created (created (c
     records) versions) entries) signatures) trail ≡ old_schema
 unfolding understood everything
 schema_is = refl
+
+-- and the texts are those of the descriptions, word for word
+pub texts_are : (create_text (before Persons).sheet ≡ persons_text) × (create_text (before Forms).sheet ≡ forms_text) × (create_text (before Versions).sheet ≡ versions_text)
+texts_are = (refl, refl, refl)

@@ -1,3 +1,4 @@
+pub mod OldSheets
 pub mod OldSchema
 pub mod OldRows
 pub mod Owned

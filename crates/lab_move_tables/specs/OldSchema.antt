@@ -1,19 +1,14 @@
 -- The schema of a file of schema 2: the tables of today's schema without the approval of a form,
 -- the format of a version, two of a person's numbers of rounds, and the index of sessions (ISO/IEC
 -- 9075-2, table definitions). NULL stands where there is nothing.
-use Rattle.std.specs.Prelude.{true, false, Bool, [], ◌∷◌, codes, List, ℕ}
-use Rattle.sqlite_value.specs.declared.keys.Collation.TheVariants.{Binary}
-use Rattle.sqlite_value.specs.declared.value.Value.TheVariants.{Null}
+use Rattle.std.specs.Prelude.{true, [], ◌∷◌, codes, List, ℕ}
 use Rattle.sqlite_value.specs.Keys.{plain}
 use Rattle.sqlite_schema.specs.declared.schema.Table.{Table}
 use Rattle.sqlite_schema.specs.declared.schema.Index.{Index}
-use Rattle.sqlite_schema.specs.declared.schema.Column.{Column}
-use Rattle.sqlite_schema.specs.declared.schema.Reference.{Reference}
 use Rattle.sqlite_schema.specs.declared.schema.Schema.{Schema}
-use Rattle.sqlite_schema.specs.declared.schema.Kind.{Kind}
-use Rattle.sqlite_schema.specs.declared.schema.Kind.TheVariants.{Integer, Text, Blob}
-use Rattle.sqlite_schema.specs.declared.schema.Action.TheVariants.{NoAction}
 use Rattle.lab_store_tables.specs.Schema as ours
+use Rattle.lab_store_tables.specs.Sheets.{table_of}
+use Rattle.lab_move_tables.specs.OldSheets as described
 
 -- ---- the texts that differ
 
@@ -26,62 +21,16 @@ forms_text = codes "CREATE TABLE forms (id INTEGER PRIMARY KEY, lab INTEGER NOT 
 abbrev pub versions_text : List ℕ
 versions_text = codes "CREATE TABLE versions (id INTEGER PRIMARY KEY, record INTEGER NOT NULL REFERENCES records (id), number INTEGER NOT NULL, opener INTEGER NOT NULL REFERENCES persons (id), opened INTEGER NOT NULL, reason TEXT, UNIQUE (record, number)) STRICT"
 
--- ---- the tables that they come to
-
-abbrev column_of : Bool → List ℕ → Kind → Column
-column_of needed name kind = record {
-  name = name;
-  kind = kind;
-  is_strict = true;
-  not_null = needed;
-  default = Null;
-  collation = Binary;
-}
-
--- a column that is always filled, and one that may be NULL
-abbrev given : List ℕ → Kind → Column
-given = column_of true
-
-abbrev free : List ℕ → Kind → Column
-free = column_of false
-
--- the column at a place holds an id of the parent's
-abbrev arrow : ℕ → List ℕ → Reference
-arrow place parent = record {
-  columns = place ∷ [];
-  parent = parent;
-  parent_columns = codes "id" ∷ [];
-  on_delete = NoAction;
-  on_update = NoAction;
-  is_deferred = false;
-}
+-- ---- the tables that they come to: those of the descriptions
 
 abbrev pub persons : Table
-persons = record ours.persons {
-  columns = free (codes "id") Integer ∷ given (codes "lab") Integer ∷ given (codes "code") Text
-      ∷ given (codes "name") Text ∷ given (codes "roles") Integer ∷ given (codes "retired") Integer
-      ∷ given (codes "failures") Integer ∷ free (codes "locked") Integer
-      ∷ given (codes "kind") Integer ∷ free (codes "salt") Blob ∷ free (codes "rounds") Integer
-      ∷ free (codes "bytes") Blob ∷ free (codes "salt2") Blob ∷ free (codes "bytes2") Blob
-      ∷ free (codes "changed") Integer ∷ free (codes "asker") Integer
-      ∷ free (codes "asked") Integer ∷ free (codes "ask_salt") Blob
-      ∷ free (codes "ask_bytes") Blob ∷ [];
-  references = arrow 2 (codes "labs") ∷ arrow 16 (codes "persons") ∷ [];
-}
+persons = table_of described.old_persons
 
 abbrev pub forms : Table
-forms = record ours.forms {
-  columns = free (codes "id") Integer ∷ given (codes "lab") Integer ∷ given (codes "code") Text
-      ∷ given (codes "version") Integer ∷ [];
-}
+forms = table_of described.old_forms
 
 abbrev pub versions : Table
-versions = record ours.versions {
-  columns = free (codes "id") Integer ∷ given (codes "record") Integer
-      ∷ given (codes "number") Integer ∷ given (codes "opener") Integer
-      ∷ given (codes "opened") Integer ∷ free (codes "reason") Text ∷ [];
-  references = arrow 2 (codes "records") ∷ arrow 4 (codes "persons") ∷ [];
-}
+versions = table_of described.old_versions
 
 -- the index that a unique key of a table brings
 abbrev index_on : List ℕ → ℕ → ℕ → List ℕ → Index

@@ -9,6 +9,7 @@ use Rattle.sqlite.proofs.Callers.{reads_as}
 use Rattle.lab_store_tables.specs.Schema.{lab_schema}
 use Rattle.lab_store_tables.specs.Rows.{PersonRow, tables_in, person_row, person_id}
 use Rattle.lab_store_tables.specs.Ready.{IsKept}
+use Rattle.lab_store_tables.specs.Family.{Persons}
 use Rattle.std.specs.Ordering.{int_eq}
 use Rattle.sqlite_keyed.proofs.RuleLemmas.{at_most_one}
 use Rattle.lab_store_columns.proofs.Sorted.{equal_ints, and_true, only_answer}
@@ -23,5 +24,5 @@ codes_read old new id rows kept h =
     let xs = (tables_in old.now.trees).persons in
     let mine = λ (x : PersonRow). int_eq x.id id in
     let read = reads_as code_text params old new lab_schema typed.schema _ code_means.command code_means.plain code_means.unlisted rows h in
-    only_answer code_query db params (last_table db 3 person_row person_id xs typed.persons typed.rising.persons (at_end db)) mine
-    (λ x. and_true _ ∙ equal_ints x.id id) refl refl (at_most_one person_id id mine (λ x e. e) xs typed.rising.persons) rows (read.answer Null)
+    only_answer code_query db params (last_table db 3 person_row person_id xs (typed.stored.at Persons) (typed.rising.at Persons) (at_end db)) mine
+    (λ x. and_true _ ∙ equal_ints x.id id) refl refl (at_most_one person_id id mine (λ x e. e) xs (typed.rising.at Persons)) rows (read.answer Null)

@@ -1,14 +1,14 @@
 -- The question for the number of a schema: it only reads, whatever the schema of the file is, and in a
 -- file of ours it shows one row with the number.
-use Rattle.std.proofs.Common.{◌≡◌, ◌⊎◌, ◌≤◌, inl, inr, ℕ, pos, List, [], ◌∷◌, map, filter, length, ◌+◌, Bool, true, false, ◌==◌, Some, None, Option, Ok, Err, Result, IfOk, IfErr, OnOk, IsTrue, refl, sym, ap, ap₂, subst, ◌∙◌, arith}
-use Rattle.std.specs.Prelude.{Vec, IsSome, if◌then◌else◌}
+use Rattle.std.proofs.Common.{◌≡◌, ◌⊎◌, ◌≤◌, inl, inr, ℕ, List, [], ◌∷◌, map, filter, length, ◌+◌, Bool, true, false, ◌==◌, Some, None, Option, Ok, Err, Result, IfOk, IfErr, OnOk, IsTrue, refl, sym, ap, ap₂, subst, ◌∙◌, arith}
+use Rattle.std.specs.Prelude.{Vec, if◌then◌else◌}
 use Rattle.std.specs.declared.alloc.Global.{Global}
 use Rattle.std.specs.List.{list_all}
 use Rattle.std.specs.List.Sorted.{IsPermutation}
 use Rattle.std.proofs.lemmas.Bool.{eqb-true}
 use Rattle.std.proofs.lemmas.List.{length-map}
 use Rattle.std.proofs.lemmas.List.Sorted.{length_permutation}
-use Rattle.sqlite_value.specs.declared.value.Value.TheVariants.{Null, Int}
+use Rattle.sqlite_value.specs.declared.value.Value.TheVariants.{Null}
 use Rattle.sqlite_value.specs.Order.{Row}
 use Rattle.sqlite_trees.specs.Tree.{Trees}
 use Rattle.sqlite_ast.specs.declared.Select.{Select}
@@ -39,7 +39,8 @@ use Rattle.sqlite.proofs.Callers.{reads_as, one_permutation}
 use Rattle.lab_store_tables.specs.Schema.{schema_number, lab_schema}
 use Rattle.lab_store_tables.specs.Rows.{DeskRow, desk_row, desk_id, tables_in, number}
 use Rattle.lab_store_tables.specs.WellKept.{is_desk}
-use Rattle.lab_store_tables.specs.Ready.{IsAtRest, IsReady, IsKept, LeavesNoMore, PassesBy, WhereShown}
+use Rattle.lab_store_tables.specs.Ready.{IsAtRest, IsKept, LeavesNoMore, PassesBy, WhereShown}
+use Rattle.lab_store_tables.specs.Family.{Desk}
 use Rattle.lab_store_tables.proofs.Shutting.{shuts_by, shuts_none}
 use Rattle.lab_store_files.specs.declared.faults.FileFault.{FileFault}
 use Rattle.lab_store_files.specs.Schemas.{is_whole, has_number}
@@ -244,7 +245,7 @@ number_read old new rows kept h =
     let db = overlay old.now.trees [] in
     let xs = (tables_in old.now.trees).desk in
     let read = reads_as number_query [] old new lab_schema typed.schema _ query_is query_plain query_unlisted rows h in
-    only_answer desk_query db [] (last_table db 0 desk_row desk_id xs typed.desk typed.rising.desk (at_end db)) (λ _. true) (λ x. refl) refl refl
+    only_answer desk_query db [] (last_table db 0 desk_row desk_id xs (typed.stored.at Desk) (typed.rising.at Desk) (at_end db)) (λ _. true) (λ x. refl) refl refl
     (desk_short xs kept.rows.desk) rows (read.answer Null)
     ∙ desk_shown xs kept.rows.desk
 

@@ -1,5 +1,5 @@
 -- What each statement makes of a new file.
-use Rattle.std.proofs.Common.{◌≡◌, ◌≢◌, ◌⊎◌, inl, inr, ℕ, zero, suc, ◌+◌, ◌<◌, ℤ, pos, List, [], ◌∷◌, ◌++◌, map, take, fold, length, get_or, Bool, true, false, cond, ◌==◌, Some, None, Ok, Err, Result, OnOk, refl, sym, ap, subst, ◌∙◌, arith, slice_get}
+use Rattle.std.proofs.Common.{◌≡◌, ◌≢◌, ◌⊎◌, inl, inr, ℕ, zero, suc, ◌+◌, ◌<◌, ℤ, pos, List, [], ◌∷◌, ◌++◌, take, fold, length, get_or, Bool, true, false, cond, ◌==◌, None, Ok, Err, Result, OnOk, refl, sym, ap, subst, ◌∙◌, arith}
 use Rattle.std.specs.List.{AllByRecursion}
 use Rattle.std.proofs.lemmas.List.{take_more}
 use Rattle.std.proofs.lemmas.List.Sums.{fold-append}
@@ -29,11 +29,12 @@ use Rattle.sqlite.specs.Listing.{understood}
 use Rattle.sqlite.specs.State.{State, mode_of, Writes, Executes, ExecutesInside}
 use Rattle.sqlite.proofs.Callers.{runs_as, one_step, statement_of}
 use Rattle.lab_store_tables.specs.Schema.{desk, sessions, sessions_of_person, sessions_of_person_text, lab_schema}
-use Rattle.lab_store_tables.specs.Rows.{Tables, tables_in, desk_row, desk_from, lab_row, lab_from, person_row, person_from, session_row, session_from, form_row, form_from, field_row, field_from, choice_row, choice_from, record_row, record_from, version_row, version_from, entry_row, entry_from, signature_row, signature_from, trail_row, trail_from}
-use Rattle.lab_store_tables.specs.Held.{AreRising, IsTyped, Holds}
+use Rattle.lab_store_tables.specs.Rows.{desk_row}
+use Rattle.lab_store_tables.specs.Family.{Desk, empty_tables}
 use Rattle.lab_store_tables.specs.WellKept.{IsWellKept}
 use Rattle.lab_store_tables.specs.Ready.{IsKept}
 use Rattle.lab_store_tables.proofs.Tests.{kept_by_tests}
+use Rattle.lab_store_laws.proofs.Tables.{AreSpared, stored_with, rising_with, none_stored, none_rising, held_if_stored}
 use Rattle.lab_store_files.specs.declared.tables.LabTable.{LabTable}
 use Rattle.lab_store_files.specs.Tables.{own_table, table_text, all_tables}
 use Rattle.lab_store_files.specs.NewFiles.{no_schema, schema_of, schema_before, schema_with, place_in, IsEmptyUnder, IsNewFile, schema_row, new_tables}
@@ -128,65 +129,6 @@ index_done old new (Err e) h was = tt
 
 -- ---- the row that names the schema
 
-module _ (new : Database) (schema : new.schema ≡ lab_schema) (desk_is : new.trees 0 ≡ desk_row schema_row ∷ []) (labs_are : new.trees 1 ≡ []) (persons_are : new.trees 3 ≡ [])
-    (sessions_are : new.trees 5 ≡ []) (forms_are : new.trees 8 ≡ []) (fields_are : new.trees 10 ≡ []) (choices_are : new.trees 13 ≡ []) (records_are : new.trees 15 ≡ [])
-    (versions_are : new.trees 18 ≡ []) (entries_are : new.trees 20 ≡ []) (signatures_are : new.trees 22 ≡ []) (trail_are : new.trees 25 ≡ []) where
-  now_is : tables_in new.trees ≡ new_tables
-  now_is = λ i. record {
-    desk = ap (map desk_from) desk_is i;
-    labs = ap (map lab_from) labs_are i;
-    persons = ap (map person_from) persons_are i;
-    sessions = ap (map session_from) sessions_are i;
-    forms = ap (map form_from) forms_are i;
-    fields = ap (map field_from) fields_are i;
-    choices = ap (map choice_from) choices_are i;
-    records = ap (map record_from) records_are i;
-    versions = ap (map version_from) versions_are i;
-    entries = ap (map entry_from) entries_are i;
-    signatures = ap (map signature_from) signatures_are i;
-    trail = ap (map trail_from) trail_are i;
-  }
-
-  rising : AreRising new_tables
-  rising = record {
-    desk = (tt, tt);
-    labs = tt;
-    persons = tt;
-    sessions = tt;
-    forms = tt;
-    fields = tt;
-    choices = tt;
-    records = tt;
-    versions = tt;
-    entries = tt;
-    signatures = tt;
-    trail = tt;
-  }
-
-  typed : IsTyped new
-  typed = record {
-    schema = schema;
-    desk = desk_is ∙ ap (λ (t : Tables). map desk_row t.desk) (sym now_is);
-    labs = labs_are ∙ ap (λ (t : Tables). map lab_row t.labs) (sym now_is);
-    persons = persons_are ∙ ap (λ (t : Tables). map person_row t.persons) (sym now_is);
-    sessions = sessions_are ∙ ap (λ (t : Tables). map session_row t.sessions) (sym now_is);
-    forms = forms_are ∙ ap (λ (t : Tables). map form_row t.forms) (sym now_is);
-    fields = fields_are ∙ ap (λ (t : Tables). map field_row t.fields) (sym now_is);
-    choices = choices_are ∙ ap (λ (t : Tables). map choice_row t.choices) (sym now_is);
-    records = records_are ∙ ap (λ (t : Tables). map record_row t.records) (sym now_is);
-    versions = versions_are ∙ ap (λ (t : Tables). map version_row t.versions) (sym now_is);
-    entries = entries_are ∙ ap (λ (t : Tables). map entry_row t.entries) (sym now_is);
-    signatures = signatures_are ∙ ap (λ (t : Tables). map signature_row t.signatures) (sym now_is);
-    trail = trail_are ∙ ap (λ (t : Tables). map trail_row t.trail) (sym now_is);
-    rising = subst AreRising (sym now_is) rising;
-  }
-
-  new_file : IsNewFile new
-  new_file = record { typed = typed; tables = now_is }
-
-apart : (n : ℕ) → ◌≢◌ {A = ℕ} (suc n) 0
-apart n e = cc
-
 no_works : (b : Bool) (olds news : List Row) → (length news == 0) ≡ b → works lab_schema Enforced 0 0 olds news ≡ []
 no_works true olds news e = rw e
 no_works false olds news e = rw e
@@ -217,23 +159,12 @@ row_made old new count was h =
     let trees : done.0.trees ≡ written.0 = ap (λ (it : Written). it.trees) (same_value counted.2) ∙ same_value counted.1 in
     let edit = edit_of db desk [] Chosen 0 got.0 in
     let step = one_step lab_schema Enforced db written.0 edit (no_works _ (taken_by db edit) edit.news refl) written.1 in
-    let none = was.empty in
-    let row : edited db (edit_of db desk [] Chosen 0 got.0) ≡ desk_row schema_row ∷ [] = ap (λ all. edited db (edit_of db desk [] Chosen 0 all)) got.1.1 ∙ rw (none.0, cast_null, cast_int (pos 3)) in
-    let at = λ (n : ℕ). ap (λ (d : Database). d.trees n) now ∙ ap (λ (tr : Trees). tr n) trees in
-    let rest = step.tables.1 in
-    let was_none = none.1 in
-    new_file new.now (ap (λ (d : Database). d.schema) now) (at 0 ∙ step.rows ∙ row)
-    (at 1 ∙ rest.0 (apart 0) ∙ was_none.0)
-    (at 3 ∙ rest.1.0 (apart 2) ∙ was_none.1.0)
-    (at 5 ∙ rest.1.1.0 (apart 4) ∙ was_none.1.1.0)
-    (at 8 ∙ rest.1.1.1.0 (apart 7) ∙ was_none.1.1.1.0)
-    (at 10 ∙ rest.1.1.1.1.0 (apart 9) ∙ was_none.1.1.1.1.0)
-    (at 13 ∙ rest.1.1.1.1.1.0 (apart 12) ∙ was_none.1.1.1.1.1.0)
-    (at 15 ∙ rest.1.1.1.1.1.1.0 (apart 14) ∙ was_none.1.1.1.1.1.1.0)
-    (at 18 ∙ rest.1.1.1.1.1.1.1.0 (apart 17) ∙ was_none.1.1.1.1.1.1.1.0)
-    (at 20 ∙ rest.1.1.1.1.1.1.1.1.0 (apart 19) ∙ was_none.1.1.1.1.1.1.1.1.0)
-    (at 22 ∙ rest.1.1.1.1.1.1.1.1.1.0 (apart 21) ∙ was_none.1.1.1.1.1.1.1.1.1.0)
-    (at 25 ∙ rest.1.1.1.1.1.1.1.1.1.1.0 (apart 24) ∙ was_none.1.1.1.1.1.1.1.1.1.1.0)
+    let row : edited db (edit_of db desk [] Chosen 0 got.0) ≡ desk_row schema_row ∷ [] = ap (λ all. edited db (edit_of db desk [] Chosen 0 all)) got.1.1 ∙ rw (was.empty.0, cast_null, cast_int (pos 3)) in
+    let at_now : new.now.trees ≡ written.0 = ap (λ (d : Database). d.trees) now ∙ trees in
+    let spared : AreSpared 0 db new.now.trees = subst (AreSpared 0 db) (sym at_now) step.tables in
+    held_if_stored new.now new_tables (ap (λ (d : Database). d.schema) now)
+    (stored_with Desk db new.now.trees empty_tables (schema_row ∷ []) (none_stored db was.empty) spared (ap (λ (tr : Trees). tr 0) at_now ∙ step.rows ∙ row))
+    (rising_with Desk empty_tables (schema_row ∷ []) none_rising (tt, tt))
 
 pub row_done : (old new : State) (r : Result ℕ Error) → ExecutesInside 0 row_text [] old new r → IsEmptyUnder lab_schema old.now → OnOk r (IsNewFile new.now)
 row_done old new (Ok count) h was = row_made old new count was h.0

@@ -8,6 +8,7 @@ use Rattle.sqlite_schema.specs.declared.schema.Table.{Table}
 use Rattle.sqlite_catalog.specs.Change.{created}
 use Rattle.sqlite.specs.Effect.{Database}
 use Rattle.sqlite.specs.State.{State}
+use Rattle.lab_store_tables.specs.Family.{empty_tables}
 use Rattle.lab_store_tables.specs.Schema.{schema_number}
 use Rattle.lab_store_tables.specs.Rows.{Tables, DeskRow}
 use Rattle.lab_store_tables.specs.Held.{Holds}
@@ -59,20 +60,7 @@ abbrev pub schema_row : DeskRow
 schema_row = record { id = pos 1; number = schema_number }
 
 abbrev pub new_tables : Tables
-new_tables = record {
-  desk = schema_row ∷ [];
-  labs = [];
-  persons = [];
-  sessions = [];
-  forms = [];
-  fields = [];
-  choices = [];
-  records = [];
-  versions = [];
-  entries = [];
-  signatures = [];
-  trail = [];
-}
+new_tables = record empty_tables { desk = schema_row ∷ [] }
 
 abbrev pub IsNewFile : Database → Type 0
 IsNewFile db = Holds db new_tables

@@ -1,9 +1,8 @@
 -- Tests of lists, and what the kit's relations say of the same lists.
-use Rattle.std.proofs.Common.{◌≡◌, ℕ, ℤ, Bool, true, false, not, ◌&&◌, List, [], ◌∷◌, Option, IsTrue, refl}
-use Rattle.std.specs.List.{list_all, AllByRecursion}
+use Rattle.std.proofs.Common.{◌≡◌, ℤ, Bool, true, false, not, List, [], ◌∷◌, Option, IsTrue, refl}
+use Rattle.std.specs.List.{list_all}
 use Rattle.std.proofs.lemmas.Bool.{and_parts, and_from}
 use Rattle.std.proofs.lemmas.List.Elements.{All-from_recursion}
-use Rattle.sqlite_keyed.specs.Keyed.{IsKeyedBy, has_key}
 use Rattle.sqlite_keyed.specs.Rules.{AreApart, HaveParents, has_parent}
 use Rattle.sqlite_keyed.proofs.ListLemmas.{all_from_test, test_from_all, all_weaker}
 use Rattle.sqlite_keyed.proofs.RuleLemmas.{each_passes}

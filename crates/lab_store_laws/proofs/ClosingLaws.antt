@@ -1,11 +1,9 @@
 -- Sessions that are closed: those of the person in the laboratory that is changed, and no other laboratory's.
-use Rattle.std.proofs.Common.{◌≡◌, ℕ, ℤ, Bool, true, false, ◌&&◌, cond, List, [], ◌∷◌, map, filter, find, Option, Some, refl, sym, ap, subst, ◌∙◌, int_eq, arith}
+use Rattle.std.proofs.Common.{◌≡◌, ℕ, ℤ, Bool, true, false, ◌&&◌, cond, List, [], ◌∷◌, filter, find, Some, refl, sym, ap, subst, ◌∙◌, int_eq}
 use Rattle.std.specs.Ordering.{nat_cmp}
-use Rattle.std.proofs.lemmas.Int.{ints}
 use Rattle.sqlite_keyed.proofs.ListLemmas.{map-map}
 use Rattle.sqlite_keyed.proofs.KeyedLemmas.{same_int, int_eq_apart}
 use Rattle.sqlite_keyed.specs.Lists.{sort_by}
-use Rattle.lab_people_access.specs.declared.sessions.Session.{Session}
 use Rattle.lab_people_access.specs.declared.sessions.Closing.{Closing}
 use Rattle.lab_people_access.specs.Sessions.{is_closed_by, closed_session, session_after, sessions_after}
 use Rattle.lab_records_kept.specs.declared.changes.Change.TheVariants.{SessionsClosed}

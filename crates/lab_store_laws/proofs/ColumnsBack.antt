@@ -1,11 +1,10 @@
 -- What is written in columns is read back: roles, passwords, kinds of fields, formats, meanings and actions.
-use Rattle.std.proofs.Common.{◌≡◌, ℕ, ℤ, Bool, true, false, List, [], Option, Some, None, refl}
+use Rattle.std.proofs.Common.{◌≡◌, Bool, true, false, [], refl}
 use Rattle.lab_people_access.specs.declared.roles.Roles.{Roles}
 use Rattle.lab_people_access.specs.declared.passwords.Password.{Password}
 use Rattle.lab_people_access.specs.declared.passwords.Password.TheVariants.{Unset, Chosen, OneTime}
 use Rattle.lab_forms.specs.declared.kinds.Kind.{Kind}
 use Rattle.lab_forms.specs.declared.kinds.Kind.TheVariants.{Number, Text, Choice, Date, YesNo}
-use Rattle.lab_seal_versions.specs.declared.versions.Format.{Format}
 use Rattle.lab_seal_versions.specs.declared.versions.Format.TheVariants.{One, Two}
 use Rattle.lab_seal_versions.specs.declared.seals.Meaning.{Meaning}
 use Rattle.lab_seal_versions.specs.declared.seals.Meaning.TheVariants.{Authorship, Review, Rejection, Approval}

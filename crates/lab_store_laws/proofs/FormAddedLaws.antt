@@ -25,6 +25,7 @@ use Rattle.lab_store_tables.specs.Meaning.{lab_in, has_code, meaning, by_field, 
 use Rattle.lab_store_tables.specs.WellKept.{have_own_ids, AreWellKept}
 use Rattle.lab_store_tables.specs.Changes.{IsFree, form_row_of, put_form, Applies}
 use Rattle.lab_store_tables.specs.Held.{AreRising}
+use Rattle.lab_store_tables.specs.Family.{Forms, Fields, Choices}
 use Rattle.lab_store_laws.proofs.LevelLaws.{had_by, other_has, own_has, placed_among}
 use Rattle.lab_store_laws.proofs.LabLaws.{alike, text_is, rows_changed}
 use Rattle.lab_store_laws.proofs.Premises.{own_by_tests, AreWhole, whole_by_test, fits_here}
@@ -124,7 +125,7 @@ module _ (t : Tables) (rising : AreRising t) (labs : have_own_ids lab_id t.labs 
 
   own_forms : forms_of after row.id ≡ added_form form (forms_of t row.id)
   own_forms =
-      own_has form_id lab_of by_form form_total (form_in after) t.forms rising.forms new free row.id (alike row.id row.id refl) apart
+      own_has form_id lab_of by_form form_total (form_in after) t.forms (rising.at Forms) new free row.id (alike row.id row.id refl) apart
       ∙ placed_among by_form (form_in after) (λ (one : FormVersion). comes_before form.code one.code) new
       (sort_by by_form (filter (mine row.id) t.forms)) placed
       ∙ ap₂ (λ list one. insert list (position_or_len (λ (x : FormVersion). comes_before form.code x.code) list) one) (forms_seen row.id) form_back
@@ -135,7 +136,7 @@ module _ (t : Tables) (rising : AreRising t) (labs : have_own_ids lab_id t.labs 
       go : (b : Bool) → int_eq lab row.id ≡ b → forms_of after lab ≡ cond b (added_form form (forms_of t lab)) (forms_of t lab)
       go true e = subst (λ l. forms_of after l ≡ added_form form (forms_of t l)) (sym (same_int lab row.id e)) own_forms
       go false e =
-          other_has form_id lab_of by_form form_total (form_in after) t.forms rising.forms new free lab (turned lab row.id e) ∙ forms_seen lab
+          other_has form_id lab_of by_form form_total (form_in after) t.forms (rising.at Forms) new free lab (turned lab row.id e) ∙ forms_seen lab
 
   -- ---- records keep their forms
 
@@ -185,7 +186,7 @@ form_is_numbered {old} {new} {code} {form} rising well it next =
     no_rows (λ (one : FieldRow). one.form) form_id old.forms id free old.fields
     (all_from_test (λ (one : FieldRow). has_parent form_id old.forms (Some one.form)) old.fields whole.fields) in
     let all =
-    fields_in_turn (put_form (form_row_of it.lab.id id form) old) id form.form.fields old.fields old.choices new rising.fields rising.choices
+    fields_in_turn (put_form (form_row_of it.lab.id id form) old) id form.form.fields old.fields old.choices new (rising.at Fields) (rising.at Choices)
     (none_placed (λ (one : FieldRow). one.form) (λ (one : FieldRow). one.place) id old.fields no_own)
     (all_from_test (λ (one : ChoiceRow). has_parent field_id old.fields (Some one.field)) old.choices whole.choices) it.made.fields in
     subst (λ t. Changes code (FormAdded form ∷ []) (meaning old) (meaning t)) (sym all.2)

@@ -18,6 +18,7 @@ use Rattle.lab_store_tables.specs.WellKept.{same_person, have_parents}
 use Rattle.lab_store_tables.specs.Changes.{IsFree, told_row_of}
 use Rattle.lab_store_tables.specs.Placing.{lab_row_of}
 use Rattle.lab_store_tables.specs.Held.{AreRising}
+use Rattle.lab_store_tables.specs.Family.{Labs, Persons, Trail}
 use Rattle.lab_store_laws.proofs.ColumnsBack.{action_back}
 use Rattle.lab_store_laws.proofs.SortLaws.{filter-insert_other}
 use Rattle.lab_store_laws.proofs.LabLaws.{alike, text_is, find_set, map_option}
@@ -69,7 +70,7 @@ module _ (t : Tables) (rising : AreRising t) (led : AreLed t) (lab : Lab) (id : 
   -- and it is the only one that has the new row of the trail
   pub told_alone : filter (λ (one : TrailRow). int_eq one.lab id) after.trail ≡ told_row id at told ∷ []
   told_alone =
-      filter_alone trail_id t.trail (told_row id at told) it.free_told (λ (one : TrailRow). int_eq one.lab id) rising.trail (alike id id refl)
+      filter_alone trail_id t.trail (told_row id at told) it.free_told (λ (one : TrailRow). int_eq one.lab id) (rising.at Trail) (alike id id refl)
       (unseen (λ (one : TrailRow). one.lab) t.trail led.trail_lab)
 
   pub told_unseen : (other : ℤ) → int_eq other id ≡ false
@@ -91,7 +92,7 @@ module _ (t : Tables) (rising : AreRising t) (led : AreLed t) (lab : Lab) (id : 
 
   persons_here : persons_of after id ≡ lab.persons
   persons_here =
-      all_behind after id lab.persons t.persons persons it.unasked it.order behind rising.persons it.apart it.enrolled
+      all_behind after id lab.persons t.persons persons it.unasked it.order behind (rising.at Persons) it.apart it.enrolled
       ∙ ap (λ (list : List PersonRow). map (person_in after) (sort_by by_code list) ++ lab.persons)
       (unseen (λ (one : PersonRow). one.lab) t.persons led.persons_lab)
 
@@ -147,7 +148,7 @@ module _ (t : Tables) (rising : AreRising t) (led : AreLed t) (lab : Lab) (id : 
   here =
       means lab.code
       ∙ ap (option_map (lab_in after))
-      (find_alone lab_id t.labs (lab_row_of id lab) it.free (has_code lab.code) rising.labs ((bytes_eq-Decides lab.code lab.code).1 refl) it.absent)
+      (find_alone lab_id t.labs (lab_row_of id lab) it.free (has_code lab.code) (rising.at Labs) ((bytes_eq-Decides lab.code lab.code).1 refl) it.absent)
       ∙ ap Some lab_here
 
   other_code : (other : List ℕ) → other ≢ lab.code → bytes_eq lab.code other ≡ false

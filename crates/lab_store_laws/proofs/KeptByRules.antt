@@ -1,29 +1,27 @@
 -- What the database's own rules say of the rows of our tables: no two rows have one key, and each arrow leads to a row.
 -- A write leaves a database that obeys its rules, so no write has to be shown to keep these.
-use Rattle.std.proofs.Common.{◌≡◌, inl, inr, ℕ, ℤ, pos, ◌<ℤ◌, Bool, true, false, not, ◌&&◌, ◌||◌, ◌==◌, eqb, List, [], ◌∷◌, map, Option, Some, None, IsTrue, refl, sym, ap, ap₂, ◌∙◌, subst, arith, int_eq, bytes_eq}
+use Rattle.std.proofs.Common.{◌≡◌, inl, inr, ℕ, ℤ, pos, ◌<ℤ◌, Bool, true, false, not, ◌&&◌, ◌||◌, ◌==◌, List, [], ◌∷◌, map, Option, Some, None, refl, sym, ap, ap₂, ◌∙◌, subst, arith, int_eq, bytes_eq}
 use Rattle.std.specs.List.{AllByRecursion, list_any}
 use Rattle.std.specs.Ordering.{is_eq, is_ne}
 use Rattle.std.proofs.lemmas.Int.{ints}
 use Rattle.std.proofs.lemmas.Bool.{and_parts, and_from, eq-eqb, eqb-true}
-use Rattle.std.proofs.lemmas.List.Elements.{All-from_recursion}
 use Rattle.std.proofs.lemmas.Map.Text.{is_eq-slice_cmp}
 use Rattle.sqlite_value.specs.declared.keys.Collation.TheVariants.{Binary}
-use Rattle.sqlite_value.specs.declared.value.Value.TheVariants.{Null, Int, Text, Blob}
+use Rattle.sqlite_value.specs.declared.value.Value.TheVariants.{Int, Text, Blob}
 use Rattle.sqlite_value.specs.Order.{Row, column}
 use Rattle.sqlite_value.specs.Keys.{plain, first_key, joined}
 use Rattle.sqlite_value.proofs.OrderLemmas.{value_cmp-Int, value_cmp-Text, value_cmp-Blob}
-use Rattle.sqlite_trees.specs.Tree.{Trees, rowid}
+use Rattle.sqlite_trees.specs.Tree.{rowid}
 use Rattle.sqlite_sql.specs.Ops.{binary, is_true, is_null, from_truth}
 use Rattle.sqlite_sql.specs.declared.ops.BinaryOp.TheVariants.{Compare}
 use Rattle.sqlite_sql.specs.declared.ops.CompareOp.TheVariants.{Eq}
 use Rattle.sqlite_schema.specs.declared.schema.Constraint.TheVariants.{Unique, ForeignKey}
-use Rattle.sqlite_schema.specs.declared.schema.Table.{Table}
 use Rattle.sqlite_schema.specs.Names.{same_name}
 use Rattle.sqlite_schema.specs.Rules.{Obeys, agree, differ, clashes, passes}
 use Rattle.sqlite_rules.specs.Lists.{Has}
 use Rattle.sqlite_rules.proofs.ListLemmas.{all_has, all_from, some_from}
-use Rattle.sqlite_keyed.specs.Keyed.{IsKeyedBy, has_key}
-use Rattle.sqlite_keyed.specs.Rules.{AreApart, HaveParents, has_parent}
+use Rattle.sqlite_keyed.specs.Keyed.{IsKeyedBy}
+use Rattle.sqlite_keyed.specs.Rules.{AreApart, has_parent}
 use Rattle.sqlite_keyed.proofs.ListLemmas.{all_weaker, all_unmap, ascending_weaker, test_from_all}
 use Rattle.sqlite_keyed.proofs.KeyedLemmas.{Less-from_lt, int_eq_apart, same_int}
 use Rattle.sqlite_keyed.proofs.SliceLemmas.{any_is_found}
@@ -33,6 +31,7 @@ use Rattle.lab_store_tables.specs.Schema.{lab_schema}
 use Rattle.lab_store_tables.specs.Rows.{LabRow, PersonRow, SessionRow, FormRow, FieldRow, ChoiceRow, RecordRow, VersionRow, EntryRow, SignatureRow, TrailRow, Tables, tables_in, natural, optional, lab_row, person_row, session_row, form_row, field_row, choice_row, record_row, version_row, entry_row, signature_row, trail_row, lab_id, person_id, session_id, form_id, field_id, choice_id, record_id, version_id, entry_id, signature_id, trail_id}
 use Rattle.lab_store_tables.specs.Held.{AreRising, IsTyped}
 use Rattle.lab_store_tables.specs.WellKept.{are_apart, same_lab, same_person, same_token, same_session, same_form, same_field, same_key, same_choice, same_record, same_sample, same_version, same_entry, same_signature, same_meaning, same_told, have_own_ids, are_ids_unique, are_keys_unique, have_parents, are_arrows_whole}
+use Rattle.lab_store_tables.specs.Family.{Labs, Persons, Sessions, Forms, Fields, Choices, Records, Versions, Entries, Signatures, Trail}
 use Rattle.lab_store_laws.proofs.Bridges.{test_from_apart}
 
 -- ---- values that are equal
@@ -164,17 +163,17 @@ ids_apart id rows rise =
 
 pub ids_by_order : (t : Tables) → AreRising t → are_ids_unique t ≡ true
 ids_by_order t rise =
-    and_from _ _ (and_from _ _ (and_from _ _ (and_from _ _ (and_from _ _ (and_from _ _ (and_from _ _ (and_from _ _ (and_from _ _ (and_from _ _ (ids_apart lab_id t.labs rise.labs)
-    (ids_apart person_id t.persons rise.persons))
-    (ids_apart session_id t.sessions rise.sessions))
-    (ids_apart form_id t.forms rise.forms))
-    (ids_apart field_id t.fields rise.fields))
-    (ids_apart choice_id t.choices rise.choices))
-    (ids_apart record_id t.records rise.records))
-    (ids_apart version_id t.versions rise.versions))
-    (ids_apart entry_id t.entries rise.entries))
-    (ids_apart signature_id t.signatures rise.signatures))
-    (ids_apart trail_id t.trail rise.trail)
+    and_from _ _ (and_from _ _ (and_from _ _ (and_from _ _ (and_from _ _ (and_from _ _ (and_from _ _ (and_from _ _ (and_from _ _ (and_from _ _ (ids_apart lab_id t.labs (rise.at Labs))
+    (ids_apart person_id t.persons (rise.at Persons)))
+    (ids_apart session_id t.sessions (rise.at Sessions)))
+    (ids_apart form_id t.forms (rise.at Forms)))
+    (ids_apart field_id t.fields (rise.at Fields)))
+    (ids_apart choice_id t.choices (rise.at Choices)))
+    (ids_apart record_id t.records (rise.at Records)))
+    (ids_apart version_id t.versions (rise.at Versions)))
+    (ids_apart entry_id t.entries (rise.at Entries)))
+    (ids_apart signature_id t.signatures (rise.at Signatures)))
+    (ids_apart trail_id t.trail (rise.at Trail))
 
 -- ---- our tables
 
@@ -243,79 +242,79 @@ module _ (db : Database) (typed : IsTyped db) (obeys : Obeys lab_schema db.trees
   same_told_agrees a b = ap₂ ◌&&◌ (equal_ids a.lab b.lab) (and_true _ ∙ equal_numbers a.number b.number)
 
   same_lab_unique : are_apart same_lab t.labs ≡ true
-  same_lab_unique = unique_by_rule lab_id lab_row (λ _. refl) same_lab (2 ∷ []) same_lab_agrees t.labs typed.rising.labs
+  same_lab_unique = unique_by_rule lab_id lab_row (λ _. refl) same_lab (2 ∷ []) same_lab_agrees t.labs (typed.rising.at Labs)
       (first_rule (λ row. clashes plain (2 ∷ []) (map lab_row t.labs) row) (λ row. true)
-      (map lab_row t.labs) (subst (λ rows. AllByRecursion (λ row. (not (clashes plain (2 ∷ []) rows row) && true) ≡ true) rows) typed.labs (obeys.rules Unique).1.0))
+      (map lab_row t.labs) (subst (λ rows. AllByRecursion (λ row. (not (clashes plain (2 ∷ []) rows row) && true) ≡ true) rows) (typed.stored.at Labs) (obeys.rules Unique).1.0))
 
   same_person_unique : are_apart same_person t.persons ≡ true
-  same_person_unique = unique_by_rule person_id person_row (λ _. refl) same_person (2 ∷ 3 ∷ []) same_person_agrees t.persons typed.rising.persons
+  same_person_unique = unique_by_rule person_id person_row (λ _. refl) same_person (2 ∷ 3 ∷ []) same_person_agrees t.persons (typed.rising.at Persons)
       (first_rule (λ row. clashes plain (2 ∷ 3 ∷ []) (map person_row t.persons) row) (λ row. true)
-      (map person_row t.persons) (subst (λ rows. AllByRecursion (λ row. (not (clashes plain (2 ∷ 3 ∷ []) rows row) && true) ≡ true) rows) typed.persons (obeys.rules Unique).1.1.0))
+      (map person_row t.persons) (subst (λ rows. AllByRecursion (λ row. (not (clashes plain (2 ∷ 3 ∷ []) rows row) && true) ≡ true) rows) (typed.stored.at Persons) (obeys.rules Unique).1.1.0))
 
   same_token_unique : are_apart same_token t.sessions ≡ true
-  same_token_unique = unique_by_rule session_id session_row (λ _. refl) same_token (2 ∷ 5 ∷ []) same_token_agrees t.sessions typed.rising.sessions
+  same_token_unique = unique_by_rule session_id session_row (λ _. refl) same_token (2 ∷ 5 ∷ []) same_token_agrees t.sessions (typed.rising.at Sessions)
       (first_rule (λ row. clashes plain (2 ∷ 5 ∷ []) (map session_row t.sessions) row) (λ row. not (clashes plain (2 ∷ 4 ∷ []) (map session_row t.sessions) row) && true)
-      (map session_row t.sessions) (subst (λ rows. AllByRecursion (λ row. (not (clashes plain (2 ∷ 5 ∷ []) rows row) && (not (clashes plain (2 ∷ 4 ∷ []) rows row) && true)) ≡ true) rows) typed.sessions (obeys.rules Unique).1.1.1.0))
+      (map session_row t.sessions) (subst (λ rows. AllByRecursion (λ row. (not (clashes plain (2 ∷ 5 ∷ []) rows row) && (not (clashes plain (2 ∷ 4 ∷ []) rows row) && true)) ≡ true) rows) (typed.stored.at Sessions) (obeys.rules Unique).1.1.1.0))
 
   same_session_unique : are_apart same_session t.sessions ≡ true
-  same_session_unique = unique_by_rule session_id session_row (λ _. refl) same_session (2 ∷ 4 ∷ []) same_session_agrees t.sessions typed.rising.sessions
+  same_session_unique = unique_by_rule session_id session_row (λ _. refl) same_session (2 ∷ 4 ∷ []) same_session_agrees t.sessions (typed.rising.at Sessions)
       (second_rule (λ row. clashes plain (2 ∷ 5 ∷ []) (map session_row t.sessions) row) (λ row. clashes plain (2 ∷ 4 ∷ []) (map session_row t.sessions) row) (λ row. true)
-      (map session_row t.sessions) (subst (λ rows. AllByRecursion (λ row. (not (clashes plain (2 ∷ 5 ∷ []) rows row) && (not (clashes plain (2 ∷ 4 ∷ []) rows row) && true)) ≡ true) rows) typed.sessions (obeys.rules Unique).1.1.1.0))
+      (map session_row t.sessions) (subst (λ rows. AllByRecursion (λ row. (not (clashes plain (2 ∷ 5 ∷ []) rows row) && (not (clashes plain (2 ∷ 4 ∷ []) rows row) && true)) ≡ true) rows) (typed.stored.at Sessions) (obeys.rules Unique).1.1.1.0))
 
   same_form_unique : are_apart same_form t.forms ≡ true
-  same_form_unique = unique_by_rule form_id form_row (λ _. refl) same_form (2 ∷ 3 ∷ 4 ∷ []) same_form_agrees t.forms typed.rising.forms
+  same_form_unique = unique_by_rule form_id form_row (λ _. refl) same_form (2 ∷ 3 ∷ 4 ∷ []) same_form_agrees t.forms (typed.rising.at Forms)
       (first_rule (λ row. clashes plain (2 ∷ 3 ∷ 4 ∷ []) (map form_row t.forms) row) (λ row. true)
-      (map form_row t.forms) (subst (λ rows. AllByRecursion (λ row. (not (clashes plain (2 ∷ 3 ∷ 4 ∷ []) rows row) && true) ≡ true) rows) typed.forms (obeys.rules Unique).1.1.1.1.0))
+      (map form_row t.forms) (subst (λ rows. AllByRecursion (λ row. (not (clashes plain (2 ∷ 3 ∷ 4 ∷ []) rows row) && true) ≡ true) rows) (typed.stored.at Forms) (obeys.rules Unique).1.1.1.1.0))
 
   same_field_unique : are_apart same_field t.fields ≡ true
-  same_field_unique = unique_by_rule field_id field_row (λ _. refl) same_field (2 ∷ 3 ∷ []) same_field_agrees t.fields typed.rising.fields
+  same_field_unique = unique_by_rule field_id field_row (λ _. refl) same_field (2 ∷ 3 ∷ []) same_field_agrees t.fields (typed.rising.at Fields)
       (first_rule (λ row. clashes plain (2 ∷ 3 ∷ []) (map field_row t.fields) row) (λ row. not (clashes plain (2 ∷ 4 ∷ []) (map field_row t.fields) row) && true)
-      (map field_row t.fields) (subst (λ rows. AllByRecursion (λ row. (not (clashes plain (2 ∷ 3 ∷ []) rows row) && (not (clashes plain (2 ∷ 4 ∷ []) rows row) && true)) ≡ true) rows) typed.fields (obeys.rules Unique).1.1.1.1.1.0))
+      (map field_row t.fields) (subst (λ rows. AllByRecursion (λ row. (not (clashes plain (2 ∷ 3 ∷ []) rows row) && (not (clashes plain (2 ∷ 4 ∷ []) rows row) && true)) ≡ true) rows) (typed.stored.at Fields) (obeys.rules Unique).1.1.1.1.1.0))
 
   same_key_unique : are_apart same_key t.fields ≡ true
-  same_key_unique = unique_by_rule field_id field_row (λ _. refl) same_key (2 ∷ 4 ∷ []) same_key_agrees t.fields typed.rising.fields
+  same_key_unique = unique_by_rule field_id field_row (λ _. refl) same_key (2 ∷ 4 ∷ []) same_key_agrees t.fields (typed.rising.at Fields)
       (second_rule (λ row. clashes plain (2 ∷ 3 ∷ []) (map field_row t.fields) row) (λ row. clashes plain (2 ∷ 4 ∷ []) (map field_row t.fields) row) (λ row. true)
-      (map field_row t.fields) (subst (λ rows. AllByRecursion (λ row. (not (clashes plain (2 ∷ 3 ∷ []) rows row) && (not (clashes plain (2 ∷ 4 ∷ []) rows row) && true)) ≡ true) rows) typed.fields (obeys.rules Unique).1.1.1.1.1.0))
+      (map field_row t.fields) (subst (λ rows. AllByRecursion (λ row. (not (clashes plain (2 ∷ 3 ∷ []) rows row) && (not (clashes plain (2 ∷ 4 ∷ []) rows row) && true)) ≡ true) rows) (typed.stored.at Fields) (obeys.rules Unique).1.1.1.1.1.0))
 
   same_choice_unique : are_apart same_choice t.choices ≡ true
-  same_choice_unique = unique_by_rule choice_id choice_row (λ _. refl) same_choice (2 ∷ 3 ∷ []) same_choice_agrees t.choices typed.rising.choices
+  same_choice_unique = unique_by_rule choice_id choice_row (λ _. refl) same_choice (2 ∷ 3 ∷ []) same_choice_agrees t.choices (typed.rising.at Choices)
       (first_rule (λ row. clashes plain (2 ∷ 3 ∷ []) (map choice_row t.choices) row) (λ row. true)
-      (map choice_row t.choices) (subst (λ rows. AllByRecursion (λ row. (not (clashes plain (2 ∷ 3 ∷ []) rows row) && true) ≡ true) rows) typed.choices (obeys.rules Unique).1.1.1.1.1.1.0))
+      (map choice_row t.choices) (subst (λ rows. AllByRecursion (λ row. (not (clashes plain (2 ∷ 3 ∷ []) rows row) && true) ≡ true) rows) (typed.stored.at Choices) (obeys.rules Unique).1.1.1.1.1.1.0))
 
   same_record_unique : are_apart same_record t.records ≡ true
-  same_record_unique = unique_by_rule record_id record_row (λ _. refl) same_record (2 ∷ 3 ∷ []) same_record_agrees t.records typed.rising.records
+  same_record_unique = unique_by_rule record_id record_row (λ _. refl) same_record (2 ∷ 3 ∷ []) same_record_agrees t.records (typed.rising.at Records)
       (first_rule (λ row. clashes plain (2 ∷ 3 ∷ []) (map record_row t.records) row) (λ row. not (clashes plain (2 ∷ 5 ∷ 6 ∷ []) (map record_row t.records) row) && true)
-      (map record_row t.records) (subst (λ rows. AllByRecursion (λ row. (not (clashes plain (2 ∷ 3 ∷ []) rows row) && (not (clashes plain (2 ∷ 5 ∷ 6 ∷ []) rows row) && true)) ≡ true) rows) typed.records (obeys.rules Unique).1.1.1.1.1.1.1.0))
+      (map record_row t.records) (subst (λ rows. AllByRecursion (λ row. (not (clashes plain (2 ∷ 3 ∷ []) rows row) && (not (clashes plain (2 ∷ 5 ∷ 6 ∷ []) rows row) && true)) ≡ true) rows) (typed.stored.at Records) (obeys.rules Unique).1.1.1.1.1.1.1.0))
 
   same_sample_unique : are_apart same_sample t.records ≡ true
-  same_sample_unique = unique_by_rule record_id record_row (λ _. refl) same_sample (2 ∷ 5 ∷ 6 ∷ []) same_sample_agrees t.records typed.rising.records
+  same_sample_unique = unique_by_rule record_id record_row (λ _. refl) same_sample (2 ∷ 5 ∷ 6 ∷ []) same_sample_agrees t.records (typed.rising.at Records)
       (second_rule (λ row. clashes plain (2 ∷ 3 ∷ []) (map record_row t.records) row) (λ row. clashes plain (2 ∷ 5 ∷ 6 ∷ []) (map record_row t.records) row) (λ row. true)
-      (map record_row t.records) (subst (λ rows. AllByRecursion (λ row. (not (clashes plain (2 ∷ 3 ∷ []) rows row) && (not (clashes plain (2 ∷ 5 ∷ 6 ∷ []) rows row) && true)) ≡ true) rows) typed.records (obeys.rules Unique).1.1.1.1.1.1.1.0))
+      (map record_row t.records) (subst (λ rows. AllByRecursion (λ row. (not (clashes plain (2 ∷ 3 ∷ []) rows row) && (not (clashes plain (2 ∷ 5 ∷ 6 ∷ []) rows row) && true)) ≡ true) rows) (typed.stored.at Records) (obeys.rules Unique).1.1.1.1.1.1.1.0))
 
   same_version_unique : are_apart same_version t.versions ≡ true
-  same_version_unique = unique_by_rule version_id version_row (λ _. refl) same_version (2 ∷ 3 ∷ []) same_version_agrees t.versions typed.rising.versions
+  same_version_unique = unique_by_rule version_id version_row (λ _. refl) same_version (2 ∷ 3 ∷ []) same_version_agrees t.versions (typed.rising.at Versions)
       (first_rule (λ row. clashes plain (2 ∷ 3 ∷ []) (map version_row t.versions) row) (λ row. true)
-      (map version_row t.versions) (subst (λ rows. AllByRecursion (λ row. (not (clashes plain (2 ∷ 3 ∷ []) rows row) && true) ≡ true) rows) typed.versions (obeys.rules Unique).1.1.1.1.1.1.1.1.0))
+      (map version_row t.versions) (subst (λ rows. AllByRecursion (λ row. (not (clashes plain (2 ∷ 3 ∷ []) rows row) && true) ≡ true) rows) (typed.stored.at Versions) (obeys.rules Unique).1.1.1.1.1.1.1.1.0))
 
   same_entry_unique : are_apart same_entry t.entries ≡ true
-  same_entry_unique = unique_by_rule entry_id entry_row (λ _. refl) same_entry (2 ∷ 3 ∷ []) same_entry_agrees t.entries typed.rising.entries
+  same_entry_unique = unique_by_rule entry_id entry_row (λ _. refl) same_entry (2 ∷ 3 ∷ []) same_entry_agrees t.entries (typed.rising.at Entries)
       (first_rule (λ row. clashes plain (2 ∷ 3 ∷ []) (map entry_row t.entries) row) (λ row. true)
-      (map entry_row t.entries) (subst (λ rows. AllByRecursion (λ row. (not (clashes plain (2 ∷ 3 ∷ []) rows row) && true) ≡ true) rows) typed.entries (obeys.rules Unique).1.1.1.1.1.1.1.1.1.0))
+      (map entry_row t.entries) (subst (λ rows. AllByRecursion (λ row. (not (clashes plain (2 ∷ 3 ∷ []) rows row) && true) ≡ true) rows) (typed.stored.at Entries) (obeys.rules Unique).1.1.1.1.1.1.1.1.1.0))
 
   same_signature_unique : are_apart same_signature t.signatures ≡ true
-  same_signature_unique = unique_by_rule signature_id signature_row (λ _. refl) same_signature (2 ∷ 3 ∷ []) same_signature_agrees t.signatures typed.rising.signatures
+  same_signature_unique = unique_by_rule signature_id signature_row (λ _. refl) same_signature (2 ∷ 3 ∷ []) same_signature_agrees t.signatures (typed.rising.at Signatures)
       (first_rule (λ row. clashes plain (2 ∷ 3 ∷ []) (map signature_row t.signatures) row) (λ row. not (clashes plain (2 ∷ 6 ∷ []) (map signature_row t.signatures) row) && true)
-      (map signature_row t.signatures) (subst (λ rows. AllByRecursion (λ row. (not (clashes plain (2 ∷ 3 ∷ []) rows row) && (not (clashes plain (2 ∷ 6 ∷ []) rows row) && true)) ≡ true) rows) typed.signatures (obeys.rules Unique).1.1.1.1.1.1.1.1.1.1.0))
+      (map signature_row t.signatures) (subst (λ rows. AllByRecursion (λ row. (not (clashes plain (2 ∷ 3 ∷ []) rows row) && (not (clashes plain (2 ∷ 6 ∷ []) rows row) && true)) ≡ true) rows) (typed.stored.at Signatures) (obeys.rules Unique).1.1.1.1.1.1.1.1.1.1.0))
 
   same_meaning_unique : are_apart same_meaning t.signatures ≡ true
-  same_meaning_unique = unique_by_rule signature_id signature_row (λ _. refl) same_meaning (2 ∷ 6 ∷ []) same_meaning_agrees t.signatures typed.rising.signatures
+  same_meaning_unique = unique_by_rule signature_id signature_row (λ _. refl) same_meaning (2 ∷ 6 ∷ []) same_meaning_agrees t.signatures (typed.rising.at Signatures)
       (second_rule (λ row. clashes plain (2 ∷ 3 ∷ []) (map signature_row t.signatures) row) (λ row. clashes plain (2 ∷ 6 ∷ []) (map signature_row t.signatures) row) (λ row. true)
-      (map signature_row t.signatures) (subst (λ rows. AllByRecursion (λ row. (not (clashes plain (2 ∷ 3 ∷ []) rows row) && (not (clashes plain (2 ∷ 6 ∷ []) rows row) && true)) ≡ true) rows) typed.signatures (obeys.rules Unique).1.1.1.1.1.1.1.1.1.1.0))
+      (map signature_row t.signatures) (subst (λ rows. AllByRecursion (λ row. (not (clashes plain (2 ∷ 3 ∷ []) rows row) && (not (clashes plain (2 ∷ 6 ∷ []) rows row) && true)) ≡ true) rows) (typed.stored.at Signatures) (obeys.rules Unique).1.1.1.1.1.1.1.1.1.1.0))
 
   same_told_unique : are_apart same_told t.trail ≡ true
-  same_told_unique = unique_by_rule trail_id trail_row (λ _. refl) same_told (2 ∷ 3 ∷ []) same_told_agrees t.trail typed.rising.trail
+  same_told_unique = unique_by_rule trail_id trail_row (λ _. refl) same_told (2 ∷ 3 ∷ []) same_told_agrees t.trail (typed.rising.at Trail)
       (first_rule (λ row. clashes plain (2 ∷ 3 ∷ []) (map trail_row t.trail) row) (λ row. true)
-      (map trail_row t.trail) (subst (λ rows. AllByRecursion (λ row. (not (clashes plain (2 ∷ 3 ∷ []) rows row) && true) ≡ true) rows) typed.trail (obeys.rules Unique).1.1.1.1.1.1.1.1.1.1.1.0))
+      (map trail_row t.trail) (subst (λ rows. AllByRecursion (λ row. (not (clashes plain (2 ∷ 3 ∷ []) rows row) && true) ≡ true) rows) (typed.stored.at Trail) (obeys.rules Unique).1.1.1.1.1.1.1.1.1.1.1.0))
 
   -- no two rows have one key
   pub keys_by_rules : are_keys_unique t ≡ true
@@ -338,145 +337,145 @@ module _ (db : Database) (typed : IsTyped db) (obeys : Obeys lab_schema db.trees
 
   persons_refer : AllByRecursion (λ (one : PersonRow). passes ForeignKey lab_schema db.trees tables.persons (person_row one) ≡ true) t.persons
   persons_refer = all_unmap (λ row. passes ForeignKey lab_schema db.trees tables.persons row ≡ true) person_row t.persons
-      (subst (AllByRecursion (λ row. passes ForeignKey lab_schema db.trees tables.persons row ≡ true)) typed.persons (obeys.rules ForeignKey).1.1.0)
+      (subst (AllByRecursion (λ row. passes ForeignKey lab_schema db.trees tables.persons row ≡ true)) (typed.stored.at Persons) (obeys.rules ForeignKey).1.1.0)
 
   persons_lab_leads : have_parents (λ (one : PersonRow). Some one.lab) lab_id t.labs t.persons ≡ true
   unfolding first_key joined same_name
   persons_lab_leads = test_from_all (λ (one : PersonRow). has_parent lab_id t.labs (Some one.lab)) t.persons
       (all_weaker (λ (one : PersonRow). passes ForeignKey lab_schema db.trees tables.persons (person_row one) ≡ true) (λ (one : PersonRow). has_parent lab_id t.labs (Some one.lab) ≡ true)
-      (λ one h. given_parent lab_id lab_row (λ _. refl) (db.trees 1) t.labs typed.labs one.lab (and_parts _ _ h).0) t.persons persons_refer)
+      (λ one h. given_parent lab_id lab_row (λ _. refl) (db.trees 1) t.labs (typed.stored.at Labs) one.lab (and_parts _ _ h).0) t.persons persons_refer)
 
   persons_asker_leads : have_parents (λ (one : PersonRow). one.ask.asker) person_id t.persons t.persons ≡ true
   unfolding first_key joined same_name
   persons_asker_leads = test_from_all (λ (one : PersonRow). has_parent person_id t.persons (one.ask.asker)) t.persons
       (all_weaker (λ (one : PersonRow). passes ForeignKey lab_schema db.trees tables.persons (person_row one) ≡ true) (λ (one : PersonRow). has_parent person_id t.persons (one.ask.asker) ≡ true)
-      (λ one h. optional_parent person_id person_row (λ _. refl) (db.trees 3) t.persons typed.persons one.ask.asker (and_parts _ _ (and_parts _ _ h).1).0) t.persons persons_refer)
+      (λ one h. optional_parent person_id person_row (λ _. refl) (db.trees 3) t.persons (typed.stored.at Persons) one.ask.asker (and_parts _ _ (and_parts _ _ h).1).0) t.persons persons_refer)
 
   sessions_refer : AllByRecursion (λ (one : SessionRow). passes ForeignKey lab_schema db.trees tables.sessions (session_row one) ≡ true) t.sessions
   sessions_refer = all_unmap (λ row. passes ForeignKey lab_schema db.trees tables.sessions row ≡ true) session_row t.sessions
-      (subst (AllByRecursion (λ row. passes ForeignKey lab_schema db.trees tables.sessions row ≡ true)) typed.sessions (obeys.rules ForeignKey).1.1.1.0)
+      (subst (AllByRecursion (λ row. passes ForeignKey lab_schema db.trees tables.sessions row ≡ true)) (typed.stored.at Sessions) (obeys.rules ForeignKey).1.1.1.0)
 
   sessions_lab_leads : have_parents (λ (one : SessionRow). Some one.lab) lab_id t.labs t.sessions ≡ true
   unfolding first_key joined same_name
   sessions_lab_leads = test_from_all (λ (one : SessionRow). has_parent lab_id t.labs (Some one.lab)) t.sessions
       (all_weaker (λ (one : SessionRow). passes ForeignKey lab_schema db.trees tables.sessions (session_row one) ≡ true) (λ (one : SessionRow). has_parent lab_id t.labs (Some one.lab) ≡ true)
-      (λ one h. given_parent lab_id lab_row (λ _. refl) (db.trees 1) t.labs typed.labs one.lab (and_parts _ _ h).0) t.sessions sessions_refer)
+      (λ one h. given_parent lab_id lab_row (λ _. refl) (db.trees 1) t.labs (typed.stored.at Labs) one.lab (and_parts _ _ h).0) t.sessions sessions_refer)
 
   sessions_person_leads : have_parents (λ (one : SessionRow). Some one.person) person_id t.persons t.sessions ≡ true
   unfolding first_key joined same_name
   sessions_person_leads = test_from_all (λ (one : SessionRow). has_parent person_id t.persons (Some one.person)) t.sessions
       (all_weaker (λ (one : SessionRow). passes ForeignKey lab_schema db.trees tables.sessions (session_row one) ≡ true) (λ (one : SessionRow). has_parent person_id t.persons (Some one.person) ≡ true)
-      (λ one h. given_parent person_id person_row (λ _. refl) (db.trees 3) t.persons typed.persons one.person (and_parts _ _ (and_parts _ _ h).1).0) t.sessions sessions_refer)
+      (λ one h. given_parent person_id person_row (λ _. refl) (db.trees 3) t.persons (typed.stored.at Persons) one.person (and_parts _ _ (and_parts _ _ h).1).0) t.sessions sessions_refer)
 
   forms_refer : AllByRecursion (λ (one : FormRow). passes ForeignKey lab_schema db.trees tables.forms (form_row one) ≡ true) t.forms
   forms_refer = all_unmap (λ row. passes ForeignKey lab_schema db.trees tables.forms row ≡ true) form_row t.forms
-      (subst (AllByRecursion (λ row. passes ForeignKey lab_schema db.trees tables.forms row ≡ true)) typed.forms (obeys.rules ForeignKey).1.1.1.1.0)
+      (subst (AllByRecursion (λ row. passes ForeignKey lab_schema db.trees tables.forms row ≡ true)) (typed.stored.at Forms) (obeys.rules ForeignKey).1.1.1.1.0)
 
   forms_lab_leads : have_parents (λ (one : FormRow). Some one.lab) lab_id t.labs t.forms ≡ true
   unfolding first_key joined same_name
   forms_lab_leads = test_from_all (λ (one : FormRow). has_parent lab_id t.labs (Some one.lab)) t.forms
       (all_weaker (λ (one : FormRow). passes ForeignKey lab_schema db.trees tables.forms (form_row one) ≡ true) (λ (one : FormRow). has_parent lab_id t.labs (Some one.lab) ≡ true)
-      (λ one h. given_parent lab_id lab_row (λ _. refl) (db.trees 1) t.labs typed.labs one.lab (and_parts _ _ h).0) t.forms forms_refer)
+      (λ one h. given_parent lab_id lab_row (λ _. refl) (db.trees 1) t.labs (typed.stored.at Labs) one.lab (and_parts _ _ h).0) t.forms forms_refer)
 
   fields_refer : AllByRecursion (λ (one : FieldRow). passes ForeignKey lab_schema db.trees tables.fields (field_row one) ≡ true) t.fields
   fields_refer = all_unmap (λ row. passes ForeignKey lab_schema db.trees tables.fields row ≡ true) field_row t.fields
-      (subst (AllByRecursion (λ row. passes ForeignKey lab_schema db.trees tables.fields row ≡ true)) typed.fields (obeys.rules ForeignKey).1.1.1.1.1.0)
+      (subst (AllByRecursion (λ row. passes ForeignKey lab_schema db.trees tables.fields row ≡ true)) (typed.stored.at Fields) (obeys.rules ForeignKey).1.1.1.1.1.0)
 
   fields_form_leads : have_parents (λ (one : FieldRow). Some one.form) form_id t.forms t.fields ≡ true
   unfolding first_key joined same_name
   fields_form_leads = test_from_all (λ (one : FieldRow). has_parent form_id t.forms (Some one.form)) t.fields
       (all_weaker (λ (one : FieldRow). passes ForeignKey lab_schema db.trees tables.fields (field_row one) ≡ true) (λ (one : FieldRow). has_parent form_id t.forms (Some one.form) ≡ true)
-      (λ one h. given_parent form_id form_row (λ _. refl) (db.trees 8) t.forms typed.forms one.form (and_parts _ _ h).0) t.fields fields_refer)
+      (λ one h. given_parent form_id form_row (λ _. refl) (db.trees 8) t.forms (typed.stored.at Forms) one.form (and_parts _ _ h).0) t.fields fields_refer)
 
   choices_refer : AllByRecursion (λ (one : ChoiceRow). passes ForeignKey lab_schema db.trees tables.choices (choice_row one) ≡ true) t.choices
   choices_refer = all_unmap (λ row. passes ForeignKey lab_schema db.trees tables.choices row ≡ true) choice_row t.choices
-      (subst (AllByRecursion (λ row. passes ForeignKey lab_schema db.trees tables.choices row ≡ true)) typed.choices (obeys.rules ForeignKey).1.1.1.1.1.1.0)
+      (subst (AllByRecursion (λ row. passes ForeignKey lab_schema db.trees tables.choices row ≡ true)) (typed.stored.at Choices) (obeys.rules ForeignKey).1.1.1.1.1.1.0)
 
   choices_field_leads : have_parents (λ (one : ChoiceRow). Some one.field) field_id t.fields t.choices ≡ true
   unfolding first_key joined same_name
   choices_field_leads = test_from_all (λ (one : ChoiceRow). has_parent field_id t.fields (Some one.field)) t.choices
       (all_weaker (λ (one : ChoiceRow). passes ForeignKey lab_schema db.trees tables.choices (choice_row one) ≡ true) (λ (one : ChoiceRow). has_parent field_id t.fields (Some one.field) ≡ true)
-      (λ one h. given_parent field_id field_row (λ _. refl) (db.trees 10) t.fields typed.fields one.field (and_parts _ _ h).0) t.choices choices_refer)
+      (λ one h. given_parent field_id field_row (λ _. refl) (db.trees 10) t.fields (typed.stored.at Fields) one.field (and_parts _ _ h).0) t.choices choices_refer)
 
   records_refer : AllByRecursion (λ (one : RecordRow). passes ForeignKey lab_schema db.trees tables.records (record_row one) ≡ true) t.records
   records_refer = all_unmap (λ row. passes ForeignKey lab_schema db.trees tables.records row ≡ true) record_row t.records
-      (subst (AllByRecursion (λ row. passes ForeignKey lab_schema db.trees tables.records row ≡ true)) typed.records (obeys.rules ForeignKey).1.1.1.1.1.1.1.0)
+      (subst (AllByRecursion (λ row. passes ForeignKey lab_schema db.trees tables.records row ≡ true)) (typed.stored.at Records) (obeys.rules ForeignKey).1.1.1.1.1.1.1.0)
 
   records_lab_leads : have_parents (λ (one : RecordRow). Some one.lab) lab_id t.labs t.records ≡ true
   unfolding first_key joined same_name
   records_lab_leads = test_from_all (λ (one : RecordRow). has_parent lab_id t.labs (Some one.lab)) t.records
       (all_weaker (λ (one : RecordRow). passes ForeignKey lab_schema db.trees tables.records (record_row one) ≡ true) (λ (one : RecordRow). has_parent lab_id t.labs (Some one.lab) ≡ true)
-      (λ one h. given_parent lab_id lab_row (λ _. refl) (db.trees 1) t.labs typed.labs one.lab (and_parts _ _ h).0) t.records records_refer)
+      (λ one h. given_parent lab_id lab_row (λ _. refl) (db.trees 1) t.labs (typed.stored.at Labs) one.lab (and_parts _ _ h).0) t.records records_refer)
 
   records_form_leads : have_parents (λ (one : RecordRow). Some one.form) form_id t.forms t.records ≡ true
   unfolding first_key joined same_name
   records_form_leads = test_from_all (λ (one : RecordRow). has_parent form_id t.forms (Some one.form)) t.records
       (all_weaker (λ (one : RecordRow). passes ForeignKey lab_schema db.trees tables.records (record_row one) ≡ true) (λ (one : RecordRow). has_parent form_id t.forms (Some one.form) ≡ true)
-      (λ one h. given_parent form_id form_row (λ _. refl) (db.trees 8) t.forms typed.forms one.form (and_parts _ _ (and_parts _ _ h).1).0) t.records records_refer)
+      (λ one h. given_parent form_id form_row (λ _. refl) (db.trees 8) t.forms (typed.stored.at Forms) one.form (and_parts _ _ (and_parts _ _ h).1).0) t.records records_refer)
 
   versions_refer : AllByRecursion (λ (one : VersionRow). passes ForeignKey lab_schema db.trees tables.versions (version_row one) ≡ true) t.versions
   versions_refer = all_unmap (λ row. passes ForeignKey lab_schema db.trees tables.versions row ≡ true) version_row t.versions
-      (subst (AllByRecursion (λ row. passes ForeignKey lab_schema db.trees tables.versions row ≡ true)) typed.versions (obeys.rules ForeignKey).1.1.1.1.1.1.1.1.0)
+      (subst (AllByRecursion (λ row. passes ForeignKey lab_schema db.trees tables.versions row ≡ true)) (typed.stored.at Versions) (obeys.rules ForeignKey).1.1.1.1.1.1.1.1.0)
 
   versions_kept_leads : have_parents (λ (one : VersionRow). Some one.kept) record_id t.records t.versions ≡ true
   unfolding first_key joined same_name
   versions_kept_leads = test_from_all (λ (one : VersionRow). has_parent record_id t.records (Some one.kept)) t.versions
       (all_weaker (λ (one : VersionRow). passes ForeignKey lab_schema db.trees tables.versions (version_row one) ≡ true) (λ (one : VersionRow). has_parent record_id t.records (Some one.kept) ≡ true)
-      (λ one h. given_parent record_id record_row (λ _. refl) (db.trees 15) t.records typed.records one.kept (and_parts _ _ h).0) t.versions versions_refer)
+      (λ one h. given_parent record_id record_row (λ _. refl) (db.trees 15) t.records (typed.stored.at Records) one.kept (and_parts _ _ h).0) t.versions versions_refer)
 
   versions_opener_leads : have_parents (λ (one : VersionRow). Some one.opener) person_id t.persons t.versions ≡ true
   unfolding first_key joined same_name
   versions_opener_leads = test_from_all (λ (one : VersionRow). has_parent person_id t.persons (Some one.opener)) t.versions
       (all_weaker (λ (one : VersionRow). passes ForeignKey lab_schema db.trees tables.versions (version_row one) ≡ true) (λ (one : VersionRow). has_parent person_id t.persons (Some one.opener) ≡ true)
-      (λ one h. given_parent person_id person_row (λ _. refl) (db.trees 3) t.persons typed.persons one.opener (and_parts _ _ (and_parts _ _ h).1).0) t.versions versions_refer)
+      (λ one h. given_parent person_id person_row (λ _. refl) (db.trees 3) t.persons (typed.stored.at Persons) one.opener (and_parts _ _ (and_parts _ _ h).1).0) t.versions versions_refer)
 
   entries_refer : AllByRecursion (λ (one : EntryRow). passes ForeignKey lab_schema db.trees tables.entries (entry_row one) ≡ true) t.entries
   entries_refer = all_unmap (λ row. passes ForeignKey lab_schema db.trees tables.entries row ≡ true) entry_row t.entries
-      (subst (AllByRecursion (λ row. passes ForeignKey lab_schema db.trees tables.entries row ≡ true)) typed.entries (obeys.rules ForeignKey).1.1.1.1.1.1.1.1.1.0)
+      (subst (AllByRecursion (λ row. passes ForeignKey lab_schema db.trees tables.entries row ≡ true)) (typed.stored.at Entries) (obeys.rules ForeignKey).1.1.1.1.1.1.1.1.1.0)
 
   entries_version_leads : have_parents (λ (one : EntryRow). Some one.version) version_id t.versions t.entries ≡ true
   unfolding first_key joined same_name
   entries_version_leads = test_from_all (λ (one : EntryRow). has_parent version_id t.versions (Some one.version)) t.entries
       (all_weaker (λ (one : EntryRow). passes ForeignKey lab_schema db.trees tables.entries (entry_row one) ≡ true) (λ (one : EntryRow). has_parent version_id t.versions (Some one.version) ≡ true)
-      (λ one h. given_parent version_id version_row (λ _. refl) (db.trees 18) t.versions typed.versions one.version (and_parts _ _ h).0) t.entries entries_refer)
+      (λ one h. given_parent version_id version_row (λ _. refl) (db.trees 18) t.versions (typed.stored.at Versions) one.version (and_parts _ _ h).0) t.entries entries_refer)
 
   entries_person_leads : have_parents (λ (one : EntryRow). Some one.person) person_id t.persons t.entries ≡ true
   unfolding first_key joined same_name
   entries_person_leads = test_from_all (λ (one : EntryRow). has_parent person_id t.persons (Some one.person)) t.entries
       (all_weaker (λ (one : EntryRow). passes ForeignKey lab_schema db.trees tables.entries (entry_row one) ≡ true) (λ (one : EntryRow). has_parent person_id t.persons (Some one.person) ≡ true)
-      (λ one h. given_parent person_id person_row (λ _. refl) (db.trees 3) t.persons typed.persons one.person (and_parts _ _ (and_parts _ _ h).1).0) t.entries entries_refer)
+      (λ one h. given_parent person_id person_row (λ _. refl) (db.trees 3) t.persons (typed.stored.at Persons) one.person (and_parts _ _ (and_parts _ _ h).1).0) t.entries entries_refer)
 
   signatures_refer : AllByRecursion (λ (one : SignatureRow). passes ForeignKey lab_schema db.trees tables.signatures (signature_row one) ≡ true) t.signatures
   signatures_refer = all_unmap (λ row. passes ForeignKey lab_schema db.trees tables.signatures row ≡ true) signature_row t.signatures
-      (subst (AllByRecursion (λ row. passes ForeignKey lab_schema db.trees tables.signatures row ≡ true)) typed.signatures (obeys.rules ForeignKey).1.1.1.1.1.1.1.1.1.1.0)
+      (subst (AllByRecursion (λ row. passes ForeignKey lab_schema db.trees tables.signatures row ≡ true)) (typed.stored.at Signatures) (obeys.rules ForeignKey).1.1.1.1.1.1.1.1.1.1.0)
 
   signatures_version_leads : have_parents (λ (one : SignatureRow). Some one.version) version_id t.versions t.signatures ≡ true
   unfolding first_key joined same_name
   signatures_version_leads = test_from_all (λ (one : SignatureRow). has_parent version_id t.versions (Some one.version)) t.signatures
       (all_weaker (λ (one : SignatureRow). passes ForeignKey lab_schema db.trees tables.signatures (signature_row one) ≡ true) (λ (one : SignatureRow). has_parent version_id t.versions (Some one.version) ≡ true)
-      (λ one h. given_parent version_id version_row (λ _. refl) (db.trees 18) t.versions typed.versions one.version (and_parts _ _ h).0) t.signatures signatures_refer)
+      (λ one h. given_parent version_id version_row (λ _. refl) (db.trees 18) t.versions (typed.stored.at Versions) one.version (and_parts _ _ h).0) t.signatures signatures_refer)
 
   signatures_person_leads : have_parents (λ (one : SignatureRow). Some one.person) person_id t.persons t.signatures ≡ true
   unfolding first_key joined same_name
   signatures_person_leads = test_from_all (λ (one : SignatureRow). has_parent person_id t.persons (Some one.person)) t.signatures
       (all_weaker (λ (one : SignatureRow). passes ForeignKey lab_schema db.trees tables.signatures (signature_row one) ≡ true) (λ (one : SignatureRow). has_parent person_id t.persons (Some one.person) ≡ true)
-      (λ one h. given_parent person_id person_row (λ _. refl) (db.trees 3) t.persons typed.persons one.person (and_parts _ _ (and_parts _ _ h).1).0) t.signatures signatures_refer)
+      (λ one h. given_parent person_id person_row (λ _. refl) (db.trees 3) t.persons (typed.stored.at Persons) one.person (and_parts _ _ (and_parts _ _ h).1).0) t.signatures signatures_refer)
 
   trail_refer : AllByRecursion (λ (one : TrailRow). passes ForeignKey lab_schema db.trees tables.trail (trail_row one) ≡ true) t.trail
   trail_refer = all_unmap (λ row. passes ForeignKey lab_schema db.trees tables.trail row ≡ true) trail_row t.trail
-      (subst (AllByRecursion (λ row. passes ForeignKey lab_schema db.trees tables.trail row ≡ true)) typed.trail (obeys.rules ForeignKey).1.1.1.1.1.1.1.1.1.1.1.0)
+      (subst (AllByRecursion (λ row. passes ForeignKey lab_schema db.trees tables.trail row ≡ true)) (typed.stored.at Trail) (obeys.rules ForeignKey).1.1.1.1.1.1.1.1.1.1.1.0)
 
   trail_lab_leads : have_parents (λ (one : TrailRow). Some one.lab) lab_id t.labs t.trail ≡ true
   unfolding first_key joined same_name
   trail_lab_leads = test_from_all (λ (one : TrailRow). has_parent lab_id t.labs (Some one.lab)) t.trail
       (all_weaker (λ (one : TrailRow). passes ForeignKey lab_schema db.trees tables.trail (trail_row one) ≡ true) (λ (one : TrailRow). has_parent lab_id t.labs (Some one.lab) ≡ true)
-      (λ one h. given_parent lab_id lab_row (λ _. refl) (db.trees 1) t.labs typed.labs one.lab (and_parts _ _ h).0) t.trail trail_refer)
+      (λ one h. given_parent lab_id lab_row (λ _. refl) (db.trees 1) t.labs (typed.stored.at Labs) one.lab (and_parts _ _ h).0) t.trail trail_refer)
 
   trail_person_leads : have_parents (λ (one : TrailRow). one.person) person_id t.persons t.trail ≡ true
   unfolding first_key joined same_name
   trail_person_leads = test_from_all (λ (one : TrailRow). has_parent person_id t.persons (one.person)) t.trail
       (all_weaker (λ (one : TrailRow). passes ForeignKey lab_schema db.trees tables.trail (trail_row one) ≡ true) (λ (one : TrailRow). has_parent person_id t.persons (one.person) ≡ true)
-      (λ one h. optional_parent person_id person_row (λ _. refl) (db.trees 3) t.persons typed.persons one.person (and_parts _ _ (and_parts _ _ h).1).0) t.trail trail_refer)
+      (λ one h. optional_parent person_id person_row (λ _. refl) (db.trees 3) t.persons (typed.stored.at Persons) one.person (and_parts _ _ (and_parts _ _ h).1).0) t.trail trail_refer)
 
   -- each arrow leads to a row
   pub arrows_by_rules : are_arrows_whole t ≡ true

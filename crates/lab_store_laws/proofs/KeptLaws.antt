@@ -1,9 +1,7 @@
 -- A laboratory's own row that is set stays well kept, with all that is beside it, where its id, its code and its counters
 -- stay; so it is with the last moment and with stray passwords.
-use Rattle.std.proofs.Common.{◌≡◌, ℕ, ℤ, Bool, true, false, not, ◌&&◌, ◌==◌, cond, List, [], ◌∷◌, map, filter, length, Option, Some, None, refl, sym, ap, ap₂, subst, ◌∙◌, int_eq, bytes_eq}
+use Rattle.std.proofs.Common.{◌≡◌, ℕ, ℤ, Bool, true, false, not, ◌&&◌, cond, List, [], ◌∷◌, map, Option, Some, None, refl, sym, ap, ap₂, subst, ◌∙◌, int_eq, bytes_eq}
 use Rattle.std.specs.List.{list_all}
-use Rattle.sqlite_keyed.specs.Keyed.{has_key}
-use Rattle.sqlite_keyed.specs.Lists.{update_where}
 use Rattle.sqlite_keyed.specs.Rules.{has_parent}
 use Rattle.sqlite_keyed.proofs.KeyedLemmas.{has_key-update_where}
 use Rattle.lab_records_kept.specs.declared.changes.Change.TheVariants.{Last, Strays}

@@ -1,12 +1,13 @@
 -- Values from outside, so that a wrong rule in the definitions does not check: two changes, one after
 -- the other, of two laboratories' tables, no change, and changes of a laboratory that isn't there.
-use Rattle.std.proofs.Common.{◌≡◌, ℕ, pos, [], ◌∷◌, Option, Some, None, refl, inl, inr}
+use Rattle.std.proofs.Common.{◌≡◌, true, ℕ, pos, [], ◌∷◌, Option, Some, None, refl, inl, inr}
 use Rattle.std.specs.Prelude.{codes}
 use Rattle.lab_records_kept.specs.declared.changes.Change.TheVariants.{Last, Strays}
-use Rattle.lab_store_tables.specs.Rows.{LabRow, Tables, lab_id, desk_id}
+use Rattle.lab_store_tables.specs.Rows.{LabRow, Tables}
+use Rattle.lab_store_tables.specs.Family.{Name, Desk, id_of, rows}
 use Rattle.lab_store_tables.specs.Held.{AreRising}
 use Rattle.lab_store_tables.proofs.KnownFile.{lab, desk}
-use Rattle.lab_store_tables.proofs.Tests.{keyed_from_test}
+use Rattle.lab_store_tables.proofs.Tests.{are_rising, keyed_from_test}
 use Rattle.lab_store_laws.specs.ByRules.{IsByRules}
 use Rattle.lab_store_laws.specs.Steps.{AreMade, AreMadeIfAny}
 
@@ -29,21 +30,12 @@ two last strays = record {
   trail = [];
 }
 
+ids_rise : (k : Name) (last strays : ℕ) → are_rising (id_of k) (rows k (two last strays)) ≡ true
+ids_rise Desk last strays = refl
+ids_rise _ last strays = refl
+
 rising : (last strays : ℕ) → AreRising (two last strays)
-rising last strays = record {
-  desk = keyed_from_test desk_id (two last strays).desk refl;
-  labs = keyed_from_test lab_id (two last strays).labs refl;
-  persons = tt;
-  sessions = tt;
-  forms = tt;
-  fields = tt;
-  choices = tt;
-  records = tt;
-  versions = tt;
-  entries = tt;
-  signatures = tt;
-  trail = tt;
-}
+rising last strays = record { at = λ k. keyed_from_test (id_of k) (rows k (two last strays)) (ids_rise k last strays) }
 
 rules : (last strays : ℕ) → IsByRules (two last strays)
 rules last strays = record { ids = refl; keys = refl; arrows = refl }

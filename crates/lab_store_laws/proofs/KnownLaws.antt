@@ -1,17 +1,18 @@
 -- Values from outside, so that a wrong rule in the definitions does not check: versions of the small
 -- file of `lab_store_tables` by their own rows, and which trees its tables are stored in.
-use Rattle.std.proofs.Common.{◌≡◌, ℕ, ◌==◌, pos, Bool, true, false, List, [], ◌∷◌, Option, Some, None, map, refl, ap, arith}
+use Rattle.std.proofs.Common.{◌≡◌, ℕ, ◌==◌, pos, true, false, List, [], ◌∷◌, Some, None, map, refl, ap, arith}
 use Rattle.std.specs.Prelude.{if◌then◌else◌, codes, length}
 use Rattle.sqlite_value.specs.Order.{Row}
 use Rattle.lab_records_kept.specs.Digests.{digest_of}
 use Rattle.lab_store_tables.specs.Rows.{Tables, desk_row, lab_row}
 use Rattle.lab_store_tables.specs.Meaning.{Leaf, leaves_of}
+use Rattle.lab_store_tables.specs.Family.{Name, Desk, Labs, rows, stored_row, tree_of}
 use Rattle.lab_store_tables.proofs.KnownFile.{filled, desk, lab}
 use Rattle.lab_store_tables.proofs.KnownFile as known
 use Rattle.lab_store_tables.proofs.KnownValues.{aqua_record, older_version}
 use Rattle.lab_store_tables.proofs.KnownChanges.{entered, new_entry}
 use Rattle.lab_store_laws.specs.Chain.{digest_at_end, entered_leaf, is_leaf, same_leaf}
-use Rattle.lab_store_laws.specs.Stored.{AreStored}
+use Rattle.lab_store_tables.specs.Held.{AreStored}
 
 -- ---- versions by their own rows
 
@@ -78,22 +79,13 @@ abbrev trees : ℕ → ℕ → List Row
 trees place n = if n == 0 then map desk_row small.desk else (if n == place then map lab_row small.labs else [])
 
 -- laboratories are stored in the tree 1; the tree 2 is that of their codes
+stands : (k : Name) → trees 1 (tree_of k) ≡ map (stored_row k) (rows k small)
+stands Desk = refl
+stands _ = refl
+
 pub known_stored : AreStored (trees 1) small
-known_stored = record {
-  desk = refl;
-  labs = refl;
-  persons = refl;
-  sessions = refl;
-  forms = refl;
-  fields = refl;
-  choices = refl;
-  records = refl;
-  versions = refl;
-  entries = refl;
-  signatures = refl;
-  trail = refl;
-}
+known_stored = record { at = stands }
 
 pub known_not_stored : AreStored (trees 2) small → ⊥
 known_not_stored stored =
-    absurd (let wrong : ◌≡◌ {A = ℕ} 0 1 = ap (λ (rows : List Row). length rows) stored.labs in omega arith)
+    absurd (let wrong : ◌≡◌ {A = ℕ} 0 1 = ap (λ (rows : List Row). length rows) (stored.at Labs) in omega arith)

@@ -23,7 +23,8 @@ pub mod FoundedKept
 pub mod FoundedMeaning
 pub mod FoundingKept
 pub mod FreeIds
-pub mod HeldLaws
+pub mod CellsBack
+pub mod Tables
 pub mod Ids
 pub mod Kept
 pub mod KeptByRules
@@ -60,7 +61,6 @@ pub mod RecordAdded
 pub mod RecordKept
 pub mod RecordSet
 pub mod RowSet
-pub mod RowsBack
 pub mod Rules
 pub mod SessionKept
 pub mod SessionLaws

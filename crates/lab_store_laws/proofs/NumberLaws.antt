@@ -1,7 +1,7 @@
 -- A row that is put in under the next number: its parent has it behind the others, and no other parent sees it. Of each
 -- table whose rows are numbered beside those of one parent: sessions, records, versions, entries, signatures, fields,
 -- choices and the trail.
-use Rattle.std.proofs.Common.{◌≡◌, ◌≤◌, ◌<◌, ℕ, ◌+◌, ℤ, Bool, true, false, ◌&&◌, cond, List, [], ◌∷◌, ◌++◌, map, filter, length, refl, ap, subst, ◌∙◌, int_eq, is_gt, is_eq, Ordering, Less, Greater, arith, sym}
+use Rattle.std.proofs.Common.{◌≡◌, ◌≤◌, ◌<◌, ℕ, ◌+◌, ℤ, Bool, true, false, ◌&&◌, cond, List, [], ◌∷◌, ◌++◌, filter, length, refl, ap, subst, int_eq, is_gt, is_eq, Ordering, Less, Greater, arith, sym}
 use Rattle.std.specs.Prelude.{nat_le}
 use Rattle.std.specs.Ordering.{nat_cmp}
 use Rattle.std.specs.List.{AllByRecursion}

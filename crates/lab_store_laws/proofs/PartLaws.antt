@@ -1,14 +1,15 @@
 -- An entry or a signature more in a version, and a choice more in a field: it stands behind those that were there, and no
 -- other version or field sees it.
-use Rattle.std.proofs.Common.{◌≡◌, ℕ, ◌+◌, ℤ, Bool, true, false, ◌&&◌, cond, List, [], ◌∷◌, ◌++◌, map, filter, length, Option, Some, refl, sym, ap, ◌∙◌, int_eq}
+use Rattle.std.proofs.Common.{◌≡◌, ℕ, ℤ, Bool, true, false, cond, List, [], ◌∷◌, ◌++◌, Some, refl, ap, ◌∙◌, int_eq}
 use Rattle.std.proofs.lemmas.Bool.{and_parts}
 use Rattle.lab_seal_versions.specs.declared.rows.EntryRow.{EntryRow as Entry}
 use Rattle.lab_records_kept.specs.declared.records.Signature.{Signature}
 use Rattle.lab_store_tables.specs.Rows.{VersionRow, ChoiceRow, EntryRow, SignatureRow, Tables, choice_id, entry_id, signature_id}
-use Rattle.lab_store_tables.specs.Meaning.{Leaf, names_of, entry_in, entries_of, signature_in, signatures_of, leaf_in}
+use Rattle.lab_store_tables.specs.Meaning.{names_of, entry_in, entries_of, signature_in, signatures_of, leaf_in}
 use Rattle.lab_store_tables.specs.WellKept.{are_ids_unique, are_all_numbered}
 use Rattle.lab_store_tables.specs.Changes.{IsFree, person_named, entry_row_of, put_entry, signature_row_of, put_signature, choice_row_of, put_choice}
 use Rattle.lab_store_tables.specs.Held.{AreRising}
+use Rattle.lab_store_tables.specs.Family.{Choices, Entries, Signatures}
 use Rattle.lab_store_laws.specs.Chain.{entered_leaf, signed_leaf}
 use Rattle.lab_store_laws.proofs.ColumnsBack.{meaning_back}
 use Rattle.lab_store_laws.proofs.NumberLaws.{numbered_last}
@@ -26,7 +27,7 @@ module _ (t : Tables) (rising : AreRising t) (ids : are_ids_unique t ≡ true) (
 
   pub entries_law : (of : ℤ) → entries_of (put_entry new_entry t) of ≡ cond (int_eq of version) (entries_of t of ++ entry ∷ []) (entries_of t of)
   entries_law of =
-      numbered_last entry_id (λ (one : EntryRow). one.version) (λ (one : EntryRow). one.place) (entry_in t) t.entries rising.entries
+      numbered_last entry_id (λ (one : EntryRow). one.version) (λ (one : EntryRow). one.place) (entry_in t) t.entries (rising.at Entries)
       (and_parts _ _ (and_parts _ _ (and_parts _ _ numbered).0).0).1 new_entry free refl of
       ∙ ap (λ one. cond (int_eq of version) (entries_of t of ++ one ∷ []) (entries_of t of)) entry_back
 
@@ -53,7 +54,7 @@ module _ (t : Tables) (rising : AreRising t) (ids : are_ids_unique t ≡ true) (
 
   pub signatures_law : (of : ℤ) → signatures_of (put_signature new_signature t) of ≡ cond (int_eq of version) (signatures_of t of ++ signature ∷ []) (signatures_of t of)
   signatures_law of =
-      numbered_last signature_id (λ (one : SignatureRow). one.version) (λ (one : SignatureRow). one.place) (signature_in t) t.signatures rising.signatures
+      numbered_last signature_id (λ (one : SignatureRow). one.version) (λ (one : SignatureRow). one.place) (signature_in t) t.signatures (rising.at Signatures)
       (and_parts _ _ (and_parts _ _ numbered).0).1 new_signature free refl of
       ∙ ap (λ one. cond (int_eq of version) (signatures_of t of ++ one ∷ []) (signatures_of t of)) signature_back
 
@@ -70,5 +71,5 @@ module _ (t : Tables) (rising : AreRising t) (ids : are_ids_unique t ≡ true) (
 module _ (t : Tables) (rising : AreRising t) (numbered : are_all_numbered t ≡ true) (field id : ℤ) (free : IsFree choice_id t.choices id) (name : List ℕ) where
   pub names_law : (of : ℤ) → names_of (put_choice (choice_row_of t field id name) t) of ≡ cond (int_eq of field) (names_of t of ++ name ∷ []) (names_of t of)
   names_law of =
-      numbered_last choice_id (λ (one : ChoiceRow). one.field) (λ (one : ChoiceRow). one.place) (λ (one : ChoiceRow). one.name) t.choices rising.choices
+      numbered_last choice_id (λ (one : ChoiceRow). one.field) (λ (one : ChoiceRow). one.place) (λ (one : ChoiceRow). one.name) t.choices (rising.at Choices)
       (and_parts _ _ (and_parts _ _ (and_parts _ _ (and_parts _ _ (and_parts _ _ (and_parts _ _ numbered).0).0).0).0).0).1 (choice_row_of t field id name) free refl of

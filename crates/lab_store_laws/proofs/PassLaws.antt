@@ -1,14 +1,11 @@
 -- What a query leaves, however it ends: of a file of ours, all as it was.
-use Rattle.std.proofs.Common.{◌≡◌, ◌⊎◌, inl, inr, List, ℕ, Option, Some, None, Ok, Err, Result, IfOk, OnOk, IfErr, IsTrue, true, false, cond, sym, ap, subst, ◌∙◌}
+use Rattle.std.proofs.Common.{◌≡◌, ◌⊎◌, inl, inr, List, ℕ, Option, Some, None, Ok, Err, Result, IfOk, OnOk, IfErr, IsTrue, false, cond, sym, ap, subst, ◌∙◌}
 use Rattle.std.specs.declared.alloc.Global.{Global}
 use Rattle.std.specs.Prelude.{Vec}
-use Rattle.sqlite_trees.specs.Tree.{Trees}
 use Rattle.sqlite_value.specs.Order.{Row}
 use Rattle.sqlite_schema.specs.declared.command.Returning.{Returning}
-use Rattle.sqlite_schema.specs.declared.schema.Schema.{Schema}
 use Rattle.sqlite.specs.declared.error.Error.{Error}
 use Rattle.sqlite.specs.Clock.{timed}
-use Rattle.sqlite.specs.Effect.{Database}
 use Rattle.sqlite.specs.Listing.{understood}
 use Rattle.sqlite.specs.State.{State, HasCleanDisk, IsUnchanged, IsRolledBack, IsNotRun, Shown, ShowsRows, FailsToQuery, FailsToShow, Survives, CommitsShowing}
 use Rattle.sqlite.proofs.Callers.{IsPlain, never_commits}

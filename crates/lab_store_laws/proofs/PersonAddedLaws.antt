@@ -22,6 +22,7 @@ use Rattle.lab_store_tables.specs.Meaning.{lab_in, has_code, meaning, code_of, p
 use Rattle.lab_store_tables.specs.WellKept.{AreWellKept}
 use Rattle.lab_store_tables.specs.Changes.{IsFree, IsNamedIfAny, is_person, asker_of, person_row_of, put_person, Applies}
 use Rattle.lab_store_tables.specs.Held.{AreRising}
+use Rattle.lab_store_tables.specs.Family.{Persons}
 use Rattle.lab_store_laws.proofs.SortLaws.{all_sorted}
 use Rattle.lab_store_laws.proofs.LevelLaws.{other_has, own_has, placed_among}
 use Rattle.lab_store_laws.proofs.NumberLaws.{each_admitted}
@@ -97,7 +98,7 @@ module _ (t : Tables) (rising : AreRising t) (own : AreOwn t) (whole : AreWhole 
 
   own_persons : persons_of after row.id ≡ added_person person (persons_of t row.id)
   own_persons =
-      own_has person_id lab_of by_code code_total (person_in after) t.persons rising.persons new free row.id (alike row.id row.id refl) untied
+      own_has person_id lab_of by_code code_total (person_in after) t.persons (rising.at Persons) new free row.id (alike row.id row.id refl) untied
       ∙ placed_among by_code (person_in after) (λ (one : Person). comes_before person.code one.code) new
       (sort_by by_code (filter (mine row.id) t.persons)) placed
       ∙ ap₂ (λ list one. insert list (position_or_len (λ (x : Person). comes_before person.code x.code) list) one)
@@ -109,7 +110,7 @@ module _ (t : Tables) (rising : AreRising t) (own : AreOwn t) (whole : AreWhole 
       go : (b : Bool) → int_eq lab row.id ≡ b → persons_of after lab ≡ cond b (added_person person (persons_of t lab)) (persons_of t lab)
       go true e = subst (λ l. persons_of after l ≡ added_person person (persons_of t l)) (sym (same_int lab row.id e)) own_persons
       go false e =
-          other_has person_id lab_of by_code code_total (person_in after) t.persons rising.persons new free lab (turned lab row.id e)
+          other_has person_id lab_of by_code code_total (person_in after) t.persons (rising.at Persons) new free lab (turned lab row.id e)
           ∙ persons_seen t people whole codes lab
 
   by_case : (lab : LabRow) → lab_in after lab ≡ cond (int_eq lab.id row.id) (change (lab_in t lab) (PersonAdded person)) (lab_in t lab)

@@ -16,6 +16,7 @@ use Rattle.lab_store_tables.specs.Meaning.{lab_in, has_code, meaning, by_version
 use Rattle.lab_store_tables.specs.WellKept.{AreWellKept}
 use Rattle.lab_store_tables.specs.Changes.{IsFree, InTurn, AddsVersion, form_named, record_row_of, put_record, in_lab, Applies}
 use Rattle.lab_store_tables.specs.Held.{AreRising}
+use Rattle.lab_store_tables.specs.Family.{Records, Versions, Entries}
 use Rattle.lab_store_laws.proofs.NumberLaws.{length_sorted, numbered_last}
 use Rattle.lab_store_laws.proofs.LevelLaws.{had_by}
 use Rattle.lab_store_laws.proofs.LabLaws.{alike}
@@ -47,8 +48,8 @@ module _ (t : Tables) (rising : AreRising t) (well : AreWellKept t) (code : List
   may : MayOpen start
   may = record {
     persons = parts.ids.persons;
-    versions = rising.versions;
-    entries = rising.entries;
+    versions = (rising.at Versions);
+    entries = (rising.at Entries);
     numbers = parts.numbers.versions;
     entry_parents = parts.arrows.entries;
     signature_parents = parts.arrows.signatures;
@@ -122,7 +123,7 @@ module _ (t : Tables) (rising : AreRising t) (well : AreWellKept t) (code : List
         ≡ cond (int_eq lab row.id) (records_of t of lab ++ record_in uncounted of new ∷ []) (records_of t of lab)
     records_more of lab =
         numbered_last record_id (λ (one : RecordRow). one.lab) (λ (one : RecordRow). one.number) (record_in uncounted of) t.records
-        rising.records parts.numbers.records new free next lab
+        (rising.at Records) parts.numbers.records new free next lab
         ∙ ap (λ had. cond (int_eq lab row.id) (had ++ record_in uncounted of new ∷ []) had) (old_records of lab)
 
     its_records : records_of uncounted row.code row.id ≡ records_of t row.code row.id ++ kept ∷ []

@@ -1,10 +1,9 @@
 -- A session more: its laboratory has it behind the others, under the next number, and no other laboratory sees it.
-use Rattle.std.proofs.Common.{◌≡◌, ℕ, ◌+◌, ℤ, Bool, true, false, ◌&&◌, cond, List, [], ◌∷◌, ◌++◌, map, filter, find, length, Option, Some, refl, sym, ap, subst, ◌∙◌, int_eq}
+use Rattle.std.proofs.Common.{◌≡◌, ℕ, ◌+◌, ℤ, Bool, true, false, cond, List, [], ◌∷◌, ◌++◌, filter, find, length, Some, refl, sym, ap, subst, ◌∙◌, int_eq}
 use Rattle.std.proofs.lemmas.Bool.{and_parts}
 use Rattle.std.proofs.lemmas.List.{length-map}
 use Rattle.sqlite_keyed.specs.Lists.{sort_by}
 use Rattle.lab_people_access.specs.declared.sessions.Session.{Session}
-use Rattle.lab_records_kept.specs.declared.labs.Lab.{Lab}
 use Rattle.lab_records_kept.specs.declared.changes.Change.TheVariants.{SessionAdded}
 use Rattle.lab_records_kept.specs.Changes.{change}
 use Rattle.lab_records_kept.specs.Worlds.{Changes}
@@ -13,6 +12,7 @@ use Rattle.lab_store_tables.specs.Meaning.{lab_in, has_code, meaning, session_in
 use Rattle.lab_store_tables.specs.WellKept.{are_ids_unique, are_all_numbered}
 use Rattle.lab_store_tables.specs.Changes.{IsFree, person_named, session_row_of, put_session, in_lab, Applies}
 use Rattle.lab_store_tables.specs.Held.{AreRising}
+use Rattle.lab_store_tables.specs.Family.{Sessions}
 use Rattle.lab_store_laws.proofs.NumberLaws.{length_sorted, numbered_last}
 use Rattle.lab_store_laws.proofs.LabLaws.{rows_counted}
 use Rattle.lab_store_laws.proofs.TrailLaws.{labs_own, persons_own, code_named}
@@ -35,7 +35,7 @@ module _ (t : Tables) (rising : AreRising t) (ids : are_ids_unique t ≡ true) (
 
   sessions_law : (lab : ℤ) → sessions_of (put_session new t) lab ≡ cond (int_eq lab row.id) (sessions_of t lab ++ session ∷ []) (sessions_of t lab)
   sessions_law lab =
-      numbered_last session_id (λ (one : SessionRow). one.lab) (λ (one : SessionRow). one.number) (session_in t) t.sessions rising.sessions
+      numbered_last session_id (λ (one : SessionRow). one.lab) (λ (one : SessionRow). one.number) (session_in t) t.sessions (rising.at Sessions)
       (and_parts _ _ (and_parts _ _ (and_parts _ _ (and_parts _ _ (and_parts _ _ (and_parts _ _ (and_parts _ _ (and_parts _ _ numbered).0).0).0).0).0).0).0).0 new free next_row lab
       ∙ ap (λ one. cond (int_eq lab row.id) (sessions_of t lab ++ one ∷ []) (sessions_of t lab)) session_back
 

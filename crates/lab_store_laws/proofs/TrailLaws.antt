@@ -1,30 +1,23 @@
 -- A row more in the trail: its laboratory has it behind the others, under the next number, and no other laboratory sees it.
-use Rattle.std.proofs.Common.{◌≡◌, ◌≤◌, ◌<◌, ◌≢◌, inl, inr, ℕ, ◌+◌, ℤ, Bool, true, false, ◌&&◌, ◌==◌, cond, List, [], ◌∷◌, ◌++◌, map, filter, find, length, Option, Some, None, option_map, unwrap_or, refl, sym, ap, subst, ◌∙◌, int_eq, int_cmp, bytes_eq, is_gt, is_eq, Ordering, arith}
-use Rattle.std.specs.Prelude.{nat_le}
-use Rattle.std.specs.Ordering.{nat_cmp}
-use Rattle.std.specs.Cmp.{IsTotalOrder}
-use Rattle.std.specs.List.{list_all, AllByRecursion}
-use Rattle.std.proofs.lemmas.Int.{ints}
+use Rattle.std.proofs.Common.{◌≡◌, inl, inr, ℕ, ◌+◌, ℤ, Bool, true, false, ◌&&◌, cond, List, [], ◌∷◌, ◌++◌, filter, find, length, Option, Some, None, option_map, unwrap_or, refl, sym, ap, subst, ◌∙◌, int_eq, bytes_eq}
 use Rattle.std.proofs.lemmas.Bool.{and_parts}
-use Rattle.std.proofs.lemmas.Cmp.{nat_cmp_total}
 use Rattle.std.proofs.lemmas.List.{length-map}
 use Rattle.sqlite_rules.specs.Lists.{Has}
 use Rattle.sqlite_rules.proofs.ListLemmas.{has_found}
-use Rattle.sqlite_keyed.specs.Keyed.{IsKeyedBy, get_by}
-use Rattle.sqlite_keyed.specs.Lists.{insert_sorted, sort_by}
+use Rattle.sqlite_keyed.specs.Keyed.{get_by}
+use Rattle.sqlite_keyed.specs.Lists.{sort_by}
 use Rattle.sqlite_keyed.specs.Rules.{AreApart}
-use Rattle.sqlite_keyed.proofs.ListLemmas.{all_from_test, all_weaker}
 use Rattle.sqlite_keyed.proofs.KeyedLemmas.{same_int}
 use Rattle.lab_records_kept.specs.declared.trails.TrailRow.{TrailRow as Told}
-use Rattle.lab_records_kept.specs.declared.labs.Lab.{Lab}
 use Rattle.lab_records_kept.specs.declared.changes.Change.TheVariants.{TrailAdded}
 use Rattle.lab_records_kept.specs.Changes.{change}
 use Rattle.lab_records_kept.specs.Worlds.{Changes}
 use Rattle.lab_store_tables.specs.Rows.{LabRow, PersonRow, TrailRow, Tables, lab_id, person_id, trail_id}
 use Rattle.lab_store_tables.specs.Meaning.{lab_in, has_code, meaning, code_of, told_in, by_trail, trail_of}
-use Rattle.lab_store_tables.specs.WellKept.{have_own_ids, are_ids_unique, are_numbered, are_all_numbered}
-use Rattle.lab_store_tables.specs.Changes.{IsFree, IsNamedIfAny, person_named, is_person, told_row_of, put_told, in_lab, AddsTold, Applies}
+use Rattle.lab_store_tables.specs.WellKept.{have_own_ids, are_ids_unique, are_all_numbered}
+use Rattle.lab_store_tables.specs.Changes.{IsFree, IsNamedIfAny, person_named, is_person, told_row_of, put_told, in_lab, Applies}
 use Rattle.lab_store_tables.specs.Held.{AreRising}
+use Rattle.lab_store_tables.specs.Family.{Trail}
 use Rattle.lab_store_laws.proofs.Bridges.{apart_from_test}
 use Rattle.lab_store_laws.proofs.ColumnsBack.{action_back}
 use Rattle.lab_store_laws.proofs.NumberLaws.{length_sorted, numbered_last}
@@ -95,7 +88,7 @@ module _ (t : Tables) (rising : AreRising t) (ids : are_ids_unique t ≡ true) (
 
   trail_law : (lab : ℤ) → trail_of (put_told new t) lab ≡ cond (int_eq lab row.id) (trail_of t lab ++ told ∷ []) (trail_of t lab)
   trail_law lab =
-      numbered_last trail_id (λ (one : TrailRow). one.lab) (λ (one : TrailRow). one.number) (told_in t) t.trail rising.trail (and_parts _ _ numbered).1 new free next_row lab
+      numbered_last trail_id (λ (one : TrailRow). one.lab) (λ (one : TrailRow). one.number) (told_in t) t.trail (rising.at Trail) (and_parts _ _ numbered).1 new free next_row lab
       ∙ ap (λ one. cond (int_eq lab row.id) (trail_of t lab ++ one ∷ []) (trail_of t lab)) told_back
 
   -- ---- the laboratory, whose counter follows

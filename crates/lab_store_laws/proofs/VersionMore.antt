@@ -14,6 +14,7 @@ use Rattle.lab_store_tables.specs.Meaning.{Leaf, entry_in, by_entry, entries_of,
 use Rattle.lab_store_tables.specs.WellKept.{have_own_ids, have_parents, are_numbered}
 use Rattle.lab_store_tables.specs.Changes.{InTurn, AddsSignature, AddsVersion, version_row_of, put_version}
 use Rattle.lab_store_tables.specs.Held.{AreRising}
+use Rattle.lab_store_tables.specs.Family.{Versions, Entries}
 use Rattle.lab_store_laws.proofs.ColumnsBack.{format_back}
 use Rattle.lab_store_laws.proofs.LabLaws.{alike}
 use Rattle.lab_store_laws.proofs.LevelLaws.{had_by}
@@ -71,8 +72,8 @@ pub record MayOpen (t : Tables) : Type 0 where
 pub may_open : (t : Tables) → AreRising t → KeptParts t → MayOpen t
 may_open t rising parts = record {
   persons = parts.ids.persons;
-  versions = rising.versions;
-  entries = rising.entries;
+  versions = (rising.at Versions);
+  entries = (rising.at Entries);
   numbers = parts.numbers.versions;
   entry_parents = parts.arrows.entries;
   signature_parents = parts.arrows.signatures;

@@ -2,4 +2,3 @@ pub mod ByRules
 pub mod Chain
 pub mod Founding
 pub mod Steps
-pub mod Stored

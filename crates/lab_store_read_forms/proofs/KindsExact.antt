@@ -10,6 +10,7 @@ use Rattle.sqlite.proofs.Callers.{reads_as}
 use Rattle.lab_store_tables.specs.Schema.{lab_schema}
 use Rattle.lab_store_tables.specs.Rows.{ChoiceRow, tables_in, choice_row, choice_id}
 use Rattle.lab_store_tables.specs.Ready.{IsKept}
+use Rattle.lab_store_tables.specs.Family.{Choices}
 use Rattle.lab_store_columns.proofs.Lists.{untied_in}
 use Rattle.lab_store_columns.proofs.Sorted.{equal_ints, and_true, by_one, own_rows}
 use Rattle.lab_store_columns.proofs.Texts.{is_param}
@@ -24,7 +25,7 @@ names_read old new field rows kept h =
     let db = overlay old.now.trees [] in
     let t = tables_in old.now.trees in
     let read = reads_as name_text params old new lab_schema typed.schema _ name_means.command name_means.plain name_means.unlisted rows h in
-    own_rows db 13 choice_row choice_id t.choices typed.choices typed.rising.choices (λ x. int_eq x.field field) (λ one other. nat_cmp one.place other.place)
+    own_rows db 13 choice_row choice_id t.choices (typed.stored.at Choices) (typed.rising.at Choices) (λ x. int_eq x.field field) (λ one other. nat_cmp one.place other.place)
     (untied_in (λ (x : ChoiceRow). x.field) (λ (x : ChoiceRow). x.place) field t.choices (choices_apart t kept.rows))
     (is_param 2 0 ∷ []) (col 1 4 ∷ []) 3 params name_shown (λ x. Int (pos x.place))
     (λ x. and_true _ ∙ equal_ints x.field field) (λ x. refl) (λ x. refl) (λ a b. by_one a.place b.place) rows (read.answer Null)

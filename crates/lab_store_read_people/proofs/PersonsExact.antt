@@ -13,6 +13,7 @@ use Rattle.lab_store_tables.specs.Rows.{PersonRow, tables_in, person_row, person
 use Rattle.lab_store_tables.specs.Ready.{IsKept}
 use Rattle.lab_store_tables.specs.Changes.{is_person}
 use Rattle.lab_store_tables.specs.Meaning.{persons_of}
+use Rattle.lab_store_tables.specs.Family.{Persons}
 use Rattle.lab_store_columns.proofs.Texts.{is_param}
 use Rattle.lab_store_columns.proofs.Sorted.{equal_ints, equal_texts, and_true, only_answer, own_rows}
 use Rattle.lab_store_read_people.specs.PersonsShown.{person_shown, person_shown_by, persons_shown}
@@ -31,7 +32,7 @@ person_rows_read old new lab code rows kept h =
     let db = overlay old.now.trees [] in
     let t = tables_in old.now.trees in
     let read = reads_as person_text params old new lab_schema typed.schema _ person_means.command person_means.plain person_means.unlisted rows h in
-    only_answer person_query db params (last_table db 3 person_row person_id t.persons typed.persons typed.rising.persons (at_end db)) (is_person lab code)
+    only_answer person_query db params (last_table db 3 person_row person_id t.persons (typed.stored.at Persons) (typed.rising.at Persons) (at_end db)) (is_person lab code)
     (λ x. ap₂ ◌&&◌ (equal_ints x.lab lab) (and_true _ ∙ equal_texts x.code code)) refl refl
     (alone_texts (λ (x : PersonRow). x.lab) (λ (x : PersonRow). x.code) lab code t.persons (persons_apart t kept.rows)) rows (read.answer Null)
 
@@ -42,7 +43,7 @@ persons_rows_read old new lab rows kept h =
     let db = overlay old.now.trees [] in
     let t = tables_in old.now.trees in
     let read = reads_as persons_text params old new lab_schema typed.schema _ persons_means.command persons_means.plain persons_means.unlisted rows h in
-    own_rows db 3 person_row person_id t.persons typed.persons typed.rising.persons (λ x. int_eq x.lab lab) (λ one other. slice_cmp nat_cmp one.code other.code)
+    own_rows db 3 person_row person_id t.persons (typed.stored.at Persons) (typed.rising.at Persons) (λ x. int_eq x.lab lab) (λ one other. slice_cmp nat_cmp one.code other.code)
     (untied_texts (λ (x : PersonRow). x.lab) (λ (x : PersonRow). x.code) lab t.persons (persons_apart t kept.rows))
     (is_param 2 0 ∷ []) person_columns 3 params person_shown (λ x. Text x.code)
     (λ x. and_true _ ∙ equal_ints x.lab lab) (λ x. refl) (λ x. refl) (λ a b. by_text a.code b.code) rows (read.answer Null)
@@ -55,6 +56,6 @@ counts_read old new lab rows kept h =
     let db = overlay old.now.trees [] in
     let t = tables_in old.now.trees in
     let read = reads_as count_text params old new lab_schema typed.schema _ count_means.command count_means.plain count_means.unlisted rows h in
-    count_answer count_query db params (last_table db 3 person_row person_id t.persons typed.persons typed.rising.persons (at_end db)) (λ x. int_eq x.lab lab)
+    count_answer count_query db params (last_table db 3 person_row person_id t.persons (typed.stored.at Persons) (typed.rising.at Persons) (at_end db)) (λ x. int_eq x.lab lab)
     (λ x. and_true _ ∙ equal_ints x.lab lab) refl refl refl rows (read.answer Null)
     ∙ ap count_shown (persons_counted t lab)

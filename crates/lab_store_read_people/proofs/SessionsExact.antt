@@ -15,6 +15,7 @@ use Rattle.lab_store_tables.specs.Schema.{lab_schema}
 use Rattle.lab_store_tables.specs.Rows.{PersonRow, SessionRow, tables_in, person_row, person_id, session_row, session_id, number, flag}
 use Rattle.lab_store_tables.specs.Ready.{IsKept}
 use Rattle.lab_store_tables.specs.Changes.{is_session}
+use Rattle.lab_store_tables.specs.Family.{Persons, Sessions}
 use Rattle.lab_store_columns.proofs.Sorted.{equal_ints, and_true, only_answer}
 use Rattle.lab_store_columns.proofs.Lists.{at_id, joined, alone_texts}
 use Rattle.lab_store_read_people.specs.SessionsShown.{sessions_shown}
@@ -53,8 +54,8 @@ sessions_read old new lab token rows kept h =
     let t = tables_in old.now.trees in
     let mine = is_session lab token in
     let lead = λ (x : SessionRow). let both : SessionRow × PersonRow = (x, at_id person_id no_person t.persons x.person) in both in
-    let source = next_table db 5 session_row session_id t.sessions typed.sessions typed.rising.sessions (last_table db 3 person_row person_id t.persons typed.persons typed.rising.persons (at_end db)) in
-    let found = joined person_id no_person mine (λ x. x.person) t.persons typed.rising.persons t.sessions (workers t kept.rows) in
+    let source = next_table db 5 session_row session_id t.sessions (typed.stored.at Sessions) (typed.rising.at Sessions) (last_table db 3 person_row person_id t.persons (typed.stored.at Persons) (typed.rising.at Persons) (at_end db)) in
+    let found = joined person_id no_person mine (λ x. x.person) t.persons (typed.rising.at Persons) t.sessions (workers t kept.rows) in
     let alone = alone_texts (λ (x : SessionRow). x.lab) (λ (x : SessionRow). x.token) lab token t.sessions (tokens_apart t kept.rows) in
     let short : length (filter (λ (a : SessionRow × PersonRow). mine a.0 && int_eq a.1.id a.0.person) (pairs t.sessions t.persons)) ≤ 1 =
     let same = ap length found ∙ length-map (filter mine t.sessions) lead in omega (arith, same, alone) in

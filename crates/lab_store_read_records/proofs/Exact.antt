@@ -20,6 +20,7 @@ use Rattle.lab_store_tables.specs.Schema.{lab_schema}
 use Rattle.lab_store_tables.specs.Rows.{LabRow, RecordRow, PersonRow, EntryRow, tables_in, lab_row, record_row, person_row, version_row, entry_row, signature_row, lab_id, record_id, person_id, version_id, entry_id, signature_id, number, optional}
 use Rattle.lab_store_tables.specs.Meaning.{has_code, code_of}
 use Rattle.lab_store_tables.specs.Ready.{IsKept}
+use Rattle.lab_store_tables.specs.Family.{Labs, Persons, Records, Versions, Entries, Signatures}
 use Rattle.lab_store_read_records.specs.Heads.{is_record}
 use Rattle.lab_store_read_records.specs.Shown.{labs_shown, records_shown, own_entry_shown, own_entries_shown, signatures_shown, versions_shown}
 use Rattle.lab_store_read_records.proofs.Keys.{labs_apart, records_apart, versions_apart, entries_apart, signatures_apart, openers, signers}
@@ -35,7 +36,7 @@ labs_read old new code rows kept h =
     let db = overlay old.now.trees [] in
     let xs = (tables_in old.now.trees).labs in
     let read = reads_as lab_text params old new lab_schema typed.schema _ lab_means.command lab_means.plain lab_means.unlisted rows h in
-    only_answer lab_query db params (last_table db 1 lab_row lab_id xs typed.labs typed.rising.labs (at_end db)) (has_code code) (λ x. and_true _ ∙ equal_texts x.code code) refl refl
+    only_answer lab_query db params (last_table db 1 lab_row lab_id xs (typed.stored.at Labs) (typed.rising.at Labs) (at_end db)) (has_code code) (λ x. and_true _ ∙ equal_texts x.code code) refl refl
     (alone_text (λ (x : LabRow). x.code) code xs (labs_apart (tables_in old.now.trees) kept.rows)) rows (read.answer Null)
 
 pub records_read : (old new : State) (lab : ℤ) (wanted : ℕ) (rows : List Row) → IsKept old.now → Shown record_text (Int lab ∷ Int (pos wanted) ∷ []) old new rows → rows ≡ records_shown (tables_in old.now.trees) lab wanted
@@ -45,7 +46,7 @@ records_read old new lab wanted rows kept h =
     let db = overlay old.now.trees [] in
     let xs = (tables_in old.now.trees).records in
     let read = reads_as record_text params old new lab_schema typed.schema _ record_means.command record_means.plain record_means.unlisted rows h in
-    only_answer record_query db params (last_table db 15 record_row record_id xs typed.records typed.rising.records (at_end db)) (is_record lab wanted)
+    only_answer record_query db params (last_table db 15 record_row record_id xs (typed.stored.at Records) (typed.rising.at Records) (at_end db)) (is_record lab wanted)
     (λ x. ap₂ ◌&&◌ (equal_ints x.lab lab) (and_true _ ∙ equal_numbers x.number wanted)) refl refl
     (alone_numbers (λ (x : RecordRow). x.lab) (λ (x : RecordRow). x.number) lab wanted xs (records_apart (tables_in old.now.trees) kept.rows)) rows (read.answer Null)
 
@@ -102,7 +103,7 @@ entries_read old new version rows kept h =
     let db = overlay old.now.trees [] in
     let t = tables_in old.now.trees in
     let read = reads_as entry_text params old new lab_schema typed.schema _ entry_means.command entry_means.plain entry_means.unlisted rows h in
-    own_rows db 20 entry_row entry_id t.entries typed.entries typed.rising.entries (λ x. int_eq x.version version) (λ one other. nat_cmp one.place other.place)
+    own_rows db 20 entry_row entry_id t.entries (typed.stored.at Entries) (typed.rising.at Entries) (λ x. int_eq x.version version) (λ one other. nat_cmp one.place other.place)
     (untied_in (λ (x : EntryRow). x.version) (λ (x : EntryRow). x.place) version t.entries (entries_apart t kept.rows))
     (is_param 2 0 ∷ []) entry_columns 3 params own_entry_shown (λ x. Int (pos x.place))
     (λ x. and_true _ ∙ equal_ints x.version version) (λ x. refl) (λ x. refl) (λ a b. by_one a.place b.place) rows (read.answer Null)
@@ -114,7 +115,7 @@ signatures_read old new version rows kept h =
     let db = overlay old.now.trees [] in
     let t = tables_in old.now.trees in
     let read = reads_as signature_text params old new lab_schema typed.schema _ signature_means.command signature_means.plain signature_means.unlisted rows h in
-    children db 22 signature_row signature_id t.signatures typed.signatures typed.rising.signatures typed.persons typed.rising.persons (λ x. x.version) (λ x. x.place) (λ x. x.person)
+    children db 22 signature_row signature_id t.signatures (typed.stored.at Signatures) (typed.rising.at Signatures) (typed.stored.at Persons) (typed.rising.at Persons) (λ x. x.version) (λ x. x.place) (λ x. x.person)
     (signatures_apart t kept.rows) (signers t kept.rows) no_person refl (child_tests 4) signature_columns 3 version params
     (λ x code. Text code ∷ Text x.name ∷ Text x.meaning ∷ optional Text x.reason ∷ number x.moment ∷ Blob x.digest ∷ Blob x.seal ∷ [])
     (λ x p. ap₂ ◌&&◌ (equal_ints x.version version) (and_true _ ∙ equal_ints p.id x.person)) (λ x p. refl) (λ x. refl) rows (read.answer Null)
@@ -126,7 +127,7 @@ versions_read old new id rows kept h =
     let db = overlay old.now.trees [] in
     let t = tables_in old.now.trees in
     let read = reads_as version_text params old new lab_schema typed.schema _ version_means.command version_means.plain version_means.unlisted rows h in
-    children db 18 version_row version_id t.versions typed.versions typed.rising.versions typed.persons typed.rising.persons (λ x. x.kept) (λ x. x.number) (λ x. x.opener)
+    children db 18 version_row version_id t.versions (typed.stored.at Versions) (typed.rising.at Versions) (typed.stored.at Persons) (typed.rising.at Persons) (λ x. x.kept) (λ x. x.number) (λ x. x.opener)
     (versions_apart t kept.rows) (openers t kept.rows) no_person refl (child_tests 5) version_columns 3 id params
     (λ x code. Int x.id ∷ number x.number ∷ number x.format ∷ Text code ∷ number x.opened ∷ optional Text x.reason ∷ [])
     (λ x p. ap₂ ◌&&◌ (equal_ints x.kept id) (and_true _ ∙ equal_ints p.id x.opener)) (λ x p. refl) (λ x. refl) rows (read.answer Null)

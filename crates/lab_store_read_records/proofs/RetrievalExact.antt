@@ -9,6 +9,7 @@ use Rattle.sqlite.proofs.Callers.{reads_as}
 use Rattle.lab_store_tables.specs.Schema.{lab_schema}
 use Rattle.lab_store_tables.specs.Rows.{RecordRow, tables_in, record_row, record_id}
 use Rattle.lab_store_tables.specs.Ready.{IsKept}
+use Rattle.lab_store_tables.specs.Family.{Records}
 use Rattle.std.specs.Ordering.{nat_cmp}
 use Rattle.lab_records_kept.specs.Lookups.{is_within}
 use Rattle.lab_store_read_records.specs.Shown.{record_shown}
@@ -30,7 +31,7 @@ abouts_read old new lab form sample rows kept h =
     let db = overlay old.now.trees [] in
     let xs = (tables_in old.now.trees).records in
     let read = reads_as about_text params old new lab_schema typed.schema _ about_means.command about_means.plain about_means.unlisted rows h in
-    only_answer about_query db params (last_table db 15 record_row record_id xs typed.records typed.rising.records (at_end db)) (is_about lab form sample)
+    only_answer about_query db params (last_table db 15 record_row record_id xs (typed.stored.at Records) (typed.rising.at Records) (at_end db)) (is_about lab form sample)
     (λ x. ap₂ ◌&&◌ (equal_ints x.lab lab) (ap₂ ◌&&◌ (equal_texts x.form_code form) (and_true _ ∙ equal_texts x.sample sample))) refl refl
     (alone_key (λ (x : RecordRow). x.lab) (λ (x : RecordRow). x.form_code) (λ (x : RecordRow). x.sample) lab form sample xs (samples_apart (tables_in old.now.trees) kept.rows))
     rows (read.answer Null)
@@ -43,7 +44,7 @@ within_read old new lab from to rows kept h =
     let db = overlay old.now.trees [] in
     let t = tables_in old.now.trees in
     let read = reads_as within_text params old new lab_schema typed.schema _ within_means.command within_means.plain within_means.unlisted rows h in
-    own_rows db 15 record_row record_id t.records typed.records typed.rising.records (is_record_within lab from to) (λ one other. nat_cmp one.number other.number)
+    own_rows db 15 record_row record_id t.records (typed.stored.at Records) (typed.rising.at Records) (is_record_within lab from to) (λ one other. nat_cmp one.number other.number)
     (untied_also (λ (x : RecordRow). x.lab) (λ (x : RecordRow). x.number) (λ (x : RecordRow). is_within from to x.number) lab t.records (records_apart t kept.rows))
     (is_param 2 0 ∷ range_tests 3) within_columns 3 params record_shown (λ x. Int (pos x.number))
     (λ x. ap₂ ◌&&◌ (equal_ints x.lab lab) (ap₂ ◌&&◌ (from_number x.number from) (and_true _ ∙ to_number x.number to))) (λ x. refl) (λ x. refl)

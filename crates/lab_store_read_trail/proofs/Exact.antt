@@ -9,6 +9,7 @@ use Rattle.sqlite.proofs.Callers.{reads_as}
 use Rattle.lab_store_tables.specs.Schema.{lab_schema}
 use Rattle.lab_store_tables.specs.Rows.{TrailRow, tables_in, trail_row, trail_id}
 use Rattle.lab_store_tables.specs.Ready.{IsKept}
+use Rattle.lab_store_tables.specs.Family.{Trail}
 use Rattle.lab_store_columns.proofs.Texts.{is_param, range_tests}
 use Rattle.lab_records_kept.specs.Lookups.{is_within}
 use Rattle.lab_store_columns.proofs.Lists.{untied_also}
@@ -26,7 +27,7 @@ told_rows_read old new lab from to rows kept h =
     let db = overlay old.now.trees [] in
     let t = tables_in old.now.trees in
     let read = reads_as told_text params old new lab_schema typed.schema _ told_means.command told_means.plain told_means.unlisted rows h in
-    own_rows db 25 trail_row trail_id t.trail typed.trail typed.rising.trail (is_told_within lab from to) (λ one other. nat_cmp one.number other.number)
+    own_rows db 25 trail_row trail_id t.trail (typed.stored.at Trail) (typed.rising.at Trail) (is_told_within lab from to) (λ one other. nat_cmp one.number other.number)
     (untied_also (λ (x : TrailRow). x.lab) (λ (x : TrailRow). x.number) (λ (x : TrailRow). is_within from to x.number) lab t.trail (told_apart t kept.rows))
     (is_param 2 0 ∷ range_tests 3) told_columns 3 params told_shown (λ x. Int (pos x.number))
     (λ x. ap₂ ◌&&◌ (equal_ints x.lab lab) (ap₂ ◌&&◌ (from_number x.number from) (and_true _ ∙ to_number x.number to))) (λ x. refl) (λ x. refl)

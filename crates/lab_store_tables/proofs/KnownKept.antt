@@ -1,7 +1,7 @@
 -- What changes and foundings make of the small file is well kept, as the small file is.
-use Rattle.std.proofs.Common.{◌≡◌, ℕ, pos, true, false, List, [], ◌∷◌, Some, None, refl, ap, arith}
+use Rattle.std.proofs.Common.{◌≡◌, ℕ, pos, false, None, refl, ap, arith}
 use Rattle.std.specs.Prelude.{codes}
-use Rattle.lab_store_tables.specs.Rows.{PersonRow, PasswordColumns, Tables}
+use Rattle.lab_store_tables.specs.Rows.{PersonRow, PasswordColumns}
 use Rattle.lab_store_tables.specs.WellKept.{IsWellKept, IsPersonSpelled}
 use Rattle.lab_store_tables.proofs.KnownFile.{file, person, unset, unasked}
 use Rattle.lab_store_tables.proofs.KnownChanges.{later, entered, entered_later, eve_locked, enrolled, closed, opened, formed, reopened, signed, noted, opened_record, used, strayed}

@@ -4,7 +4,6 @@ use Rattle.std.proofs.Common.{◌≡◌, ℕ, pos, true, false, List, [], ◌∷
 use Rattle.std.specs.Prelude.{codes}
 use Rattle.lab_people_access.specs.declared.passwords.Password.TheVariants.{Unset}
 use Rattle.lab_people_access.specs.declared.persons.Person.{Person}
-use Rattle.lab_people_access.specs.declared.sessions.Session.{Session}
 use Rattle.lab_seal_versions.specs.declared.versions.Format.TheVariants as format
 use Rattle.lab_forms.specs.declared.kinds.Kind.TheVariants.{Choice}
 use Rattle.lab_seal_versions.specs.declared.seals.Meaning.TheVariants.{Authorship}

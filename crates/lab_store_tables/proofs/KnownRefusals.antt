@@ -1,8 +1,7 @@
 -- Changes that name somebody or something that isn't there make nothing of the small file, whatever it
 -- would be: brick's `max` is nobody to aqua, and what brick has is nothing to aqua.
-use Rattle.std.proofs.Common.{◌≡◌, ℕ, ℤ, pos, Bool, true, false, List, [], ◌∷◌, Option, Some, None, unwrap_or, ap, subst, sym}
+use Rattle.std.proofs.Common.{◌≡◌, pos, true, false, [], Some, None, unwrap_or, ap, subst, sym}
 use Rattle.std.specs.Prelude.{codes}
-use Rattle.lab_people_access.specs.declared.passwords.Password.TheVariants.{Unset}
 use Rattle.lab_people_access.specs.declared.persons.Person.{Person}
 use Rattle.lab_people_access.specs.declared.sessions.Session.{Session}
 use Rattle.lab_seal_versions.specs.declared.rows.EntryRow.{EntryRow as Entry}
@@ -16,7 +15,7 @@ use Rattle.lab_store_tables.specs.Rows.{RecordRow, Tables, person_id}
 use Rattle.lab_store_tables.specs.Changes.{IsFree, version_named, AddsPerson, SetsPerson, AddsSession, SetsSession, AddsRecord, EntersRow, OpensVersion, SignsVersion, AddsTold, Applies}
 use Rattle.lab_store_tables.specs.Placing.{PlacesLab}
 use Rattle.lab_store_tables.proofs.KnownFile.{filled, file, filed}
-use Rattle.lab_store_tables.proofs.KnownValues.{aqua, aqua_record, older_version, verifier}
+use Rattle.lab_store_tables.proofs.KnownValues.{aqua, aqua_record, verifier}
 use Rattle.lab_store_tables.proofs.KnownChanges.{bob, amended}
 
 none_is : {A : Type 0} (one : A) → None ≡ Some one → ⊥

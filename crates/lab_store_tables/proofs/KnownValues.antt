@@ -25,7 +25,7 @@ use Rattle.lab_store_tables.specs.Rows.{DeskRow, LabRow, PersonRow, SessionRow, 
 use Rattle.lab_store_tables.specs.Meaning.{meaning}
 use Rattle.lab_store_tables.specs.WellKept.{are_ids_unique, are_keys_unique, are_arrows_whole, are_labs_apart, are_all_numbered, is_said_alike, is_desk, are_columns_whole}
 use Rattle.lab_store_tables.specs.Agree.{Agree}
-use Rattle.lab_store_tables.proofs.KnownFile.{filled, file, lab, person, session, form, filed, version, entry, signature, told, choice, desk, chosen, unasked, asked_by}
+use Rattle.lab_store_tables.proofs.KnownFile.{filled, file, lab, person, session, filed, version, entry, signature, told, choice, desk, chosen, unasked, asked_by}
 
 -- ---- what is expected
 

@@ -1,4 +1,5 @@
 pub mod SchemaValues
+pub mod SheetValues
 pub mod Tests
 pub mod KnownFile
 pub mod KnownRows

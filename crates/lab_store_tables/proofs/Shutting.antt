@@ -1,5 +1,5 @@
 -- A connection that a call shut had a fault of its disk: of one statement, of no call, and of one call and then another.
-use Rattle.std.proofs.Common.{◌≤◌, ◌⊎◌, inl, inr, ℕ, IsTrue, arith}
+use Rattle.std.proofs.Common.{◌≤◌, inl, inr, ℕ, arith}
 use Rattle.sqlite_trees.specs.Tree.{Trees}
 use Rattle.sqlite.specs.State.{State, HasCleanDisk, Survives}
 use Rattle.lab_records_kept.specs.Worlds.{HasFaulted}

@@ -1,5 +1,5 @@
 -- What a test of a file that comes out true says of its rows.
-use Rattle.std.proofs.Common.{◌≡◌, ℕ, ℤ, ◌<ℤ◌, Bool, true, false, ◌&&◌, List, [], ◌∷◌, map, IsTrue, refl, ap, Ordering, Less, Equal, Greater, int_cmp}
+use Rattle.std.proofs.Common.{◌≡◌, ℤ, ◌<ℤ◌, Bool, true, false, ◌&&◌, List, [], ◌∷◌, map, IsTrue, refl, ap, Ordering, Less, Equal, Greater, int_cmp}
 use Rattle.std.specs.List.{list_all, AllByRecursion}
 use Rattle.std.proofs.lemmas.Bool.{and_parts}
 use Rattle.sqlite_keyed.specs.Keyed.{IsKeyedBy}
@@ -7,7 +7,7 @@ use Rattle.sqlite_keyed.proofs.ListLemmas.{all_from_test, all_weaker}
 use Rattle.sqlite_keyed.proofs.KeyedLemmas.{lt_from_Less}
 use Rattle.lab_store_tables.specs.Rows.{PersonRow, FieldRow, SignatureRow, TrailRow, Tables}
 use Rattle.lab_store_tables.specs.Columns.{roles_in, roles_sum, password_in, password_columns, kind_in, kind_columns, meaning_in, reason_column, action_in}
-use Rattle.lab_store_tables.specs.WellKept.{are_ids_unique, are_keys_unique, are_arrows_whole, are_labs_apart, are_all_numbered, is_said_alike, is_desk, are_columns_whole, IsPersonSpelled, IsFieldSpelled, IsSignatureSpelled, IsTrailSpelled, IsWellKept}
+use Rattle.lab_store_tables.specs.WellKept.{are_ids_unique, are_keys_unique, are_arrows_whole, are_labs_apart, are_all_numbered, is_said_alike, is_desk, are_columns_whole, IsWellKept}
 use Rattle.lab_seal_versions.specs.Seals.{meaning_word}
 use Rattle.lab_records_kept.specs.Trails.{action_word}
 

@@ -1,3 +1,8 @@
+pub mod Values
+pub mod RowRecords
+pub mod Sheets
+pub mod Descriptions
+pub mod Family
 pub mod Schema
 pub mod Rows
 pub mod Columns

@@ -1,10 +1,11 @@
--- What a column holds stays as it is when it is stored there.
-use Rattle.std.proofs.Common.{◌≡◌, ℕ, ℤ, pos, Bool, true, false, List, [], ◌∷◌, Option, Some, None, refl}
-use Rattle.sqlite_value.specs.declared.value.Value.TheVariants.{Int, Blob as Bytes, Text as Words}
+-- What a column holds stays as it is when it is stored there: of one value, and of all columns of a table.
+use Rattle.std.proofs.Common.{◌≡◌, ℕ, ℤ, pos, Bool, true, false, List, [], ◌∷◌, map, Option, Some, None, refl}
+use Rattle.sqlite_value.specs.declared.value.Value.TheVariants.{Null, Int, Blob as Bytes, Text as Words}
 use Rattle.sqlite_schema.specs.declared.schema.Kind.TheVariants.{Integer, Text, Blob}
-use Rattle.sqlite_rules.specs.Cast.{cast, cast_row}
-use Rattle.lab_store_tables.specs.Schema as schema
-use Rattle.lab_store_tables.specs.Rows.{SessionRow, session_row, number, flag, optional}
+use Rattle.sqlite_rules.specs.Cast.{cast, cast_all, cast_row}
+use Rattle.lab_store_tables.specs.Values.{number, flag, optional}
+use Rattle.lab_store_tables.specs.Family.{Name, RowOf, kept, id_of, stored_row, table_in}
+use Rattle.lab_store_tables.specs.Sheets.{Kind, Id, Number, Flag, Words as InWords, Octets, Held, HeldIn, write, write_in, stored_kind, Described, Sheet, Cells, row_of, column_in, table_of}
 use Rattle.lab_store_write.proofs.Writes.{cast_int, cast_null}
 
 pub cast_flag : (one : Bool) → cast Integer (flag one) ≡ flag one
@@ -27,5 +28,38 @@ pub cast_blob : (one : Option (List ℕ)) → cast Blob (optional Bytes one) ≡
 cast_blob None = refl
 cast_blob (Some bytes) = refl
 
-pub session_stays : (one : SessionRow) → cast_row schema.sessions (session_row one) ≡ session_row one
-session_stays one = λ i. cast_int one.id i ∷ cast_null i ∷ cast_int one.lab i ∷ cast_int one.person i ∷ cast_int (pos one.number) i ∷ Bytes one.token ∷ cast_int (pos one.opened) i ∷ cast_int (pos one.last) i ∷ cast_flag one.closed i ∷ cast_flag one.signed i ∷ []
+-- ---- all columns of a table
+
+cast_one : (kind : Kind) (x : Held kind) → cast (stored_kind kind) (write kind x) ≡ write kind x
+cast_one Id n = cast_int n
+cast_one Number n = cast_int (pos n)
+cast_one Flag b = cast_flag b
+cast_one InWords t = refl
+cast_one Octets b = refl
+
+cast_none : (kind : Kind) → cast (stored_kind kind) Null ≡ Null
+cast_none Id = cast_null
+cast_none Number = cast_null
+cast_none Flag = cast_null
+cast_none InWords = refl
+cast_none Octets = refl
+
+cast_in : (needed : Bool) (kind : Kind) (x : HeldIn needed kind) → cast (stored_kind kind) (write_in needed kind x) ≡ write_in needed kind x
+cast_in true kind x = cast_one kind x
+cast_in false kind None = cast_none kind
+cast_in false kind (Some x) = cast_one kind x
+
+pub cast_cells : (cs : List Described) (x : Cells cs) → cast_all (map column_in cs) (row_of cs x) ≡ row_of cs x
+cast_cells [] x = refl
+cast_cells (c ∷ cs) x = λ i. cast_in c.needed c.kind x.0 i ∷ cast_cells cs x.1 i
+
+-- a row under its id, and one that is still to get an id
+pub cast_whole : (sheet : Sheet) (id : ℤ) (x : Cells sheet.columns) → cast_row (table_of sheet) (Int id ∷ Null ∷ row_of sheet.columns x) ≡ Int id ∷ Null ∷ row_of sheet.columns x
+cast_whole sheet id x = λ i. cast_int id i ∷ cast_null i ∷ cast_cells sheet.columns x i
+
+pub cast_new : (sheet : Sheet) (x : Cells sheet.columns) → cast_row (table_of sheet) (Null ∷ Null ∷ row_of sheet.columns x) ≡ Null ∷ Null ∷ row_of sheet.columns x
+cast_new sheet x = λ i. cast_null i ∷ cast_null i ∷ cast_cells sheet.columns x i
+
+-- a row of a table, as it stands there
+pub stays : (k : Name) (one : RowOf k) → cast_row (table_in k) (stored_row k one) ≡ stored_row k one
+stays k one = cast_whole (kept k).sheet (id_of k one) ((kept k).cells one)

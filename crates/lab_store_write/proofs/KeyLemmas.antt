@@ -10,6 +10,7 @@ use Rattle.sqlite.specs.State.{State, Shown}
 use Rattle.lab_store_tables.specs.Rows.{PersonRow, tables_in, person_row, person_id}
 use Rattle.lab_store_tables.specs.Changes.{is_person, person_named, IsNamedIfAny}
 use Rattle.lab_store_tables.specs.Held.{IsTyped}
+use Rattle.lab_store_tables.specs.Family.{Persons}
 use Rattle.lab_store_columns.proofs.Texts.{Means, is_param}
 use Rattle.lab_store_columns.proofs.Sorted.{equal_ints, equal_texts, and_true}
 use Rattle.lab_store_write.specs.Calls.{Steps, Finds}
@@ -33,7 +34,7 @@ person_means = record { read = (_, refl); command = refl; unlisted = refl; plain
 pub persons_read : (old new : State) (lab : ℤ) (code : List ℕ) (rows : List Row) → IsTyped old.now → Shown person_text (Int lab ∷ Text code ∷ []) old new rows → rows ≡ persons_shown lab code (tables_in old.now.trees)
 persons_read old new lab code rows typed h =
     let t = tables_in old.now.trees in
-    rows_by_key 3 person_id person_row (λ _. refl) t.persons (overlay old.now.trees []) typed.persons typed.rising.persons person_text person_tests (col 1 0 ∷ []) (codes "id" ∷ []) person_means
+    rows_by_key 3 person_id person_row (λ _. refl) t.persons (overlay old.now.trees []) (typed.stored.at Persons) (typed.rising.at Persons) person_text person_tests (col 1 0 ∷ []) (codes "id" ∷ []) person_means
     (Int lab ∷ Text code ∷ []) (is_person lab code) (λ (one : PersonRow). Int one.id ∷ []) (λ x. ap₂ ◌&&◌ (equal_ints x.lab lab) (and_true _ ∙ equal_texts x.code code)) (λ x. refl)
     old new typed.schema refl rows h
 

@@ -1,11 +1,10 @@
 -- What each statement on the row of a laboratory means, and what it makes of the tables.
-use Rattle.std.proofs.Common.{◌≡◌, ℕ, ℤ, pos, List, [], ◌∷◌, codes, Ok, refl, int_eq}
-use Rattle.sqlite_value.specs.declared.value.Value.TheVariants.{Null, Int, Text}
+use Rattle.std.proofs.Common.{◌≡◌, ℕ, ℤ, List, [], ◌∷◌, codes, Ok, refl, int_eq}
+use Rattle.sqlite_value.specs.declared.value.Value.TheVariants.{Null, Int}
 use Rattle.sqlite_value.specs.Order.{Row}
 use Rattle.sqlite_schema.specs.declared.command.Command.TheVariants.{Update}
 use Rattle.sqlite_sql.specs.Term.{Term, lit, col, eval_all}
 use Rattle.sqlite_tied.specs.Compute.{everything}
-use Rattle.sqlite_rules.specs.Cast.{cast_row}
 use Rattle.sqlite_keyed.specs.Lists.{update_where}
 use Rattle.sqlite_keyed.proofs.KeyedLemmas.{IsKeyedBy-update_where}
 use Rattle.sqlite.specs.Listing.{understood}
@@ -15,13 +14,11 @@ use Rattle.lab_store_tables.specs.Schema.{lab_schema, labs}
 use Rattle.lab_store_tables.specs.Rows.{LabRow, lab_row, lab_id, tables_in, number}
 use Rattle.lab_store_tables.specs.Changes.{in_lab}
 use Rattle.lab_store_tables.specs.Held.{IsTyped}
-use Rattle.lab_store_laws.proofs.HeldLaws.{stored_if_typed, held_if_stored}
-use Rattle.lab_store_write.proofs.Tables.{stored_labs, rising_labs}
-use Rattle.lab_store_write.proofs.Writes.{cast_int, cast_null, by_id_query, set_by_id}
+use Rattle.lab_store_tables.specs.Family.{Labs}
+use Rattle.lab_store_laws.proofs.Tables.{held_if_stored, stored_with, rising_with}
+use Rattle.lab_store_write.proofs.Columns.{stays}
+use Rattle.lab_store_write.proofs.Writes.{by_id_query, set_by_id}
 use Rattle.lab_store_write.proofs.Inside.{Wrote}
-
-pub lab_cast : (one : LabRow) → cast_row labs (lab_row one) ≡ lab_row one
-lab_cast one = λ i. cast_int one.id i ∷ cast_null i ∷ Text one.code ∷ Text one.name ∷ cast_int (pos one.last) i ∷ cast_int (pos one.stray) i ∷ cast_int (pos one.records) i ∷ cast_int (pos one.sessions) i ∷ cast_int (pos one.trail) i ∷ []
 
 -- a statement that sets a number of the row with an id
 module _ (sql : List ℕ) (shown : List Term) (plain : IsPlain (understood lab_schema sql))
@@ -31,10 +28,10 @@ module _ (sql : List ℕ) (shown : List Term) (plain : IsPlain (understood lab_s
   sets_lab id given next keeps shows old new count typed did =
       let t = tables_in old.now.trees in
       let rows = update_where (λ (one : LabRow). int_eq one.id id) next t.labs in
-      let it = set_by_id labs lab_id lab_row (λ _. (refl, refl)) lab_cast 1 refl (λ _. refl) sql shown plain is id given next keeps shows old new count t.labs typed.schema typed.labs typed.rising.labs did in
+      let it = set_by_id labs lab_id lab_row (λ _. (refl, refl)) (stays Labs) 1 refl (λ _. refl) sql shown plain is id given next keeps shows old new count t.labs typed.schema (typed.stored.at Labs) (typed.rising.at Labs) did in
       record {
-        held = held_if_stored new.now (in_lab id next t) it.schema (stored_labs old.now.trees new.now.trees t rows (stored_if_typed old.now typed) it.spared it.rows)
-            (rising_labs t rows typed.rising (IsKeyedBy-update_where lab_id (λ (one : LabRow). int_eq one.id id) next keeps t.labs typed.rising.labs));
+        held = held_if_stored new.now (in_lab id next t) it.schema (stored_with Labs old.now.trees new.now.trees t rows typed.stored it.spared it.rows)
+            (rising_with Labs t rows typed.rising (IsKeyedBy-update_where lab_id (λ (one : LabRow). int_eq one.id id) next keeps t.labs (typed.rising.at Labs)));
         sound = it.sound;
       }
 

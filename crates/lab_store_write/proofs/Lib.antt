@@ -1,4 +1,3 @@
-pub mod Tables
 pub mod Writes
 pub mod ByKey
 pub mod Columns
@@ -11,3 +10,4 @@ pub mod KeyLemmas
 pub mod KnownValues
 pub mod TrailWrites
 pub mod TrailAddedLemmas
+pub mod Inserts

@@ -8,6 +8,7 @@ use Rattle.lab_records_kept.specs.declared.trails.TrailRow.{TrailRow as Told}
 use Rattle.lab_store_tables.specs.Rows.{LabRow, Tables, trail_id}
 use Rattle.lab_store_tables.specs.Changes.{in_lab, IsNamedIfAny, AddsTold}
 use Rattle.lab_store_tables.specs.Ready.{tables_of}
+use Rattle.lab_store_tables.specs.Family.{Trail}
 use Rattle.lab_store_write.specs.Calls.{Steps, Finds, MadeFrom}
 use Rattle.lab_store_write.specs.TrailAdded.{with_told, with_last, AddsLastTold}
 
@@ -24,7 +25,7 @@ told_added lab told person a b c d p q r = record {
       let t = tables_of a in
       let added : AddsTold lab told (tables_of a) (tables_of d) = record {
         id = next_key trail_id t.trail;
-        free = next_key_is_free trail_id t.trail typed.rising.trail;
+        free = next_key_is_free trail_id t.trail (typed.rising.at Trail);
         person = person;
         named = one.1.0;
         made = three.1 ∙ ap (in_lab lab (λ (row : LabRow). record row { trail = told.number })) (two.1 ∙ ap (with_told lab person told) one.1.1);
@@ -64,7 +65,7 @@ last_told_added lab moment told person a b c p q = record {
       let t = tables_of a in
       let added : IsNamedIfAny t lab told.person person → AddsLastTold lab moment told t (tables_of c) = λ named. record {
         id = next_key trail_id t.trail;
-        free = next_key_is_free trail_id t.trail typed.rising.trail;
+        free = next_key_is_free trail_id t.trail (typed.rising.at Trail);
         person = person;
         named = named_still lab moment t told.person person named;
         made = two.1

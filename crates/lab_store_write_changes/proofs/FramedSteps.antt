@@ -12,6 +12,7 @@ use Rattle.lab_store_tables.specs.Rows.{LabRow, Tables, lab_id}
 use Rattle.lab_store_tables.specs.Changes.{InTurn, IsNamedIfAny, asker_of}
 use Rattle.lab_store_tables.specs.Held.{AreRising, IsTyped}
 use Rattle.lab_store_tables.specs.Ready.{tables_of}
+use Rattle.lab_store_tables.specs.Family.{Labs}
 use Rattle.lab_store_laws.specs.Steps.{AppliesWhereKept, StepsBy}
 use Rattle.lab_store_laws.proofs.KeptLaws.{last_by_rules}
 use Rattle.lab_store_write.specs.declared.statements.RowId.{RowId}
@@ -19,7 +20,7 @@ use Rattle.lab_store_write.specs.Calls.{Steps, Finds, MadeFrom}
 use Rattle.lab_store_write.specs.Ids.{row_id}
 use Rattle.lab_store_write.specs.TrailAdded.{with_last, AddsLastTold}
 use Rattle.lab_store_write.proofs.Inside.{steps_weaker, found_then}
-use Rattle.lab_store_write.proofs.Tables.{rising_labs}
+use Rattle.lab_store_laws.proofs.Tables.{rising_with}
 use Rattle.lab_store_write.proofs.TrailAddedLemmas.{named_still}
 use Rattle.lab_store_write_changes.specs.Framed.{spares_lab, Knows, StepsKnowing, framed, IsFramed}
 use Rattle.lab_store_write_changes.proofs.Steps.{rules_of}
@@ -50,7 +51,7 @@ module _ (lab : ℤ) (moment : ℕ) where
   rising_still t rising =
       let mine = λ (one : LabRow). int_eq one.id lab in
       let next = λ (one : LabRow). record one { last = moment } in
-      rising_labs t (update_where mine next t.labs) rising (IsKeyedBy-update_where lab_id mine next (λ _. refl) t.labs rising.labs)
+      rising_with Labs t (update_where mine next t.labs) rising (IsKeyedBy-update_where lab_id mine next (λ _. refl) t.labs (rising.at Labs))
 
   beside : (one : Change) (old new : Tables) → spares_lab one ≡ true → AppliesWhereKept lab one old new
       → AppliesWhereKept lab one (with_last lab moment old) (with_last lab moment new)

@@ -11,6 +11,7 @@ use Rattle.lab_store_tables.specs.Rows.{tables_in}
 use Rattle.lab_store_tables.specs.Changes.{InTurn}
 use Rattle.lab_store_tables.specs.Held.{IsTyped}
 use Rattle.lab_store_tables.specs.Ready.{tables_of}
+use Rattle.lab_store_tables.specs.Family.{Persons}
 use Rattle.lab_store_laws.proofs.KeptByRules.{ids_by_order, keys_by_rules, arrows_by_rules}
 use Rattle.lab_store_laws.specs.ByRules.{IsByRules}
 use Rattle.lab_store_laws.specs.Steps.{AppliesWhereKept, StepsBy}
@@ -44,6 +45,6 @@ one_more lab changes i d within a b c rules p q = record {
 pub closed_where_kept : (lab : ℤ) (code : List ℕ) (closing : Closing) (a b : State) → Steps (ClosesOf lab code closing) a b → Steps (AppliesWhereKept lab (SessionsClosed code closing)) a b
 closed_where_kept lab code closing a b did = record {
   inside = did.inside;
-  made = λ typed. let it = did.made typed in (it.0, λ rising well. closes_as_said (tables_of a) (tables_of b) rising.persons well lab code closing it.1);
+  made = λ typed. let it = did.made typed in (it.0, λ rising well. closes_as_said (tables_of a) (tables_of b) (rising.at Persons) well lab code closing it.1);
   sound = did.sound;
 }

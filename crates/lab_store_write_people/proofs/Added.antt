@@ -7,6 +7,7 @@ use Rattle.lab_people_access.specs.declared.sessions.Session.{Session}
 use Rattle.lab_store_tables.specs.Rows.{LabRow, session_id}
 use Rattle.lab_store_tables.specs.Changes.{in_lab, person_named, AddsSession}
 use Rattle.lab_store_tables.specs.Ready.{tables_of}
+use Rattle.lab_store_tables.specs.Family.{Sessions}
 use Rattle.lab_store_write.specs.Calls.{Steps, Finds}
 use Rattle.lab_store_write_people.specs.Added.{with_session}
 
@@ -23,7 +24,7 @@ session_added lab session person a b c d p q r = record {
       let t = tables_of a in
       let added : AddsSession lab session (tables_of a) (tables_of d) = record {
         id = next_key session_id t.sessions;
-        free = next_key_is_free session_id t.sessions typed.rising.sessions;
+        free = next_key_is_free session_id t.sessions (typed.rising.at Sessions);
         person = person;
         named = one.1.0;
         made = three.1 ∙ ap (in_lab lab (λ (row : LabRow). record row { sessions = session.number })) (two.1 ∙ ap (with_session lab person session) one.1.1);

@@ -25,6 +25,7 @@ use Rattle.lab_store_tables.specs.Rows.{SessionRow, Tables, tables_in, session_r
 use Rattle.lab_store_tables.specs.Changes.{InTurn, person_named}
 use Rattle.lab_store_tables.specs.Held.{IsTyped}
 use Rattle.lab_store_tables.specs.Ready.{tables_of}
+use Rattle.lab_store_tables.specs.Family.{Sessions}
 use Rattle.lab_store_columns.proofs.Texts.{Means, is_param}
 use Rattle.lab_store_columns.proofs.Sorted.{truth_is, equal_ints, and_true}
 use Rattle.lab_store_columns.proofs.Lists.{int_alike}
@@ -68,7 +69,7 @@ all_means = record { read = (_, refl); command = refl; unlisted = refl; plain = 
 pub all_read : (old new : State) (person : ℤ) (rows : List Row) → IsTyped old.now → Shown all_text (Int person ∷ []) old new rows → rows ≡ opened_shown person All (tables_in old.now.trees)
 all_read old new person rows typed h =
     let t = tables_in old.now.trees in
-    rows_by_key 5 session_id session_row (λ _. refl) t.sessions (overlay old.now.trees []) typed.sessions typed.rising.sessions all_text (is_param 3 0 ∷ open_test ∷ []) (col 1 0 ∷ []) (codes "id" ∷ []) all_means
+    rows_by_key 5 session_id session_row (λ _. refl) t.sessions (overlay old.now.trees []) (typed.stored.at Sessions) (typed.rising.at Sessions) all_text (is_param 3 0 ∷ open_test ∷ []) (col 1 0 ∷ []) (codes "id" ∷ []) all_means
     (Int person ∷ []) (is_open_of person All) (λ (one : SessionRow). Int one.id ∷ []) (λ x. ap₂ ◌&&◌ (equal_ints x.person person) (ap (λ (b : Bool). b && true) (is_open x.closed))) (λ x. refl) old new typed.schema refl rows h
 
 abbrev pub others_text : List ℕ
@@ -84,7 +85,7 @@ others_means = record { read = (_, refl); command = refl; unlisted = refl; plain
 pub others_read : (old new : State) (person : ℤ) (kept : ℕ) (rows : List Row) → IsTyped old.now → Shown others_text (Int person ∷ number kept ∷ []) old new rows → rows ≡ opened_shown person (Others kept) (tables_in old.now.trees)
 others_read old new person kept rows typed h =
     let t = tables_in old.now.trees in
-    rows_by_key 5 session_id session_row (λ _. refl) t.sessions (overlay old.now.trees []) typed.sessions typed.rising.sessions others_text others_tests (col 1 0 ∷ []) (codes "id" ∷ []) others_means
+    rows_by_key 5 session_id session_row (λ _. refl) t.sessions (overlay old.now.trees []) (typed.stored.at Sessions) (typed.rising.at Sessions) others_text others_tests (col 1 0 ∷ []) (codes "id" ∷ []) others_means
     (Int person ∷ number kept ∷ []) (is_open_of person (Others kept)) (λ (one : SessionRow). Int one.id ∷ [])
     (λ x. ap₂ ◌&&◌ (equal_ints x.person person) (ap₂ ◌&&◌ (is_open x.closed) (and_true _ ∙ unequal_numbers x.number kept))) (λ x. refl) old new typed.schema refl rows h
 
@@ -149,7 +150,7 @@ sessions_closed person closing shown rows a b c slice p q = record {
       let one = p.made typed in
       let two = q.made one.0 in (
         two.0,
-        closed_rows person closing shown (tables_of a) (tables_of c) (slice ∙ one.1.0) typed.rising.sessions (subst (λ (t : Tables). InTurn ClosesRow shown t (tables_of c)) one.1.1 two.1),
+        closed_rows person closing shown (tables_of a) (tables_of c) (slice ∙ one.1.0) (typed.rising.at Sessions) (subst (λ (t : Tables). InTurn ClosesRow shown t (tables_of c)) one.1.1 two.1),
       );
   sound = λ typed rules. q.sound (p.made typed).0 (p.sound typed rules);
 }

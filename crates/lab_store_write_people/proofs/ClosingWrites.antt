@@ -13,9 +13,9 @@ use Rattle.lab_store_tables.specs.Schema.{lab_schema}
 use Rattle.lab_store_tables.specs.Schema as schema
 use Rattle.lab_store_tables.specs.Rows.{SessionRow, session_row, session_id, tables_in}
 use Rattle.lab_store_tables.specs.Held.{IsTyped}
-use Rattle.lab_store_laws.proofs.HeldLaws.{stored_if_typed, held_if_stored}
-use Rattle.lab_store_write.proofs.Tables.{stored_sessions, rising_sessions}
-use Rattle.lab_store_write.proofs.Columns.{session_stays}
+use Rattle.lab_store_tables.specs.Family.{Sessions}
+use Rattle.lab_store_laws.proofs.Tables.{held_if_stored, stored_with, rising_with}
+use Rattle.lab_store_write.proofs.Columns.{stays}
 use Rattle.lab_store_write.proofs.Writes.{by_id_query, set_by_id}
 use Rattle.lab_store_write.proofs.Inside.{Wrote}
 
@@ -39,9 +39,9 @@ sets_close id old new count typed did =
     let t = tables_in old.now.trees in
     let next = λ (one : SessionRow). record one { closed = true } in
     let rows = update_where (λ (one : SessionRow). int_eq one.id id) next t.sessions in
-    let it = set_by_id schema.sessions session_id session_row (λ _. (refl, refl)) session_stays 3 refl (λ _. refl) close_text close_shown close_plain close_is id ([]) next (λ _. refl) (λ _. refl) old new count t.sessions typed.schema typed.sessions typed.rising.sessions did in
+    let it = set_by_id schema.sessions session_id session_row (λ _. (refl, refl)) (stays Sessions) 3 refl (λ _. refl) close_text close_shown close_plain close_is id ([]) next (λ _. refl) (λ _. refl) old new count t.sessions typed.schema (typed.stored.at Sessions) (typed.rising.at Sessions) did in
     record {
-      held = held_if_stored new.now (record t { sessions = rows }) it.schema (stored_sessions old.now.trees new.now.trees t rows (stored_if_typed old.now typed) it.spared it.rows)
-          (rising_sessions t rows typed.rising (IsKeyedBy-update_where session_id (λ (one : SessionRow). int_eq one.id id) next (λ _. refl) t.sessions typed.rising.sessions));
+      held = held_if_stored new.now (record t { sessions = rows }) it.schema (stored_with Sessions old.now.trees new.now.trees t rows typed.stored it.spared it.rows)
+          (rising_with Sessions t rows typed.rising (IsKeyedBy-update_where session_id (λ (one : SessionRow). int_eq one.id id) next (λ _. refl) t.sessions (typed.rising.at Sessions)));
       sound = it.sound;
     }

@@ -11,6 +11,7 @@ use Rattle.lab_store_tables.specs.Rows.{person_id}
 use Rattle.lab_store_tables.specs.Columns.{roles_sum}
 use Rattle.lab_store_tables.specs.Changes.{person_named, IsNamedIfAny, asker_of, person_row_of, set_person, AddsPerson, SetsPerson}
 use Rattle.lab_store_tables.specs.Ready.{tables_of}
+use Rattle.lab_store_tables.specs.Family.{Persons}
 use Rattle.lab_store_write.specs.declared.statements.RowId.{RowId}
 use Rattle.lab_store_write.specs.Calls.{Steps, Finds, MadeFrom}
 use Rattle.lab_store_write.specs.Ids.{row_id}
@@ -39,7 +40,7 @@ person_added lab person asker a b c p q = record {
       let t = tables_of a in
       let added : AddsPerson lab person (tables_of a) (tables_of c) = record {
         id = next_key person_id t.persons;
-        free = next_key_is_free person_id t.persons typed.rising.persons;
+        free = next_key_is_free person_id t.persons (typed.rising.at Persons);
         asker = asker;
         named = one.1.0;
         made = two.1 ∙ ap (with_person lab asker person) one.1.1;

@@ -1,5 +1,5 @@
 -- What each statement on sessions means, and what it makes of the tables.
-use Rattle.std.proofs.Common.{◌≡◌, inl, inr, ℕ, ℤ, ◌<ℤ◌, pos, Bool, true, false, not, ◌&&◌, cond, List, [], ◌∷◌, filter, slice_get, codes, option_map, Ok, refl, sym, ap, ap₂, subst, ◌∙◌, arith, int_eq, bytes_eq}
+use Rattle.std.proofs.Common.{◌≡◌, inl, inr, ℕ, ℤ, ◌<ℤ◌, Bool, true, false, not, ◌&&◌, cond, List, [], ◌∷◌, filter, slice_get, codes, option_map, Ok, refl, sym, ap, ap₂, subst, ◌∙◌, arith, int_eq, bytes_eq}
 use Rattle.std.specs.Ordering.{is_eq, is_ne}
 use Rattle.std.proofs.lemmas.Int.{ints}
 use Rattle.std.proofs.lemmas.Bool.{and_parts, and_from, not-true, both_ways}
@@ -11,8 +11,7 @@ use Rattle.sqlite_value.specs.Order.{Row, column}
 use Rattle.sqlite_value.proofs.OrderLemmas.{value_cmp-Int, value_cmp-Blob}
 use Rattle.sqlite_schema.specs.declared.schema.Constraint.TheVariants.{Unique}
 use Rattle.sqlite_schema.specs.declared.schema.Schema.{Schema}
-use Rattle.sqlite_schema.specs.declared.command.Command.TheVariants.{Insert, Update}
-use Rattle.sqlite_schema.specs.declared.command.Source.TheVariants.{Values}
+use Rattle.sqlite_schema.specs.declared.command.Command.TheVariants.{Update}
 use Rattle.sqlite_schema.specs.Rules.{Obeys, agree, differ, clashes}
 use Rattle.sqlite_sql.specs.declared.ops.BinaryOp.TheVariants.{Compare}
 use Rattle.sqlite_sql.specs.declared.ops.CompareOp.TheVariants.{Eq}
@@ -20,13 +19,12 @@ use Rattle.sqlite_sql.specs.Ops.{binary, is_true}
 use Rattle.sqlite_sql.specs.Term.{Term, lit, col}
 use Rattle.sqlite_tied.specs.Compute.{everything}
 use Rattle.sqlite_rules.specs.Lists.{Has}
-use Rattle.sqlite_rules.specs.Cast.{cast_row}
 use Rattle.sqlite_rules.proofs.ListLemmas.{all_has, all_from, some_from, has_filtered, has_kept}
-use Rattle.sqlite_keyed.specs.Keyed.{IsKeyedBy, next_key, insert_by}
+use Rattle.sqlite_keyed.specs.Keyed.{IsKeyedBy, next_key}
 use Rattle.sqlite_keyed.specs.Lists.{update_where}
 use Rattle.sqlite_keyed.specs.Rules.{AreApart}
 use Rattle.sqlite_keyed.proofs.ListLemmas.{ascending_weaker, slice_get-filter}
-use Rattle.sqlite_keyed.proofs.KeyedLemmas.{Less-from_lt, int_eq_apart, IsKeyedBy-insert_by, IsKeyedBy-update_where, same_int}
+use Rattle.sqlite_keyed.proofs.KeyedLemmas.{Less-from_lt, int_eq_apart, IsKeyedBy-update_where, same_int}
 use Rattle.sqlite.specs.Effect.{Database, IsDatabase}
 use Rattle.sqlite.specs.Listing.{understood}
 use Rattle.sqlite.specs.State.{State, Executes}
@@ -37,15 +35,16 @@ use Rattle.lab_store_tables.specs.Schema as schema
 use Rattle.lab_store_tables.specs.Rows.{SessionRow, Tables, session_row, session_id, tables_in, number, flag}
 use Rattle.lab_store_tables.specs.Changes.{is_session, put_session, session_row_of}
 use Rattle.lab_store_tables.specs.Held.{IsTyped}
+use Rattle.lab_store_tables.specs.Family.{Sessions, values_of}
 use Rattle.lab_store_laws.proofs.LabLaws.{same_id}
 use Rattle.lab_store_laws.proofs.RowSet.{map_alike}
-use Rattle.lab_store_laws.proofs.HeldLaws.{stored_if_typed, held_if_stored}
+use Rattle.lab_store_laws.proofs.Tables.{held_if_stored, stored_with, rising_with}
 use Rattle.lab_store_columns.proofs.Texts.{is_param}
 use Rattle.lab_store_columns.proofs.Sorted.{truth_is, equal_ints, and_true}
 use Rattle.lab_store_columns.proofs.Lists.{int_alike, text_is, text_alike}
-use Rattle.lab_store_write.proofs.Tables.{stored_sessions, rising_sessions}
-use Rattle.lab_store_write.proofs.Columns.{cast_flag, session_stays}
-use Rattle.lab_store_write.proofs.Writes.{cast_int, cast_null, by_tests_query, add_next}
+use Rattle.lab_store_write.proofs.Columns.{stays}
+use Rattle.lab_store_write.proofs.Inserts.{adds}
+use Rattle.lab_store_write.proofs.Writes.{by_tests_query}
 use Rattle.lab_store_write.proofs.ByKey.{set_by_key}
 use Rattle.lab_store_write.proofs.Inside.{Wrote}
 use Rattle.lab_store_write_people.specs.Added.{SetsIfAny}
@@ -55,36 +54,13 @@ use Rattle.lab_store_write_people.specs.Added.{SetsIfAny}
 abbrev pub add_session_text : List ℕ
 add_session_text = codes "INSERT INTO sessions (lab, person, number, token, opened, last, closed, signed) VALUES (?1, ?2, ?3, ?4, ?5, ?6, ?7, ?8)"
 
-abbrev session_terms : List Term
-session_terms = lit Null ∷ lit Null ∷ col 0 0 ∷ col 0 1 ∷ col 0 2 ∷ col 0 3 ∷ col 0 4 ∷ col 0 5 ∷ col 0 6 ∷ col 0 7 ∷ []
-
-add_session_plain : IsPlain (understood lab_schema add_session_text)
-unfolding understood everything
-add_session_plain = (refl, refl)
-
-add_session_is : command_of (understood lab_schema add_session_text) ≡ Insert 3 (Values session_terms 10)
-unfolding understood everything
-add_session_is = refl
-
 -- the columns of the row but its ids
 abbrev pub session_values : SessionRow → Row
-session_values one = Int one.lab ∷ Int one.person ∷ number one.number ∷ Blob one.token ∷ number one.opened ∷ number one.last ∷ flag one.closed ∷ flag one.signed ∷ []
-
-session_cast : (one : SessionRow) → cast_row schema.sessions (Null ∷ Null ∷ session_values one) ≡ Null ∷ Null ∷ session_values one
-session_cast one = λ i. cast_null i ∷ cast_null i ∷ cast_int one.lab i ∷ cast_int one.person i ∷ cast_int (pos one.number) i ∷ Blob one.token ∷ cast_int (pos one.opened) i ∷ cast_int (pos one.last) i ∷ cast_flag one.closed i ∷ cast_flag one.signed i ∷ []
+session_values = values_of Sessions
 
 pub adds_session : (one : SessionRow) (old new : State) (count : ℕ) → IsTyped old.now → one.id ≡ next_key session_id (tables_in old.now.trees).sessions → Executes add_session_text (session_values one) old new (Ok count)
     → Wrote (put_session one (tables_in old.now.trees)) new.now
-adds_session one old new count typed next did =
-    let t = tables_in old.now.trees in
-    let rows = insert_by session_id t.sessions one in
-    let it = add_next schema.sessions session_id session_row (λ _. (refl, refl)) session_stays 3 refl (λ _. refl) add_session_text session_terms 10 add_session_plain add_session_is
-    (session_values one) (Null ∷ session_values one) one old new count t.sessions next refl refl (session_cast one) typed.schema typed.sessions typed.rising.sessions did in
-    record {
-      held = held_if_stored new.now (put_session one t) it.schema (stored_sessions old.now.trees new.now.trees t rows (stored_if_typed old.now typed) it.spared it.rows)
-          (rising_sessions t rows typed.rising (IsKeyedBy-insert_by session_id t.sessions one typed.rising.sessions));
-      sound = it.sound;
-    }
+adds_session = adds Sessions
 
 -- ---- values that are equal, and ids that differ
 
@@ -177,25 +153,25 @@ sets_session lab person session old new count typed did =
     let mine = is_session lab session.token in
     let next = λ (one : SessionRow). record one { person = person; number = session.number; opened = session.opened; last = session.last; closed = session.closed; signed = session.signed } in
     let rows = update_where mine next t.sessions in
-    let it = set_by_key schema.sessions session_id session_row (λ _. (refl, refl)) session_stays 3 refl (λ _. refl) set_session_text set_session_tests set_session_shown set_session_plain set_session_is
+    let it = set_by_key schema.sessions session_id session_row (λ _. (refl, refl)) (stays Sessions) 3 refl (λ _. refl) set_session_text set_session_tests set_session_shown set_session_plain set_session_is
     (set_session_values lab person session) mine next (λ x. ap₂ ◌&&◌ (equal_ints x.lab lab) (and_true _ ∙ equal_blobs x.token session.token)) (λ _. refl) (λ _. refl)
-    (λ db named rules a b. one_token lab session.token db named rules (next a) (next b)) old new count t.sessions typed.schema typed.sessions typed.rising.sessions did in
+    (λ db named rules a b. one_token lab session.token db named rules (next a) (next b)) old new count t.sessions typed.schema (typed.stored.at Sessions) (typed.rising.at Sessions) did in
     let after = record t { sessions = rows } in
     let wrote : Wrote after new.now = record {
-      held = held_if_stored new.now after it.replaced.schema (stored_sessions old.now.trees new.now.trees t rows (stored_if_typed old.now typed) it.replaced.spared it.replaced.rows)
-          (rising_sessions t rows typed.rising (IsKeyedBy-update_where session_id mine next (λ _. refl) t.sessions typed.rising.sessions));
+      held = held_if_stored new.now after it.replaced.schema (stored_with Sessions old.now.trees new.now.trees t rows typed.stored it.replaced.spared it.replaced.rows)
+          (rising_with Sessions t rows typed.rising (IsKeyedBy-update_where session_id mine next (λ _. refl) t.sessions (typed.rising.at Sessions)));
       sound = it.replaced.sound;
     } in
     let set : SetsIfAny lab person session count t after = λ asked.
     let one = it.one asked.0 in
     let row = session_row_of lab one.0.id person session in
-    let has = and_parts (int_eq one.0.lab lab) (bytes_eq one.0.token session.token) (there mine next t.sessions typed.rising.sessions one.0 one.1).1 in
+    let has = and_parts (int_eq one.0.lab lab) (bytes_eq one.0.token session.token) (there mine next t.sessions (typed.rising.at Sessions) one.0 one.1).1 in
     let same : next one.0 ≡ row = λ i. record row { lab = same_int one.0.lab lab has.0 i; token = text_is one.0.token session.token has.1 i } in
     record {
       id = one.0.id;
       found = ap (option_map session_id) (sym (slice_get-filter mine t.sessions) ∙ ap (λ (l : List SessionRow). slice_get l 0) one.1);
       person = person;
       named = asked.1;
-      made = ap (λ (l : List SessionRow). record t { sessions = l }) (sets_one mine next t.sessions typed.rising.sessions one.0 one.1 row refl same);
+      made = ap (λ (l : List SessionRow). record t { sessions = l }) (sets_one mine next t.sessions (typed.rising.at Sessions) one.0 one.1 row refl same);
     } in
     (after, wrote, set)

@@ -9,6 +9,7 @@ use Rattle.lab_records_kept.specs.declared.records.Signature.{Signature}
 use Rattle.lab_store_tables.specs.Rows.{RecordRow, Tables, entry_id, signature_id}
 use Rattle.lab_store_tables.specs.Changes.{person_named, put_entry, put_signature, record_named, version_named, EntersRow, SignsVersion}
 use Rattle.lab_store_tables.specs.Ready.{tables_of}
+use Rattle.lab_store_tables.specs.Family.{Entries, Signatures}
 use Rattle.lab_store_write.specs.Calls.{Steps, Finds}
 use Rattle.lab_store_write_records.specs.VersionsShown.{is_entry_of, is_signature_of, current_of, version_in_record}
 use Rattle.lab_store_write_records.specs.EntriesAdded.{entry_at, with_entry, AddsEntryOf, signature_at, with_signature, AddsSignatureOf}
@@ -26,7 +27,7 @@ entry_added version one person place a b c p q = record {
       let id = next_key entry_id t.entries in
       let added : AddsEntryOf version person one t (tables_of c) = λ lab named. record {
         id = id;
-        free = next_key_is_free entry_id t.entries typed.rising.entries;
+        free = next_key_is_free entry_id t.entries (typed.rising.at Entries);
         person = person;
         named = named;
         made = second.1 ∙ ap (with_entry version place person one) first.1.1
@@ -49,7 +50,7 @@ signature_added version one person place a b c p q = record {
       let id = next_key signature_id t.signatures in
       let added : AddsSignatureOf version person one t (tables_of c) = λ lab named. record {
         id = id;
-        free = next_key_is_free signature_id t.signatures typed.rising.signatures;
+        free = next_key_is_free signature_id t.signatures (typed.rising.at Signatures);
         person = person;
         named = named;
         made = second.1 ∙ ap (with_signature version place person one) first.1.1

@@ -11,6 +11,7 @@ use Rattle.sqlite.specs.State.{State, Shown}
 use Rattle.lab_store_tables.specs.Rows.{RecordRow, EntryRow, SignatureRow, Tables, tables_in, record_row, record_id, entry_row, entry_id, signature_row, signature_id, number}
 use Rattle.lab_store_tables.specs.Changes.{is_record_row, record_named}
 use Rattle.lab_store_tables.specs.Held.{IsTyped}
+use Rattle.lab_store_tables.specs.Family.{Records, Entries, Signatures}
 use Rattle.lab_store_columns.proofs.Texts.{Means, is_param}
 use Rattle.lab_store_columns.proofs.Sorted.{equal_ints, equal_numbers, and_true}
 use Rattle.lab_store_write.specs.Calls.{Steps, Finds}
@@ -34,7 +35,7 @@ pub records_read : (old new : State) (lab : ℤ) (wanted : ℕ) (rows : List Row
     → Shown record_text (Int lab ∷ number wanted ∷ []) old new rows → rows ≡ records_shown lab wanted (tables_in old.now.trees)
 records_read old new lab wanted rows typed h =
     let t = tables_in old.now.trees in
-    rows_by_key 15 record_id record_row (λ _. refl) t.records (overlay old.now.trees []) typed.records typed.rising.records
+    rows_by_key 15 record_id record_row (λ _. refl) t.records (overlay old.now.trees []) (typed.stored.at Records) (typed.rising.at Records)
     record_text record_tests (col 1 0 ∷ col 1 7 ∷ []) (codes "id" ∷ codes "current" ∷ []) record_means
     (Int lab ∷ number wanted ∷ []) (is_record_row lab wanted) (λ (one : RecordRow). Int one.id ∷ number one.current ∷ [])
     (λ x. ap₂ ◌&&◌ (equal_ints x.lab lab) (and_true _ ∙ equal_numbers x.number wanted)) (λ x. refl)
@@ -75,7 +76,7 @@ pub entries_read : (old new : State) (parent : ℤ) (rows : List Row) → IsType
     → rows ≡ entries_shown parent (tables_in old.now.trees)
 entries_read old new parent rows typed h =
     let t = tables_in old.now.trees in
-    rows_by_key 20 entry_id entry_row (λ _. refl) t.entries (overlay old.now.trees []) typed.entries typed.rising.entries
+    rows_by_key 20 entry_id entry_row (λ _. refl) t.entries (overlay old.now.trees []) (typed.stored.at Entries) (typed.rising.at Entries)
     entries_text (is_param 2 0 ∷ []) (col 1 0 ∷ []) (codes "id" ∷ []) entries_means
     (Int parent ∷ []) (is_entry_of parent) (λ (one : EntryRow). Int one.id ∷ []) (λ x. and_true _ ∙ equal_ints x.version parent)
     (λ x. refl) old new typed.schema refl rows h
@@ -93,7 +94,7 @@ pub signatures_read : (old new : State) (parent : ℤ) (rows : List Row) → IsT
     → rows ≡ signatures_shown parent (tables_in old.now.trees)
 signatures_read old new parent rows typed h =
     let t = tables_in old.now.trees in
-    rows_by_key 22 signature_id signature_row (λ _. refl) t.signatures (overlay old.now.trees []) typed.signatures typed.rising.signatures
+    rows_by_key 22 signature_id signature_row (λ _. refl) t.signatures (overlay old.now.trees []) (typed.stored.at Signatures) (typed.rising.at Signatures)
     signatures_text (is_param 2 0 ∷ []) (col 1 0 ∷ []) (codes "id" ∷ []) signatures_means
     (Int parent ∷ []) (is_signature_of parent) (λ (one : SignatureRow). Int one.id ∷ []) (λ x. and_true _ ∙ equal_ints x.version parent)
     (λ x. refl) old new typed.schema refl rows h

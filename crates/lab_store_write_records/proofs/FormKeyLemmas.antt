@@ -9,6 +9,7 @@ use Rattle.sqlite.specs.Listing.{understood}
 use Rattle.sqlite.specs.State.{State, Shown}
 use Rattle.lab_store_tables.specs.Rows.{FieldRow, ChoiceRow, tables_in, field_row, field_id, choice_row, choice_id}
 use Rattle.lab_store_tables.specs.Held.{IsTyped}
+use Rattle.lab_store_tables.specs.Family.{Fields, Choices}
 use Rattle.lab_store_columns.proofs.Texts.{Means, is_param}
 use Rattle.lab_store_columns.proofs.Sorted.{equal_ints, and_true}
 use Rattle.lab_store_write.proofs.Lookups.{by_key_query, rows_by_key}
@@ -27,7 +28,7 @@ pub fields_read : (old new : State) (parent : ℤ) (rows : List Row) → IsTyped
     → rows ≡ fields_shown parent (tables_in old.now.trees)
 fields_read old new parent rows typed h =
     let t = tables_in old.now.trees in
-    rows_by_key 10 field_id field_row (λ _. refl) t.fields (overlay old.now.trees []) typed.fields typed.rising.fields
+    rows_by_key 10 field_id field_row (λ _. refl) t.fields (overlay old.now.trees []) (typed.stored.at Fields) (typed.rising.at Fields)
     fields_text (is_param 2 0 ∷ []) (col 1 0 ∷ []) (codes "id" ∷ []) fields_means
     (Int parent ∷ []) (is_field_of parent) (λ (one : FieldRow). Int one.id ∷ []) (λ x. and_true _ ∙ equal_ints x.form parent)
     (λ x. refl) old new typed.schema refl rows h
@@ -45,7 +46,7 @@ pub choices_read : (old new : State) (parent : ℤ) (rows : List Row) → IsType
     → rows ≡ choices_shown parent (tables_in old.now.trees)
 choices_read old new parent rows typed h =
     let t = tables_in old.now.trees in
-    rows_by_key 13 choice_id choice_row (λ _. refl) t.choices (overlay old.now.trees []) typed.choices typed.rising.choices
+    rows_by_key 13 choice_id choice_row (λ _. refl) t.choices (overlay old.now.trees []) (typed.stored.at Choices) (typed.rising.at Choices)
     choices_text (is_param 2 0 ∷ []) (col 1 0 ∷ []) (codes "id" ∷ []) choices_means
     (Int parent ∷ []) (is_choice_of parent) (λ (one : ChoiceRow). Int one.id ∷ []) (λ x. and_true _ ∙ equal_ints x.field parent)
     (λ x. refl) old new typed.schema refl rows h

@@ -9,6 +9,7 @@ use Rattle.lab_store_tables.specs.Rows.{Tables, form_id, field_id, choice_id}
 use Rattle.lab_store_tables.specs.Columns.{kind_names}
 use Rattle.lab_store_tables.specs.Changes.{InTurn, IsFree, put_form, form_row_of, put_field, put_choice, AddsChoice, AddsField, AddsForm}
 use Rattle.lab_store_tables.specs.Ready.{tables_of}
+use Rattle.lab_store_tables.specs.Family.{Forms, Fields, Choices}
 use Rattle.lab_store_write.specs.Calls.{Steps, Finds}
 use Rattle.lab_store_write_records.specs.FieldsShown.{is_field_of, is_choice_of}
 use Rattle.lab_store_write_records.specs.FormsAdded.{choice_at, with_choice, field_at, with_field, with_form}
@@ -24,7 +25,7 @@ choice_added field name place a b c p q = record {
       let id = next_key choice_id t.choices in
       let added : AddsChoice field name (tables_of a) (tables_of c) = record {
         id = id;
-        free = next_key_is_free choice_id t.choices typed.rising.choices;
+        free = next_key_is_free choice_id t.choices (typed.rising.at Choices);
         made = two.1 ∙ ap (with_choice field place name) one.1.1
             ∙ ap (λ (n : ℕ). put_choice (choice_at field id n name) t) one.1.0;
       } in
@@ -48,7 +49,7 @@ field_added form field place id a b c d p q r = record {
       two.1.1 ∙ ap (with_field form place field) one.1.1 ∙ ap₂ (λ (i : ℤ) (n : ℕ). put_field (field_at form i n field) t) (sym is) one.1.0 in
       let added : AddsField form field (tables_of a) (tables_of d) = record {
         id = id;
-        free = subst (IsFree field_id t.fields) (sym is) (next_key_is_free field_id t.fields typed.rising.fields);
+        free = subst (IsFree field_id t.fields) (sym is) (next_key_is_free field_id t.fields (typed.rising.at Fields));
         choices = subst (λ (x : Tables). InTurn (AddsChoice id) (kind_names field.kind) x (tables_of d)) put three.1;
       } in
       (three.0, added);
@@ -67,7 +68,7 @@ form_added lab form id a b c p q = record {
       let put : tables_of b ≡ put_form (form_row_of lab id form) t = one.1.1 ∙ ap (λ (i : ℤ). put_form (form_row_of lab i form) t) (sym one.1.0) in
       let added : AddsForm lab form (tables_of a) (tables_of c) = record {
         id = id;
-        free = subst (IsFree form_id t.forms) (sym one.1.0) (next_key_is_free form_id t.forms typed.rising.forms);
+        free = subst (IsFree form_id t.forms) (sym one.1.0) (next_key_is_free form_id t.forms (typed.rising.at Forms));
         fields = subst (λ (x : Tables). InTurn (AddsField id) form.form.fields x (tables_of c)) put two.1;
       } in
       (two.0, added);

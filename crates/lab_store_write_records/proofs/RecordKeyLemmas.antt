@@ -10,6 +10,7 @@ use Rattle.sqlite.specs.State.{State, Shown}
 use Rattle.lab_store_tables.specs.Rows.{FormRow, tables_in, form_row, form_id, number}
 use Rattle.lab_store_tables.specs.Changes.{is_form_row, form_named}
 use Rattle.lab_store_tables.specs.Held.{IsTyped}
+use Rattle.lab_store_tables.specs.Family.{Forms}
 use Rattle.lab_store_columns.proofs.Texts.{Means, is_param}
 use Rattle.lab_store_columns.proofs.Sorted.{equal_ints, equal_texts, equal_numbers, and_true}
 use Rattle.lab_store_write.specs.Calls.{Steps, Finds}
@@ -36,7 +37,7 @@ pub forms_read : (old new : State) (lab : ℤ) (code : List ℕ) (version : ℕ)
     → Shown form_text (Int lab ∷ Text code ∷ number version ∷ []) old new rows → rows ≡ forms_shown lab code version (tables_in old.now.trees)
 forms_read old new lab code version rows typed h =
     let t = tables_in old.now.trees in
-    rows_by_key 8 form_id form_row (λ _. refl) t.forms (overlay old.now.trees []) typed.forms typed.rising.forms
+    rows_by_key 8 form_id form_row (λ _. refl) t.forms (overlay old.now.trees []) (typed.stored.at Forms) (typed.rising.at Forms)
     form_text form_tests (col 1 0 ∷ []) (codes "id" ∷ []) form_means
     (Int lab ∷ Text code ∷ number version ∷ []) (is_form_row lab code version) (λ (one : FormRow). Int one.id ∷ [])
     (λ x. ap₂ ◌&&◌ (equal_ints x.lab lab) (ap₂ ◌&&◌ (equal_texts x.code code) (and_true _ ∙ equal_numbers x.version version))

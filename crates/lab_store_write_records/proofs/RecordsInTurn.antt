@@ -8,6 +8,7 @@ use Rattle.lab_records_kept.specs.declared.records.Version.{Version}
 use Rattle.lab_store_tables.specs.Rows.{LabRow, RecordRow, Tables, record_id, version_id}
 use Rattle.lab_store_tables.specs.Changes.{in_lab, person_named, form_named, record_named, InTurn, IsFree, put_record, record_row_of, put_version, version_row_of, set_current, AddsEntry, AddsSignature, AddsVersion, AddsRecord, OpensVersion}
 use Rattle.lab_store_tables.specs.Ready.{tables_of}
+use Rattle.lab_store_tables.specs.Family.{Records, Versions}
 use Rattle.lab_store_write.specs.Calls.{Steps, Finds}
 use Rattle.lab_store_write_records.specs.VersionsShown.{record_pair}
 use Rattle.lab_store_write_records.specs.RecordsAdded.{with_record, with_version}
@@ -30,7 +31,7 @@ version_added lab kept version opener id a b c d e p q r s = record {
       two.1.1 ∙ ap (with_version kept opener version) one.1.1 ∙ ap (λ (i : ℤ). put_version (version_row_of kept i opener version) t) (sym is) in
       let added : AddsVersion lab kept version (tables_of a) (tables_of e) = record {
         id = id;
-        free = subst (IsFree version_id t.versions) (sym is) (next_key_is_free version_id t.versions typed.rising.versions);
+        free = subst (IsFree version_id t.versions) (sym is) (next_key_is_free version_id t.versions (typed.rising.at Versions));
         opener = opener;
         named = one.1.0;
         entered = tables_of d;
@@ -60,7 +61,7 @@ record_added lab kept form id a b c d e p q r s = record {
       three.1 ∙ ap counted (two.1.1 ∙ ap (with_record lab form kept) one.1.1 ∙ ap (λ (i : ℤ). put_record (record_row_of lab i form kept) t) (sym is)) in
       let added : AddsRecord lab kept (tables_of a) (tables_of e) = record {
         id = id;
-        free = subst (IsFree record_id t.records) (sym is) (next_key_is_free record_id t.records typed.rising.records);
+        free = subst (IsFree record_id t.records) (sym is) (next_key_is_free record_id t.records (typed.rising.at Records));
         form = form;
         named = one.1.0;
         versions = subst (λ (x : Tables). InTurn (AddsVersion lab id) kept.versions x (tables_of e)) put four.1;

@@ -29,6 +29,7 @@ use Rattle.lab_store_tables.specs.Schema.{lab_schema}
 use Rattle.lab_store_tables.specs.Rows.{RecordRow, VersionRow, Tables, tables_in, record_row, record_id, version_row, version_id, number}
 use Rattle.lab_store_tables.specs.Changes.{is_record_row, is_version_row, version_named}
 use Rattle.lab_store_tables.specs.Held.{IsTyped}
+use Rattle.lab_store_tables.specs.Family.{Records, Versions}
 use Rattle.lab_store_columns.proofs.Texts.{Means, is_param}
 use Rattle.lab_store_columns.proofs.Sorted.{equal_ints, equal_numbers, and_true}
 use Rattle.lab_store_write.specs.Calls.{Steps, Finds}
@@ -185,7 +186,7 @@ module _ (sql : List ℕ) (on : List Term) (means : Means sql (beside_query on) 
       let params = Int lab ∷ number wanted ∷ more in
       let t = tables_in old.now.trees in
       let read = reads_as sql params old new lab_schema typed.schema _ means.command means.plain means.unlisted rows h in
-      shown_beside on params (overlay old.now.trees []) t.records t.versions typed.records typed.versions typed.rising.records typed.rising.versions
+      shown_beside on params (overlay old.now.trees []) t.records t.versions (typed.stored.at Records) (typed.stored.at Versions) (typed.rising.at Records) (typed.rising.at Versions)
       (is_record_row lab wanted) (λ x. is_version_row x.id (which x))
       (λ x r. ap₂ ◌&&◌ (equal_ints x.lab lab) (and_true _ ∙ equal_numbers x.number wanted)) leads rows (read.answer Null)
 

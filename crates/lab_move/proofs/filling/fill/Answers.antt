@@ -1,7 +1,9 @@
 use Rattle.std.proofs.Common.{Err}
 use Rattle.sqlite.specs.Held.{state}
+use Rattle.lab_store_tables.specs.Ready.{tables_of}
 use Rattle.lab_move_rows.proofs.OldReaders.{may_end}
 use Rattle.lab_move.proofs.AllLabs.{all_counted, all_filled, all_blamed}
+use Rattle.lab_move.proofs.CountedFiles.{counted_since}
 use Rattle.lab_move.proofs.OldVerdicts.{of_store_by}
 use Rattle.lab_move.proofs.Steps.{nothing_by_steps}
 use Rattle.lab_move.proofs.filling.fill.Goals as goal
@@ -15,6 +17,13 @@ pub returns-in-Ok-clause-fills : goal.returns-in-Ok-clause-fills
 returns-in-Ok-clause-fills g c =
     all_filled c.in-Ok.codes (g.D.Readable.state c.args.old.now) (g.D.Readable.state c.codes.new.conn) (g.D.Readable.state c.move_all.new.old) c.in-Ok.ensures
     c.move_all.ensures.reads.passes.clean c.move_all.result (rw c.as_slice.ensures at c.move_all.ensures.fills)
+
+pub returns-in-Ok-clause-counted : goal.returns-in-Ok-clause-counted
+returns-in-Ok-clause-counted g c clean late opened begun =
+    let before = g.D.Readable.state c.args.old.now in
+    let mid = g.D.Readable.state c.codes.new.conn in
+    counted_since c.move_all.result before.now mid.now (tables_of (state g.T.Store c.move_all.new.new)) (c.in-Ok.ensures.shows (c.move_all.ensures.reads.passes.clean clean))
+    (c.move_all.ensures.counted clean late opened begun)
 
 pub returns-in-Ok-clause-fault : goal.returns-in-Ok-clause-fault
 returns-in-Ok-clause-fault g c =

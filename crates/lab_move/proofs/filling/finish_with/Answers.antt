@@ -5,6 +5,12 @@ use Rattle.lab_move.proofs.filling.finish_with.Goals as goal
 pub returns-in-Ok-clause-finished : goal.returns-in-Ok-clause-finished
 returns-in-Ok-clause-finished g c = told_ok tt _ c.in-Ok.ensures.finished
 
+pub returns-in-Ok-clause-named : goal.returns-in-Ok-clause-named
+returns-in-Ok-clause-named g c = told_ok tt _ c.in-Ok.ensures.ends
+
+pub returns-in-Err-clause-named : goal.returns-in-Err-clause-named
+returns-in-Err-clause-named g c = told_err _ _ c.in-Err.ensures.ends
+
 pub returns-in-Err-clause-finished : goal.returns-in-Err-clause-finished
 returns-in-Err-clause-finished g c = told_err _ _ c.in-Err.ensures.finished
 

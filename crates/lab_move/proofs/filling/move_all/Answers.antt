@@ -1,17 +1,31 @@
 use Rattle.std.proofs.Common.{Err}
+use Rattle.sqlite.specs.Held.{state}
+use Rattle.lab_store_tables.specs.Ready.{tables_of}
 use Rattle.lab_move_rows.proofs.OldReaders.{may_end}
 use Rattle.lab_move.proofs.OneLab.{errs_as}
-use Rattle.lab_move.proofs.AllLabs.{counted, finishes_all, fails_all}
+use Rattle.lab_move.proofs.AllLabs.{counted, finishes_all, all_later, fails_all}
+use Rattle.lab_move.proofs.CountedFiles.{counted_since, filling_of}
 use Rattle.lab_move.proofs.filling.move_all.Goals as goal
 
 pub returns-in-Ok-clause-reads : goal.returns-in-Ok-clause-reads
-returns-in-Ok-clause-reads g c = counted c.args.codes.now c.finish_with.result c.in-Ok.ensures.reads c.finish_with.ensures.count
+returns-in-Ok-clause-reads g c = counted c.args.codes.now c.in-Ok.ensures.reads c.finish_compared.ensures.reads
 
 pub returns-in-Ok-clause-fills : goal.returns-in-Ok-clause-fills
-returns-in-Ok-clause-fills g c = finishes_all c.args.codes.now c.in-Ok.ensures.fills c.finish_with.ensures.finished
+returns-in-Ok-clause-fills g c =
+    all_later c.args.codes.now c.finish_compared.result c.finish_compared.ensures.reads.passes.clean
+    (finishes_all c.args.codes.now c.in-Ok.ensures.fills c.finish_compared.ensures.finished)
+
+pub returns-in-Ok-clause-counted : goal.returns-in-Ok-clause-counted
+returns-in-Ok-clause-counted g c clean late opened begun =
+    let before = g.D.Readable.state c.args.old.now in
+    let mid = g.D.Readable.state c.move_each.new.old in
+    let new = state g.T.Store c.finish_compared.new.new in
+    let early = c.finish_compared.ensures.finished.once.clean late in
+    counted_since c.finish_compared.result before.now mid.now (tables_of new) (c.in-Ok.ensures.reads.shows (c.finish_compared.ensures.reads.passes.clean clean))
+    (c.finish_compared.ensures.counted clean late (filling_of c.args.codes.now c.in-Ok.ensures.fills early opened begun))
 
 pub returns-in-Ok-clause-fault : goal.returns-in-Ok-clause-fault
-returns-in-Ok-clause-fault g c = errs_as c.finish_with.result (λ one none. absurd none) c.finish_with.ensures.fault
+returns-in-Ok-clause-fault g c = errs_as c.finish_compared.result (λ one none. absurd none) c.finish_compared.ensures.fault
 
 pub returns-in-Err-clause-reads : goal.returns-in-Err-clause-reads
 returns-in-Err-clause-reads g c = may_end c.in-Err.ensures.reads (Err c.in-Err.fault) (λ e. Unit {0}) tt
@@ -19,5 +33,5 @@ returns-in-Err-clause-reads g c = may_end c.in-Err.ensures.reads (Err c.in-Err.f
 pub returns-in-Err-clause-fills : goal.returns-in-Err-clause-fills
 returns-in-Err-clause-fills g c = fails_all c.args.codes.now c.in-Err.fault c.in-Err.ensures.fills
 
-pub finish_with-requires : goal.finish_with-requires
-finish_with-requires g c = record { at_rest = c.in-Ok.ensures.fills.at_rest }
+pub finish_compared-requires : goal.finish_compared-requires
+finish_compared-requires g c = record { at_rest = c.in-Ok.ensures.fills.at_rest }

@@ -1,8 +1,10 @@
 use Rattle.std.proofs.Common.{Err}
 use Rattle.sqlite.specs.Held.{state}
+use Rattle.lab_store_tables.specs.Ready.{tables_of}
 use Rattle.lab_move_rows.proofs.OldReaders.{may_then, may_end}
 use Rattle.lab_move.proofs.AllLabs.{read_on}
 use Rattle.lab_move.proofs.Ends.{unbegun, left_unfinished, started, whole_now}
+use Rattle.lab_move.proofs.CountedFiles.{begun_open, counted_since}
 use Rattle.lab_move.proofs.Causes.{filled_cause, filled_late, all_moved}
 use Rattle.lab_move.proofs.moving.migrate.Goals as goal
 
@@ -15,6 +17,14 @@ returns-in-Ok-clause-moved g c blank clean file read =
     all_moved before after new c.fill.result (file, read)
     ((read_on c.in-Ok.ensures.reads c.fill.ensures.reads).answer file read)
     (whole_now g.T.Store blank c.in-Ok.ensures.begun before mid after (λ late. c.in-Ok.ensures.reads.shows (c.fill.ensures.reads.passes.clean late)) c.fill.ensures.fills clean)
+
+pub returns-in-Ok-clause-counted : goal.returns-in-Ok-clause-counted
+returns-in-Ok-clause-counted g c blank clean late =
+    let before = state g.S.Store c.args.old.now.conn in
+    let mid = state g.S.Store c.begin.new.old.conn in
+    let it = begun_open blank c.in-Ok.ensures.begun (c.fill.ensures.fills.clean clean) in
+    counted_since c.fill.result before.now mid.now (tables_of (state g.T.Store c.fill.new.new)) (c.in-Ok.ensures.reads.shows (c.fill.ensures.reads.passes.clean late))
+    (c.fill.ensures.counted late clean it.0 it.1)
 
 pub returns-in-Ok-clause-ready : goal.returns-in-Ok-clause-ready
 returns-in-Ok-clause-ready g c blank clean =

@@ -1,13 +1,36 @@
-use Rattle.sqlite.specs.Held.{state}
+use Rattle.std.proofs.Common.{◌≡◌, ℕ, List, Ok, Err, Result, IfErr, refl, subst}
+use Rattle.std.specs.Option.{IsSome}
+use Rattle.sqlite_trees.specs.declared.store.Store.{Ghosts}
+use Rattle.sqlite.specs.State.{State}
+use Rattle.sqlite.specs.Held.{Held, state}
+use Rattle.lab_records_kept.specs.declared.faults.PlacingFault.{PlacingFault}
+use Rattle.lab_records_kept.specs.declared.faults.PlacingFault.TheVariants.{LabExists, Storage as NotStored, Memory as NoMemory}
 use Rattle.lab_records_kept.specs.Births.{newborn_lab}
-use Rattle.lab_records_kept.specs.Worlds.{Places}
-use Rattle.lab_store_tables.specs.Ready.{tables_of}
-use Rattle.lab_store.specs.Founding.{IsPlacedBy}
+use Rattle.lab_records_kept.specs.Worlds.{Given, Places, PlacingFaultFits}
+use Rattle.lab_store_tables.specs.Meaning.{meaning}
+use Rattle.lab_store_tables.specs.Ready.{IsReady, tables_of}
+use Rattle.lab_store.specs.StoreWorlds.{world_of}
+use Rattle.lab_store.specs.Founding.{IsPlacedBy, IsTaken}
 use Rattle.lab_store.proofs.Settled.{durable_now}
 use Rattle.lab_store.proofs.Committed.{crashes, stays_safe, made_means, reached, on_lives}
 use Rattle.lab_store.proofs.Applied.{places_as, founding_law, founding_given}
 use Rattle.lab_store.proofs.Turns.{world_shuts}
 use Rattle.lab_store.proofs.store.StoreKeeper.found.Goals as goal
+
+-- a fault says something only where the laboratory is there
+taken_alone : {S A : Type 0} (g : Ghosts S) (code : List ℕ) (inside self : Held S) (new : State) (r : Result A PlacingFault) → inside ≡ self
+    → (r ≡ Err LabExists → IsReady (state g inside) → IsTaken code (state g inside) new)
+    → IfErr r (PlacingFaultFits (Unit {0}) (Given (world_of (state g self)) (world_of new) (IsSome (meaning (tables_of (state g self)) code))))
+taken_alone g code inside self new (Ok a) same taken = tt
+taken_alone g code inside self new (Err LabExists) same taken =
+    λ honest ready. (subst (λ h. IsReady (state g h) → IsTaken code (state g h) new) same (taken refl) ready).there honest
+taken_alone g code inside self new (Err NotStored) same taken = tt
+taken_alone g code inside self new (Err NoMemory) same taken = tt
+
+pub returns-clause-fault : goal.returns-clause-fault
+returns-clause-fault g c =
+    taken_alone g.S.Store c.args.newborn.code c.self.inside.tables.conn c.args.self.now (state g.S.Store c.found.new.tables.conn) c.found.result c.self.view_is
+    c.found.ensures.exists
 
 pub returns-clause-founded : goal.returns-clause-founded
 returns-clause-founded g c clean ready =

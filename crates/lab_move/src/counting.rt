@@ -1,0 +1,127 @@
+//! Whether an old file has as many rows in each table as the new one: if it has more, something was left behind.
+
+ghost use Rattle.std.specs.Prelude.{◌≡◌, [], Some, IfOk, IfErr, OnOk, IsTrue};
+ghost use Rattle.sqlite_value.specs.declared.value.Value.TheVariants.{Int};
+ghost use Rattle.sqlite.specs.Held.{state};
+ghost use Rattle.sqlite.specs.State.{HasCleanDisk};
+ghost use Rattle.lab_store_tables.specs.Held.{IsTyped};
+ghost use Rattle.lab_store_tables.specs.Ready.{tables_of};
+ghost use Rattle.lab_store_columns.specs.Reads.{Asks};
+ghost use Rattle.lab_move_tables.specs.Reading.{ReadsOld};
+ghost use Rattle.lab_move.specs.Counting.{AreAlike, AreCounts, HasAsMany, cell, counts_text};
+ghost use Rattle.lab_move.specs.Faults.{IsOfStore};
+
+use crate::faults::store_fault;
+use lab_store_columns::cells::id_of;
+use lab_store_columns::{BadStore, ReadFault, Readable, read_fault};
+use lab_store_files::FileFault;
+use sqlite::{Alter, Connection, Row};
+
+/// How many rows each table has, but for `desk`.
+const QUESTION: &str =
+    "SELECT (SELECT count(*) FROM labs), (SELECT count(*) FROM persons), (SELECT count(*) FROM sessions), (SELECT count(*) FROM forms), (SELECT count(*) FROM fields), (SELECT count(*) FROM choices), (SELECT count(*) FROM records), (SELECT count(*) FROM versions), (SELECT count(*) FROM entries), (SELECT count(*) FROM signatures), (SELECT count(*) FROM trail)";
+
+/// How many tables are counted.
+const TABLES: usize = 11;
+
+// What the question shows of an old file.
+fn old_rows<D: Readable>(old: &mut D) -> Result<Vec<Row>, ReadFault>
+    ensures { Asks counts_text [] (D.state old.old) (D.state old.new) result }
+{
+    old.query_all(QUESTION, &[])
+}
+
+// What it shows of a new one.
+fn new_rows<T: Alter>(new: &mut Connection<T>) -> Result<Vec<Row>, ReadFault>
+    ensures { Asks counts_text [] (state T.Store new.old) (state T.Store new.new) result }
+{
+    match new.query_all(QUESTION, &[]) {
+        Ok(rows) => Ok(rows),
+        Err(error) => Err(read_fault(error)),
+    }
+}
+
+// The number at a place of the first row.
+fn number_at(rows: &[Row], at: usize) -> Result<i64, ReadFault>
+    ensures { IfOk result (λ many. cell rows.now at ≡ Some (Int many)) }
+{
+    match rows.first() {
+        Some(row) => id_of(row, at),
+        None => Err(ReadFault::Refused(BadStore)),
+    }
+}
+
+// Whether both show the same number for each table.
+fn are_alike(rows: &[Row], others: &[Row]) -> Result<bool, ReadFault>
+    ensures { IfOk result (λ yes. IsTrue yes → AreAlike rows.now others.now) }
+{
+    for at in 0..TABLES {
+        let there = number_at(rows, at)?;
+        let wanted = number_at(others, at)?;
+        if there != wanted {
+            return Ok(false);
+        }
+    }
+    Ok(true)
+}
+
+// Whether the new file's tables have so many rows.
+fn has_so_many<T: Alter>(new: &mut Connection<T>, rows: &[Row]) -> Result<bool, ReadFault>
+    ensures reads { ReadsOld (λ _ _. Unit {0})
+        (state T.Store new.old) (state T.Store new.new) result }
+    ensures counted { HasCleanDisk (state T.Store new.new) → IsTyped (state T.Store new.old).now →
+        IfOk result (λ yes. IsTrue yes → AreCounts rows.now (tables_of (state T.Store new.old))) }
+{
+    match new_rows(new) {
+        Ok(others) => are_alike(rows, &others),
+        Err(fault) => Err(fault),
+    }
+}
+
+// Whether they have as many as those of the old file.
+fn has_as_many<D: Readable, T: Alter>(
+    old: &mut D,
+    new: &mut Connection<T>,
+) -> Result<bool, ReadFault>
+    ensures reads { ReadsOld (λ _ _. Unit {0}) (D.state old.old) (D.state old.new) result }
+    ensures passes { ReadsOld (λ _ _. Unit {0})
+        (state T.Store new.old) (state T.Store new.new) result }
+    ensures counted { HasCleanDisk (D.state old.new) → HasCleanDisk (state T.Store new.new) →
+        IsTyped (state T.Store new.old).now → IfOk result (λ yes. IsTrue yes →
+        HasAsMany (D.state old.old).now (tables_of (state T.Store new.old))) }
+{
+    match old_rows(old) {
+        Ok(rows) => has_so_many(new, &rows),
+        Err(fault) => Err(fault),
+    }
+}
+
+// What is told where they have fewer: no laboratory can be named.
+fn all_or_storage(all: bool) -> Result<(), FileFault>
+    ensures all { OnOk result (IsTrue all) }
+    ensures fault { IfErr result IsOfStore }
+{
+    if all { Ok(()) } else { Err(FileFault::Storage) }
+}
+
+/// Compares how many rows each table of the old file has, and of the new one. Nothing is written.
+///
+/// # Errors
+/// They aren't as many, the store of either refused, or memory ran out.
+pub(crate) fn compare_counts<D: Readable, T: Alter>(
+    old: &mut D,
+    new: &mut Connection<T>,
+) -> Result<(), FileFault>
+    ensures reads { ReadsOld (λ _ _. Unit {0}) (D.state old.old) (D.state old.new) result }
+    ensures passes { ReadsOld (λ _ _. Unit {0})
+        (state T.Store new.old) (state T.Store new.new) result }
+    ensures counted { HasCleanDisk (D.state old.new) → HasCleanDisk (state T.Store new.new) →
+        IsTyped (state T.Store new.old).now → OnOk result
+        (HasAsMany (D.state old.old).now (tables_of (state T.Store new.old))) }
+    ensures fault { IfErr result IsOfStore }
+{
+    match has_as_many(old, new) {
+        Ok(all) => all_or_storage(all),
+        Err(fault) => Err(store_fault(fault)),
+    }
+}
