@@ -29,7 +29,7 @@ use Rattle.lab_copy_rows.proofs.ListLemmas.{never, no_some, some_same}
 
 -- ---- each record takes a byte at least, and ends between records
 
-shorter : (cfg : Config) (s : State) (fields : List (List ℕ)) (field xs : List ℕ) (p : RecordRead)
+pub shorter : (cfg : Config) (s : State) (fields : List (List ℕ)) (field xs : List ℕ) (p : RecordRead)
     → next_record cfg s fields field xs ≡ Some p → length p.2 ≤ length xs - 1
 unfolding next_record
 shorter cfg s fields field [] p is = by (ends_at_end s) is
@@ -47,27 +47,27 @@ shorter cfg s fields field (c ∷ rest) p is =
     by true more e less = subst (λ (q : RecordRead). length q.2 ≤ length (c ∷ rest) - 1) (some_same _ p e) (omega arith)
     by false more e less = omega (arith, less e)
 
-abbrev field_step : Bool → Bool → Bool → State × Action
+abbrev pub field_step : Bool → Bool → Bool → State × Action
 field_step comma ends ret =
     if comma then (st.StartField, act.EndField)
     else if ends then ((if ret then st.AfterCr else st.StartRecord), act.EndRecord) else (st.InField, act.Copy)
 
-abbrev quote_step : Bool → Bool → Bool → Bool → State × Action
+abbrev pub quote_step : Bool → Bool → Bool → Bool → State × Action
 quote_step quote comma ends ret = if quote then (st.InQuoted, act.Skip) else field_step comma ends ret
 
-abbrev copy_step : Bool → Bool → Bool → Bool → State × Action
+abbrev pub copy_step : Bool → Bool → Bool → Bool → State × Action
 copy_step quote comma ends ret = if quote then (st.InQuoted, act.Copy) else field_step comma ends ret
 
 abbrev skip_step : Bool → State → State → State × Action
 skip_step b one other = if b then (one, act.Skip) else (other, act.Skip)
 
-abbrev inside_step : Bool → State × Action
+abbrev pub inside_step : Bool → State × Action
 inside_step b = if b then (st.AfterQuote, act.Skip) else (st.InQuoted, act.Copy)
 
-abbrev record_step : Bool → ℕ → State × Action
+abbrev pub record_step : Bool → ℕ → State × Action
 record_step ends c = if ends then (st.StartRecord, act.Skip) else start_field default_config c
 
-abbrev return_step : Bool → ℕ → State × Action
+abbrev pub return_step : Bool → ℕ → State × Action
 return_step b c = if b then (st.StartRecord, act.Skip) else start_record default_config c
 
 field_end : (comma ends ret : Bool)
@@ -143,13 +143,13 @@ between s fields field (c ∷ rest) p is =
     by true more ends e deeper = subst (λ (q : RecordRead). ends_at_end q.1 ≡ false) (some_same _ p e) (step_end s c ends)
     by false more ends e deeper = deeper e
 
-nothing_left : (s : State) → ends_at_end s ≡ false → next_record default_config s [] [] [] ≡ None
+pub nothing_left : (s : State) → ends_at_end s ≡ false → next_record default_config s [] [] [] ≡ None
 unfolding next_record
 nothing_left s e = rw e refl
 
 -- ---- the records that are left
 
-some_left : (fuel : ℕ) (s : State) (xs : List ℕ) (p : RecordRead) → IsEnough fuel s xs → next_record default_config s [] [] xs ≡ Some p
+pub some_left : (fuel : ℕ) (s : State) (xs : List ℕ) (p : RecordRead) → IsEnough fuel s xs → next_record default_config s [] [] xs ≡ Some p
     → (less : ℕ) × (records_from default_config fuel s xs ≡ p.0 ∷ records_from default_config less p.1 p.2) × IsEnough less p.1 p.2
 unfolding records_from
 some_left zero s [] p enough is = no_some p (sym (nothing_left s enough.between) ∙ is)
@@ -163,7 +163,7 @@ some_left (suc fuel) s xs p enough is = (
   },
 )
 
-none_left : (fuel : ℕ) (s : State) (xs : List ℕ) → next_record default_config s [] [] xs ≡ None → records_from default_config fuel s xs ≡ []
+pub none_left : (fuel : ℕ) (s : State) (xs : List ℕ) → next_record default_config s [] [] xs ≡ None → records_from default_config fuel s xs ≡ []
 unfolding records_from
 none_left zero s xs is = refl
 none_left (suc fuel) s xs is = ap (records_next (records_from default_config fuel)) is

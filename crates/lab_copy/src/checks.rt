@@ -12,6 +12,7 @@ ghost use Rattle.lab_copy.specs.Left.{AnswersRest, AreRows};
 
 use crate::CheckFault;
 use crate::asks::{AskedReader, Asking, MOST_ASKS};
+use crate::fronts::RowSoFar;
 use crate::kept::Kept;
 use csv::{ByteRecord, ErrorKind, Reader, ReaderBuilder};
 use lab_copy_lines::{RowFault, is_header, read_line};
@@ -25,7 +26,8 @@ use std::marker::{Brand, PhantomData};
 const MOST_ROWS: u64 = 1_000_000_000_000;
 
 /// Reads a copy as CSV to its end, and answers how many rows of each kind it has, where it is sound; else the first flaw that
-/// is told. It recomputes every digest and every seal.
+/// is told. It recomputes every digest and every seal. A row is read no further once it has more fields, or a longer one, than a
+/// row that reads.
 ///
 /// # Errors
 /// The copy's first flaw; a reader that failed, was asked 1,000,000,000,000,000 times or gave more than 1,000,000,000,000 rows;
@@ -55,9 +57,11 @@ fn check_asking<'a, A: Asking, R: ByteSource>(
     ensures same_reference { result.1.ghost_name ≡ source.entry.ghost_name }
     ensures asks { R.asks result.1.now ≤ A.most }
 {
+    let row = RowSoFar::of_text();
     let asked = AskedReader::<A, R> {
         source,
         asks_left: MOST_ASKS,
+        row,
         asking: PhantomData,
     };
     let mut rows = copy_reader(alloc, asked);

@@ -5,6 +5,7 @@
 mod asks;
 mod checks;
 mod faults;
+mod fronts;
 mod hands;
 mod kept;
 mod places;

@@ -74,7 +74,7 @@ not_thirteen (a ∷ b ∷ c ∷ d ∷ e ∷ f ∷ g ∷ h ∷ i ∷ j ∷ k ∷ 
 
 -- ---- the header
 
-columns_back : (fields : List (List ℕ)) (row : Columns) → columns_of fields ≡ Some row → fields ≡ fields_in row
+pub columns_back : (fields : List (List ℕ)) (row : Columns) → columns_of fields ≡ Some row → fields ≡ fields_in row
 columns_back [] row is = no_some row is
 columns_back (a ∷ []) row is = no_some row is
 columns_back (a ∷ b ∷ []) row is = no_some row is

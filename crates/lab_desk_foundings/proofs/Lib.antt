@@ -1,4 +1,4 @@
 pub mod Bearing
-mod Bodies
+pub mod Bodies
 mod KnownFoundings
 pub mod KnownRunFaults

@@ -1,9 +1,10 @@
 -- What the desk does of a founding: what every laboratory is afterwards, and the line that answers
 -- it (docs/FORMATS.md has the lines).
-use Rattle.std.specs.Prelude.{◌≡◌, ◌⊎◌, ℕ, List, ◌++◌, Option, Some, None, Result, Ok, Err, IsOk, codes, decimal}
+use Rattle.std.specs.Prelude.{◌≡◌, ◌⊎◌, ℕ, List, ◌++◌, Option, Some, None, Result, Ok, Err, IsOk, codes, decimal, if◌then◌else◌, length, nat_le}
 use Rattle.lab_forms_texts.specs.Faults.{Entry, memory_entry}
 use Rattle.lab_forms_texts.specs.declared.tick.Tick.{Tick}
 use Rattle.lab_wire_members.specs.declared.refusals.BodyRefusal.{BodyRefusal}
+use Rattle.lab_wire_members.specs.declared.refusals.BodyRefusal.TheVariants.{BadBody}
 use Rattle.lab_wire_members.specs.Refusals.{body_entry}
 use Rattle.lab_wire_bodies.specs.Bodies.{body_named}
 use Rattle.lab_wire_bodies.specs.Foundings.{founding_named}
@@ -18,9 +19,14 @@ use Rattle.lab_records_machine.specs.Births.{birth_entry, born, newborn}
 abbrev pub Body : Type 0
 Body = Result Founding BodyRefusal
 
--- what the bytes of a founding's body say
-abbrev pub founding_in : List ℕ → Body
-founding_in body = body_named founding_named body
+-- the most bytes of a founding's body
+abbrev pub body_limit : ℕ
+body_limit = 1000000
+
+-- what the bytes of a founding's body say: one of more bytes isn't read, and is no body
+unfoldable pub founding_in : List ℕ → Body
+founding_in body =
+    if nat_le (length body) body_limit then body_named founding_named body else Err BadBody
 
 -- a body that reads, from which a laboratory is born where there is none of the code
 abbrev pub Bears : List ℕ → Tick → Body → Type 0

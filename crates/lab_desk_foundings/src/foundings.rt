@@ -2,6 +2,8 @@
 
 ghost use Rattle.std.specs.Prelude.{◌≡◌, ◌<◌, ◌⊎◌, length, IfOk, IfErr, None, Ok, true, false, option_map};
 ghost use Rattle.lab_records_kept.specs.Births.{newborn_lab};
+ghost use Rattle.lab_wire_bodies.specs.Bodies.{body_named};
+ghost use Rattle.lab_wire_bodies.specs.Foundings.{founding_named};
 ghost use Rattle.lab_records_kept.specs.declared.faults.PlacingFault.TheVariants.{Memory};
 ghost use Rattle.lab_desk_foundings.specs.declared.faults.FoundFault.TheVariants.{Placing};
 ghost use Rattle.lab_desk_foundings.specs.Faults.{found_fault_entry, is_taken, FoundFaultFits};
@@ -12,9 +14,32 @@ use lab_forms_texts::{LabCode, OutOfMemory, Tick};
 use lab_records_kept::Newborn;
 use lab_records_machine::bear;
 use lab_wire_bodies::founding_of;
+use lab_wire_members::BodyRefusal;
 use std::alloc::Global;
 
-/// What a keeper founds the laboratory of the code from, by its body.
+/// The most bytes of a founding's body.
+const BODY_LIMIT: usize = 1_000_000;
+
+// What a keeper founds the laboratory of the code from, by a body of no more bytes than it may have.
+fn newborn_within(
+    alloc: Global,
+    lab: &LabCode,
+    tick: &Tick,
+    body: &[u8],
+) -> Result<Newborn, FoundFault>
+    ensures born { IfOk result (λ newborn. IsNewborn lab.now tick.now
+        (body_named founding_named body.now) (newborn_lab newborn)) }
+    ensures fault { IfErr result
+        (FoundFaultFits ⊥ ⊥ lab.now tick.now (body_named founding_named body.now)) }
+    ensures memory { IfErr result (λ fault. fault ≡ Placing Memory → 0 < length body.now) }
+{
+    match founding_of(alloc, body) {
+        Ok(founding) => Ok(bear(lab.copy()?, founding, tick)?),
+        Err(fault) => Err(FoundFault::from(fault)),
+    }
+}
+
+/// What a keeper founds the laboratory of the code from, by its body. A body of more bytes than it may have isn't read.
 ///
 /// # Errors
 /// The founding's refusal, the store's, or memory that ran out.
@@ -31,10 +56,10 @@ pub fn newborn_of(
     // An empty body is refused, which takes no memory:
     ensures memory { IfErr result (λ fault. fault ≡ Placing Memory → 0 < length body.now) }
 {
-    match founding_of(alloc, body) {
-        Ok(founding) => Ok(bear(lab.copy()?, founding, tick)?),
-        Err(fault) => Err(FoundFault::from(fault)),
+    if body.len() > BODY_LIMIT {
+        return Err(FoundFault::Body(BodyRefusal::BadBody));
     }
+    newborn_within(alloc, lab, tick, body)
 }
 
 /// The line that tells of a founding.

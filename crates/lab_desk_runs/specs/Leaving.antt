@@ -47,8 +47,7 @@ abbrev pub Settles : World → World → Type 0
 Settles old new =
     IsDurable new ⊎ (Quiet old new × (old.is_live → SameMeaning old.meaning new.meaning))
 
--- what a crash may leave at the end of a run, told also where a fault at its last event has shut
--- the keeper
+-- what a crash may leave at the end of a run, told where the keeper is live then
 pub record LeavesRun {S : Type 0} (keeper : Ghosts S) (old new : S) (events : List Event)
     (taken : List Bool) : Type 0 where
   pub handled : List Handled

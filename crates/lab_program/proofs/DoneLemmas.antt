@@ -29,7 +29,7 @@ use Rattle.lab_program_files.specs.Serving.{ServesFile}
 use Rattle.lab_program_moves.specs.Moves.{IsMigration}
 use Rattle.lab_program.specs.CommandLine.{IsDone}
 use Rattle.lab_program_app.specs.Explaining.{Stopped}
-use Rattle.lab_program.specs.Laboratories.{IsCopiedIf, body_in}
+use Rattle.lab_program.specs.Laboratories.{IsCopiedIf}
 use Rattle.lab_program.proofs.UnbegunLemmas.{IsUnbegun, declines_task, never_begun, no_copying, no_founding, no_rehearsal, printed_none, seen}
 use Rattle.lab_program_words.specs.Tasks.{Asked, founds, serves, copies, migrates, checks, replays, rehearses}
 
@@ -115,7 +115,7 @@ module _ {S Shelf : Type 0} (disk : Ghosts S) (holds : Shelf → List ℕ → Tr
       → IsDone disk holds shelf drawing asked input (seen before after told_before told_after status)
   never_done (founds file lab) input told = never_begun before after told_before told_after status _
       (no_founding before after told_before told_after status (file_keeper disk)
-      (record { drawing = drawing; code = lab; body = body_in input }) (IsOpened disk (holds shelf file)))
+      (record { drawing = drawing; code = lab; body = input }) (IsOpened disk (holds shelf file)))
       (is_lab_code lab) told
   never_done (serves file port count) input told =
       no_serving before after told_before told_after status (file_keeper disk) (IsOurs disk (holds shelf file)) (IsOursAnywhere disk holds) drawing count told
@@ -131,7 +131,7 @@ module _ {S Shelf : Type 0} (disk : Ghosts S) (holds : Shelf → List ℕ → Tr
   never_done checks input told = no_check input before after told_before told_after status told
   never_done replays input told = no_replay input before after told_before told_after status told
   never_done (rehearses lab moment) input told = never_begun before after told_before told_after status _
-      (no_rehearsal before after told_before told_after status lab (body_in input)) (is_lab_code lab) told
+      (no_rehearsal before after told_before told_after status lab input) (is_lab_code lab) told
 
   pub done_as : (asked other : Asked) (input : Option (List ℕ)) → asked ≡ other
       → IsDone disk holds shelf drawing other input (seen before after told_before told_after status)

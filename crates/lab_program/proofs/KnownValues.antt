@@ -1,14 +1,14 @@
--- Values from outside, so that a wrong rule in the definitions does not check: the body that the input bears, and what is done for a word that
+-- Values from outside, so that a wrong rule in the definitions does not check: the first bytes of an input, and what is done for a word that
 -- is no laboratory's code (docs/FORMATS.md).
 use Rattle.std.proofs.Common.{◌≡◌, refl, codes, Some, None}
 use Rattle.lab_forms_texts.specs.Names.{is_lab_code}
 use Rattle.lab_forms_texts.specs.declared.faults.BadName.{BadName}
 use Rattle.lab_forms_texts.specs.declared.refusals.Fault.{Fault}
 use Rattle.lab_program_outside.specs.TaskEnds.{TaskEnd}
-use Rattle.lab_program.specs.Laboratories.{body_in, OfCode}
+use Rattle.lab_program.specs.Laboratories.{front_of, OfCode}
 
-pub known_bodies : (body_in None ≡ None) × (body_in (Some (codes "{}")) ≡ Some (codes "{}"))
-known_bodies = (refl, refl)
+pub known_fronts : (front_of None ≡ None) × (front_of (Some (codes "{}")) ≡ Some (codes "{}"))
+known_fronts = (refl, refl)
 
 -- a task is done for a code; for a text that is none a fault of names is told
 module _ (end : TaskEnd) (Done : Type 0) where

@@ -1,3 +1,4 @@
 pub mod DoneLemmas
 pub mod UnbegunLemmas
+pub mod WholeLemmas
 mod KnownValues

@@ -12,7 +12,7 @@ use Rattle.lab_program_shelves.specs.Files.{IsBlankAt, IsOurs, IsOursAnywhere}
 use Rattle.lab_program_replay.specs.Replays.{IsReplay}
 use Rattle.lab_program_files.specs.Serving.{ServesFile}
 use Rattle.lab_program_moves.specs.Moves.{IsMigration}
-use Rattle.lab_program.specs.Laboratories.{IsCopiedIf, IsFounded, IsRehearsed, body_in}
+use Rattle.lab_program.specs.Laboratories.{IsCopiedIf, IsFounded, IsRehearsed}
 use Rattle.lab_program_words.specs.Tasks.{Asked, founds, serves, copies, migrates, checks, replays, rehearses}
 
 -- what is asked for is done, from this input, at the moment and with the words that were drawn,
@@ -20,7 +20,7 @@ use Rattle.lab_program_words.specs.Tasks.{Asked, founds, serves, copies, migrate
 abbrev pub IsDone : {S Shelf : Type 0} → Ghosts S → (Shelf → List ℕ → Trees → Type 0) → Shelf →
     Drawing → Asked → (input : Option (List ℕ)) → TaskEnd → Type 0
 IsDone disk holds shelf drawing (founds file lab) input end = IsFounded disk (holds shelf file)
-    (record { drawing = drawing; code = lab; body = body_in input }) end
+    (record { drawing = drawing; code = lab; body = input }) end
 IsDone disk holds shelf drawing (serves file port count) input end =
     ServesFile (file_keeper disk) (IsOurs disk (holds shelf file)) (IsOursAnywhere disk holds)
     drawing count end
@@ -40,4 +40,4 @@ IsDone disk holds shelf drawing checks input end = IfSome input (λ bytes.
 IsDone disk holds shelf drawing replays input end =
     IsReplay input end.before end.after end.told_before end.told_after end.status
 IsDone disk holds shelf drawing (rehearses lab moment) input end =
-    IsRehearsed lab (body_in input) end
+    IsRehearsed lab input end

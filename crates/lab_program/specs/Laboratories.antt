@@ -17,13 +17,9 @@ use Rattle.lab_program_files.specs.FileWorlds.{file_keeper}
 use Rattle.lab_program_files.specs.Foundings.{FoundTask, IsFounding}
 use Rattle.lab_program_app.specs.Explaining.{IsExplained}
 
--- the most bytes of a body
-abbrev pub body_limit : ℕ
-body_limit = 1000000
-
--- the input's first bytes are the body
-abbrev pub body_in : Option (List ℕ) → Option (List ℕ)
-body_in = option_map (take body_limit)
+-- the first bytes of an input, one more than a founding's body may have
+abbrev pub front_of : Option (List ℕ) → Option (List ℕ)
+front_of = option_map (take 1000001)
 
 -- nothing was done, and this word was told: the status is 1
 abbrev pub Declines : List ℕ → TaskEnd → Type 0

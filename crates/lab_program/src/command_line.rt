@@ -8,10 +8,10 @@ ghost use Rattle.lab_program.specs.CommandLine.{IsDone};
 ghost use Rattle.lab_program_app.specs.Explaining.{IsExplained};
 ghost use Rattle.lab_program_words.specs.Tasks.{Asked, Asks, IsTask};
 
+use crate::copies::check_for;
 use crate::laboratories::{copy_for, found_for, rehearse_for};
 use lab_program_app::explain;
-use lab_program_check::check;
-use lab_program_files::{Closing, Progress, Shelf, serve};
+use lab_program_files::{Closing, Progress, Shelf, Trouble, serve};
 use lab_program_moves::migrate;
 use lab_program_outside::{Chance, Clock, Host};
 use lab_program_replay::replay;
@@ -53,8 +53,11 @@ where
             to,
         } => copy_for(host, file, lab, from, to, output, errors),
         Task::Migrate { old, new } => migrate(host, old, new, output, errors),
-        Task::Check => check(host.alloc, input, output, errors),
-        Task::Replay => replay(host.alloc, input, output, errors),
+        Task::Check => check_for(host, input, output, errors),
+        Task::Replay => {
+            host.shelf.advise(Trouble::EventsAwaited);
+            replay(host.alloc, input, output, errors)
+        }
         Task::Rehearse { lab, seconds } => rehearse_for(host, lab, seconds, input, output, errors),
     }
 }

@@ -1,24 +1,34 @@
 //! Tasks of one laboratory, which the words name by a text.
 
+ghost use Rattle.std.specs.Io.Take.{take_remaining};
 ghost use Rattle.std.specs.Prelude.{◌≡◌, ℕ, pos, List, IsTrue, Err, nat_le};
 ghost use Rattle.lab_forms_texts.specs.Moment.{is_moment};
 ghost use Rattle.lab_forms_texts.specs.Ordinals.{is_ordinal};
 ghost use Rattle.lab_program_outside.specs.Faults.{Tells};
 ghost use Rattle.lab_program_outside.specs.Sources.{drawing_of};
-ghost use Rattle.lab_program.specs.Laboratories.{IsCopied, IsCopiedIf, IsFounded, IsRehearsed, body_in};
+ghost use Rattle.lab_program.specs.Laboratories.{IsCopied, IsCopiedIf, IsFounded, IsRehearsed, front_of};
 
 use lab_forms_texts::{LabCode, Moment, Ordinal};
 use lab_program_app::explain_order;
 use lab_program_files::{Closing, Progress, Shelf, Trouble, copy, found};
 use lab_program_outside::{Chance, Clock, Host, tell};
+use lab_program_replay::{LimitedReader, MOST_ASKS};
 use lab_program_serve::rehearse;
 use lab_wire_heads::WriteFault;
 use sqlite::Connection;
-use std::io::{Read, Write};
+use std::io::{Read, Take, Write};
 use std::net::Net;
 
-/// The most bytes of a body.
-const BODY_LIMIT: u64 = 1_000_000;
+/// The most bytes of an input that are read for a founding: one more than its body may have, so that a longer one is seen.
+const FRONT: u64 = 1_000_001;
+
+// The first bytes of an input, which tell what a founding's body says. The input is not asked forever.
+fn front_of<R: Read + Drop>(input: R) -> Take<LimitedReader<R>>
+    ensures { take_remaining (λ limited. R.remaining limited.reader) result
+        ≡ front_of (R.remaining input) }
+{
+    LimitedReader::new(input, MOST_ASKS).take(FRONT)
+}
 
 // Tells a word, and answers the status of a fault.
 fn decline<E: Write>(errors: &mut E, word: &str) -> Result<u8, WriteFault>
@@ -29,8 +39,8 @@ fn decline<E: Write>(errors: &mut E, word: &str) -> Result<u8, WriteFault>
     Ok(1)
 }
 
-/// `labdesk found`, of the laboratory of this text in the file at the path, its body being the
-/// first bytes of the input. Answers the status.
+/// `labdesk found`, of the laboratory of this text in the file at the path, its body being all of the input. Answers the
+/// status.
 ///
 /// # Errors
 /// A fault could not be told whole, as standard error failed.
@@ -48,7 +58,7 @@ where
       drawing = drawing_of (C.coming host.old.clock) (C.coming host.new.clock)
           (X.coming host.old.chance) (X.coming host.new.chance);
       code = lab.now;
-      body = body_in (R.remaining input);
+      body = R.remaining input;
     }) (record {
       before = W.contents output.old;
       after = W.contents output.new;
@@ -65,7 +75,7 @@ where
             return status;
         }
     };
-    let mut body = input.take(BODY_LIMIT);
+    let mut body = front_of(input);
     found(host, file, &code, &mut body, output, errors)
 }
 
@@ -150,12 +160,12 @@ where
     copy_range(host, file, lab, ordinal(from), ordinal(to), output, errors)
 }
 
-/// `labdesk rehearse`, of the laboratory of this text after so many seconds, its body being the
-/// first bytes of the input. Answers the status.
+/// `labdesk rehearse`, of the laboratory of this text after so many seconds, its body being all of the input. Answers the
+/// status.
 ///
 /// # Errors
 /// A fault could not be told whole, as standard error failed.
-pub fn rehearse_for<N: Net, H, C, X, P, R: Read + Drop, W: Write, E: Write>(
+pub fn rehearse_for<N: Net, H: Shelf, C, X, P, R: Read + Drop, W: Write, E: Write>(
     host: &mut Host<'_, N, H, C, X, P>,
     lab: &str,
     seconds: i64,
@@ -164,7 +174,7 @@ pub fn rehearse_for<N: Net, H, C, X, P, R: Read + Drop, W: Write, E: Write>(
     errors: &mut E,
 ) -> Result<u8, WriteFault>
     ensures { (moment : ℕ) → IsTrue (is_moment moment) → seconds ≡ pos moment →
-        IsRehearsed lab.now (body_in (R.remaining input)) (record {
+        IsRehearsed lab.now (R.remaining input) (record {
           before = W.contents output.old;
           after = W.contents output.new;
           told_before = E.contents errors.old;
@@ -176,10 +186,15 @@ pub fn rehearse_for<N: Net, H, C, X, P, R: Read + Drop, W: Write, E: Write>(
         Ok(moment) => moment,
         Err(fault) => return decline(errors, fault.word()),
     };
-    let lab = match LabCode::parse(host.alloc, lab) {
-        Ok(lab) => lab,
-        Err(fault) => return decline(errors, fault.word()),
+    let code = match LabCode::parse(host.alloc, lab) {
+        Ok(code) => code,
+        Err(fault) => {
+            let status = decline(errors, fault.word());
+            host.shelf.advise(Trouble::OfCode(lab));
+            return status;
+        }
     };
-    let mut body = input.take(BODY_LIMIT);
-    rehearse(host, &lab, moment, &mut body, output, errors)
+    host.shelf.advise(Trouble::FoundingAwaited);
+    let mut body = front_of(input);
+    rehearse(host, &code, moment, &mut body, output, errors)
 }

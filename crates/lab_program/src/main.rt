@@ -3,16 +3,28 @@
 #![tactic(auto)]
 
 mod command_line;
+mod copies;
 mod laboratories;
 
 use command_line::labdesk;
-use lab_program_files::{Host, HostShelf, Supposed, SystemChance, SystemClock, TerminalProgress};
+use lab_program_files::Host;
+use lab_program_machine::{HostShelf, Supposed, SystemChance, SystemClock, TerminalProgress};
 use sqlite::Wary;
-use std::io;
+use std::io::{self, ErrorKind, Write};
 use std::process::ExitCode;
 
 /// The status where a fault could not be told either: that of a fault.
 const UNTOLD: u8 = 1;
+
+/// What is told of words that are no text, as clap tells of a fault in words; and the status.
+const NO_TEXT: &str = "error: invalid UTF-8 was detected in one or more arguments
+
+Usage: labdesk <COMMAND>
+
+For more information, try '--help'.
+";
+
+const NO_TEXT_STATUS: u8 = 2;
 
 // Does what the words ask for, over files of which this is supposed, and answers the status.
 fn status_of<S: Supposed>(rt: &HostRuntime, words: &[String], start: S) -> u8 {
@@ -30,8 +42,26 @@ fn status_of<S: Supposed>(rt: &HostRuntime, words: &[String], start: S) -> u8 {
     status.unwrap_or(UNTOLD)
 }
 
-fn main(rt: HostRuntime) -> io::Result<ExitCode> {
-    let words: Vec<String> = std::env::args(&rt)?.collect(rt.alloc())?;
-    let status = status_of(&rt, &words, Wary);
-    Ok(ExitCode::from(status))
+// Tells why there are no words, and answers the status.
+fn refuse_words(rt: &HostRuntime, error: &io::Error) -> u8 {
+    let mut errors = rt.stderr();
+    let (text, status) = match error.kind() {
+        ErrorKind::InvalidData => (NO_TEXT, NO_TEXT_STATUS),
+        _ => ("labdesk: memory\n", UNTOLD),
+    };
+    let _ = errors.write_all(text.as_bytes());
+    status
+}
+
+// The words of the command line.
+fn words_of(rt: &HostRuntime) -> io::Result<Vec<String>> {
+    Ok(std::env::args(rt)?.collect(rt.alloc())?)
+}
+
+fn main(rt: HostRuntime) -> ExitCode {
+    let status = match words_of(&rt) {
+        Ok(words) => status_of(&rt, &words, Wary),
+        Err(error) => refuse_words(&rt, &error),
+    };
+    ExitCode::from(status)
 }

@@ -162,6 +162,19 @@ fn command<'a>(alloc: Global, name: &'a str, about: &'a str, more: &'a str) -> C
     Command::new(alloc, name).about(about).after_help(more)
 }
 
+// One whose input is standard input, as the usage line shows.
+fn reading_command<'a>(
+    alloc: Global,
+    name: &'a str,
+    about: &'a str,
+    more: &'a str,
+    usage: &'a str,
+) -> Command<'a>
+    ensures { app_of result ≡ new_app name.entry.now }
+{
+    command(alloc, name, about, more).override_usage(usage)
+}
+
 // A command with one more argument, which is its own.
 fn with<'a>(bare: Command<'a>, argument: Arg<'a>) -> Result<Command<'a>, AllocError>
     requires { argument.global ≡ false }
@@ -217,7 +230,8 @@ pub fn found_command<'a>(alloc: Global) -> Result<Command<'a>, AllocError>
     ensures { IfOk result (λ command. app_of command ≡ found_app) }
 {
     let about = "Found a laboratory in a file, from the body of standard input";
-    let bare = command(alloc, "found", about, FOUNDING);
+    let usage = "labdesk found --file <F> --lab <L> < FOUNDING";
+    let bare = reading_command(alloc, "found", about, FOUNDING, usage);
     with_file_and_lab(alloc, bare)
 }
 
@@ -267,7 +281,8 @@ pub fn rehearse_command<'a>(alloc: Global) -> Result<Command<'a>, AllocError>
     ensures { IfOk result (λ command. app_of command ≡ rehearse_app) }
 {
     let about = "Found a laboratory from the body of standard input, and ask for its card";
-    let bare = command(alloc, "rehearse", about, REHEARSING);
+    let usage = "labdesk rehearse --lab <L> --moment <S> < FOUNDING";
+    let bare = reading_command(alloc, "rehearse", about, REHEARSING, usage);
     let first = with(bare, lab_argument(alloc))?;
     with(first, moment_argument(alloc))
 }
@@ -277,7 +292,8 @@ pub fn check_command<'a>(alloc: Global) -> Command<'a>
     ensures { app_of result ≡ check_app }
 {
     let about = "Check the inspection copy of standard input, and tell what is found";
-    command(alloc, "check", about, CHECKING)
+    let usage = "labdesk check < COPY";
+    reading_command(alloc, "check", about, CHECKING, usage)
 }
 
 /// `replay`.
@@ -285,5 +301,6 @@ pub fn replay_command<'a>(alloc: Global) -> Command<'a>
     ensures { app_of result ≡ replay_app }
 {
     let about = "Run the events of standard input, and write their answers to standard output";
-    command(alloc, "replay", about, REPLAYING)
+    let usage = "labdesk replay < EVENTS";
+    reading_command(alloc, "replay", about, REPLAYING, usage)
 }

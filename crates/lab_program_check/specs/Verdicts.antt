@@ -10,6 +10,7 @@ use Rattle.lab_copy_rows.specs.Flaws.{flaw_entry, flaw_row}
 use Rattle.lab_copy_rows.specs.declared.flaws.Flaw.{Flaw}
 use Rattle.lab_copy_rows.specs.declared.lines.Counts.{Counts}
 use Rattle.lab_program_check.specs.declared.faults.StopFault.{StopFault}
+use Rattle.lab_program_check.specs.declared.verdicts.Checked.{Checked}
 use Rattle.lab_program_check.specs.declared.faults.StopFault.TheVariants.{Read, Write, Memory}
 
 -- ---- what is told
@@ -41,6 +42,16 @@ verdict_status (Err flaw) = 1
 -- a line and a status are those of a verdict
 abbrev pub IsFound : Result Counts Flaw → List ℕ → ℕ → Type 0
 IsFound verdict line status = (line ≡ verdict_line verdict) × (status ≡ verdict_status verdict)
+
+-- the flaw of a verdict, where there is one
+abbrev pub IsFlaw : Result Counts Flaw → Option Flaw → Type 0
+IsFlaw (Ok counts) found = found ≡ None
+IsFlaw (Err flaw) found = found ≡ Some flaw
+
+-- the status of a check that ended so
+abbrev pub status_of : {F : Type 0} → Result Checked F → Result ℕ F
+status_of (Ok checked) = Ok checked.status
+status_of (Err fault) = Err fault
 
 -- ---- what stops a check
 

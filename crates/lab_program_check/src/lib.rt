@@ -5,5 +5,6 @@ mod faults;
 mod verdicts;
 
 pub use faults::StopFault;
+pub use lab_copy::Flaw;
 pub use lab_wire_heads::WriteFault;
-pub use verdicts::check;
+pub use verdicts::{Checked, check};

@@ -1,9 +1,9 @@
 //! The check of a copy from a reader, and the line that tells what was found.
-ghost use Rattle.std.specs.Prelude.{◌≡◌, ◌≢◌, IfOk, IfErr, IfSome};
+ghost use Rattle.std.specs.Prelude.{◌≡◌, ◌≢◌, IfOk, IfErr, IfSome, IsSome};
 ghost use Rattle.lab_copy_rows.specs.Copies.{verdict};
 ghost use Rattle.lab_copy.specs.Checks.{rows_of};
 ghost use Rattle.lab_program_check.specs.declared.faults.StopFault.TheVariants.{Write as NotWritten};
-ghost use Rattle.lab_program_check.specs.Verdicts.{good_line, bad_line, IsFound, IsVerdictTold, IsCheck};
+ghost use Rattle.lab_program_check.specs.Verdicts.{good_line, bad_line, status_of, IsFlaw, IsFound, IsVerdictTold, IsCheck};
 
 use crate::faults::StopFault;
 use lab_copy::{CheckFault, Counts, Flaw, OutOfMemory, check_copy};
@@ -11,11 +11,21 @@ use lab_wire_heads::{WriteFault, write_reply};
 use std::alloc::Global;
 use std::io::{Read, Write};
 
-/// What was found of a copy: the line that tells it, and the status.
+/// What was found of a copy: the line that tells it, the status, and the flaw where it has one.
 #[derive(Drop)]
 struct Found {
     line: String,
     status: u8,
+    flaw: Option<Flaw>,
+}
+
+/// How a check ended: its status, and the flaw that was told.
+#[derive(Clone, Copy, Debug, PartialEq, Eq)]
+pub struct Checked {
+    /// The status: 0 for a sound copy, and else 1.
+    pub status: u8,
+    /// The copy's first flaw, where the line told one.
+    pub flaw: Option<Flaw>,
 }
 
 // The line that tells of a sound copy: how many rows of each kind it has.
@@ -44,6 +54,8 @@ fn bad_line(alloc: Global, flaw: Flaw) -> Result<String, OutOfMemory>
 fn look_over<R: Read + Drop>(alloc: Global, input: R) -> Result<Found, StopFault>
     ensures found { IfOk result (λ found. IfSome (R.remaining input) (λ bytes.
         IsFound (verdict (rows_of bytes)) found.line.bytes.items found.status)) }
+    ensures flaw { IfOk result (λ found. IfSome (R.remaining input) (λ bytes.
+        IsFlaw (verdict (rows_of bytes)) found.flaw)) }
     ensures fault { IfErr result (λ fault. fault ≢ NotWritten) }
 {
     let mut input = input;
@@ -51,35 +63,42 @@ fn look_over<R: Read + Drop>(alloc: Global, input: R) -> Result<Found, StopFault
         Ok(counts) => Ok(Found {
             line: good_line(alloc, counts)?,
             status: 0,
+            flaw: None,
         }),
         Err(CheckFault::Flawed(flaw)) => Ok(Found {
             line: bad_line(alloc, flaw)?,
             status: 1,
+            flaw: Some(flaw),
         }),
         Err(CheckFault::Read) => Err(StopFault::Read),
         Err(CheckFault::Memory(_)) => Err(StopFault::Memory),
     }
 }
 
-// Checks the copy that the input has, and tells on the output what is found. Answers the status.
+// Checks the copy that the input has, and tells on the output what is found.
 fn tell_found<R: Read + Drop, W: Write>(
     alloc: Global,
     input: R,
     output: &mut W,
-) -> Result<u8, StopFault>
-    ensures { IfSome (R.remaining input) (λ bytes. IsVerdictTold (verdict (rows_of bytes)) result
-        (W.contents output.old) (W.contents output.new)) }
+) -> Result<Checked, StopFault>
+    ensures told { IfSome (R.remaining input) (λ bytes. IsVerdictTold (verdict (rows_of bytes))
+        (status_of result) (W.contents output.old) (W.contents output.new)) }
+    ensures flaw { IfOk result (λ checked. IfSome (R.remaining input) (λ bytes.
+        IsFlaw (verdict (rows_of bytes)) checked.flaw)) }
 {
     let found = look_over(alloc, input)?;
     match write_reply(output, found.line.as_bytes()) {
-        Ok(()) => Ok(found.status),
+        Ok(()) => Ok(Checked {
+            status: found.status,
+            flaw: found.flaw,
+        }),
         Err(_) => Err(StopFault::Write),
     }
 }
 
 /// `labdesk check`: checks the inspection copy that the input has, by its rows alone, and tells on the output in a line what is
 /// found: `good` and how many records, versions, entries and signatures it has, or `bad`, the word of its first flaw and the row.
-/// What stops it is told on standard error. Answers the status: 0 for a sound copy, and else 1.
+/// What stops it is told on standard error. Answers the status: 0 for a sound copy, and else 1; and the flaw that was told.
 ///
 /// # Errors
 /// The check stopped, and standard error failed before the whole line was told.
@@ -88,16 +107,21 @@ pub fn check<R: Read + Drop, W: Write, E: Write>(
     input: R,
     output: &mut W,
     errors: &mut E,
-) -> Result<u8, WriteFault>
-    ensures { IfSome (R.remaining input) (λ bytes. IsCheck (verdict (rows_of bytes)) result
-        (W.contents output.old) (W.contents output.new)
+) -> Result<Checked, WriteFault>
+    ensures checks { IfSome (R.remaining input) (λ bytes. IsCheck (verdict (rows_of bytes))
+        (status_of result) (W.contents output.old) (W.contents output.new)
         (E.contents errors.old) (E.contents errors.new)) }
+    ensures flaw { IfOk result (λ checked. IfSome (R.remaining input) (λ bytes.
+        IsSome checked.flaw → IsFlaw (verdict (rows_of bytes)) checked.flaw)) }
 {
     match tell_found(alloc, input, output) {
-        Ok(status) => Ok(status),
+        Ok(checked) => Ok(checked),
         Err(fault) => {
             write_reply(errors, fault.line().as_bytes())?;
-            Ok(1)
+            Ok(Checked {
+                status: 1,
+                flaw: None,
+            })
         }
     }
 }

@@ -75,7 +75,7 @@ fn print<W: Write>(output: &mut W, line: &[u8]) -> Result<(), FoundingFault>
     }
 }
 
-// What became of a founding. Bytes that are none are noted, so that a person can be advised.
+// What became of a founding. Bytes from which none is born are noted, so that a person can be advised.
 fn founding_noted<H: Shelf>(
     alloc: Global,
     shelf: &mut H,
@@ -84,7 +84,7 @@ fn founding_noted<H: Shelf>(
 ) -> Result<(), FoundFault>
     ensures { result ≡ founded }
 {
-    if let Err(FoundFault::Body(_)) = founded {
+    if let Err(FoundFault::Body(_) | FoundFault::Birth(_)) = founded {
         shelf.note(alloc, body);
     }
     founded
@@ -113,6 +113,7 @@ pub fn found_over<N, H: Shelf, C: Clock, X: Chance, P, S: Keeper + Drop, B: Read
         (W.contents output.old) (W.contents output.new) }
     ensures passes { Passes (S.world desk.old.keeper) (S.world desk.new.keeper) }
 {
+    host.shelf.advise(Trouble::FoundingAwaited);
     let intake = intake_of(host, lab, body)?;
     let founded = desk.found(lab, &intake.tick, intake.bytes.as_slice());
     founding_noted(

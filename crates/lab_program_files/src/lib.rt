@@ -13,8 +13,7 @@ pub use copying::copy;
 pub use founding::{found, found_over};
 pub use lab_program_outside::{Chance, Clock, Host};
 pub use lab_program_shelves::{
-    Closing, FoundingFault, HostShelf, OpenFault, Progress, Shelf, Supposed, SystemChance,
-    SystemClock, TerminalProgress, Trouble, Unheard,
+    Closing, FoundingFault, OpenFault, Progress, Shelf, Trouble, Unheard,
 };
 pub use serving::serve;
 pub use starts::a_start_finds_what_was_left;

@@ -38,8 +38,8 @@ where
 
     ghost opened = { IsOursAnywhere H.Disk.Store H.holds };
 
-    fn is_there(&mut self, alloc: Global, host: &mut H) -> bool {
-        host.is_there(alloc, self.path)
+    fn is_there(&mut self, host: &mut H) -> bool {
+        host.is_there(self.path)
     }
 
     fn open(&mut self, alloc: Global, host: &mut H) -> Result<Store<H::Disk>, KeeperFault> {
@@ -49,7 +49,13 @@ where
         }
     }
 
-    fn close(&mut self, _host: &mut H, keeper: Store<H::Disk>) {
-        leave(keeper);
+    // Into a file that others cut nothing more is written.
+    fn close(&mut self, host: &mut H, keeper: Store<H::Disk>) {
+        if host.is_cut(self.path) {
+            drop(keeper);
+        } else {
+            leave(keeper);
+            host.forget();
+        }
     }
 }

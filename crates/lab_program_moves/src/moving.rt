@@ -48,7 +48,10 @@ fn old_file<H: Shelf>(
     let mut file = OldFile { conn };
     match lab_move::open_old(&mut file) {
         Ok(()) => Ok(file),
-        Err(fault) => Err(OpenFault::File(fault)),
+        Err(fault) => {
+            shelf.leave_new();
+            Err(OpenFault::File(fault))
+        }
     }
 }
 

@@ -1,3 +1,4 @@
 pub mod ReadLemmas
 pub mod ToldLemmas
+pub mod RenewLemmas
 pub mod KnownValues

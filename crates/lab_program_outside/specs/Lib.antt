@@ -1,3 +1,4 @@
 pub mod Sources
 pub mod Faults
 pub mod TaskEnds
+pub mod Renewing

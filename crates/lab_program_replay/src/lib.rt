@@ -14,6 +14,6 @@ pub use event_runs::{run_events, tell};
 pub use fault::ReplayFault;
 pub use lab_desk::{Desk, Event};
 pub use lab_wire_heads::WriteFault;
-pub use limited::LimitedReader;
+pub use limited::{LimitedReader, MOST_ASKS};
 pub use memory::store_in_memory;
 pub use replays::replay;

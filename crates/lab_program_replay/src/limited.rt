@@ -7,6 +7,9 @@ use std::io;
 use std::io::{ErrorKind, Read};
 use std::marker::Model;
 
+/// How often a program's input is asked for bytes before it counts as failed.
+pub const MOST_ASKS: u64 = 1_000_000_000_000;
+
 /// A reader that is asked for bytes a limited number of times, and then counts as failed. It is
 /// asked again where a signal interrupted it.
 #[derive(Drop)]

@@ -6,16 +6,13 @@ ghost use Rattle.lab_store.specs.StoreWorlds.{store_world};
 ghost use Rattle.lab_program_replay.specs.Replays.{IsBeginFault, IsReplay, ReplaysFromNothing};
 
 use crate::memory::store_in_memory;
-use crate::{Desk, LimitedReader, ReplayFault, run_events, tell};
+use crate::{Desk, LimitedReader, MOST_ASKS, ReplayFault, run_events, tell};
 use lab_store::Store;
 use lab_store_files::FileFault;
 use lab_wire_heads::WriteFault;
 use sqlite::MemStore;
 use std::alloc::Global;
 use std::io::{BufReader, Read, Write};
-
-/// How often the input is asked for bytes before it counts as failed.
-const MOST_ASKS: u64 = 1_000_000_000_000;
 
 // A store in memory, with no laboratory, or why there is none, as a replay tells it.
 fn new_store(alloc: Global) -> Result<Store<MemStore>, ReplayFault>

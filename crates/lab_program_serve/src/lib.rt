@@ -19,7 +19,7 @@ pub use lab_program_outside::{
     Chance, Clock, ConnectionFault, FoundFault, ListenFault, RehearsalFault, ServerFault,
 };
 pub use lab_wire_heads::WriteFault;
-pub use loopback::{Listening, connect, listen, serve};
+pub use loopback::{Listening, Rest, connect, listen, serve};
 pub use offices::Office;
 pub use openings::Opener;
 pub use rehearsal_loopback::rehearse;

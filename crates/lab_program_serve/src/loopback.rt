@@ -18,15 +18,50 @@ use lab_wire_heads::WriteFault;
 use std::io::{Error, ErrorKind, Read, Write};
 use std::net::{
     Ipv4Addr, Net, OpenListener, OpenStream, SocketAddr, SocketAddrV4, TcpListener, TcpStream,
+    UdpSocket,
 };
+use std::time::Duration;
 
-/// How often in a row a connection that was lost as it was accepted is passed over.
+/// How often in a row a connection that was lost as it was accepted is passed over. With a rest each
+/// time these are a hundred thousand seconds.
 const MOST_LOST: u32 = 1_000_000;
+
+/// How long a rest is, in milliseconds.
+const REST: u64 = 100;
+
+/// Where a rest is taken: a socket of this machine to which nobody sends. A read of it waits so long.
+#[derive(Drop)]
+pub struct Rest {
+    socket: Option<UdpSocket>,
+}
+
+impl Rest {
+    /// A place to rest. If the network gives no such socket, no rest is taken.
+    pub fn new<N: Net>(net: &N) -> Rest {
+        Rest {
+            socket: rest_socket(net).ok(),
+        }
+    }
+
+    fn take(&self) {
+        if let Some(socket) = &self.socket {
+            let _ = socket.recv(&mut [0u8]);
+        }
+    }
+}
+
+// A socket of which a read waits for the time of a rest.
+fn rest_socket<N: Net>(net: &N) -> Result<UdpSocket, Error> {
+    let socket = UdpSocket::bind(net, loopback(0))?;
+    socket.set_read_timeout(Some(Duration::from_millis(REST)))?;
+    Ok(socket)
+}
 
 /// A listener of which connections are accepted, and its port.
 #[derive(Drop)]
 pub struct Listening<L> {
     listener: L,
+    rest: Rest,
     port: u16,
 }
 
@@ -35,22 +70,29 @@ impl<L: OpenListener + Drop> Listening<L> {
     ///
     /// # Errors
     /// The port can't be listened at.
-    pub fn new(listener: L) -> Result<Listening<L>, ListenFault> {
+    pub fn new(listener: L, rest: Rest) -> Result<Listening<L>, ListenFault> {
         match listener.local_addr() {
             Ok(address) => Ok(Listening {
                 listener,
+                rest,
                 port: address.port(),
             }),
             Err(_) => Err(ListenFault),
         }
     }
 
-    // The next stream; none where its connection was lost.
+    // The next stream; none where its connection was lost, or where there was no room for it: then only
+    // after a rest, since the next try has none either until something else ends.
     fn next_stream(&self) -> Result<Option<L::Stream>, ListenFault> {
         match self.listener.accept() {
             Ok((stream, _)) => Ok(Some(stream)),
             Err(error) if is_end(&error) => Err(ListenFault),
-            Err(_) => Ok(None),
+            Err(error) => {
+                if has_no_room(&error) {
+                    self.rest.take();
+                }
+                Ok(None)
+            }
         }
     }
 }
@@ -77,6 +119,12 @@ fn is_end(error: &Error) -> bool {
         Some(number) => matches!(number, 9 | 14 | 22 | 88),
         None => error.kind() != ErrorKind::Interrupted,
     }
+}
+
+// Whether there was no descriptor, no buffer or no memory for a connection (accept(2), 'Errors'). The
+// numbers are Linux's ENOMEM, ENFILE, EMFILE and ENOBUFS.
+fn has_no_room(error: &Error) -> bool {
+    matches!(error.raw_os_error(), Some(12 | 23 | 24 | 105))
 }
 
 impl<L: OpenListener + Drop> Connections for Listening<L>
@@ -146,7 +194,7 @@ pub fn connect<N: Net>(
 }
 
 // Serves so many connections of a listener.
-fn serve_listener<N, H, C: Clock, X: Chance, P, S: Keeper + Drop, O, L, W: Write>(
+fn serve_listener<N: Net, H, C: Clock, X: Chance, P, S: Keeper + Drop, O, L, W: Write>(
     host: &mut Host<'_, N, H, C, X, P>,
     office: &mut Office<S, O>,
     listener: L,
@@ -163,7 +211,7 @@ where
         (drawing_of (C.coming host.old.clock) (C.coming host.new.clock)
         (X.coming host.old.chance) (X.coming host.new.chance)))) }
 {
-    let mut listening = Listening::new(listener)?;
+    let mut listening = Listening::new(listener, Rest::new(host.net))?;
     serve_over(host, office, &mut listening, count, output)
 }
 
@@ -173,7 +221,7 @@ where
 ///
 /// # Errors
 /// It stopped, and standard error failed before the whole line was told.
-pub fn serve<N, H, C: Clock, X: Chance, P, S: Keeper + Drop, O, L, W: Write, E: Write>(
+pub fn serve<N: Net, H, C: Clock, X: Chance, P, S: Keeper + Drop, O, L, W: Write, E: Write>(
     host: &mut Host<'_, N, H, C, X, P>,
     office: &mut Office<S, O>,
     listener: L,

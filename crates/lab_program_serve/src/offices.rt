@@ -74,12 +74,12 @@ impl<S: Keeper + Drop, O: Drop> Office<S, O> {
     }
 
     // Whether there is a desk whose keeper answers, and lies where it was opened.
-    fn is_open<H>(&mut self, alloc: Global, host: &mut H) -> bool
+    fn is_open<H>(&mut self, host: &mut H) -> bool
     where
         O: Opener<H, S>,
         ensures { result ≡ true → IsMended S.Keeper O.opened self.old self.new }
     {
-        let is_there = self.opener.is_there(alloc, host);
+        let is_there = self.opener.is_there(host);
         match self.desk.take() {
             Some(mut desk) => {
                 let answers = is_live(&mut desk, &self.lab);
@@ -121,7 +121,7 @@ impl<S: Keeper + Drop, O: Drop> Office<S, O> {
         O: Opener<H, S>,
         ensures { IsMended S.Keeper O.opened self.old self.new }
     {
-        if self.is_open(alloc, host) {
+        if self.is_open(host) {
             return;
         }
         self.give_up(host);

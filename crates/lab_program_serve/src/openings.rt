@@ -11,7 +11,7 @@ pub trait Opener<H, S> {
     ghost opened: { S → Type 0 };
 
     /// Whether what was opened last still lies where it was opened.
-    fn is_there(&mut self, alloc: Global, host: &mut H) -> bool;
+    fn is_there(&mut self, host: &mut H) -> bool;
 
     /// Opens the keeper.
     ///

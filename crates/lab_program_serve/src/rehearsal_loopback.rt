@@ -5,7 +5,7 @@ ghost use Rattle.std.specs.Io.KnownBytes.{Appends};
 ghost use Rattle.lab_program_serve.specs.RehearseTask.{FoundsBy, IsRehearsal, Prints};
 
 use crate::rehearsals::{found_in_memory, rehearse_over};
-use crate::{Connections, Desk, Keeper, Listening, connect, listen};
+use crate::{Connections, Desk, Keeper, Listening, Rest, connect, listen};
 use lab_forms_texts::{LabCode, Moment};
 use lab_program_outside::{Host, RehearsalFault, ServerFault, tell};
 use lab_wire_heads::WriteFault;
@@ -26,7 +26,7 @@ fn rehearse_on<N: Net, S: Keeper + Drop, W: Write>(
         × Appends (W.contents output.old) (W.contents output.new) printed }
 {
     let listener = listen(net, 0)?;
-    let mut listening = Listening::new(listener)?;
+    let mut listening = Listening::new(listener, Rest::new(net))?;
     let mut client = connect(net, listening.port())?;
     rehearse_over(
         alloc,

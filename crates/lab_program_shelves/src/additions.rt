@@ -34,7 +34,7 @@ impl Additions {
     }
 
     /// Writes a line that says what was added to the file at the path.
-    pub(crate) fn write<W: Write>(&self, errors: &mut W, path: &str) -> io::Result<()> {
+    pub fn write<W: Write>(&self, errors: &mut W, path: &str) -> io::Result<()> {
         let Additions {
             tables,
             indexes,

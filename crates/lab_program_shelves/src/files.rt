@@ -32,35 +32,26 @@ where
         return Err(OpenFault::File(FileFault::NotADeskFile));
     }
     let conn = shelf.connect(alloc, path)?;
-    kept_tidy(alloc, shelf, path, opened_connection(conn))
+    opened_connection(shelf, conn)
 }
 
-// Answers what was answered. Where the file was refused, nothing is left beside it.
-fn kept_tidy<H: Shelf, T>(
-    alloc: Global,
+// A connection over which a file of laboratories was opened. If the file is refused, nothing is left beside
+// it: what the connection made is removed before the file is let go of.
+fn opened_connection<H: Shelf>(
     shelf: &mut H,
-    path: &str,
-    answer: Result<T, OpenFault>,
-) -> Result<T, OpenFault>
-    ensures { result ≡ answer }
-{
-    if answer.is_err() {
-        shelf.tidy(alloc, path);
-    }
-    answer
-}
-
-// A connection over which a file of laboratories was opened.
-fn opened_connection<S: Alter>(mut conn: Connection<S>) -> Result<Connection<S>, OpenFault>
+    conn: Connection<H::Disk>,
+) -> Result<Connection<H::Disk>, OpenFault>
 where
-    Connection<S>: Closing,
-    requires { IsAtRest (state S.Store conn) }
-    ensures at_rest { IfOk result (λ conn. IsAtRest (state S.Store conn)) }
-    ensures ours { IfOk result (IsOursFrom S.Store conn) }
+    Connection<H::Disk>: Closing,
+    requires { IsAtRest (state H.Disk.Store conn) }
+    ensures at_rest { IfOk result (λ conn. IsAtRest (state H.Disk.Store conn)) }
+    ensures ours { IfOk result (IsOursFrom H.Disk.Store conn) }
 {
+    let mut conn = conn;
     match open(&mut conn) {
         Ok(()) => Ok(conn),
         Err(fault) => {
+            shelf.tidy();
             let _ = conn.close_whole();
             Err(OpenFault::File(fault))
         }
@@ -104,7 +95,7 @@ where
     if conn.schema().tables.is_empty() {
         made_connection(conn)
     } else {
-        kept_tidy(alloc, shelf, path, opened_connection(conn))
+        opened_connection(shelf, conn)
     }
 }
 
@@ -140,12 +131,16 @@ fn is_blank(schema: &Schema) -> bool
 
 // A connection over which nothing is in the file. Another is let go of, and not closed, so that the
 // file stays as it is.
-fn blank<S: Alter + Drop>(conn: Connection<S>) -> Result<Connection<S>, OpenFault>
-    ensures { IfOk result (λ blank. (blank ≡ conn) × IsBlank (state S.Store conn).now) }
+fn blank<H: Shelf>(
+    shelf: &mut H,
+    conn: Connection<H::Disk>,
+) -> Result<Connection<H::Disk>, OpenFault>
+    ensures { IfOk result (λ blank. (blank ≡ conn) × IsBlank (state H.Disk.Store conn).now) }
 {
     if is_blank(conn.schema()) {
         Ok(conn)
     } else {
+        shelf.tidy();
         Err(OpenFault::File(FileFault::NotEmpty))
     }
 }
@@ -165,5 +160,5 @@ pub fn open_new<H: Shelf>(
     ensures blank { IfOk result (IsBlankFile H.Disk.Store (H.holds shelf.old path.now)) }
 {
     let conn = shelf.connect(alloc, path)?;
-    kept_tidy(alloc, shelf, path, blank(conn))
+    blank(shelf, conn)
 }

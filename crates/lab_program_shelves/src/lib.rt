@@ -4,19 +4,16 @@
 #![tactic(auto)]
 
 mod additions;
-mod advice;
-mod asides;
 mod faults;
 mod files;
-mod hosts;
 mod shelves;
 mod telling;
+mod trouble;
 
 pub use crate::additions::Additions;
-pub use crate::advice::Trouble;
 pub use crate::faults::{FoundingFault, OpenFault};
 pub use crate::files::{make_file, open_file, open_new, open_old};
-pub use crate::hosts::{HostShelf, Supposed, SystemChance, SystemClock, TerminalProgress};
 pub use crate::shelves::{Closing, Shelf};
 pub use crate::telling::{decline, decline_by, decline_to_open};
+pub use crate::trouble::Trouble;
 pub use lab_records_walks::{Progress, Unheard};

@@ -7,8 +7,8 @@ ghost use Rattle.lab_store_tables.specs.Ready.{IsAtRest};
 ghost use Rattle.lab_program_shelves.specs.Files.{Finds};
 
 use crate::additions::Additions;
-use crate::advice::Trouble;
 use crate::faults::OpenFault;
+use crate::trouble::Trouble;
 use lab_store_files::FileFault;
 use sqlite::{Alter, Connection, Error, FileFrom, FileStore, MemStore, Start};
 use std::alloc::Global;
@@ -39,7 +39,8 @@ pub trait Shelf {
 
     /// A connection to the old file at the path, which shows what the file and its log held. A copy
     /// of both is opened, which lies beside the path of a new file until it is open, and at no path
-    /// from then on. So nothing is written to the old file, and nothing is left beside it.
+    /// from then on. So nothing is written to the old file, and nothing is left beside it. Old and new
+    /// file are held from then on, so that no other program writes the old one or moves into the new one.
     ///
     /// # Errors
     /// The file is no database, somebody else holds it, it couldn't be copied, the source of random
@@ -53,12 +54,23 @@ pub trait Shelf {
         ensures at_rest { IfOk result (λ conn. IsAtRest (state Self.Disk.Store conn)) }
         ensures found { IfOk result (Finds Self.Disk.Store (holds self.old path.now)) };
 
-    /// Whether the file that was connected to last still lies at the path, and its log beside it.
-    fn is_there(&mut self, alloc: Global, path: &str) -> bool;
+    /// Lets go of the new file that is held for a move which isn't made; if it was made for it, it is
+    /// removed.
+    fn leave_new(&mut self);
 
-    /// Removes the log that a connection to a file left beside it, where there was none before. The
-    /// connection is closed, and the file was refused.
-    fn tidy(&mut self, alloc: Global, path: &str);
+    /// Whether the file that was connected to last still lies at the path, and its log beside it, and
+    /// neither is shorter than it was when this was asked last.
+    fn is_there(&mut self, path: &str) -> bool;
+
+    /// Whether the file that was connected to last, or its log, lies where it lay and is shorter.
+    fn is_cut(&self, path: &str) -> bool;
+
+    /// Notes that the connection was closed, which may make the log shorter.
+    fn forget(&mut self);
+
+    /// Removes the log that the last connection made beside its file, where there was none before. The
+    /// file was refused, and the connection isn't closed yet.
+    fn tidy(&mut self);
 
     /// Notes bytes that are no founding, for the advice.
     fn note(&mut self, alloc: Global, body: &[u8]);

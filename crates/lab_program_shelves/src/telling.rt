@@ -3,9 +3,9 @@
 ghost use Rattle.std.specs.Prelude.{Some};
 ghost use Rattle.lab_program_shelves.specs.Faults.{Declines, TellsValued, TellsWord};
 
-use crate::advice::Trouble;
 use crate::faults::OpenFault;
 use crate::shelves::Shelf;
+use crate::trouble::Trouble;
 use lab_forms_texts::OutOfMemory;
 use lab_program_outside::tell;
 use lab_wire_heads::WriteFault;

@@ -11,8 +11,8 @@ use lab_program_app::{
 };
 use std::alloc::{AllocError, Global};
 
-/// The version of the program, and the kit that proved it as `rt version` names it.
-const VERSION: &str = "0.5.0\nproved with rattle-kit-13f logic dac8208d650f15bf";
+/// The version of the program, and the kit that its source is for, as `rt version` names it.
+const VERSION: &str = "0.6.0\nfor rattle-kit-13f logic dac8208d650f15bf";
 
 /// What help says of all commands.
 const COMMANDS: &str = "What goes in and comes out is described in docs/FORMATS.md. An example:

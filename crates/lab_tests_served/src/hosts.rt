@@ -41,7 +41,7 @@ impl Chance for Counting {
 impl<H> Opener<H, Lists> for Never {
     ghost opened = { λ _. Unit {0} };
 
-    fn is_there(&mut self, _alloc: Global, _host: &mut H) -> bool {
+    fn is_there(&mut self, _host: &mut H) -> bool {
         true
     }
 

@@ -11,7 +11,7 @@ use lab_records_lists::Lists;
 use lab_tests_rows::{Exchange, moment, words};
 use std::cell::{Cell, RefCell};
 use std::io::{Read, Write};
-use std::net::{OpenListener, OpenStream};
+use std::net::{Net, OpenListener, OpenStream};
 use std::process::Abort;
 
 // A desk with a laboratory that was founded at the first moment.
@@ -42,7 +42,7 @@ fn assert_got(rt: &impl Abort, client: &Client, reply: &[u8]) {
 
 // Serves two connections. It has no clause, so that the test's proof doesn't carry what a server
 // promises.
-fn serve_two<N, C: Clock, X: Chance, S: Keeper + Drop, O, L>(
+fn serve_two<N: Net, C: Clock, X: Chance, S: Keeper + Drop, O, L>(
     host: &mut Host<'_, N, (), C, X, ()>,
     office: &mut Office<S, O>,
     listener: L,

@@ -1,5 +1,12 @@
-use Rattle.lab_desk_foundings.proofs.Bodies.{byte_read}
+-- A longer body is no body, and any other says what its JSON names.
+use Rattle.lab_desk_foundings.proofs.Bodies.{said_past, said_within}
 use Rattle.lab_desk_foundings.proofs.foundings.newborn_of.Goals as goal
 
-pub returns-in_err-copy-in-Ok-clause-memory : goal.returns-in_err-copy-in-Ok-clause-memory
-returns-in_err-copy-in-Ok-clause-memory c = byte_read c.args.body.now c.in-Ok.founding c.from_residual.result c.in-Ok.ensures.read
+pub returns-then-body-gt-BODY_LIMIT-clause-fault : goal.returns-then-body-gt-BODY_LIMIT-clause-fault
+returns-then-body-gt-BODY_LIMIT-clause-fault c = said_past c.args.body.now c.if-body-gt-BODY_LIMIT.true
+
+pub returns-clause-born : goal.returns-clause-born
+returns-clause-born c = rw (said_within c.args.body.now c.if-body-gt-BODY_LIMIT.false) c.newborn_within.ensures.born
+
+pub returns-clause-fault : goal.returns-clause-fault
+returns-clause-fault c = rw (said_within c.args.body.now c.if-body-gt-BODY_LIMIT.false) c.newborn_within.ensures.fault

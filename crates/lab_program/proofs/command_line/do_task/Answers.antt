@@ -22,7 +22,7 @@ returns-in-Migrate g c = λ asked is.
 
 pub returns-in-Check : goal.returns-in-Check
 returns-in-Check g c = λ asked is.
-    done_as g.H.Disk.Store g.H.Shelf.holds c.args.host.now.shelf _ _ _ _ _ _ asked _ _ (rw c.in-Check.is at is) c.check.ensures
+    done_as g.H.Disk.Store g.H.Shelf.holds c.args.host.now.shelf _ _ _ _ _ _ asked _ _ (rw c.in-Check.is at is) c.check_for.ensures
 
 pub returns-in-Replay : goal.returns-in-Replay
 returns-in-Replay g c = λ asked is.

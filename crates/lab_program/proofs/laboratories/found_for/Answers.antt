@@ -1,7 +1,7 @@
--- A text that is no code is told as such, and in a code's name the first bytes of the input are founded.
-use Rattle.std.proofs.Common.{ap₂, option_map, take}
+-- A text that is no code is told as such, and in a code's name the input is founded.
 use Rattle.std.proofs.KnownBytes.{Keeps-refl}
 use Rattle.lab_program.proofs.UnbegunLemmas.{declined, done_of_code, no_founding}
+use Rattle.lab_program.proofs.WholeLemmas.{founding_whole}
 use Rattle.lab_program.proofs.laboratories.found_for.Goals as goal
 
 pub returns-in-Err : goal.returns-in-Err
@@ -11,7 +11,5 @@ returns-in-Err g c =
     (Keeps-refl _, rw c.word.ensures at c.decline-status.ensures)
 
 pub returns : goal.returns
-returns g c =
-    let body = ap₂ (λ n r. option_map (take n) (g.R.Read.remaining r)) c.take-body.ensures.limit c.take-body.ensures.inner in
-    done_of_code _ _ _ _ _ _ c.args.lab.now c.in-Ok.ensures.admitted
-    (rw (c.in-Ok.ensures.value, body) at c.found.ensures)
+returns g c = done_of_code _ _ _ _ _ _ c.args.lab.now c.in-Ok.ensures.admitted
+    (founding_whole _ _ _ (g.R.Read.remaining c.args.input) _ _ (rw (c.in-Ok.ensures.value, c.front_of-body.ensures) at c.found.ensures))

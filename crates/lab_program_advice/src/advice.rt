@@ -1,15 +1,15 @@
 //! What a person at a terminal is advised to do, below the line that says why a task stopped.
 
-use crate::asides::ASIDE;
-use crate::faults::{FoundingFault, OpenFault};
+use crate::flaw_rows::write_of_flaw;
+use crate::spots::Spot;
 use lab_program_outside::{FoundFault, ServerFault};
+use lab_program_shelves::{FoundingFault, OpenFault, Trouble};
 use lab_records_kept::PlacingFault;
 use lab_records_walks::CopyOutFault;
 use lab_store_files::FileFault;
-use serde_json::Value;
-use std::alloc::Global;
 use std::fs::{self, File};
-use std::io::{self, Write};
+use std::io::{self, ErrorKind, IsTerminal, Write};
+use std::net::{Ipv4Addr, SocketAddr, SocketAddrV4, TcpListener};
 
 /// The schema whose files are moved.
 const MOVED: u64 = 2;
@@ -17,67 +17,8 @@ const MOVED: u64 = 2;
 /// The schema whose files are served.
 const OWN: u64 = 3;
 
-/// What stopped a task, with what its words said.
-#[derive(Clone, Copy, Debug, PartialEq, Eq)]
-pub enum Trouble<'a> {
-    /// Nothing was begun over the file at the path.
-    Opening(&'a str, OpenFault),
-    /// In the file at the path no laboratory was founded, or that was not printed.
-    Founding(&'a str, FoundingFault),
-    /// Of the file at the path no copy went out whole.
-    Copying(&'a str, CopyOutFault),
-    /// The old file at the first path was not opened, to move it to the second.
-    Old(&'a str, &'a str, OpenFault),
-    /// The new file at the path was not opened.
-    New(&'a str, OpenFault),
-    /// Not all of the old file at the first path came into the new one at the second.
-    Moving(&'a str, &'a str, FileFault),
-    /// In the old file at the path a laboratory of this code isn't sound, so the new one at the last
-    /// has a part alone.
-    Unsound(&'a str, &'a str, &'a str),
-    /// The port can't be listened at.
-    AtPort(u16),
-    /// The text is no code of a laboratory.
-    OfCode(&'a str),
-}
-
-/// Where bytes cease to be a founding.
-#[derive(Clone, Copy, Debug, PartialEq, Eq)]
-pub(crate) enum Spot {
-    /// At this line and column they cease to be JSON.
-    Json { line: usize, column: usize },
-    /// They are JSON, and no founding.
-    Members,
-}
-
-impl Spot {
-    /// Where these bytes cease to be a founding, which they aren't.
-    pub(crate) fn of(alloc: Global, bytes: &[u8]) -> Spot {
-        match Value::from_slice(alloc, bytes) {
-            Ok(_) => Spot::Members,
-            Err(error) => Spot::Json {
-                line: error.line(),
-                column: error.column(),
-            },
-        }
-    }
-
-    fn write<W: Write>(self, errors: &mut W) -> io::Result<()> {
-        match self {
-            Spot::Json { line, column } => writeln!(
-                errors,
-                "Standard input holds no founding: its JSON breaks at line {line}, column {column}."
-            ),
-            Spot::Members => writeln!(
-                errors,
-                "Standard input holds JSON, but no founding: 'name', and 'founders' with the 'code', 'name' and 'password' of three persons."
-            ),
-        }
-    }
-}
-
 /// Writes what a person should look at.
-pub(crate) fn write_advice<W: Write>(
+pub fn write_advice<W: Write>(
     rt: &HostRuntime,
     spot: Option<Spot>,
     errors: &mut W,
@@ -108,15 +49,56 @@ pub(crate) fn write_advice<W: Write>(
         Trouble::Copying(path, CopyOutFault::NoSuchLab) => {
             writeln!(errors, "{path} has no laboratory of that code.")
         }
-        Trouble::AtPort(port) => writeln!(
-            errors,
-            "Port {port} can't be listened at; perhaps another program has it. --port 0 takes any that is free."
-        ),
+        Trouble::AtPort(port) => write_of_port(rt, errors, port),
         Trouble::OfCode(text) => writeln!(
             errors,
             "{text:?} is no laboratory's code: 1 to 12 of a to z, 0 to 9 and '-', a letter first."
         ),
+        Trouble::Flawed(word, row) => write_of_flaw(rt, errors, word, row),
+        Trouble::FoundingAwaited | Trouble::CopyAwaited | Trouble::EventsAwaited => {
+            write_of_waiting(rt, errors, trouble)
+        }
         Trouble::Founding(..) | Trouble::Copying(..) => Ok(()),
+    }
+}
+
+// What is waited for, where standard input is the terminal.
+fn write_of_waiting<W: Write>(
+    rt: &HostRuntime,
+    errors: &mut W,
+    trouble: Trouble<'_>,
+) -> io::Result<()> {
+    if !rt.stdin().is_terminal() {
+        return Ok(());
+    }
+    match trouble {
+        Trouble::CopyAwaited => writeln!(
+            errors,
+            "The copy is read from this terminal, to Ctrl-D; 'labdesk check < COPY' checks a file."
+        ),
+        Trouble::EventsAwaited => writeln!(
+            errors,
+            "Events are read from this terminal, to Ctrl-D; 'labdesk replay < EVENTS' takes them from a file."
+        ),
+        _ => writeln!(
+            errors,
+            "The founding's JSON is read from this terminal, to Ctrl-D; '< FOUNDING' takes it from a file, and 'labdesk-found' asks for it."
+        ),
+    }
+}
+
+// Of a port that can't be listened at, by what another try says.
+fn write_of_port<W: Write>(rt: &HostRuntime, errors: &mut W, port: u16) -> io::Result<()> {
+    let address = SocketAddr::V4(SocketAddrV4::new(Ipv4Addr::LOCALHOST, port));
+    match TcpListener::bind(rt, address) {
+        Err(error) if error.kind() == ErrorKind::PermissionDenied => writeln!(
+            errors,
+            "Port {port} may not be listened at by this user: take one from 1024 on. --port 0 takes any that is free."
+        ),
+        _ => writeln!(
+            errors,
+            "Port {port} can't be listened at; perhaps another program has it. --port 0 takes any that is free."
+        ),
     }
 }
 
@@ -162,7 +144,7 @@ fn write_of_old<W: Write>(
         }
         FileFault::Storage if File::open(rt, path).is_ok() => writeln!(
             errors,
-            "{path} can't be copied to {new}{ASIDE}: look whether something lies there, whether another program holds {path} (a server that runs), whether the folder may be written, and whether its disk is full."
+            "{path} can't be copied beside {new}: look whether another program holds {path} (a server that runs), whether the folder of {new} may be written, and whether its disk is full."
         ),
         _ => write_of_file(rt, errors, path, fault),
     }
@@ -209,13 +191,18 @@ fn write_of_founding<W: Write>(
     fault: FoundFault,
 ) -> io::Result<()> {
     match fault {
-        FoundFault::Body(_) => spot.map_or(Ok(()), |spot| spot.write(errors)),
+        FoundFault::Body(_) if fault.word() == "bad_body" => {
+            spot.map_or(Ok(()), |spot| spot.of_body().write(errors))
+        }
+        FoundFault::Body(_) | FoundFault::Birth(_) => {
+            spot.map_or(Ok(()), |spot| spot.write(errors))
+        }
         FoundFault::Placing(PlacingFault::LabExists) => writeln!(
             errors,
             "{path} has that laboratory already; nothing was changed."
         ),
         FoundFault::Placing(PlacingFault::Storage) => write_of_storage(rt, errors, path),
-        FoundFault::Birth(_) | FoundFault::Placing(PlacingFault::Memory) => Ok(()),
+        FoundFault::Placing(PlacingFault::Memory) => Ok(()),
     }
 }
 

@@ -1,0 +1,115 @@
+-- What the first bytes of an input found is what all of it founds, where they are more than a body may have.
+use Rattle.std.proofs.Common.{◌≡◌, ℕ, List, Option, Some, None, Result, Ok, Err, ap₂, lit<, subst, take}
+use Rattle.std.specs.Prelude.{IfOk, IfSome, IsSome, option_map}
+use Rattle.lab_records_kept.specs.declared.keeper.Keeper.{Ghosts as KeeperOf}
+use Rattle.lab_records_kept.specs.Worlds.{Given}
+use Rattle.lab_desk_foundings.specs.Faults.{FoundFaultFits}
+use Rattle.lab_desk_foundings.specs.Foundings.{Body, Founds, IsNewborn, founding_in}
+use Rattle.lab_desk_foundings.proofs.Bodies.{said_by_front}
+use Rattle.lab_program_outside.specs.Sources.{Drawing}
+use Rattle.lab_program_outside.specs.TaskEnds.{TaskEnd}
+use Rattle.lab_program_outside.specs.declared.faults.RehearsalFault.{RehearsalFault}
+use Rattle.lab_program_outside.specs.declared.faults.RehearsalFault.TheVariants.{Founding, Server}
+use Rattle.lab_program_outside.specs.declared.faults.ServerFault.TheVariants.{Read, Write, Memory}
+use Rattle.lab_program_shelves.specs.declared.faults.OpenFault.{OpenFault}
+use Rattle.lab_program_serve.specs.Rehearsals.{rehearsal_tick}
+use Rattle.lab_program_serve.specs.RehearseTask.{FoundsBy, IsRehearsal}
+use Rattle.lab_program_files.specs.Foundings.{Ends, EndsFounding, EndsOver, FoundTask, IsFounding}
+use Rattle.lab_program.specs.Laboratories.{front_of}
+
+-- what is said of the first bytes of an input, said of the input
+of_whole : (input : Option (List ℕ)) (P Q : List ℕ → Type 0) →
+    ((bytes : List ℕ) → P (take 1000001 bytes) → Q bytes) → IfSome (front_of input) P → IfSome input Q
+of_whole None P Q so holds = tt
+of_whole (Some bytes) P Q so holds = so bytes holds
+
+front_says : (bytes : List ℕ) → founding_in (take 1000001 bytes) ≡ founding_in bytes
+front_says bytes = said_by_front 1000001 bytes (lit< tt)
+
+-- ---- a founding in a file
+
+abbrev task_of : Drawing → List ℕ → Option (List ℕ) → FoundTask
+task_of drawing code body = record { drawing = drawing; code = code; body = body }
+
+module _ {S : Type 0} (keeper : KeeperOf S) (drawing : Drawing) (code : List ℕ) (input : Option (List ℕ)) where
+  ends_as : (one other : List ℕ) (old new : S) (ending : Result (Unit {0}) RehearsalFault) → founding_in one ≡ founding_in other
+      → EndsFounding keeper (task_of drawing code (front_of input)) one old new ending
+      → EndsFounding keeper (task_of drawing code input) other old new ending
+  ends_as one other old new (Ok done) same ends = (
+    ends.0,
+    ends.1,
+    subst (λ (body : Body). Founds (keeper.world old) (keeper.world new) (keeper.places old new) code ends.0 body) same ends.2,
+    ends.3,
+  )
+  ends_as one other old new (Err (Founding fault)) same ends = (
+    ends.0,
+    ends.1,
+    subst (λ (body : Body). FoundFaultFits (keeper.world old).may_refuse (Given (keeper.world old) (keeper.world new)
+        (IsSome ((keeper.world old).meaning code))) code ends.0 body fault) same ends.2,
+    ends.3,
+  )
+  ends_as one other old new (Err (Server Read)) same ends = ends
+  ends_as one other old new (Err (Server Write)) same ends = (
+    ends.0,
+    ends.1,
+    subst (λ (body : Body). Founds (keeper.world old) (keeper.world new) (keeper.places old new) code ends.0 body) same ends.2,
+    ends.3,
+  )
+  ends_as one other old new (Err (Server Memory)) same ends = ends
+
+  pub ends_whole : (old new : S) (ending : Result (Unit {0}) RehearsalFault)
+      → Ends keeper (task_of drawing code (front_of input)) old new ending
+      → Ends keeper (task_of drawing code input) old new ending
+  ends_whole old new ending ends = λ honest reached. of_whole input
+      (λ bytes. EndsFounding keeper (task_of drawing code (front_of input)) bytes old new ending)
+      (λ bytes. EndsFounding keeper (task_of drawing code input) bytes old new ending)
+      (λ bytes. ends_as (take 1000001 bytes) bytes old new ending (front_says bytes)) (ends honest reached)
+
+  over_whole : (opened : S → Type 0) (ending : Result (Result (Unit {0}) RehearsalFault) OpenFault)
+      → IfOk ending (EndsOver keeper (task_of drawing code (front_of input)) opened)
+      → IfOk ending (EndsOver keeper (task_of drawing code input) opened)
+  over_whole opened (Ok ending) over = (over.0, over.1, over.2, ends_whole over.0 over.1 ending over.3)
+  over_whole opened (Err fault) over = tt
+
+  -- a founding from the first bytes of an input is one from all of it
+  pub founding_whole : (opened : S → Type 0) (end : TaskEnd)
+      → IsFounding keeper (task_of drawing code (front_of input)) opened end
+      → IsFounding keeper (task_of drawing code input) opened end
+  founding_whole opened end founding = record {
+    ending = founding.ending;
+    ends = over_whole opened founding.ending founding.ends;
+    prints = founding.prints;
+    unbegun = founding.unbegun;
+    told = founding.told;
+  }
+
+-- ---- a rehearsal
+
+founds_as : (code one other : List ℕ) (ending : Result (Unit {0}) RehearsalFault) → founding_in one ≡ founding_in other
+    → FoundsBy code one ending → FoundsBy code other ending
+founds_as code one other (Ok done) same founds =
+    (founds.0, subst (λ (body : Body). IsNewborn code (rehearsal_tick 0) body founds.0) same founds.1)
+founds_as code one other (Err (Founding fault)) same founds =
+    subst (λ (body : Body). FoundFaultFits ⊥ ⊥ code (rehearsal_tick 0) body fault) same founds
+founds_as code one other (Err (Server fault)) same founds = tt
+
+-- a rehearsal of the first bytes of an input is one of all of it
+pub rehearsal_whole : (code : List ℕ) (input : Option (List ℕ)) (end : TaskEnd)
+    → IsRehearsal (front_of input) code end → IsRehearsal input code end
+rehearsal_whole code input end rehearsal = record {
+  ending = rehearsal.ending;
+  founded = of_whole input (λ bytes. FoundsBy code bytes rehearsal.ending) (λ bytes. FoundsBy code bytes rehearsal.ending)
+      (λ bytes. founds_as code (take 1000001 bytes) bytes rehearsal.ending (front_says bytes)) rehearsal.founded;
+  printed = rehearsal.printed;
+  prints = rehearsal.prints;
+  wrote = rehearsal.wrote;
+  told = rehearsal.told;
+}
+
+-- ---- the input, of which so many bytes are read at most
+
+-- the bytes of a reader up to a limit are those of the one that it was made of
+pub front_taken : {L : Type 0} (remaining : L → Option (List ℕ)) (limit most : ℕ) (limited made : L) →
+    limit ≡ most → limited ≡ made → option_map (take limit) (remaining limited) ≡ option_map (take most) (remaining made)
+front_taken {L} remaining limit most limited made same is =
+    ap₂ (λ (count : ℕ) (reader : L). option_map (take count) (remaining reader)) same is

@@ -1,0 +1,43 @@
+//! The check of a copy, and what a person at a terminal is told of it besides.
+
+ghost use Rattle.std.specs.Prelude.{IfSome};
+ghost use Rattle.lab_copy_rows.specs.Copies.{verdict};
+ghost use Rattle.lab_copy.specs.Checks.{rows_of};
+ghost use Rattle.lab_program_check.specs.Verdicts.{IsCheck};
+
+use lab_program_check::{Flaw, check};
+use lab_program_files::{Shelf, Trouble};
+use lab_program_outside::Host;
+use lab_wire_heads::WriteFault;
+use std::io::{Read, Write};
+
+// Advises a person what a flaw is.
+fn advise_of<H: Shelf>(shelf: &mut H, flaw: Option<Flaw>) {
+    if let Some(flaw) = flaw {
+        shelf.advise(Trouble::Flawed(flaw.word(), flaw.row()));
+    }
+}
+
+/// `labdesk check`, of the copy that the input has. Answers the status.
+///
+/// # Errors
+/// The check stopped, and standard error failed before the whole line was told.
+pub fn check_for<N, H: Shelf, C, X, P, R: Read + Drop, W: Write, E: Write>(
+    host: &mut Host<'_, N, H, C, X, P>,
+    input: R,
+    output: &mut W,
+    errors: &mut E,
+) -> Result<u8, WriteFault>
+    ensures { IfSome (R.remaining input) (λ bytes. IsCheck (verdict (rows_of bytes)) result
+        (W.contents output.old) (W.contents output.new)
+        (E.contents errors.old) (E.contents errors.new)) }
+{
+    host.shelf.advise(Trouble::CopyAwaited);
+    match check(host.alloc, input, output, errors) {
+        Ok(checked) => {
+            advise_of(&mut host.shelf, checked.flaw);
+            Ok(checked.status)
+        }
+        Err(untold) => Err(untold),
+    }
+}

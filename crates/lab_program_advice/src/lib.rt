@@ -1,0 +1,9 @@
+//! What a person at a terminal is advised to do where a task stopped.
+#![tactic(auto)]
+
+mod advice;
+mod flaw_rows;
+mod spots;
+
+pub use crate::advice::write_advice;
+pub use crate::spots::{Spot, Whose};

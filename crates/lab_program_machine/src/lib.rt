@@ -1,0 +1,12 @@
+//! The files of laboratories of this machine, its clock, its source of chance and its terminal.
+#![tactic(auto)]
+
+mod asides;
+mod held;
+mod hosts;
+mod machine;
+mod places;
+mod stats;
+
+pub use crate::hosts::{HostShelf, Supposed};
+pub use crate::machine::{SystemChance, SystemClock, TerminalProgress};

@@ -1,0 +1,73 @@
+//! Where a file, its log and its journal lie, whatever links lead there.
+
+use lab_store_files::FileFault;
+use std::alloc::{AllocError, Global};
+use std::fs;
+use std::io::ErrorKind;
+
+/// The paths of a file, of its log, and of the journal that another program may have left.
+#[derive(Drop)]
+pub(crate) struct Places {
+    pub(crate) file: String,
+    pub(crate) log: String,
+    pub(crate) journal: String,
+}
+
+impl Places {
+    // Those of the file at a path, where there is memory for them.
+    fn at(alloc: Global, path: &str) -> Result<Places, AllocError> {
+        let file = String::from_str(alloc, path)?;
+        let log = path_behind(alloc, path, "-wal")?;
+        let journal = path_behind(alloc, path, "-journal")?;
+        Ok(Places { file, log, journal })
+    }
+
+    /// Those of the file at a path on which no link lies.
+    pub(crate) fn of(alloc: Global, path: &str) -> Result<Places, FileFault> {
+        match Places::at(alloc, path) {
+            Ok(places) => Ok(places),
+            Err(_) => Err(FileFault::Memory),
+        }
+    }
+}
+
+// A path with this behind it.
+fn path_behind(alloc: Global, path: &str, ending: &str) -> Result<String, AllocError> {
+    let mut longer = String::from_str(alloc, path)?;
+    longer.push_str(ending)?;
+    Ok(longer)
+}
+
+/// Where the file at a path lies, whatever links lead there; if there is none, where it would be made.
+///
+/// # Errors
+/// A link on the path leads nowhere, its folder isn't there or can't be read, or memory ran out.
+pub(crate) fn places_of(rt: &HostRuntime, alloc: Global, path: &str) -> Result<Places, FileFault> {
+    match fs::canonicalize(rt, path) {
+        Ok(real) => Places::of(alloc, real.as_str()),
+        Err(error) => match error.kind() {
+            ErrorKind::OutOfMemory => Err(FileFault::Memory),
+            ErrorKind::NotFound => places_of_none(rt, alloc, path),
+            _ => Err(FileFault::Storage),
+        },
+    }
+}
+
+// Where a file would be made at a path, at which there is none.
+fn places_of_none(rt: &HostRuntime, alloc: Global, path: &str) -> Result<Places, FileFault> {
+    if fs::symlink_metadata(rt, path).is_ok() {
+        return Err(FileFault::Storage);
+    }
+    let (folder, name) = path.rsplit_once('/').unwrap_or((".", path));
+    let folder = if folder.is_empty() { "/" } else { folder };
+    let real = match fs::canonicalize(rt, folder) {
+        Ok(real) => real,
+        Err(error) if error.kind() == ErrorKind::OutOfMemory => return Err(FileFault::Memory),
+        Err(_) => return Err(FileFault::Storage),
+    };
+    let folder = real.as_str();
+    match format!(in alloc; "{folder}/{name}") {
+        Ok(path) => Places::of(alloc, path.as_str()),
+        Err(_) => Err(FileFault::Memory),
+    }
+}
