@@ -3,12 +3,13 @@
 """
 import functools
 import os
+import re
 
 PARTS = ("src/", "specs/", "proofs/")
 COMMENTS = ("#", "--", "//")
 
 
-@functools.cache
+@functools.lru_cache(None)
 def text_of(path):
     with open(path, encoding="utf-8") as file:
         return file.read()
@@ -34,7 +35,7 @@ def edited(edit, crate):
             count = texts[path].count(old)
             if count != 1:
                 return {}, f"an old text stands {count} times in {path}: {old.strip()}"
-            texts[path] = texts[path].replace(old, line[len("new:") :].removeprefix(" "))
+            texts[path] = texts[path].replace(old, re.sub("^ ", "", line[len("new:") :]))
             old = None
         elif line.strip() and not line.startswith(COMMENTS):
             return {}, f"a line that isn't read: {line.strip()}"

@@ -49,7 +49,8 @@ class Thing:
 
 
 def words_of(first):
-    return [(first + i) % 2**64 for i in range(8)]
+    """The eight words of a tick: those that are given, or the first one and those after it."""
+    return list(first) if isinstance(first, tuple) else [(first + i) % 2**64 for i in range(8)]
 
 
 def pair(words, at):

@@ -12,6 +12,8 @@ ROOT = os.path.dirname(os.path.dirname(os.path.dirname(os.path.abspath(__file__)
 GOOD = ["S-strict", "S-peer", "rich-strict", "rich-peer", "random-11", "random-12"]
 # The words that a refusal of each number is printed with.
 WORDS = {60: "not_a_desk_file", 61: "schema_old 1", 62: "schema_new 3", 63: "storage", 66: "not_sound aqua"}
+# What stands in place of a number where the file is moved.
+MOVED = "moved"
 # Whose session lives at the laboratory's last moment and may read all of it, and the first of the words that opened it. (The token of a
 # session is four words, and a file has the SHA-256 of it.)
 READERS = {
@@ -23,21 +25,32 @@ READERS = {
 
 
 def unpack(room):
-    with tarfile.open(f"{ROOT}/tests/old/files.tar.xz") as files:
-        for one in files:
-            with open(f"{room}/{one.name}", "wb") as out:
-                out.write(files.extractfile(one).read())
+    for archive in ("files", "loosened"):
+        with tarfile.open(f"{ROOT}/tests/old/{archive}.tar.xz") as files:
+            for one in files:
+                with open(f"{room}/{one.name}", "wb") as out:
+                    out.write(files.extractfile(one).read())
+
+
+def answers(kind):
+    """What is answered for each file of a kind, by the file's name."""
+    with open(f"{ROOT}/tests/old/{kind}.answers") as lines:
+        return {f"{kind}-{name}": answer for answer, name in map(str.split, lines)}
 
 
 def spoiled():
-    """The number of the refusal of each spoiled file, by the file's name."""
-    with open(f"{ROOT}/tests/old/spoiled.answers") as lines:
-        return {f"spoiled-{name}": int(number) for number, name in map(str.split, lines)}
+    """The number of the refusal of each file that is refused, by the file's name."""
+    return {name: int(answer) for kind in ("spoiled", "loosened") for name, answer in answers(kind).items() if answer != MOVED}
+
+
+def loosened_and_good():
+    """The files whose tables say less than those of schema 2, or say it in other words, and that are moved."""
+    return [name for name, answer in answers("loosened").items() if answer == MOVED]
 
 
 def story_of(name):
     """The name of what a file holds: those that differ in their tables alone hold the same."""
-    return name.removesuffix("-strict").removesuffix("-peer")
+    return "rich" if name.startswith("loosened-") else name.removesuffix("-strict").removesuffix("-peer")
 
 
 def laboratories(room, name):

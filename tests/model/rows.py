@@ -180,7 +180,7 @@ def literal(value):
     return str(value) if isinstance(value, int) else "'" + value.replace("'", "''") + "'"
 
 
-@functools.cache
+@functools.lru_cache(None)
 def schema():
     with open(f"{ROOT}/crates/lab_store_files/src/texts.rt") as f:
         text = re.sub(r"\\\n *", "", f.read())

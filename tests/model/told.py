@@ -50,7 +50,7 @@ What goes in and comes out is described in docs/FORMATS.md. An example:
     "found": """\
 Found a laboratory in a file, from the body of standard input
 
-Usage: labdesk found --file <F> --lab <L>
+Usage: labdesk found --file <F> --lab <L> < FOUNDING
 
 Options:
       --file <F>  Path of the file of laboratories
@@ -118,7 +118,7 @@ docs/FORMATS.md. An example:
     "check": """\
 Check the inspection copy of standard input, and tell what is found
 
-Usage: labdesk check
+Usage: labdesk check < COPY
 
 Options:
   -h, --help  Print help
@@ -132,7 +132,7 @@ described in docs/COPIES.md. An example:
     "replay": """\
 Run the events of standard input, and write their answers to standard output
 
-Usage: labdesk replay
+Usage: labdesk replay < EVENTS
 
 Options:
   -h, --help  Print help
@@ -149,7 +149,7 @@ The input is described in docs/FORMATS.md. An example:
     "rehearse": """\
 Found a laboratory from the body of standard input, and ask for its card
 
-Usage: labdesk rehearse --lab <L> --moment <S>
+Usage: labdesk rehearse --lab <L> --moment <S> < FOUNDING
 
 Options:
       --lab <L>     Code of the laboratory
@@ -163,7 +163,7 @@ that of `labdesk found`, and is described in docs/FORMATS.md. An example:
     labdesk rehearse --lab aqua --moment 100 < examples/founding.json
 """,
 }
-VERSION = "labdesk 0.5.0\nproved with rattle-kit-13f logic dac8208d650f15bf\n"
+VERSION = "labdesk 0.6.0\nfor rattle-kit-13f logic dac8208d650f15bf\n"
 
 
 def missing(usage, *words):
@@ -185,7 +185,7 @@ def invalid(value, name, why):
 NONE = ("error: 'labdesk' requires a subcommand but one was not provided\n  [subcommands: found, serve, copy, migrate, check, replay, rehearse, help]"
         f"\n\nUsage: labdesk <COMMAND>\n{TRY}")
 MIGRATE = "labdesk migrate --old <F> --new <G>"
-REHEARSE = "labdesk rehearse --lab <L> --moment <S>"
+REHEARSE = "labdesk rehearse --lab <L> --moment <S> < FOUNDING"
 BACKWARDS = ("error: the number of '--from <A>' is above that of '--to <B>'\n\nUsage: labdesk copy --file <F> --lab <L> --from <A> --to <B>\n"
              + TRY)
 TWICE = f"error: the argument '--lab <L>' cannot be used multiple times\n\nUsage: {REHEARSE}\n{TRY}"
@@ -196,8 +196,8 @@ NO_INTEGER, NO_DIGIT = "cannot parse integer from empty string", "invalid digit 
 WRONG = [
     ("", NONE), ("relay", unknown("relay", "replay")), ("chek", unknown("chek", "check")),
     ("--file", unexpected("--file", "labdesk <COMMAND>")),
-    ("replay twice", unexpected("twice", "labdesk replay")), ("check copy.csv", unexpected("copy.csv", "labdesk check")),
-    ("found --file laboratories", missing("labdesk found --file <F> --lab <L>", "--lab <L>")),
+    ("replay twice", unexpected("twice", "labdesk replay < EVENTS")), ("check copy.csv", unexpected("copy.csv", "labdesk check < COPY")),
+    ("found --file laboratories", missing("labdesk found --file <F> --lab <L> < FOUNDING", "--lab <L>")),
     ("migrate --old laboratories", missing(MIGRATE, "--new <G>")), ("migrate", missing(MIGRATE, "--old <F>", "--new <G>")),
     ("migrate laboratories laboratories-3", unexpected("laboratories", MIGRATE)),
     ("rehearse", missing(REHEARSE, "--lab <L>", "--moment <S>")), ("rehearse --lab=aqua --moment", NO_VALUE),

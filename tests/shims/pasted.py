@@ -126,7 +126,8 @@ class Room:
         (self.path / "labdesk").write_text(f'#!/bin/sh\nexec {program} "$@"\n')
         (self.path / "labdesk").chmod(0o755)
         shutil.copy(TOP / "labdesk-found", self.path)
-        (self.path / "examples").symlink_to(TOP / "examples")
+        for folder in ("examples", "packaging"):
+            (self.path / folder).symlink_to(TOP / folder)
 
     def environment(self):
         kept = {name: value for name, value in os.environ.items() if not name.lower().endswith("_proxy")}

@@ -64,7 +64,10 @@ int open(const char *name, int flags, ...) {
     va_end(further);
     size_t length = strlen(path);
     if (fd >= 0 && fd < 1024) {
-        kinds[fd] = strncmp(name, path, length) ? 0 : !name[length] ? 'f' : strcmp(name + length, "-wal") ? 0 : 'l';
+        const char *rest = strncmp(name, path, length) ? "?" : name + length;
+        /* (a path that ends in '-' stands for all that have a number behind it) */
+        if (length && path[length - 1] == '-') rest += strspn(rest, "0123456789");
+        kinds[fd] = !*rest ? 'f' : strcmp(rest, "-wal") ? 0 : 'l';
     }
     return fd;
 }
