@@ -19,7 +19,7 @@ use Rattle.lab_store_files.specs.NewFiles.{IsBlank, IsNewFile, new_tables, no_sc
 use Rattle.lab_store_files.specs.declared.faults.FileFault.{FileFault}
 use Rattle.lab_store_files.specs.declared.faults.FileFault.TheVariants.{Memory, NotADeskFile, Storage}
 use Rattle.lab_store_files.specs.Verdicts.{Answers, file_verdict, number_shown, number_verdict, shown_verdict, whole_verdict}
-use Rattle.lab_desk_runs.specs.declared.events.Event.{Event}
+use Rattle.lab_desk_runs.specs.Alone.{Happening}
 use Rattle.lab_desk_runs.specs.Starts.{AreStarts, IsAnswered, IsStopped, Start, left_by}
 use Rattle.lab_program_shelves.specs.Files.{AreHeldIn, IsFound, IsNew, IsOpened, IsOurs}
 use Rattle.lab_program_files.specs.FileWorlds.{file_world}
@@ -36,7 +36,7 @@ module _ {S : Type 0} (disk : Ghosts S) (IsHeld : Trees → Type 0) (conn : Held
       ∙ ap (λ (trees : Trees). meaning (tables_in trees) code)
       (ours.2.0 clean (ours.2.1 clean).1.0.is_open left.0 left.1)
 
-module _ {S : Type 0} (disk : Ghosts S) (opened last : Held S) (events : List Event)
+module _ {S : Type 0} (disk : Ghosts S) (opened last : Held S) (events : List Happening)
     (taken : List Bool) (run : IsRunOver disk opened last events taken) (left : Meaning) where
   -- what was answered is what each laboratory's machine alone answers
   answered_so : IsAnswered (file_world disk opened).meaning
@@ -55,7 +55,7 @@ module _ {S : Type 0} (disk : Ghosts S) (opened last : Held S) (events : List Ev
   stopped_so only may = record {
     handled = run.leaves.handled;
     told = run.leaves.told;
-    left = elim (run.leaves.left run.lives left may) [
+    left = elim (run.leaves.left tt left may) [
       | inl whole ↦ inl whole
       | inr other ↦ elim other [
         | inl front ↦ inr (inl front)
@@ -78,7 +78,7 @@ left_by_and first [] one = refl
 left_by_and first (early ∷ others) one = left_by_and early.left others one
 
 pub one_start_more : {S : Type 0} (disk : Ghosts S) (first : Meaning) (starts : List Start)
-    (opened last : Held S) (events : List Event) (taken : List Bool) (left : Meaning) →
+    (opened last : Held S) (events : List Happening) (taken : List Bool) (left : Meaning) →
     AreSoFar first starts (file_world disk opened).meaning →
     IsRunOver disk opened last events taken →
     ((held : Meaning) → (file_world disk opened).may_leave held →

@@ -5,7 +5,7 @@ use Rattle.std.specs.Prelude.{List, Bool}
 use Rattle.sqlite_trees.specs.declared.store.Store.{Ghosts}
 use Rattle.sqlite.specs.Held.{Held}
 use Rattle.lab_records_kept.specs.Worlds.{Meaning, Passes, SameMeaning}
-use Rattle.lab_desk_runs.specs.declared.events.Event.{Event}
+use Rattle.lab_desk_runs.specs.Alone.{Happening}
 use Rattle.lab_desk_runs.specs.Leaving.{LeavesRun}
 use Rattle.lab_desk_runs.specs.Runs.{Handled, IsRun, IsTold}
 use Rattle.lab_desk_runs.specs.Starts.{AreStarts, Start, left_by}
@@ -14,17 +14,16 @@ use Rattle.lab_program_files.specs.FileWorlds.{file_keeper, file_world}
 -- over a file, from its opening to its stop, events were handled: what `Desk::run` says (`alone`,
 -- `leaves`, `passes`, and after a write fault `cut`, `leaves_cut`). No fault had shut the file
 -- before the last of them
-pub record IsRunOver {S : Type 0} (disk : Ghosts S) (opened last : Held S) (events : List Event)
+pub record IsRunOver {S : Type 0} (disk : Ghosts S) (opened last : Held S) (events : List Happening)
     (taken : List Bool) : Type 0 where
   pub handled : List Handled
   pub told : IsTold events taken handled
   pub run : IsRun (file_world disk opened) (file_world disk last) handled
-  pub leaves : LeavesRun (file_keeper disk) opened last events taken
-  pub lives : (file_world disk leaves.before).is_live
+  pub leaves : LeavesRun (Unit {0}) (file_world disk opened) (file_world disk last) events taken
   pub passes : Passes (file_world disk opened) (file_world disk last)
 
 -- the start whose events these are: it found these laboratories, and left those
-abbrev pub start_of : List Event → List Bool → Meaning → Meaning → Start
+abbrev pub start_of : List Happening → List Bool → Meaning → Meaning → Start
 start_of events taken found left =
     record { found = found; events = events; taken = taken; left = left }
 

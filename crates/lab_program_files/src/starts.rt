@@ -9,7 +9,7 @@ ghost use Rattle.sqlite.specs.Held.{Held, IsConnected, state};
 ghost use Rattle.sqlite.specs.State.{HasCleanDisk};
 ghost use Rattle.lab_records_kept.specs.Worlds.{Meaning, SameMeaning};
 ghost use Rattle.lab_store.specs.StoreWorlds.{world_of};
-ghost use Rattle.lab_desk_runs.specs.declared.events.Event.{Event};
+ghost use Rattle.lab_desk_runs.specs.Alone.{Happening};
 ghost use Rattle.lab_desk_runs.specs.Starts.{Start};
 ghost use Rattle.lab_program_shelves.specs.Files.{AreHeldIn, IsOpened, IsOurs};
 ghost use Rattle.lab_program_files.specs.Starts.{AreSoFar, IsRunOver, start_of};
@@ -39,7 +39,7 @@ pub fn a_start_finds_what_was_left<D: Disk, S: Alter>()
         SameMeaning (world_of (state S.Store next)).meaning held) }
     ensures goes_on { (first : Meaning) (starts : List Start) (before after : Image)
         (opened last : Held (FileStore D D.Disk)) (next : Held S)
-        (events : List Event) (taken : List Bool) →
+        (events : List Happening) (taken : List Bool) →
         AreSoFar first starts (world_of (file_state opened)).meaning →
         IsOurs over_files (AreHeldIn before) opened → IsRunOver over_files opened last events taken →
         IsConnected (view last.store) (recovers last.store) last.schema last.saved
