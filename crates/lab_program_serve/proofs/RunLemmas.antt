@@ -1,23 +1,22 @@
 -- What is served goes on by each connection, and by what comes between two of them.
-use Rattle.std.proofs.Common.{◌≡◌, ◌∙◌, Bool, List, [], ◌∷◌, ◌++◌, append_assoc, append-nil, map, Option, Ok, Err, refl, sym, ap, subst, inl, inr}
+use Rattle.std.proofs.Common.{◌≡◌, ◌∙◌, Bool, List, [], ◌∷◌, ◌++◌, append_assoc, append-nil, map, Ok, Err, refl, sym, ap, subst, inl, inr}
 use Rattle.std.specs.Prelude.{ℕ, Result}
 use Rattle.std.proofs.lemmas.List.{map-append}
 use Rattle.lab_forms_texts.specs.declared.refusals.Fault.{Fault}
 use Rattle.lab_records_kept.specs.declared.faults.BadStore.{BadStore}
 use Rattle.lab_records_kept.specs.declared.keeper.Keeper.{Ghosts}
-use Rattle.lab_records_kept.specs.Worlds.{World, Passes}
 use Rattle.lab_desk_foundings.specs.declared.run_faults.ServeFault.TheVariants.{Read, Interim, Reply}
 use Rattle.lab_desk_runs.specs.Alone.{Happening, Request}
-use Rattle.lab_desk_runs.specs.Keeping.{AreReleasing, AreWithin, GivenWithin, Stays}
-use Rattle.lab_desk_runs.specs.Leaving.{LeavesRun, as_told}
+use Rattle.lab_desk_runs.specs.Keeping.{AreReleasing, AreWithin, GivenWithin}
+use Rattle.lab_desk_runs.specs.Leaving.{as_told}
 use Rattle.lab_desk_runs.specs.Runs.{Handled, IsRun, IsTold}
-use Rattle.lab_desk_runs.proofs.Leaving.{ComesBetween, ComesNext, LeavesSoFar, leaves_between, leaves_none, leaves_on, request_leaves}
+use Rattle.lab_desk_runs.proofs.Leaving.{LeavesSoFar, leaves_between, leaves_none, leaves_on, request_leaves}
 use Rattle.lab_desk_runs.proofs.Running.{no_run, one_request, run_then, still_run}
 use Rattle.lab_desk.specs.Answering.{Answers}
-use Rattle.lab_desk.specs.Serving.{AreAsked, Exchange, HandlesRequest}
+use Rattle.lab_desk.specs.Serving.{Exchange, HandlesRequest}
 use Rattle.lab_program_outside.specs.declared.faults.ConnectionFault.TheVariants.{Serving, Memory}
-use Rattle.lab_program_serve.specs.Runs.{AreBrought, Brings, IsRequestOf, IsServedRun}
-use Rattle.lab_program_serve.specs.Visits.{AreVisits, Ending, GoesOn, IsVisit, OnServed, OnUnserved, Visit}
+use Rattle.lab_program_serve.specs.Runs.{AreBrought, Brings, IsServedRun}
+use Rattle.lab_program_serve.specs.Visits.{AreVisits, Ending, GoesOn, OnServed, OnUnserved, Visit}
 
 -- the events of what was handled, and which of them were taken
 abbrev events_in : List Handled → List Happening
