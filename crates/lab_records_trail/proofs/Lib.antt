@@ -1,4 +1,5 @@
 pub mod Rooms
 pub mod Cases
+pub mod KnownTelling
 pub mod Others
 pub mod Steps
