@@ -182,6 +182,24 @@ def homes_lack(tree, line):
                         if not word.startswith("lab_") and not tree.has_name(word, f"crates/{crate}/"))
 
 
+# ---- rules that have one home
+
+# What stands in one document alone; the others link there.
+HOMES = {
+    "how long a session lives": (r"\b900 seconds\b|\b28,800\b", "docs/PERSONS.md"),
+    "the order of all refusals": (r"^\| Step \| Number \|.*Skipped for", "docs/COMMANDS.md"),
+    "the cause of `storage`": (r"^\| 63 \|", "docs/REFUSALS.md"),
+    "the cause of `memory`": (r"^\| 90 \|", "docs/REFUSALS.md"),
+}
+
+
+def rules_stand_elsewhere(top):
+    for rule, (pattern, home) in HOMES.items():
+        there = [os.path.relpath(path, top) for path in documents(top) if re.search(pattern, text_of(path), re.M)]
+        if there != [home]:
+            yield f"{rule} stands in {', '.join(there) or 'no document'}, and its home is {home}"
+
+
 # ---- what a document counts
 
 
