@@ -9,8 +9,9 @@ import re
 
 BUDGETS, FOREIGN, INVENTING = "tests/budgets.txt", "tests/foreign.txt", "tests/shims/documents.py"
 # What a name may stand in: all that isn't a document.
-SOURCES = ("crates/**/*", "tests/**/*", "tools/*", "bench/*", "pages/**/*", "packaging/**/*", "examples/**/*", ".ci/*", "check", "labdesk*",
-           "crates.txt", "docs/openapi.yaml")
+SOURCES = ("crates/*/*", "crates/*/src/**/*", "crates/*/specs/**/*", "crates/*/proofs/**/*", "crates/*/must-fail/*", "crates/*/attacks/*",
+           "tests/**/*", "tools/*", "bench/*", "pages/**/*", "packaging/**/*", "examples/**/*", ".ci/*", "check", "labdesk*", "crates.txt",
+           "docs/openapi.yaml")
 # Where no word counts as the tree's: documents, and those below.
 NOT_TEXT = (".md", ".png", ".svg", ".db", ".pyc")
 PARTS = ("src/", "specs/", "proofs/", "must-fail/", "attacks/", "uses/")
@@ -29,10 +30,6 @@ def without_blocks(page):
     """A document without its fenced and its indented blocks, and without comments."""
     page = re.sub(r"^```.*?^```$|<!--.*?-->", "", page, flags=re.M | re.S)
     return re.sub(r"^    .*$", "", page, flags=re.M)
-
-
-def is_of_table(line):
-    return line.startswith("|")
 
 
 def words_in(text):
@@ -56,23 +53,23 @@ def budgets(top):
 
 
 def budget_passed(top):
+    """Documents that are longer than they may be, or have no budget; and budgets of nothing."""
     bound_of = {}
     for pattern, bound, is_text in budgets(top):
         paths = sorted(glob.glob(f"{top}/{pattern}"))
+        bound_of.update({path: (bound, is_text) for path in paths if path not in bound_of})
         if not paths:
             yield f"{BUDGETS} has {pattern}, which isn't there"
-        for path in paths:
-            bound_of.setdefault(path, (bound, is_text))
-    for path in documents(top) + [f"{top}/CHANGELOG.md"]:
-        name = os.path.relpath(path, top)
-        if path not in bound_of:
-            yield f"{BUDGETS} lacks {name}"
-            continue
-        bound, is_text = bound_of[path]
-        lines = without_blocks(text_of(path)).splitlines()
-        count = words_in("\n".join(line for line in lines if not (is_text and is_of_table(line))))
-        if count > bound:
-            yield f"{name} has {count:,} words{' beside its tables' if is_text else ''}, and may have {bound:,}"
+    for path in [*documents(top), f"{top}/CHANGELOG.md"]:
+        bound, is_text = bound_of.get(path, (0, False))
+        if (count := length_of(path, is_text)) > bound:
+            yield f"{os.path.relpath(path, top)} has {count:,} words{' beside its tables' if is_text else ''}, and may have {bound:,}"
+
+
+def length_of(path, is_text):
+    """How many words a document has, in all or beside its tables."""
+    lines = without_blocks(text_of(path)).splitlines()
+    return words_in("\n".join(line for line in lines if not (is_text and line.startswith("|"))))
 
 
 def documents(top):
@@ -90,8 +87,8 @@ class Tree:
     def __init__(self, top, uses):
         self.top, self.uses = top, uses
         self.foreign = set(re.sub(r"#.*", "", text_of(f"{top}/{FOREIGN}")).split())
-        self.libraries = {one for used in uses.values() for one in used} - set(uses)
-        self.paths = {os.path.relpath(path, top) for pattern in (*SOURCES, "*.md", "docs/**/*") for path in glob.glob(f"{top}/{pattern}", recursive=True)}
+        found = (path for pattern in (*SOURCES, "*.md", "docs/**/*") for path in glob.glob(f"{top}/{pattern}", recursive=True))
+        self.paths = {os.path.relpath(path, top) for path in found}
         self.names = {os.path.basename(path) for path in self.paths}
 
     @functools.lru_cache(None)
@@ -127,10 +124,16 @@ def names_lack(tree):
 def page_lacks(tree, name, page):
     """Paths, crates and words of code that a document names in backticks, and the tree doesn't have."""
     of_blocks = set(re.findall(r"\w+", "".join(re.findall(r"^```.*?^```$|^    .*$", page, re.M | re.S))))
+    for line, crates in lines_of(page):
+        yield from dict.fromkeys([*words_lack(tree, line, of_blocks), *paths_lack(tree, line, name, crates), *homes_lack(tree, line)])
+
+
+def lines_of(page):
+    """The lines of a document, each with the crates that it names, or that the line before it named last."""
     crates = []
     for line in without_blocks(page).splitlines():
-        crates = crates_in(line) or (crates if line.strip() else [])
-        yield from dict.fromkeys([*words_lack(tree, line, of_blocks), *paths_lack(tree, line, name, crates), *homes_lack(tree, line)])
+        crates = re.findall(r"\blab_\w+", line) or (crates if line.strip() else [])
+        yield line, crates
 
 
 # A line each with an invented thing, and what is said of it.
@@ -148,10 +151,6 @@ def invented_passes(tree):
     for line, wanted in INVENTED.items():
         if list(page_lacks(tree, "docs/INVENTED.md", line)) != [wanted]:
             yield f"of {line} nothing is said, or another thing"
-
-
-def crates_in(line):
-    return re.findall(r"\blab_\w+", line)
 
 
 def words_lack(tree, line, of_blocks):
@@ -214,23 +213,26 @@ def above(uses, crate):
 
 def counts_differ(tree, boxes):
     """Counts of crates that aren't those of crates.txt."""
-    uses = tree.uses
-    of_boxes = {len(crates) for _, crates in boxes}
-    tests = sum(name.startswith("lab_tests_") for name in uses)
     for path in documents(tree.top):
-        name, crates = os.path.relpath(path, tree.top), []
-        for line in without_blocks(text_of(path)).splitlines():
-            crates = crates_in(line) or (crates if line.strip() else [])
-            for told, further in re.findall(r"\b(\d+) crates\b(?=(.{0,20}))", line):
-                count = int(told)
-                if further.startswith(" above"):
-                    wanted = {len(above(uses, crate)) for crate in crates if crate in uses}
-                elif further.startswith(" of the program"):
-                    wanted = {len(uses) - tests}
-                else:
-                    wanted = {len(uses), *of_boxes}
-                if count not in wanted:
-                    yield f"{name}: {told} crates{further}, and there are {' or '.join(map(str, sorted(wanted)))}"
+        for told, what, crates in counts_in(text_of(path)):
+            wanted = counts_of(tree.uses, boxes, what, crates)
+            if told not in wanted:
+                yield f"{os.path.relpath(path, tree.top)}: {told} crates{what}, and there are {' or '.join(map(str, sorted(wanted)))}"
+
+
+def counts_in(page):
+    """Each count of crates: the number, what stands after it, and the crates of its line."""
+    for line, crates in lines_of(page):
+        yield from ((int(told), what, crates) for told, what in re.findall(r"\b(\d+) crates\b(?=(.{0,20}))", line))
+
+
+def counts_of(uses, boxes, what, crates):
+    """What a count may be: of the crates above one that the line names, of those of the program, of a box, or of all."""
+    if what.startswith(" above"):
+        return {len(above(uses, crate)) for crate in crates if crate in uses}
+    if what.startswith(" of the program"):
+        return {sum(not name.startswith("lab_tests_") for name in uses)}
+    return {len(uses), *(len(crates) for _, crates in boxes)}
 
 
 def shown(box):
