@@ -4,7 +4,7 @@
 import { read_a_record, read_a_version } from './api.js';
 import { grid_row, is_shown, is_typed, show_record, show_standing, tell } from './cells.js';
 import { what_to_type } from './controls.js';
-import { button, buttons, element, fresh_id, given, heading, link, paragraph, reading, replace } from './elements.js';
+import { button, buttons, element, fresh_id, given, heading, link, reading, replace } from './elements.js';
 import { enter_at, is_about_value, open_once } from './entries.js';
 import { is_left } from './life.js';
 import { know_newest, near_question, refuse_near } from './opening.js';

@@ -50,7 +50,7 @@ export const PATTERNS = {
 };
 
 // A filter as the address has it, without what is empty, and read from there: of the members that are named each is a text.
-export function query_of(filter = {}) {
+function query_of(filter = {}) {
   const given = Object.entries(filter).filter(([, value]) => value);
   return given.length ? `?${new URLSearchParams(given)}` : '';
 }

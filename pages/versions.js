@@ -51,7 +51,7 @@ function versions_line(history) {
 }
 
 // Whether this person entered a value of a version, or signed it.
-export const is_own = ({ rows, signatures }) => [...rows, ...signatures].some(({ person }) => person === who().code);
+const is_own = ({ rows, signatures }) => [...rows, ...signatures].some(({ person }) => person === who().code);
 
 // Whether this person may sign a version now. The server decides in the end.
 export function may_sign(history, meaning) {
