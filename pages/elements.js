@@ -174,6 +174,20 @@ export function folded_filter(made, filter) {
   return element('details', { open: is_open }, element('summary', null, texts.filter), made);
 }
 
+// A part that is folded on the screen until it is opened, and stands on paper.
+export function folded(title, attributes, ...children) {
+  return element('details', { class: 'folded', ...attributes }, element('summary', null, title), children);
+}
+
+let opened_for_paper = [];
+addEventListener('beforeprint', () => {
+  opened_for_paper = [...document.querySelectorAll('details.folded:not([open])')];
+  for (const one of opened_for_paper) one.open = true;
+});
+addEventListener('afterprint', () => {
+  for (const one of opened_for_paper) one.open = false;
+});
+
 // A control of a filter: a list to choose from, and any of it at first.
 export function filter_choice(name, options, filter, changed) {
   return choice(name, [['', texts.any], ...options], filter[name], {

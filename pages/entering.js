@@ -213,7 +213,7 @@ function say_what_came({ made, shown }, { steps, entered, refused, looked }) {
   const [one] = entered;
   const unknown = refused.filter(({ look }) => look).length;
   const counts = { entered: entered.length, refused: refused.length - unknown, unknown, left: steps.length - entered.length - refused.length };
-  const what = steps.length === 1 && one ? [given(one.about.label), ' ', words.said_entered] : words.said_all(counts);
+  const what = steps.length === 1 && one ? words.said_entered(given(one.about.label)) : words.said_all(counts);
   say(texts.record(shown.record), ': ', what, looked && [' ', texts.said_looked]);
 }
 

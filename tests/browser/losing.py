@@ -115,7 +115,7 @@ def late_heading(calm):
     screen.settle()
     come_late(screen)
     time.sleep(0.5)
-    same("a page that was left gives no title", screen.run("return document.title"), "Forms · Koghdise")
+    same("a page that was left gives no title", screen.run("return document.title"), "Test forms · Koghdise")
 
 
 def late_refusal(calm):
