@@ -3,7 +3,7 @@
 import { Refusal, make_a_form } from './api.js';
 import {
   action, actions, area, button, buttons, checkbox, choice, element, facts, field, given, heading, input, link, link_row,
-  paragraph, reading, replace, section, table,
+  paragraph, radios, reading, replace, section, table,
 } from './elements.js';
 import { go, is_left, view_of } from './life.js';
 import { write } from './outcomes.js';
@@ -213,7 +213,7 @@ function editor_of(before) {
 
 function field_editor(about, list) {
   const rest = element('div', { class: 'rest' });
-  const kind = choice('kind', KINDS.map((word) => [word, words.kinds[word]]), about.kind);
+  const kind = radios('kind', KINDS.map((word) => [word, words.kinds[word]]), about.kind);
   kind.addEventListener('change', () => draw_rest(rest, { kind: kind.value }));
   draw_rest(rest, about);
   const made = element('fieldset', null, element('legend'),

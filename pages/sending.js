@@ -66,7 +66,7 @@ function leave_for(place, view, made, { keeps }) {
 function values_of(made) {
   const values = {};
   for (const control of made.elements) {
-    if (!control.name) continue;
+    if (!control.name || control.type === 'radio') continue;
     if (control.type !== 'checkbox') values[control.name] = control.value;
     else if (control.dataset.word === undefined) values[control.name] = control.checked;
     else (values[control.name] ??= []).push(...(control.checked ? [control.dataset.word] : []));

@@ -33,7 +33,7 @@ export function value_text({ value, unit }) {
 }
 
 export function label_of({ label, key, required }, has_key = true) {
-  return [given(label, 'label'), has_key && [' ', element('span', { class: 'key', 'aria-hidden': 'true' }, key)],
+  return [given(label, 'label'), has_key && element('span', { class: 'key', 'aria-hidden': 'true' }, ' ', key),
     required && [' ', element('span', { class: 'required' }, texts.required)]];
 }
 

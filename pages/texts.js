@@ -33,7 +33,6 @@ export const texts = {
   required: 'required',
   choose: 'choose …',
   clear: 'Clear',
-  clear_choice: (label) => `Clear the choice of ${label}`,
   any: 'any',
   yes: 'yes',
   no: 'no',

@@ -85,7 +85,7 @@ def enter_goes_down(calm):
     screen.click(screen.one('[data-key="lead"] [name="value"]'))
     went = []
     for at in range(9):
-        screen.press(f"{at}.5" if at < 8 else "faint", screen.keys.ENTER)
+        screen.press(f"{at}.5" if at < 8 else "f", screen.keys.ENTER)
         went.append(focused(calm)[0])
     same("Enter goes down, row by row", went, KEYS[1:])
     screen.press("kept cool", screen.keys.SHIFT + screen.keys.ENTER + screen.keys.NULL, "in the dark")
