@@ -152,11 +152,11 @@ export function choice(name, options, chosen, attributes) {
 export function radios(name, options, chosen = '') {
   const own = fresh_id(name);
   const boxes = options.map(([value]) => element('input', { type: 'radio', name: own, value, checked: value === chosen }));
-  const none = element('button', { type: 'button', 'data-do': 'clear', hidden: true, click: () => choose('') }, texts.clear);
+  const none = element('button', { type: 'button', 'data-do': 'clear', click: () => choose('') }, texts.clear);
   const group = element('fieldset', { class: 'radios', role: 'radiogroup', name, input: () => show_none() },
-    boxes.map((box, at) => element('label', null, box, ' ', given(options[at][1]))), none);
+    boxes.map((box, at) => element('label', null, box, ' ', given(options[at][1]))), chosen === '' && none);
   const chosen_box = () => boxes.find(({ checked }) => checked);
-  const show_none = () => { none.hidden = chosen !== '' || !chosen_box(); };
+  const show_none = () => { none.toggleAttribute('data-idle', !chosen_box()); };
   const put = (value) => {
     for (const box of boxes) box.checked = box.value === value;
     show_none();
@@ -166,6 +166,7 @@ export function radios(name, options, chosen = '') {
     group.focus();
     for (const event of ['input', 'change']) group.dispatchEvent(new Event(event, { bubbles: true }));
   };
+  show_none();
   Object.defineProperties(group, {
     value: { get: () => chosen_box()?.value ?? '', set: put },
     defaultValue: { value: chosen },

@@ -33,8 +33,8 @@ export function value_text({ value, unit }) {
 }
 
 export function label_of({ label, key, required }, has_key = true) {
-  return [given(label, 'label'), has_key && element('span', { class: 'key', 'aria-hidden': 'true' }, ' ', key),
-    required && [' ', element('span', { class: 'required' }, texts.required)]];
+  return [given(label, 'label'), required && [' ', element('span', { class: 'required' }, texts.required)],
+    has_key && element('span', { class: 'key', 'aria-hidden': 'true' }, ' ', key)];
 }
 
 // What fits a field, in words.

@@ -120,7 +120,7 @@ def access(calm):
             for node in nodes if node.get("role", {}).get("value") == "textbox" and node.get("name", {}).get("value", "").startswith("Lead")]
     same("a screen reader tells of a control its label, that it is required, and its unit", told, [("Lead required mg/L", True)])
     heads = [node["name"]["value"] for node in nodes if node.get("role", {}).get("value") == "rowheader"]
-    say(heads and heads[0].startswith("Lead"), f"a row of a table has a header: {heads}")
+    say("Lead required" in heads, f"a row of a table has a header: {heads}")
     low = screen.low_contrasts()
     say(not low, f"each text is well seen, in light and in dark colours {low[:3] or ''}".rstrip())
     dark = screen.run("return matchMedia('(prefers-color-scheme: dark)').matches")
