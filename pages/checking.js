@@ -260,7 +260,7 @@ function text_of_version(kept) {
 }
 
 // The text of which a signature's seal is the SHA-256.
-export function text_of_seal(line) {
+function text_of_seal(line) {
   return text_of_items([line.digest, line.lab, line.person, line.name, line.value, line.moment, line.reason]);
 }
 

@@ -1,13 +1,16 @@
 // Signing in, signing in again over a page that stays as it is, and changing the password.
 
 import { Refusal, change_the_password } from './api.js';
-import { button, element, facts, field, given, heading, input, paragraph, password_field, replace } from './elements.js';
+import { button, buttons, element, facts, field, given, heading, input, paragraph, password_field, replace } from './elements.js';
+import { go } from './life.js';
 import { write } from './outcomes.js';
 import { first_place, password_place } from './places.js';
 import { bytes_of } from './rules.js';
 import { say } from './saying.js';
 import { clear_refusals, refuse, sending_form, show_refusal } from './sending.js';
-import { ask, ask_once, card_of, is_password_due, password_changed, sign_in, sign_out, who } from './session.js';
+import {
+  ask, ask_once, card_of, is_password_due, learn_roles_again, password_changed, sign_in, sign_out, who,
+} from './session.js';
 import { texts } from './texts.js';
 
 const words = texts.entrance;
@@ -78,6 +81,20 @@ export function password_view(place) {
       say(words.said_changed);
       if (location.hash === password_place()) location.replace(first_place());
     }));
+}
+
+// Who has no role is told whom to ask. One that was given meanwhile is found without signing in again.
+export function no_role_view(view) {
+  const look = async () => {
+    await learn_roles_again();
+    if (who().roles.size) go(view, first_place(), true);
+    else say(words.said_no_role);
+  };
+  const check = button('look_for_role', words.look_for_role, async () => {
+    clear_refusals(view);
+    await look().catch((refusal) => show_refusal(view, refusal));
+  });
+  replace(view, heading(words.no_role_title), paragraph(words.no_role(who().code)), paragraph(words.no_role_then), buttons(check));
 }
 
 // The form that changes the password. `by` asks the command.

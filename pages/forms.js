@@ -3,7 +3,7 @@
 import { Refusal, make_a_form } from './api.js';
 import {
   action, actions, area, button, buttons, checkbox, choice, element, facts, field, given, heading, input, link, link_row,
-  paragraph, reading, replace, section, table,
+  paragraph, radios, reading, replace, section, table,
 } from './elements.js';
 import { go, is_left, view_of } from './life.js';
 import { write } from './outcomes.js';
@@ -88,13 +88,14 @@ export async function form_view(place, form, version) {
 }
 
 function fields_table({ fields }, before) {
-  const columns = [words.label, words.key, words.kind, words.fits, words.required];
+  const has_keys = has('manager', 'inspector');
+  const columns = [words.label, has_keys && words.key, words.kind, words.fits, words.required].filter(Boolean);
   return table(words.fields, columns, fields.map((about) => {
     const mark = before && mark_of(before.fields.find(({ key }) => key === about.key), about);
     const label = [given(about.label, 'label'), mark && [' ', element('strong', { class: 'altered' }, mark)]];
     return {
       attributes: { 'data-key': about.key, class: mark ? 'altered-row' : null },
-      cells: [label, about.key, words.kinds[about.kind], what_fits(about), about.required ? texts.yes : texts.no],
+      cells: [label, ...has_keys ? [about.key] : [], words.kinds[about.kind], what_fits(about), about.required ? texts.yes : texts.no],
     };
   }));
 }
@@ -124,8 +125,8 @@ function lines_of(before, after) {
   if (!before) return [words.added(after.key)];
   const members = [...new Set([...Object.keys(before), ...Object.keys(after)])].sort();
   const others = members.filter((member) => JSON.stringify(before[member]) !== JSON.stringify(after[member]));
-  return others.map((member) => [words.member(after.key, words.members[member]), ' ',
-    element('s', null, member_text(before[member])), ' ', words.now, ' ', member_text(after[member])]);
+  return others.map((member) =>
+    words.altered_member(after.key, member, element('s', null, member_text(before[member])), member_text(after[member])));
 }
 
 function member_text(value) {
@@ -212,7 +213,7 @@ function editor_of(before) {
 
 function field_editor(about, list) {
   const rest = element('div', { class: 'rest' });
-  const kind = choice('kind', KINDS.map((word) => [word, words.kinds[word]]), about.kind);
+  const kind = radios('kind', KINDS.map((word) => [word, words.kinds[word]]), about.kind);
   kind.addEventListener('change', () => draw_rest(rest, { kind: kind.value }));
   draw_rest(rest, about);
   const made = element('fieldset', null, element('legend'),

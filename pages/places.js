@@ -25,6 +25,7 @@ export const trail_place = (filter) => `#/trail${query_of(filter)}`;
 export const copies_place = () => '#/copies';
 export const checking_place = () => '#/checking';
 export const password_place = () => '#/password';
+export const no_role_place = () => '#/no-role';
 
 // The views by their places, each with a name and a pattern whose groups are what the view is about.
 export const PATTERNS = {
@@ -47,10 +48,11 @@ export const PATTERNS = {
   copies: /^#\/copies$/,
   checking: /^#\/checking$/,
   password: /^#\/password$/,
+  no_role: /^#\/no-role$/,
 };
 
 // A filter as the address has it, without what is empty, and read from there: of the members that are named each is a text.
-export function query_of(filter = {}) {
+function query_of(filter = {}) {
   const given = Object.entries(filter).filter(([, value]) => value);
   return given.length ? `?${new URLSearchParams(given)}` : '';
 }

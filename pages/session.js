@@ -196,6 +196,12 @@ async function learn_roles() {
   person.roles = new Set([analyst && 'analyst', reviewer && 'reviewer'].filter(Boolean));
 }
 
+// Another role may have been given since.
+export async function learn_roles_again() {
+  await learn_roles();
+  tell();
+}
+
 async function has_role(command, body) {
   try {
     await ask_once(command, body);
