@@ -2,6 +2,7 @@
 
 import { Refusal, change_the_password } from './api.js';
 import { button, element, facts, field, given, heading, input, paragraph, password_field, replace } from './elements.js';
+import { LEAST_OF_PASSWORD, MOST_OF_PASSWORD } from './limits.js';
 import { write } from './outcomes.js';
 import { first_place, password_place } from './places.js';
 import { bytes_of } from './rules.js';
@@ -124,7 +125,7 @@ function new_password_field() {
   made.append(length);
   made.querySelector('[name="new"]').addEventListener('input', (event) => {
     const bytes = bytes_of(event.target.value);
-    length.textContent = bytes < 12 || bytes > 128 ? words.length(bytes) : '';
+    length.textContent = bytes < LEAST_OF_PASSWORD || bytes > MOST_OF_PASSWORD ? words.length(bytes) : '';
   });
   return made;
 }
