@@ -34,8 +34,7 @@ class Firefox:
                                         preexec_fn=ends_with_this)
         self.socket = socket.create_connection(("127.0.0.1", self.port()), timeout=PATIENCE)
         self.receive()
-        self.send("WebDriver:NewSession", capabilities={"alwaysMatch": {"acceptInsecureCerts": True, "timeouts": {"script": PATIENCE * 1000,
-                                                                                                        "pageLoad": PATIENCE * 1000}}})
+        self.send("WebDriver:NewSession", acceptInsecureCerts=True, timeouts={"script": PATIENCE * 1000, "pageLoad": PATIENCE * 1000})
 
     def port(self):
         """Firefox writes down where it listens, once it does."""
@@ -76,7 +75,7 @@ class Firefox:
         self.socket.sendall(str(len(text)).encode() + b":" + text)
         _, number, fault, given = self.receive()
         if fault or number != self.last:
-            raise Stop(f"{command}: {fault and fault['message'][:300]}")
+            raise Stop(f"{command}: {fault and (fault['error'], fault['message'][:300])}")
         return given.get("value") if isinstance(given, dict) and set(given) == {"value"} else given
 
     # ---- looking and doing

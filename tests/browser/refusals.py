@@ -57,6 +57,7 @@ FORMS = [
      {"no_fields": None, "too_many_fields": None, "nothing_altered": None, "lab_full": None}),
     ("#/making", None, {**NEW, "min": "8", "max": "7"}, "make_a_form", "POST /forms", {"bad_field": "min"}),
     ("#/making", None, {**NEW, "key": "Lead"}, "make_a_form", "POST /forms", {"bad_name": "key"}),
+    ("#/making", "add_field", {"form": "soil"}, "make_a_form", "POST /forms", {"key_twice": "key"}),
     ("#/enrolling", None, {"code": "zoe", "name": "Zoe Zimt"}, "enrol_a_person", "POST /persons", {"code_taken": "code", "lab_full": None, "role_wanted": None}),
     ("#/persons/new", None, {}, "ask_for_a_one_time_password", "POST /issue", {"issue_open": None, "own_issue": None, "no_such_person": None}),
     ("#/persons/new", None, {}, "confirm_a_one_time_password", "POST /confirm", {"no_issue": None, "same_person": None}),
