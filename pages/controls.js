@@ -1,18 +1,18 @@
 // A control for a value of a field, made from the form: what fits it, and the advice beside it.
 
 import { area, choice, element, field, fresh_id, given, input, radios } from './elements.js';
+import { MOST_OF_NAME } from './limits.js';
 import { bytes_of, flaw_of_value } from './rules.js';
 import { slip_of_value, text_of_slip } from './slips.js';
 import { hint_of } from './showing.js';
 import { texts } from './texts.js';
 
 const words = texts.entering;
-// A text that may be longer has room for several lines where there is room.
-const SHORT = 120;
 
 // A control for a value of a field, and the part of the page with its hint, unit and advice: { part, control }.
 export function value_control(about, name, label) {
-  const control = control_of(about, name, about.size > SHORT ? 3 : 1);
+  // (a text that may be longer than a name has room for several lines)
+  const control = control_of(about, name, about.size > MOST_OF_NAME ? 3 : 1);
   const advice = advice_part(about);
   const part = field(label, control, hint_of(about), unit_of(about));
   part.append(advice);

@@ -3,6 +3,7 @@
 import { Refusal, change_the_password } from './api.js';
 import { button, buttons, element, facts, field, given, heading, input, paragraph, password_field, replace } from './elements.js';
 import { go } from './life.js';
+import { LEAST_OF_PASSWORD, MOST_OF_PASSWORD } from './limits.js';
 import { write } from './outcomes.js';
 import { first_place, password_place } from './places.js';
 import { bytes_of } from './rules.js';
@@ -141,7 +142,7 @@ function new_password_field() {
   made.append(length);
   made.querySelector('[name="new"]').addEventListener('input', (event) => {
     const bytes = bytes_of(event.target.value);
-    length.textContent = bytes < 12 || bytes > 128 ? words.length(bytes) : '';
+    length.textContent = bytes < LEAST_OF_PASSWORD || bytes > MOST_OF_PASSWORD ? words.length(bytes) : '';
   });
   return made;
 }

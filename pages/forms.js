@@ -6,6 +6,7 @@ import {
   paragraph, radios, reading, replace, section, table,
 } from './elements.js';
 import { go, is_left, view_of } from './life.js';
+import { MOST_DECIMALS } from './limits.js';
 import { write } from './outcomes.js';
 import { form_place, forms_place, grid_place, making_place, opening_place } from './places.js';
 import { form_of, form_or_null, last_version } from './reading.js';
@@ -21,7 +22,7 @@ import { forms_in_trail } from './trail.js';
 
 const words = texts.forms;
 const KINDS = ['number', 'text', 'choice', 'date', 'yesno'];
-const DECIMALS = ['0', '1', '2', '3', '4', '5', '6'].map((count) => [count, count]);
+const DECIMALS = Array.from({ length: MOST_DECIMALS + 1 }, (_, count) => [String(count), String(count)]);
 
 export async function forms_view(place) {
   const list = element('div', { 'data-part': 'forms' }, reading());

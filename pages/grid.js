@@ -7,6 +7,7 @@ import { what_to_type } from './controls.js';
 import { button, buttons, control_at, element, fresh_id, given, heading, link, reading, replace } from './elements.js';
 import { enter_at, is_about_value, open_once } from './entries.js';
 import { is_left } from './life.js';
+import { MOST_SAMPLES } from './limits.js';
 import { know_newest, near_question, refuse_near } from './opening.js';
 import { block_of } from './pasting.js';
 import { record_place } from './places.js';
@@ -23,7 +24,6 @@ import { while_pressed, while_silent } from './waiting.js';
 
 const words = texts.grid;
 const ROWS = 5;
-const MOST_ROWS = 200;
 // What is refused for one of these is about one sample: the next one is gone on with.
 const ABOUT_SAMPLE = new Set(['near_name', 'no_sample', 'bad_name', 'bad_body', 'not_open', 'other_form']);
 
@@ -58,7 +58,7 @@ function table_of(grid) {
 
 // Adds rows, as long as there is room for them.
 function add_rows({ rows, cells, form, heads, body }, count) {
-  const room = Math.min(count, MOST_ROWS - rows.length);
+  const room = Math.min(count, MOST_SAMPLES - rows.length);
   const added = Array.from({ length: room }, (_, at) => grid_row(rows.length + at + 1, form.fields, heads));
   rows.push(...added);
   for (const cell of added.flatMap((row) => row.cells)) cells.set(cell.control, cell);

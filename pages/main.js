@@ -10,6 +10,7 @@ import { grid_view } from './grid.js';
 import { help_button } from './help.js';
 import { ask_first, guard_views } from './leaving.js';
 import { begin_view, is_over, name_view } from './life.js';
+import { WARNING_SECONDS } from './limits.js';
 import { enrolling_view, person_view, persons_view } from './persons.js';
 import { opening_view } from './opening.js';
 import {
@@ -28,7 +29,6 @@ import { trail_view } from './trail.js';
 import { paper_view, version_view } from './versions.js';
 import { day_view } from './worklist.js';
 
-const WARNING_SECONDS = 120;
 const VIEWS = {
   day: day_view, records: records_view, opening: opening_view, grid: grid_view, record: version_view, version: version_view,
   signing: signing_view, amending: amending_view, paper: paper_view, forms: forms_view, form: form_view, making: making_view,

@@ -1,7 +1,9 @@
 // The places of the pages, behind the # of the address. No place has a token or a password. That of a list has its filter.
 
+import { KEY as KEY_PATTERN, PERSON_CODE } from './limits.js';
+
 const NUMBER = '([1-9][0-9]{0,9})';
-const KEY = '([a-z][a-z0-9_]{0,23})';
+const KEY = `(${KEY_PATTERN})`;
 
 export const first_place = () => '#/';
 export const day_place = () => '#/day';
@@ -42,7 +44,7 @@ export const PATTERNS = {
   form: new RegExp(`^#/forms/${KEY}/${NUMBER}$`),
   making: new RegExp(`^#/making(?:/${KEY}/${NUMBER})?$`),
   persons: /^#\/persons$/,
-  person: /^#\/persons\/([a-z][a-z0-9-]{1,15})$/,
+  person: new RegExp(`^#/persons/(${PERSON_CODE})$`),
   enrolling: /^#\/enrolling$/,
   trail: /^#\/trail(\?.*)?$/,
   copies: /^#\/copies$/,
