@@ -1,5 +1,6 @@
 pub mod Agreeing
 pub mod HandlingLemmas
+pub mod Happenings
 mod KnownRuns
 pub mod KnownTwins
 pub mod OwnEvents

@@ -1,12 +1,11 @@
 -- A laboratory's own events rest on the events alone, and on which of them were taken.
 use Rattle.std.proofs.Common.{◌≡◌, ℕ, Bool, List, [], ◌∷◌, None, refl, sym, ◌∙◌, ap, cond, map}
 use Rattle.std.specs.List.{cons_option}
-use Rattle.lab_desk_runs.specs.declared.events.Event.{Event}
-use Rattle.lab_desk_runs.specs.Alone.{Own, own_of}
+use Rattle.lab_desk_runs.specs.Alone.{Own, Happening, own_of}
 use Rattle.lab_desk_runs.specs.Runs.{Handled, IsTold, own_in, own_events}
 
 -- the own events among these, of which these were taken
-abbrev own_told : List ℕ → List Event → List Bool → List Own
+abbrev own_told : List ℕ → List Happening → List Bool → List Own
 own_told code [] taken = []
 own_told code (event ∷ events) [] = []
 own_told code (event ∷ events) (is_taken ∷ taken) =
@@ -20,16 +19,16 @@ own_events_told code [] = refl
 own_events_told code (one ∷ others) =
     ap (λ (owns : List Own). cons_option (own_in code one) owns) (own_events_told code others)
 
-own_events_as_told : (code : List ℕ) (events : List Event) (taken : List Bool)
+own_events_as_told : (code : List ℕ) (events : List Happening) (taken : List Bool)
     (handled : List Handled) → IsTold events taken handled →
     own_events code handled ≡ own_told code events taken
 own_events_as_told code events taken handled told =
     own_events_told code handled
-    ∙ ap (λ (all : List Event). own_told code all (map (λ (one : Handled). one.taken) handled))
+    ∙ ap (λ (all : List Happening). own_told code all (map (λ (one : Handled). one.taken) handled))
     told.events_are
     ∙ ap (λ (all : List Bool). own_told code events all) told.taken_are
 
-pub same_own_events : (events : List Event) (taken : List Bool) (handled others : List Handled)
+pub same_own_events : (events : List Happening) (taken : List Bool) (handled others : List Handled)
     (code : List ℕ) → IsTold events taken handled → IsTold events taken others →
     own_events code handled ≡ own_events code others
 same_own_events events taken handled others code told other_told =

@@ -267,6 +267,9 @@ impl<S: Keeper + Drop> Desk<S> {
         ensures settles { Given (S.world self.old.keeper) (S.world self.new.keeper)
             (result.taken ≡ true →
             Settles (S.world self.old.keeper) (S.world self.new.keeper)) }
+        ensures lives { Given (S.world self.old.keeper) (S.world self.new.keeper)
+            (result.taken ≡ true → (S.world self.old.keeper).is_live →
+            (S.world self.new.keeper).is_live) }
         ensures stays { Given (S.world self.old.keeper) (S.world self.new.keeper)
             (Stays (S.world self.old.keeper) (S.world self.new.keeper)) }
         ensures passes { Passes (S.world self.old.keeper) (S.world self.new.keeper) }

@@ -1,11 +1,12 @@
 //! A whole run of an installation. Each laboratory's answers and rows are those of its own small
 //! machine, run over its own events alone.
 
-ghost use Rattle.std.specs.Prelude.{◌≡◌, ℕ, List, [], ◌∷◌, IfOk, IfErr, length, take};
+ghost use Rattle.std.specs.Prelude.{◌≡◌, ℕ, List, [], ◌∷◌, true, IfOk, IfErr, length, map, take};
 ghost use Rattle.std.specs.Io.KnownBytes.{Keeps};
 ghost use Rattle.lab_records_kept.specs.Worlds.{Passes};
+ghost use Rattle.lab_desk_runs.specs.Alone.{happening};
 ghost use Rattle.lab_desk_runs.specs.Keeping.{GivenWithin, Stays, StaysOn};
-ghost use Rattle.lab_desk_runs.specs.Leaving.{LeavesByOne, LeavesRun};
+ghost use Rattle.lab_desk_runs.specs.Leaving.{IsLiveToLast, LeavesByOne, LeavesRun};
 ghost use Rattle.lab_desk_runs.specs.Runs.{IsRun, Runs, RunsCut, Sends};
 ghost use Rattle.lab_desk_foundings.specs.RunFaults.{IfWrite, IfMemory};
 
@@ -33,9 +34,10 @@ impl<S: Keeper + Drop> Desk<S> {
     /// answer, in order, and nothing else is written. The answers are so also where a fault shut
     /// the store. Each laboratory keeps what was at each event, and has in the end all that was
     /// recorded at the start: `stays` has `within`, `releasing`, `legible`, `retains`, `released`,
-    /// `reached`, `safe`, `left_within` and `left_releasing`. Where the keeper is live at the end,
-    /// a crash then leaves what every event that was taken made, and beside it at most one that the
-    /// store refused: `leaves`, and after a write fault `leaves_cut`.
+    /// `reached`, `safe`, `left_within` and `left_releasing`. Where the keeper is live at the end, or
+    /// each event but the last was taken and the last one shut it, a crash then leaves what every
+    /// event that was taken made, and beside it at most one that the store refused: `leaves`, and
+    /// after a write fault `leaves_cut`.
     ///
     /// # Errors
     /// That memory ran out for the list that is told, made first: nothing is handled or written. A
@@ -44,19 +46,22 @@ impl<S: Keeper + Drop> Desk<S> {
     pub fn run<W: Write>(&mut self, events: &[Event], writer: &mut W) -> Result<Vec<bool>, RunFault>
         ensures alone { GivenWithin (S.world self.old.keeper) (S.world self.new.keeper)
             (IfOk result (λ taken.
-            Runs (S.world self.old.keeper) (S.world self.new.keeper) events.now taken.items
+            Runs (S.world self.old.keeper) (S.world self.new.keeper) (map happening events.now) taken.items
             (W.contents writer.old) (W.contents writer.new))) }
         ensures cut { GivenWithin (S.world self.old.keeper) (S.world self.new.keeper)
             (IfErr result (IfWrite (λ taken sent.
-            RunsCut (S.world self.old.keeper) (S.world self.new.keeper) events.now taken sent
+            RunsCut (S.world self.old.keeper) (S.world self.new.keeper) (map happening events.now) taken sent
             (W.contents writer.old) (W.contents writer.new)))) }
         ensures leaves { GivenWithin (S.world self.old.keeper) (S.world self.new.keeper)
             (IfOk result (λ taken.
-            LeavesRun S.Keeper self.old.keeper self.new.keeper events.now taken.items)) }
+            LeavesRun (IsLiveToLast (S.world self.old.keeper) (S.world self.new.keeper) taken.items)
+            (S.world self.old.keeper) (S.world self.new.keeper) (map happening events.now)
+            taken.items)) }
         ensures leaves_cut { GivenWithin (S.world self.old.keeper) (S.world self.new.keeper)
             (IfErr result (IfWrite (λ taken sent.
-            LeavesRun S.Keeper self.old.keeper self.new.keeper
-            (take (length taken) events.now) taken))) }
+            LeavesRun (IsLiveToLast (S.world self.old.keeper) (S.world self.new.keeper) taken)
+            (S.world self.old.keeper) (S.world self.new.keeper)
+            (take (length taken) (map happening events.now)) taken))) }
         ensures memory { IfErr result (IfMemory
             ((self.new ≡ self.old) × Keeps (W.contents writer.old) (W.contents writer.new))) }
         ensures stays { GivenWithin (S.world self.old.keeper) (S.world self.new.keeper)
@@ -84,12 +89,15 @@ impl<S: Keeper + Drop> Desk<S> {
         ensures answered { GivenWithin (S.world self.old.keeper) (S.world self.new.keeper)
             ((answer : List ℕ)
             × IsRun (S.world self.old.keeper) (S.world self.new.keeper)
-            (record { event = event.now; taken = result.taken; answer = answer } ∷ [])
+            (record { event = happening event.now; taken = result.taken; answer = answer } ∷ [])
             × Sends answer result.sent (W.contents writer.old) (W.contents writer.new)) }
         ensures leaves { GivenWithin (S.world self.old.keeper) (S.world self.new.keeper)
             ((S.world self.old.keeper).is_live →
-            LeavesByOne (S.world self.old.keeper) (S.world self.new.keeper) event.now
+            LeavesByOne (S.world self.old.keeper) (S.world self.new.keeper) (happening event.now)
             result.taken) }
+        ensures lives { GivenWithin (S.world self.old.keeper) (S.world self.new.keeper)
+            (result.taken ≡ true → (S.world self.old.keeper).is_live →
+            (S.world self.new.keeper).is_live) }
         ensures stays { GivenWithin (S.world self.old.keeper) (S.world self.new.keeper)
             (Stays (S.world self.old.keeper) (S.world self.new.keeper)) }
         ensures passes { Passes (S.world self.old.keeper) (S.world self.new.keeper) }

@@ -2,7 +2,7 @@
 
 ghost use Rattle.std.specs.Prelude.{◌≡◌, ℕ, List, Bool};
 ghost use Rattle.lab_records_kept.specs.Worlds.{Meaning};
-ghost use Rattle.lab_desk_runs.specs.declared.events.Event.{Event};
+ghost use Rattle.lab_desk_runs.specs.Alone.{Happening};
 ghost use Rattle.lab_desk_runs.specs.Runs.{Handled, IsTold, AreAlone, own_events, own_answers, after_run};
 ghost use Rattle.lab_desk.specs.Twins.{Agree};
 
@@ -20,7 +20,7 @@ pub fn equal_events_get_equal_answers()
         (code : List ℕ) →
         Agree start other_start code → own_events code handled ≡ own_events code others →
         Agree (after_run start handled) (after_run other_start others) code }
-    ensures own { (events : List Event) (taken : List Bool) (handled others : List Handled)
+    ensures own { (events : List Happening) (taken : List Bool) (handled others : List Handled)
         (code : List ℕ) → IsTold events taken handled → IsTold events taken others →
         own_events code handled ≡ own_events code others }
 {}

@@ -1,12 +1,12 @@
 -- A legible laboratory stays legible over a request and a founding, and the copies that it hands out
 -- are sound.
-use Rattle.std.proofs.Common.{◌≡◌, ℕ, List, Option, Some, None, Result, Ok, Err, sym, subst}
+use Rattle.std.proofs.Common.{ℕ, List, Option, Some, None, Result, Ok, Err, sym, subst}
 use Rattle.std.specs.Prelude.{All, OnOk, OnErr}
 use Rattle.lab_forms_texts.specs.declared.tick.Tick.{Tick}
 use Rattle.lab_records_kept.specs.declared.labs.Lab.{Lab}
 use Rattle.lab_records_kept.specs.Limits.{IsWithin}
 use Rattle.lab_records_kept.specs.Worlds.{World, Meaning, Places, Leaves}
-use Rattle.lab_records_walks.specs.Legible.{IsCopiable, IsLegible, IsLegibleChange}
+use Rattle.lab_records_walks.specs.Legible.{IsLegible, IsLegibleChange}
 use Rattle.lab_records_walks.proofs.LegibleLemmas.{caller_legible, changes_legible, lines_are}
 use Rattle.lab_records_machine.specs.declared.commands.Command.{Command}
 use Rattle.lab_records_machine.specs.declared.commands.Command.TheVariants.{Card, Open, In}

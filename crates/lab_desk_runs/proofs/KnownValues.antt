@@ -3,22 +3,21 @@
 use Rattle.std.proofs.Common.{◌≡◌, refl, ℕ, List, [], ◌∷◌, codes, Some, None, true, false}
 use Rattle.lab_forms_texts.specs.declared.tick.Tick.{Tick}
 use Rattle.lab_records_kept.specs.Worlds.{Meaning}
-use Rattle.lab_desk_runs.specs.declared.events.Event.TheVariants.{Found}
-use Rattle.lab_desk_runs.specs.Alone.{Founds, own_of, alone_answers}
+use Rattle.lab_desk_runs.specs.Alone.{Founding, Founds, own_of, alone_answers}
 use Rattle.lab_desk_runs.specs.Runs.{Handled, own_events, own_answers, after_run, answers_of}
 
 -- a founding belongs to the laboratory of its code, and to no other
 pub known_owners : (tick : Tick) (body : List ℕ)
-    → (own_of (codes "aqua") (Found (codes "aqua") tick body) ≡ Some (Founds tick body))
-    × (own_of (codes "brick") (Found (codes "aqua") tick body) ≡ None)
+    → (own_of (codes "aqua") (Founding (codes "aqua") tick body) ≡ Some (Founds tick body))
+    × (own_of (codes "brick") (Founding (codes "aqua") tick body) ≡ None)
 known_owners tick body = (refl, refl)
 
 -- an event that was refused for memory or by the store is nobody's own
 abbrev handled : Tick → List ℕ → List ℕ → List Handled
 handled tick one other =
-    (record { event = Found (codes "aqua") tick []; taken = true; answer = one })
-    ∷ (record { event = Found (codes "brick") tick []; taken = true; answer = other })
-    ∷ (record { event = Found (codes "aqua") tick []; taken = false; answer = codes "refused 90 memory\n" })
+    (record { event = Founding (codes "aqua") tick []; taken = true; answer = one })
+    ∷ (record { event = Founding (codes "brick") tick []; taken = true; answer = other })
+    ∷ (record { event = Founding (codes "aqua") tick []; taken = false; answer = codes "refused 90 memory\n" })
     ∷ []
 
 -- each has its own events and its own answers; all answers go out, one after the other

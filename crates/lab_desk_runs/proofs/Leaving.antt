@@ -1,7 +1,7 @@
 -- What a crash may leave of a run: of one event, by what its call says of crashes, and of a run that
 -- goes on by one event.
 use Rattle.std.proofs.Common.{◌≡◌, ℕ, Bool, true, false, cond, List, [], ◌∷◌, ◌++◌, ◌+◌, ◌<◌, append_assoc, get_or, length, take, Option, Some, None, Result, Ok, Err, refl, sym, ◌∙◌, ap, subst, inl, inr}
-use Rattle.std.specs.Prelude.{◌⊎◌, IsFalse, IsTrue, OnErr, bytes_eq}
+use Rattle.std.specs.Prelude.{◌⊎◌, IsFalse, IsOk, IsTrue, OnErr, bytes_eq}
 use Rattle.std.proofs.lemmas.Bool.{false≢true}
 use Rattle.std.proofs.lemmas.Slice.Eq.{bytes_eq-Decides}
 use Rattle.lab_forms_texts.specs.declared.tick.Tick.{Tick}
@@ -16,6 +16,7 @@ use Rattle.lab_records_machine.specs.Machine.{step}
 use Rattle.lab_records_machine.specs.Needs.{need_of}
 use Rattle.lab_records_outcomes.specs.Deciding.{decided}
 use Rattle.lab_records_laws.proofs.Passing.{decided_is}
+use Rattle.lab_wire.specs.declared.refusals.RequestRefusal.{RequestRefusal}
 use Rattle.lab_wire.specs.Asked.{asked}
 use Rattle.lab_records_kept.specs.declared.faults.PlacingFault.TheVariants.{LabExists, Storage, Memory as NoMemory}
 use Rattle.lab_desk_foundings.specs.declared.faults.FoundFault.{FoundFault}
@@ -25,10 +26,10 @@ use Rattle.lab_desk_foundings.specs.Foundings.{Births, after_birth, born_of, fou
 use Rattle.lab_desk_runs.specs.declared.events.Event.{Event}
 use Rattle.lab_desk_runs.specs.declared.events.Event.TheVariants.{Found, Call}
 use Rattle.lab_desk_runs.specs.Requests.{Asks, Steps, changes_for, is_idle, is_idle_request, is_none}
-use Rattle.lab_desk_runs.specs.Alone.{Founds, Obeys, own_call, own_of, alone_after}
+use Rattle.lab_desk_runs.specs.Alone.{Happening, Founding, Request, happening, Founds, Obeys, own_call, own_of, alone_after}
 use Rattle.lab_desk_runs.specs.Keeping.{AreReleasing, AreWithin, Stays}
-use Rattle.lab_desk_runs.specs.Leaving.{IsLeftBy, LeavesByOne, LeavesRun, Settles, as_told}
-use Rattle.lab_desk_runs.specs.Runs.{Handled, after_run, own_events}
+use Rattle.lab_desk_runs.specs.Leaving.{AreTaken, AreTakenButLast, IsLeftBy, IsLiveToLast, LeavesByOne, LeavesRun, Settles, as_told}
+use Rattle.lab_desk_runs.specs.Runs.{Handled, IsTold, after_run, own_events}
 use Rattle.lab_desk_runs.proofs.Running.{after_own_one, after_one, after_then, other_code, told_more}
 
 -- ---- meanings
@@ -44,14 +45,14 @@ same_after one other handled same code =
     ap (λ (lab : Option Lab). alone_after code lab (own_events code handled)) (same code)
 
 -- a refused event changes nothing
-untaken_same : (start : Meaning) (event : Event) (taken : Bool) → taken ≡ false →
+untaken_same : (start : Meaning) (event : Happening) (taken : Bool) → taken ≡ false →
     SameMeaning start (after_run start (as_told event taken ∷ []))
 untaken_same start event taken refused code =
     ap (λ (told : Bool). alone_after code (start code)
     (own_events code (as_told event told ∷ []))) refused
 
 -- what is told of one event
-event_after : (start held : Meaning) (event : Event) →
+event_after : (start held : Meaning) (event : Happening) →
     ((code : List ℕ) → held code ≡ after_one code (start code) (own_of code event)) →
     SameMeaning (after_run start (as_told event true ∷ [])) held
 event_after start held event made code =
@@ -60,7 +61,7 @@ event_after start held event made code =
 -- ---- a run goes on
 
 module _ (start mid : Meaning) (before between : Meaning → Type 0) (first : List Handled)
-    (event : Event) (taken : Bool) (same : SameMeaning (after_run start first) mid) where
+    (event : Happening) (taken : Bool) (same : SameMeaning (after_run start first) mid) where
   joined : (told : Bool) → SameMeaning (after_run start (first ++ as_told event told ∷ []))
       (after_run mid (as_told event told ∷ []))
   joined told code =
@@ -166,57 +167,64 @@ call_steps start held tick (Ok asks) steps code = go (bytes_eq asks.lab code) re
     go false names = steps.others code (other_code asks.lab code names)
 
 -- what its call says of crashes
-pub record CallLeaves (old new : World) (tick : Tick) (bytes : List ℕ) (taken : Bool) : Type 0 where
-  pub after : taken ≡ true → Steps tick (asked bytes) old.meaning new.meaning
-  pub crash : CommitsAs (Steps tick (asked bytes)) old new
-  pub quiet : IsTrue (is_idle_request old.meaning tick (asked bytes)) → Quiet old new
-  pub durable : IsFalse (is_idle_request old.meaning tick (asked bytes)) → taken ≡ true →
+pub record CallLeaves (old new : World) (tick : Tick) (asks : Asks) (taken : Bool) : Type 0 where
+  pub after : taken ≡ true → Steps tick asks old.meaning new.meaning
+  pub crash : CommitsAs (Steps tick asks) old new
+  pub quiet : IsTrue (is_idle_request old.meaning tick asks) → Quiet old new
+  pub durable : IsFalse (is_idle_request old.meaning tick asks) → taken ≡ true →
       IsDurable new
 
-module _ (old new : World) (tick : Tick) (bytes : List ℕ) (live : old.is_live) where
-  idle_leaves : (taken : Bool) → CallLeaves old new tick bytes taken →
-      IsTrue (is_idle_request old.meaning tick (asked bytes)) →
-      LeavesByOne old new (Call tick bytes) taken
+module _ (old new : World) (tick : Tick) (asks : Asks) (live : old.is_live) where
+  idle_leaves : (taken : Bool) → CallLeaves old new tick asks taken →
+      IsTrue (is_idle_request old.meaning tick asks) →
+      LeavesByOne old new (Request tick asks) taken
   idle_leaves true leaves idle held left = inr (inr (
     leaves.quiet idle live held left,
-    λ code. sym (event_after old.meaning old.meaning (Call tick bytes)
-        (idle_call old.meaning tick (asked bytes) idle) code),
+    λ code. sym (event_after old.meaning old.meaning (Request tick asks)
+        (idle_call old.meaning tick asks idle) code),
   ))
   idle_leaves false leaves idle held left = inr (inr (
     leaves.quiet idle live held left,
-    untaken_same old.meaning (Call tick bytes) false refl,
+    untaken_same old.meaning (Request tick asks) false refl,
   ))
 
-  busy_leaves : (taken : Bool) → CallLeaves old new tick bytes taken →
-      IsFalse (is_idle_request old.meaning tick (asked bytes)) →
-      LeavesByOne old new (Call tick bytes) taken
+  busy_leaves : (taken : Bool) → CallLeaves old new tick asks taken →
+      IsFalse (is_idle_request old.meaning tick asks) →
+      LeavesByOne old new (Request tick asks) taken
   busy_leaves true leaves busy held left = inl (same_then
-      (after_run old.meaning (as_told (Call tick bytes) true ∷ [])) new.meaning held
-      (event_after old.meaning new.meaning (Call tick bytes)
-      (call_steps old.meaning new.meaning tick (asked bytes) (leaves.after refl)))
+      (after_run old.meaning (as_told (Request tick asks) true ∷ [])) new.meaning held
+      (event_after old.meaning new.meaning (Request tick asks)
+      (call_steps old.meaning new.meaning tick asks (leaves.after refl)))
       ((leaves.durable busy refl).0 held left))
   busy_leaves false leaves busy held left = elim (leaves.crash live held left) [
-    | inl early ↦ inr (inr (early, untaken_same old.meaning (Call tick bytes) false refl))
+    | inl early ↦ inr (inr (early, untaken_same old.meaning (Request tick asks) false refl))
     | inr made ↦ inr (inl (
       refl,
-      event_after old.meaning held (Call tick bytes)
-          (call_steps old.meaning held tick (asked bytes) made),
+      event_after old.meaning held (Request tick asks)
+          (call_steps old.meaning held tick asks made),
     ))
   ]
 
-  by_idle : (taken : Bool) → CallLeaves old new tick bytes taken →
-      (idle : Bool) → is_idle_request old.meaning tick (asked bytes) ≡ idle →
-      LeavesByOne old new (Call tick bytes) taken
+  by_idle : (taken : Bool) → CallLeaves old new tick asks taken →
+      (idle : Bool) → is_idle_request old.meaning tick asks ≡ idle →
+      LeavesByOne old new (Request tick asks) taken
   by_idle taken leaves true is = idle_leaves taken leaves is
   by_idle taken leaves false is = busy_leaves taken leaves is
 
--- a call, taken or refused
+-- a request, taken or refused
+pub request_leaves : (old new : World) (tick : Tick) (asks : Asks) (taken : Bool) →
+    CallLeaves old new tick asks taken → old.is_live →
+    LeavesByOne old new (Request tick asks) taken
+request_leaves old new tick asks taken leaves live =
+    by_idle old new tick asks live taken leaves (is_idle_request old.meaning tick asks) refl
+
+-- so is a call
 pub call_leaves : (old new : World) (event : Event) (tick : Tick) (bytes read : List ℕ)
     (taken : Bool) → event ≡ Call tick bytes → read ≡ bytes →
-    CallLeaves old new tick read taken → old.is_live → LeavesByOne old new event taken
+    CallLeaves old new tick (asked read) taken → old.is_live →
+    LeavesByOne old new (happening event) taken
 call_leaves old new event tick bytes read taken is reads leaves live =
-    rw (is, ← reads) (by_idle old new tick read live taken leaves
-    (is_idle_request old.meaning tick (asked read)) refl)
+    rw (is, ← reads) (request_leaves old new tick (asked read) taken leaves live)
 
 -- ---- a founding
 
@@ -247,7 +255,7 @@ settles_refused {S} world old new result fault is taken quiet left same lives =
 
 found_steps : (start held : Meaning) (lab : List ℕ) (tick : Tick) (body : List ℕ) →
     Births lab tick (founding_in body) start held → (code : List ℕ) →
-    held code ≡ after_one code (start code) (own_of code (Found lab tick body))
+    held code ≡ after_one code (start code) (own_of code (Founding lab tick body))
 found_steps start held lab tick body births code = go (bytes_eq lab code) refl
   where
     go : (b : Bool) → bytes_eq lab code ≡ b →
@@ -261,13 +269,13 @@ module _ (old new : World) (lab : List ℕ) (tick : Tick) (body : List ℕ) (liv
     (crash : CommitsAs (Births lab tick (founding_in body)) old new) where
   made_so : (taken : Bool) →
       (taken ≡ true → Births lab tick (founding_in body) old.meaning new.meaning) →
-      (taken ≡ true → Settles old new) → LeavesByOne old new (Found lab tick body) taken
+      (taken ≡ true → Settles old new) → LeavesByOne old new (Founding lab tick body) taken
   made_so true after settles held left =
-      let made = event_after old.meaning new.meaning (Found lab tick body)
+      let made = event_after old.meaning new.meaning (Founding lab tick body)
       (found_steps old.meaning new.meaning lab tick body (after refl)) in
       elim (settles refl) [
         | inl durable ↦ inl (same_then
-            (after_run old.meaning (as_told (Found lab tick body) true ∷ [])) new.meaning held
+            (after_run old.meaning (as_told (Founding lab tick body) true ∷ [])) new.meaning held
             made (durable.0 held left))
         | inr quiet ↦ inr (inr (
           quiet.0 live held left,
@@ -275,10 +283,10 @@ module _ (old new : World) (lab : List ℕ) (tick : Tick) (body : List ℕ) (liv
         ))
       ]
   made_so false after settles held left = elim (crash live held left) [
-    | inl early ↦ inr (inr (early, untaken_same old.meaning (Found lab tick body) false refl))
+    | inl early ↦ inr (inr (early, untaken_same old.meaning (Founding lab tick body) false refl))
     | inr made ↦ inr (inl (
       refl,
-      event_after old.meaning held (Found lab tick body)
+      event_after old.meaning held (Founding lab tick body)
           (found_steps old.meaning held lab tick body made),
     ))
   ]
@@ -288,27 +296,77 @@ pub found_leaves : (old new : World) (event : Event) (lab : List ℕ) (tick : Ti
     (body read : List ℕ) (taken : Bool) → event ≡ Found lab tick body → read ≡ body →
     CommitsAs (Births lab tick (founding_in read)) old new →
     (taken ≡ true → Births lab tick (founding_in read) old.meaning new.meaning) →
-    (taken ≡ true → Settles old new) → old.is_live → LeavesByOne old new event taken
+    (taken ≡ true → Settles old new) → old.is_live →
+    LeavesByOne old new (happening event) taken
 found_leaves old new event lab tick body read taken is reads crash after settles live =
     rw (is, ← reads) (made_so old new lab tick read live crash taken after settles)
+
+-- ---- a taken event leaves the keeper live
+
+-- a founding that was refused and taken all the same shut nothing
+pub lives_refused : {S : Type 0} (world : S → World) (old new : S)
+    (result : Result (Unit {0}) FoundFault) (fault : FoundFault) → result ≡ Err fault →
+    is_taken fault ≡ true → OnBody result (new ≡ old) →
+    OnKept result (Lives (world old) (world new)) → (world old).is_live → (world new).is_live
+lives_refused {S} world old new result fault is taken same lives =
+    go fault taken (rw is at same) (rw is at lives)
+  where
+    go : (told : FoundFault) → is_taken told ≡ true → OnBody (Err told) (new ≡ old) →
+        OnKept (Err told) (Lives (world old) (world new)) → (world old).is_live →
+        (world new).is_live
+    go (OfBody refusal) taken same lives live = subst (λ (kept : S). (world kept).is_live) (sym same) live
+    go (OfBirth refusal) taken same lives live = subst (λ (kept : S). (world kept).is_live) (sym same) live
+    go (Placing LabExists) taken same lives live = lives.1
+    go (Placing Storage) taken same lives live = absurd (false≢true taken)
+    go (Placing NoMemory) taken same lives live = absurd (false≢true taken)
+
+-- nor did a request that was taken
+pub request_lives : {S : Type 0} (world : S → World) (old new : S) (asks : Asks) →
+    (IsOk asks → Lives (world old) (world new)) →
+    ((refusal : RequestRefusal) → asks ≡ Err refusal → new ≡ old) →
+    (world old).is_live → (world new).is_live
+request_lives {S} world old new (Err refusal) lives same live =
+    subst (λ (kept : S). (world kept).is_live) (sym (same refusal refl)) live
+request_lives world old new (Ok asks) lives same live = (lives refl).1
+
+taken_front : (taken : List Bool) (last : Bool) → AreTakenButLast (taken ++ last ∷ []) →
+    AreTaken taken
+taken_front [] last are = tt
+taken_front (one ∷ []) last are = (are.0, tt)
+taken_front (one ∷ next ∷ others) last are = (are.0, taken_front (next ∷ others) last are.1)
+
+taken_then : (taken : List Bool) (last : Bool) → AreTaken (taken ++ last ∷ []) →
+    AreTaken taken × (last ≡ true)
+taken_then [] last are = (tt, are.0)
+taken_then (one ∷ others) last are =
+    let rest = taken_then others last are.1 in ((are.0, rest.0), rest.1)
 
 -- ---- a run
 
 module _ {S : Type 0} (keeper : Ghosts S) where
-  -- so far, and what is kept
-  pub record LeavesSoFar (old new : S) (events : List Event) (taken : List Bool) : Type 0 where
-    pub leaves : LeavesRun keeper old new events taken
+  -- so far, and what is kept: by whether the keeper was live before the last event
+  pub record LeavesSoFar (old new : S) (events : List Happening) (taken : List Bool) : Type 0 where
+    pub before : S
+    pub lives : (keeper.world new).is_live → (keeper.world before).is_live
+    pub leaves : LeavesRun (keeper.world before).is_live (keeper.world old) (keeper.world new)
+        events taken
     pub kept : (keeper.world new).is_live →
         SameMeaning (after_run (keeper.world old).meaning leaves.handled) (keeper.world new).meaning
 
+  -- and it was, where each event but the last was taken
+  pub record LivesSoFar (old before new : S) (taken : List Bool) : Type 0 where
+    pub to_last : (keeper.world old).is_live → AreTakenButLast taken →
+        (keeper.world before).is_live
+    pub to_end : (keeper.world old).is_live → AreTaken taken → (keeper.world new).is_live
+
   -- before the first event
-  pub leaves_none : (kept : S) (events : List Event) → LeavesSoFar kept kept (take 0 events) []
+  pub leaves_none : (kept : S) (events : List Happening) → LeavesSoFar kept kept (take 0 events) []
   leaves_none kept events = record {
+    before = kept;
+    lives = λ live. live;
     leaves = record {
       handled = [];
       told = record { events_are = refl; taken_are = refl };
-      before = kept;
-      lives = λ live. live;
       left = λ live held left. inr (inr (left, λ code. refl));
       safe = λ live safe. safe;
       left_within = λ live left. left;
@@ -317,8 +375,11 @@ module _ {S : Type 0} (keeper : Ghosts S) where
     kept = λ live code. refl;
   }
 
+  lives_none : (kept : S) → LivesSoFar kept kept kept []
+  lives_none kept = record { to_last = λ live are. live; to_end = λ live are. live }
+
   -- what comes next: an event, and what its call says
-  pub record ComesNext (old mid new : S) (event : Event) (taken : Bool) : Type 0 where
+  pub record ComesNext (old mid new : S) (event : Happening) (taken : Bool) : Type 0 where
     pub back : (keeper.world new).is_live → (keeper.world mid).is_live
     pub leaves : (keeper.world mid).is_live →
         LeavesByOne (keeper.world mid) (keeper.world new) event taken
@@ -329,38 +390,134 @@ module _ {S : Type 0} (keeper : Ghosts S) where
         SameMeaning (after_run (keeper.world mid).meaning (as_told event taken ∷ []))
         (keeper.world new).meaning
 
-  -- one event more
-  pub leaves_more : (old mid new : S) (events : List Event) (at : ℕ) (taken : List Bool)
-      (event : Event) (told : Bool) → event ≡ get_or events at event → at < length events →
-      LeavesSoFar old mid (take at events) taken → ComesNext old mid new event told →
-      LeavesSoFar old new (take (at + 1) events) (taken ++ told ∷ [])
-  leaves_more old mid new events at taken event told is inside so next =
+  -- one event more, of which this is told
+  pub leaves_on : (old mid new : S) (events next : List Happening) (taken nexts : List Bool)
+      (event : Happening) (told : Bool) (so : LeavesSoFar old mid events taken) →
+      IsTold next nexts (so.leaves.handled ++ as_told event told ∷ []) →
+      ComesNext old mid new event told → LeavesSoFar old new next nexts
+  leaves_on old mid new events next taken nexts event told so are comes =
       let first = so.leaves.handled in
       let one : Handled = as_told event told in
       record {
+        before = mid;
+        lives = comes.back;
         leaves = record {
           handled = first ++ one ∷ [];
-          told = told_more events at taken first one is inside so.leaves.told;
-          before = mid;
-          lives = next.back;
+          told = are;
           left = λ live held left.
               left_then (keeper.world old).meaning (keeper.world mid).meaning
               (keeper.world old).may_leave (keeper.world mid).may_leave first event told
-              (so.kept live) held (λ early. so.leaves.left (so.leaves.lives live) held early)
-              (next.leaves live held left);
-          safe = λ live safe.
-              next.stays.safe live (so.leaves.safe (so.leaves.lives live) safe);
+              (so.kept live) held (λ early. so.leaves.left (so.lives live) held early)
+              (comes.leaves live held left);
+          safe = λ live safe. comes.stays.safe live (so.leaves.safe (so.lives live) safe);
           left_within = λ live left.
-              next.stays.left_within live next.within
-              (so.leaves.left_within (so.leaves.lives live) left);
+              comes.stays.left_within live comes.within
+              (so.leaves.left_within (so.lives live) left);
           left_releasing = λ live releasing left.
-              next.stays.left_releasing live (next.releasing releasing)
-              (so.leaves.left_releasing (so.leaves.lives live) releasing left);
+              comes.stays.left_releasing live (comes.releasing releasing)
+              (so.leaves.left_releasing (so.lives live) releasing left);
         };
         kept = λ live. same_then
             (after_run (keeper.world old).meaning (first ++ one ∷ []))
             (after_run (keeper.world mid).meaning (one ∷ [])) (keeper.world new).meaning
             (joined (keeper.world old).meaning (keeper.world mid).meaning
             (keeper.world old).may_leave (keeper.world mid).may_leave first event told
-            (so.kept (next.back live)) told) (next.after live);
+            (so.kept (comes.back live)) told) (comes.after live);
+      }
+
+  pub leaves_more : (old mid new : S) (events : List Happening) (at : ℕ) (taken : List Bool)
+      (event : Happening) (told : Bool) → event ≡ get_or events at event → at < length events →
+      LeavesSoFar old mid (take at events) taken → ComesNext old mid new event told →
+      LeavesSoFar old new (take (at + 1) events) (taken ++ told ∷ [])
+  leaves_more old mid new events at taken event told is inside so comes =
+      leaves_on old mid new (take at events) (take (at + 1) events) taken (taken ++ told ∷ []) event
+      told so
+      (told_more events at taken so.leaves.handled (as_told event told) is inside so.leaves.told)
+      comes
+
+  -- between two events, where nothing was done
+  pub record ComesBetween (old mid new : S) : Type 0 where
+    pub back : (keeper.world new).is_live → (keeper.world mid).is_live
+    pub quiet : Quiet (keeper.world mid) (keeper.world new)
+    pub same : Leaves (keeper.world mid) (keeper.world new)
+    pub stays : Stays (keeper.world mid) (keeper.world new)
+    pub within : AreWithin (keeper.world mid)
+    pub releasing : AreReleasing (keeper.world old) → AreReleasing (keeper.world mid)
+
+  pub leaves_between : (old mid new : S) (events : List Happening) (taken : List Bool) →
+      LeavesSoFar old mid events taken → ComesBetween old mid new →
+      LeavesSoFar old new events taken
+  leaves_between old mid new events taken so comes = record {
+    before = mid;
+    lives = comes.back;
+    leaves = record {
+      handled = so.leaves.handled;
+      told = so.leaves.told;
+      left = λ live held left.
+          so.leaves.left (so.lives live) held (comes.quiet live held left);
+      safe = λ live safe. comes.stays.safe live (so.leaves.safe (so.lives live) safe);
+      left_within = λ live left.
+          comes.stays.left_within live comes.within
+          (so.leaves.left_within (so.lives live) left);
+      left_releasing = λ live releasing left.
+          comes.stays.left_releasing live (comes.releasing releasing)
+          (so.leaves.left_releasing (so.lives live) releasing left);
+    };
+    kept = λ live. same_then (after_run (keeper.world old).meaning so.leaves.handled)
+        (keeper.world mid).meaning (keeper.world new).meaning (so.kept (comes.back live))
+        (comes.same live);
+  }
+
+  lives_more : (old before mid new : S) (taken : List Bool) (told : Bool) →
+      LivesSoFar old before mid taken →
+      (told ≡ true → (keeper.world mid).is_live → (keeper.world new).is_live) →
+      LivesSoFar old mid new (taken ++ told ∷ [])
+  lives_more old before mid new taken told so on = record {
+    to_last = λ live are. so.to_end live (taken_front taken told are);
+    to_end = λ live are.
+        let all = taken_then taken told are in
+        on all.1 (so.to_end live all.0);
+  }
+
+  -- both
+  pub record LeavesLiving (old new : S) (events : List Happening) (taken : List Bool) : Type 0 where
+    pub so : LeavesSoFar old new events taken
+    pub lives : LivesSoFar old so.before new taken
+
+  pub living_none : (kept : S) (events : List Happening) →
+      LeavesLiving kept kept (take 0 events) []
+  unfolding leaves_none
+  living_none kept events = record { so = leaves_none kept events; lives = lives_none kept }
+
+  pub living_more : (old mid new : S) (events : List Happening) (at : ℕ) (taken : List Bool)
+      (event : Happening) (told : Bool) → event ≡ get_or events at event → at < length events →
+      LeavesLiving old mid (take at events) taken → ComesNext old mid new event told →
+      (told ≡ true → (keeper.world mid).is_live → (keeper.world new).is_live) →
+      LeavesLiving old new (take (at + 1) events) (taken ++ told ∷ [])
+  unfolding leaves_more leaves_on
+  living_more old mid new events at taken event told is inside living next on = record {
+    so = leaves_more old mid new events at taken event told is inside living.so next;
+    lives = lives_more old living.so.before mid new taken told living.lives on;
+  }
+
+  -- told by what was so before the last event
+  pub leaves_of : (old new : S) (events : List Happening) (taken : List Bool) →
+      LeavesLiving old new events taken →
+      LeavesRun (IsLiveToLast (keeper.world old) (keeper.world new) taken) (keeper.world old)
+      (keeper.world new) events taken
+  leaves_of old new events taken living =
+      let so = living.so in
+      let was : IsLiveToLast (keeper.world old) (keeper.world new) taken →
+      (keeper.world so.before).is_live =
+      λ is. elim is [
+        | inl live ↦ so.lives live
+        | inr early ↦ living.lives.to_last early.0 early.1
+      ] in
+      record {
+        handled = so.leaves.handled;
+        told = so.leaves.told;
+        left = λ is. so.leaves.left (was is);
+        safe = λ is. so.leaves.safe (was is);
+        left_within = λ is. so.leaves.left_within (was is);
+        left_releasing = λ is. so.leaves.left_releasing (was is);
       }

@@ -33,7 +33,7 @@ use Rattle.lab_desk_runs.specs.Keeping.{AreWithin, AreReleasing, Follows}
 use Rattle.lab_desk_foundings.proofs.Bearing.{born_seen}
 use Rattle.lab_desk_runs.proofs.Keeping.{follows_itself, step_follows, birth_follows}
 use Rattle.lab_desk_runs.proofs.Staying.{step_there, step_releasing, birth_releasing}
-use Rattle.lab_desk_runs.specs.Alone.{Own, Founds, Obeys, own_call, after_own, answer_own, alone_after, alone_answers}
+use Rattle.lab_desk_runs.specs.Alone.{Own, Happening, Founding, Request, happening, Founds, Obeys, own_call, after_own, answer_own, alone_after, alone_answers}
 use Rattle.lab_desk_runs.specs.Runs.{Handled, IsRun, IsTold, IsAnswer, IsAnswerBy, IsAnswerToNobody, AreAlone, KeepsAlong, own_in, own_events, own_answers, after_run, answers_of, Sends, Runs, RunsCut}
 
 -- ---- runs join
@@ -117,15 +117,15 @@ refusal_wider narrow wide wider P Q R refused =
     ]
 
 answer_by_wider : (narrow wide : Type 0) → (narrow → wide) →
-    (taken : Bool) (event : Event) (answer : List ℕ) → IsAnswerBy narrow taken event answer →
+    (taken : Bool) (event : Happening) (answer : List ℕ) → IsAnswerBy narrow taken event answer →
     IsAnswerBy wide taken event answer
 answer_by_wider narrow wide wider true event answer is = is
-answer_by_wider narrow wide wider false (Found lab tick body) answer is =
+answer_by_wider narrow wide wider false (Founding lab tick body) answer is =
     refusal_wider narrow wide wider (answer ≡ memory_line) (answer ≡ storage_line)
     (Bears lab tick (founding_in body)) is
-answer_by_wider narrow wide wider false (Call tick bytes) answer is =
+answer_by_wider narrow wide wider false (Request tick asks) answer is =
     refusal_wider narrow wide wider (answer ≡ memory_text) (answer ≡ reply_text tick Storage)
-    (IsOk (asked bytes)) is
+    (IsOk asks) is
 
 answers_wider : (narrow wide : Type 0) → (narrow → wide) → (handled : List Handled) →
     All (IsAnswer narrow) handled → All (IsAnswer wide) handled
@@ -156,6 +156,15 @@ no_run world = record {
   alone = λ start tells code. refl;
   keeps = λ start tells. tt;
   after = λ start tells. tells;
+}
+
+-- nor is what changes nothing
+pub still_run : (old new : World) → (new.is_live → old.is_live) → Leaves old new → IsRun old new []
+still_run old new back left = record {
+  each = All-nil (IsAnswer old.may_refuse);
+  alone = λ start tells code. refl;
+  keeps = λ start tells. tt;
+  after = λ start tells live code. left live code ∙ tells (back live) code;
 }
 
 -- ---- one event is a run
@@ -254,7 +263,7 @@ founding_is : (old new : World) (lab : List ℕ) (tick : Tick) (body : List ℕ)
     (answer : List ℕ) → (new.is_live → old.is_live) →
     (taken ≡ true → TakesFounding old new lab tick (founding_in body) answer) →
     (taken ≡ false → RefusesFounding old new lab tick (founding_in body) answer) →
-    IsOne old new (record { event = Found lab tick body; taken = taken; answer = answer })
+    IsOne old new (record { event = Founding lab tick body; taken = taken; answer = answer })
 founding_is old new lab tick body true answer back takes refuses = record {
   each = tt;
   told = λ start tells code. founding_told old new start lab code tick body answer
@@ -278,10 +287,10 @@ pub one_founding : (old new : World) (event : Event) (lab : List ℕ) (tick : Ti
     event ≡ Found lab tick body → read ≡ body → answer ≡ line → (new.is_live → old.is_live) →
     (taken ≡ true → TakesFounding old new lab tick (founding_in read) line) →
     (taken ≡ false → RefusesFounding old new lab tick (founding_in read) line) →
-    IsRun old new (record { event = event; taken = taken; answer = answer } ∷ [])
+    IsRun old new (record { event = happening event; taken = taken; answer = answer } ∷ [])
 one_founding old new event lab tick body read taken answer line is reads lines back takes refuses =
     rw (is, lines, ← reads) (one_run old new
-    (record { event = Found lab tick read; taken = taken; answer = line })
+    (record { event = Founding lab tick read; taken = taken; answer = line })
     (founding_is old new lab tick read taken line back takes refuses))
 
 -- ---- a call
@@ -354,21 +363,20 @@ nobodys : (old new : World) (tick : Tick) (asks : Asks) (answer : List ℕ) →
 nobodys old new tick (Err refusal) answer takes = takes.replied
 nobodys old new tick (Ok asks) answer takes = tt
 
-call_is : (old new : World) (tick : Tick) (bytes : List ℕ) (taken : Bool) (answer : List ℕ) →
+call_is : (old new : World) (tick : Tick) (asks : Asks) (taken : Bool) (answer : List ℕ) →
     (new.is_live → old.is_live) → AreWithin old →
-    (taken ≡ true → TakesRequest old new tick (asked bytes) answer) →
-    (taken ≡ false → RefusesRequest old new tick (asked bytes) answer) →
-    IsOne old new (record { event = Call tick bytes; taken = taken; answer = answer })
-call_is old new tick bytes true answer back within takes refuses = record {
-  each = nobodys old new tick (asked bytes) answer (takes refl);
-  told = λ start tells code. asks_told old new start (asked bytes) code tick answer tells
-      (takes refl);
-  keeps = λ start tells code. asks_keeps old new start (asked bytes) code tick answer within tells
+    (taken ≡ true → TakesRequest old new tick asks answer) →
+    (taken ≡ false → RefusesRequest old new tick asks answer) →
+    IsOne old new (record { event = Request tick asks; taken = taken; answer = answer })
+call_is old new tick asks true answer back within takes refuses = record {
+  each = nobodys old new tick asks answer (takes refl);
+  told = λ start tells code. asks_told old new start asks code tick answer tells (takes refl);
+  keeps = λ start tells code. asks_keeps old new start asks code tick answer within tells
       (takes refl);
   after = λ start tells live code.
-      asks_after old new start (asked bytes) code tick answer (back live) tells (takes refl);
+      asks_after old new start asks code tick answer (back live) tells (takes refl);
 }
-call_is old new tick bytes false answer back within takes refuses = record {
+call_is old new tick asks false answer back within takes refuses = record {
   each = (refuses refl).replied;
   told = λ start tells code. tt;
   keeps = λ start tells code. follows_itself (start code);
@@ -376,19 +384,28 @@ call_is old new tick bytes false answer back within takes refuses = record {
       left_alone old new start back tells (refuses refl).same live code;
 }
 
--- a call, taken or refused, is a run
+-- a request, taken or refused, is a run
+pub one_request : (old new : World) (tick : Tick) (asks : Asks) (taken : Bool) (answer : List ℕ) →
+    (new.is_live → old.is_live) → AreWithin old →
+    (taken ≡ true → TakesRequest old new tick asks answer) →
+    (taken ≡ false → RefusesRequest old new tick asks answer) →
+    IsRun old new (record { event = Request tick asks; taken = taken; answer = answer } ∷ [])
+one_request old new tick asks taken answer back within takes refuses =
+    one_run old new (record { event = Request tick asks; taken = taken; answer = answer })
+    (call_is old new tick asks taken answer back within takes refuses)
+
+-- so is a call
 pub one_call : (old new : World) (event : Event) (tick : Tick) (bytes read : List ℕ) (taken : Bool)
     (answer reply : List ℕ) →
     event ≡ Call tick bytes → read ≡ bytes → answer ≡ reply → (new.is_live → old.is_live) →
     AreWithin old →
     (taken ≡ true → TakesRequest old new tick (asked read) reply) →
     (taken ≡ false → RefusesRequest old new tick (asked read) reply) →
-    IsRun old new (record { event = event; taken = taken; answer = answer } ∷ [])
+    IsRun old new (record { event = happening event; taken = taken; answer = answer } ∷ [])
 one_call old new event tick bytes read taken answer reply is reads replies back within takes
     refuses =
-    rw (is, replies, ← reads) (one_run old new
-    (record { event = Call tick read; taken = taken; answer = reply })
-    (call_is old new tick read taken reply back within takes refuses))
+    rw (is, replies, ← reads)
+    (one_request old new tick (asked read) taken reply back within takes refuses)
 
 -- ---- what a run leaves true
 
@@ -424,7 +441,7 @@ sent_as answer (Ok done) before after whole cut short = whole
 sent_as answer (Err fault) before after whole cut short = (cut, short)
 
 -- no event was handled yet
-pub runs_none : (world : World) (events : List Event) (contents : Option (List ℕ)) →
+pub runs_none : (world : World) (events : List Happening) (contents : Option (List ℕ)) →
     Runs world world (take 0 events) [] contents contents
 runs_none world events contents = record {
   handled = [];
@@ -434,22 +451,22 @@ runs_none world events contents = record {
 }
 
 -- one event more is told
-pub told_more : (events : List Event) (at : ℕ) (taken : List Bool) (handled : List Handled)
+pub told_more : (events : List Happening) (at : ℕ) (taken : List Bool) (handled : List Handled)
     (one : Handled) → one.event ≡ get_or events at one.event → at < length events →
     IsTold (take at events) taken handled →
     IsTold (take (at + 1) events) (taken ++ one.taken ∷ []) (handled ++ one ∷ [])
 told_more events at taken handled one is within told = record {
   events_are =
       map-append (λ (h : Handled). h.event) handled (one ∷ [])
-      ∙ ap (λ (es : List Event). es ++ one.event ∷ []) told.events_are
-      ∙ ap (λ (last : Event). take at events ++ last ∷ []) is
+      ∙ ap (λ (es : List Happening). es ++ one.event ∷ []) told.events_are
+      ∙ ap (λ (last : Happening). take at events ++ last ∷ []) is
       ∙ sym (take_more events at one.event within);
   taken_are = map-append (λ (h : Handled). h.taken) handled (one ∷ [])
       ∙ ap (λ (ts : List Bool). ts ++ one.taken ∷ []) told.taken_are;
 }
 
 -- a run so far, and one event more that comes next
-pub record GoesOn (old mid new : World) (events : List Event) (at : ℕ) (taken : List Bool)
+pub record GoesOn (old mid new : World) (events : List Happening) (at : ℕ) (taken : List Bool)
     (before between : Option (List ℕ)) (one : Handled) : Type 0 where
   pub so_far : Runs old mid (take at events) taken before between
   pub passes : mid.may_refuse → old.may_refuse
@@ -466,7 +483,7 @@ answers_more handled one =
     ∙ ap (λ (last : List ℕ). answers_of handled ++ last) (append-nil one.answer))
 
 -- a run goes on by an event whose answer went out whole
-pub run_more : (old mid new : World) (events : List Event) (at : ℕ) (taken : List Bool)
+pub run_more : (old mid new : World) (events : List Happening) (at : ℕ) (taken : List Bool)
     (before between after : Option (List ℕ)) (one : Handled) →
     GoesOn old mid new events at taken before between one → Appends between after one.answer →
     Runs old new (take (at + 1) events) (taken ++ one.taken ∷ []) before after
@@ -479,7 +496,7 @@ run_more old mid new events at taken before between after one on sent = record {
 }
 
 -- and ends by one whose answer was cut
-pub run_cut : (old mid new : World) (events : List Event) (at : ℕ) (taken told : List Bool)
+pub run_cut : (old mid new : World) (events : List Happening) (at : ℕ) (taken told : List Bool)
     (before between after : Option (List ℕ)) (one : Handled) (sent : ℕ) →
     GoesOn old mid new events at taken before between one → told ≡ taken ++ one.taken ∷ [] →
     length told ≡ at + 1 →

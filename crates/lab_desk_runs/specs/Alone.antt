@@ -24,10 +24,22 @@ own_call code tick (Err refusal) = None
 own_call code tick (Ok asked) = if bytes_eq asked.lab code then Some
     (Obeys tick asked.instruction) else None
 
--- an event as the laboratory's own, where it is its own and not another's or nobody's
-abbrev pub own_of : List ℕ → Event → Option Own
-own_of code (Found lab tick body) = if bytes_eq lab code then Some (Founds tick body) else None
-own_of code (Call tick bytes) = own_call code tick (asked bytes)
+-- what happens to an installation: a laboratory is founded from a body, or a request comes. Of its bytes
+-- only what they ask plays a part, so that a request counts of which no more is known
+pub data Happening : Type 0 where
+  Founding : List ℕ → Tick → List ℕ → Happening
+  Request : Tick → Asks → Happening
+
+-- an event as what happens
+abbrev pub happening : Event → Happening
+happening (Found lab tick body) = Founding lab tick body
+happening (Call tick bytes) = Request tick (asked bytes)
+
+-- what happens as the laboratory's own event, where it is its own and not another's or nobody's
+abbrev pub own_of : List ℕ → Happening → Option Own
+own_of code (Founding lab tick body) =
+    if bytes_eq lab code then Some (Founds tick body) else None
+own_of code (Request tick asks) = own_call code tick asks
 
 -- the laboratory after one of its own events
 abbrev pub after_own : List ℕ → Option Lab → Own → Option Lab

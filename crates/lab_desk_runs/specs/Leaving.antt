@@ -2,16 +2,15 @@
 -- and one event beside it whose commit the store didn't confirm (21 CFR 11.10(c), "protection of
 -- records to enable their accurate and ready retrieval throughout the records retention period").
 use Rattle.std.specs.Prelude.{◌≡◌, ◌⊎◌, ◌++◌, List, [], ◌∷◌, Bool, true, false}
-use Rattle.lab_records_kept.specs.declared.keeper.Keeper.{Ghosts}
 use Rattle.lab_records_kept.specs.Limits.{IsWithin}
 use Rattle.lab_records_kept.specs.Worlds.{World, Meaning, IsDurable, Quiet, SameMeaning}
 use Rattle.lab_records_laws.specs.Runs.{IsReleasing}
-use Rattle.lab_desk_runs.specs.declared.events.Event.{Event}
 use Rattle.lab_desk_runs.specs.Keeping.{AreReleasing, LeavesOnly}
+use Rattle.lab_desk_runs.specs.Alone.{Happening}
 use Rattle.lab_desk_runs.specs.Runs.{Handled, IsTold, after_run}
 
 -- an event as one that was taken or refused; what it answers plays no part here
-abbrev pub as_told : Event → Bool → Handled
+abbrev pub as_told : Happening → Bool → Handled
 as_told event taken = record { event = event; taken = taken; answer = [] }
 
 -- the laboratories of a front of the run, whose last event was refused and made all the same;
@@ -34,7 +33,7 @@ IsLeftBy start before handled held =
     ⊎ (before held × SameMeaning start (after_run start handled)))
 
 -- the same of one event
-abbrev pub LeavesByOne : World → World → Event → Bool → Type 0
+abbrev pub LeavesByOne : World → World → Happening → Bool → Type 0
 LeavesByOne old new event taken = (held : Meaning) → new.may_leave held →
     SameMeaning (after_run old.meaning (as_told event taken ∷ [])) held
     ⊎ (((taken ≡ false) × SameMeaning (after_run old.meaning (as_told event true ∷ [])) held)
@@ -47,20 +46,29 @@ abbrev pub Settles : World → World → Type 0
 Settles old new =
     IsDurable new ⊎ (Quiet old new × (old.is_live → SameMeaning old.meaning new.meaning))
 
--- what a crash may leave at the end of a run, told where the keeper is live then
-pub record LeavesRun {S : Type 0} (keeper : Ghosts S) (old new : S) (events : List Event)
+-- each event was taken; and each but the last
+abbrev pub AreTaken : List Bool → Type 0
+AreTaken [] = Unit {0}
+AreTaken (one ∷ others) = (one ≡ true) × AreTaken others
+
+abbrev pub AreTakenButLast : List Bool → Type 0
+AreTakenButLast [] = Unit {0}
+AreTakenButLast (one ∷ []) = Unit {0}
+AreTakenButLast (one ∷ next ∷ others) = (one ≡ true) × AreTakenButLast (next ∷ others)
+
+-- no fault had shut the keeper before the last event: it is live at the end; or it was live at the
+-- start, and each event but the last was taken, also where the last one shut it
+abbrev pub IsLiveToLast : World → World → List Bool → Type 0
+IsLiveToLast old new taken = new.is_live ⊎ (old.is_live × AreTakenButLast taken)
+
+-- what a crash may leave at the end of a run, told where this is so
+pub record LeavesRun (was_live : Type 0) (old new : World) (events : List Happening)
     (taken : List Bool) : Type 0 where
   pub handled : List Handled
   pub told : IsTold events taken handled
-  -- the keeper before the last event; it was live where it is so at the end
-  pub before : S
-  pub lives : (keeper.world new).is_live → (keeper.world before).is_live
-  -- where it was live:
-  pub left : (keeper.world before).is_live → (held : Meaning) → (keeper.world new).may_leave held →
-      IsLeftBy (keeper.world old).meaning (keeper.world old).may_leave handled held
-  pub safe : (keeper.world before).is_live → (keeper.world old).is_safe →
-      (keeper.world new).is_safe
-  pub left_within : (keeper.world before).is_live → LeavesOnly IsWithin (keeper.world old) →
-      LeavesOnly IsWithin (keeper.world new)
-  pub left_releasing : (keeper.world before).is_live → AreReleasing (keeper.world old) →
-      LeavesOnly IsReleasing (keeper.world old) → LeavesOnly IsReleasing (keeper.world new)
+  pub left : was_live → (held : Meaning) → new.may_leave held →
+      IsLeftBy old.meaning old.may_leave handled held
+  pub safe : was_live → old.is_safe → new.is_safe
+  pub left_within : was_live → LeavesOnly IsWithin old → LeavesOnly IsWithin new
+  pub left_releasing : was_live → AreReleasing old → LeavesOnly IsReleasing old →
+      LeavesOnly IsReleasing new

@@ -8,19 +8,16 @@ use Rattle.lab_wire_heads.specs.declared.sending.WriteFault.{WriteFault}
 use Rattle.lab_records_kept.specs.Keeping.{Keeps}
 use Rattle.lab_records_kept.specs.Worlds.{World, Meaning, Tells}
 use Rattle.lab_wire.specs.declared.replies.Answer.TheVariants.{Refused}
-use Rattle.lab_wire.specs.Asked.{asked}
 use Rattle.lab_wire.specs.Replies.{reply_text}
-use Rattle.lab_desk_runs.specs.declared.events.Event.{Event}
-use Rattle.lab_desk_runs.specs.declared.events.Event.TheVariants.{Found, Call}
 use Rattle.lab_desk_runs.specs.Requests.{Asks, IsRefusedReply}
 use Rattle.lab_desk_foundings.specs.Foundings.{founding_in, Bears, IsRefusedLine}
 use Rattle.lab_desk_runs.specs.Keeping.{EachFollows}
-use Rattle.lab_desk_runs.specs.Alone.{Own, own_of, alone_after, alone_answers}
+use Rattle.lab_desk_runs.specs.Alone.{Own, Happening, Founding, Request, own_of, alone_after, alone_answers}
 
 -- an event, whether it was taken, and what was answered to it: it is taken unless memory ran out or
 -- the store refused
 pub record Handled : Type 0 where
-  pub event : Event
+  pub event : Happening
   pub taken : Bool
   pub answer : List ℕ
 
@@ -32,19 +29,19 @@ IsAnswerToNobody tick asks answer = IfErr asks
     (λ refusal. answer ≡ reply_text tick (Refused refusal))
 
 -- the answer to a taken event that belongs to no laboratory
-abbrev pub IsNobodys : Event → List ℕ → Type 0
-IsNobodys (Found lab tick body) answer = Unit {0}
-IsNobodys (Call tick bytes) answer = IsAnswerToNobody tick (asked bytes) answer
+abbrev pub IsNobodys : Happening → List ℕ → Type 0
+IsNobodys (Founding lab tick body) answer = Unit {0}
+IsNobodys (Request tick asks) answer = IsAnswerToNobody tick asks answer
 
 -- the answer to an event that was refused for memory, or by a store that may refuse, which was
 -- asked something
-abbrev pub IsRefusal : Type 0 → Event → List ℕ → Type 0
-IsRefusal may_refuse (Found lab tick body) answer = IsRefusedLine
+abbrev pub IsRefusal : Type 0 → Happening → List ℕ → Type 0
+IsRefusal may_refuse (Founding lab tick body) answer = IsRefusedLine
     (may_refuse × Bears lab tick (founding_in body)) answer
-IsRefusal may_refuse (Call tick bytes) answer = IsRefusedReply
-    (may_refuse × IsOk (asked bytes)) tick answer
+IsRefusal may_refuse (Request tick asks) answer = IsRefusedReply
+    (may_refuse × IsOk asks) tick answer
 
-abbrev pub IsAnswerBy : Type 0 → Bool → Event → List ℕ → Type 0
+abbrev pub IsAnswerBy : Type 0 → Bool → Happening → List ℕ → Type 0
 IsAnswerBy may_refuse true event answer = IsNobodys event answer
 IsAnswerBy may_refuse false event answer = IsRefusal may_refuse event answer
 
@@ -94,7 +91,7 @@ pub record IsRun (old new : World) (handled : List Handled) : Type 0 where
 -- ---- what is told and written
 
 -- these are the events, in order, and whether each was taken
-pub record IsTold (events : List Event) (taken : List Bool) (handled : List Handled) : Type 0 where
+pub record IsTold (events : List Happening) (taken : List Bool) (handled : List Handled) : Type 0 where
   pub events_are : map (λ (one : Handled). one.event) handled ≡ events
   pub taken_are : map (λ (one : Handled). one.taken) handled ≡ taken
 
@@ -110,7 +107,7 @@ Sends answer (Err fault) before after = Appends before after (take fault.sent an
     (fault.sent < length answer)
 
 -- all events were handled, and their answers were written, and nothing else
-pub record Runs (old new : World) (events : List Event) (taken : List Bool)
+pub record Runs (old new : World) (events : List Happening) (taken : List Bool)
     (before after : Option (List ℕ)) : Type 0 where
   pub handled : List Handled
   pub told : IsTold events taken handled
@@ -119,7 +116,7 @@ pub record Runs (old new : World) (events : List Event) (taken : List Bool)
 
 -- the first events were handled, and their answers were written, the last of them cut to its first
 -- bytes
-pub record RunsCut (old new : World) (events : List Event) (taken : List Bool) (sent : ℕ)
+pub record RunsCut (old new : World) (events : List Happening) (taken : List Bool) (sent : ℕ)
     (before after : Option (List ℕ)) : Type 0 where
   pub handled : List Handled
   pub last : Handled

@@ -3,7 +3,7 @@
 -- 7.11.3(c), "be protected from unauthorized access", and (e), "system failures").
 use Rattle.std.specs.Prelude.{◌≡◌, ◌⊎◌, ◌++◌, List, [], ◌∷◌, Bool, true, false}
 use Rattle.lab_records_kept.specs.Worlds.{Meaning, SameMeaning}
-use Rattle.lab_desk_runs.specs.declared.events.Event.{Event}
+use Rattle.lab_desk_runs.specs.Alone.{Happening}
 use Rattle.lab_desk_runs.specs.Leaving.{IsLeftBy, as_told}
 use Rattle.lab_desk_runs.specs.Runs.{AreAlone, Handled, IsTold, KeepsAlong}
 
@@ -11,7 +11,7 @@ pub record Start : Type 0 where
   -- the laboratories that it found
   pub found : Meaning
   -- the events that were handled, and whether each was taken
-  pub events : List Event
+  pub events : List Happening
   pub taken : List Bool
   -- the laboratories that its stop left
   pub left : Meaning

@@ -59,7 +59,9 @@ module _ (before after told_before told_after : Option (List ℕ)) (status : Res
 
   replays_none : (input : Option (List ℕ)) → Keeps before after → ReplaysFromNothing input before after (Err ReplayMemory)
   replays_none input same = record {
+    events = [];
     handled = [];
+    are = refl;
     written = [];
     rest = unwrap_or input [];
     begins = begins_none input;

@@ -3,27 +3,29 @@ use Rattle.std.proofs.Common.{◌≡◌, ◌∙◌, ◌≤◌, ℕ, List, [], �
 use Rattle.std.specs.Prelude.{IsTrue, Option, Some, None, Result, Ok, Err, ℤ, false}
 use Rattle.std.specs.List.{AllZip}
 use Rattle.sqlite_trees.specs.Tree.{Trees}
-use Rattle.sqlite_trees.specs.Objects.{catalog_tree}
 use Rattle.sqlite_trees.specs.declared.store.Store.{Ghosts}
 use Rattle.sqlite_schema.specs.declared.schema.Schema.{Schema}
 use Rattle.sqlite_catalog.specs.Listing.{IsIndexRow, IsTableRow, IsViewRow, Lists}
 use Rattle.sqlite_wal.specs.Recovery.{Image}
 use Rattle.sqlite.specs.Effect.{Database}
-use Rattle.sqlite.specs.Files.{IsEmpty}
 use Rattle.sqlite.specs.Held.{Held, state}
 use Rattle.sqlite.specs.State.{HasCleanDisk, State}
-use Rattle.lab_records_kept.specs.Worlds.{Meaning, SameMeaning}
+use Rattle.lab_records_kept.specs.Worlds.{Meaning, Passes, SameMeaning, World}
 use Rattle.lab_store_tables.specs.Meaning.{meaning}
 use Rattle.lab_store_tables.specs.Rows.{tables_in}
-use Rattle.lab_store_files.specs.NewFiles.{IsBlank, IsNewFile, new_tables, no_schema}
+use Rattle.lab_store_files.specs.NewFiles.{IsBlank, no_schema}
 use Rattle.lab_store_files.specs.declared.faults.FileFault.{FileFault}
 use Rattle.lab_store_files.specs.declared.faults.FileFault.TheVariants.{Memory, NotADeskFile, Storage}
 use Rattle.lab_store_files.specs.Verdicts.{Answers, file_verdict, number_shown, number_verdict, shown_verdict, whole_verdict}
-use Rattle.lab_desk_runs.specs.declared.events.Event.{Event}
+use Rattle.lab_desk_runs.specs.Alone.{Happening}
+use Rattle.lab_desk_runs.specs.Keeping.{GivenWithin}
+use Rattle.lab_desk_runs.specs.Leaving.{LeavesRun}
 use Rattle.lab_desk_runs.specs.Starts.{AreStarts, IsAnswered, IsStopped, Start, left_by}
 use Rattle.lab_program_shelves.specs.Files.{AreHeldIn, IsFound, IsNew, IsOpened, IsOurs}
-use Rattle.lab_program_files.specs.FileWorlds.{file_world}
-use Rattle.lab_program_files.specs.Starts.{AreSoFar, IsRunOver, start_of}
+use Rattle.lab_program_serve.specs.Visits.{AreVisits, GoesOn, Visit}
+use Rattle.lab_program_serve.proofs.RunLemmas.{served_run}
+use Rattle.lab_program_files.specs.FileWorlds.{file_keeper, file_world}
+use Rattle.lab_program_files.specs.Starts.{AreSoFar, IsRunOver, IsServedOver, start_of}
 
 -- ---- starts
 
@@ -36,7 +38,7 @@ module _ {S : Type 0} (disk : Ghosts S) (IsHeld : Trees → Type 0) (conn : Held
       ∙ ap (λ (trees : Trees). meaning (tables_in trees) code)
       (ours.2.0 clean (ours.2.1 clean).1.0.is_open left.0 left.1)
 
-module _ {S : Type 0} (disk : Ghosts S) (opened last : Held S) (events : List Event)
+module _ {S : Type 0} (disk : Ghosts S) (opened last : Held S) (events : List Happening)
     (taken : List Bool) (run : IsRunOver disk opened last events taken) (left : Meaning) where
   -- what was answered is what each laboratory's machine alone answers
   answered_so : IsAnswered (file_world disk opened).meaning
@@ -55,7 +57,7 @@ module _ {S : Type 0} (disk : Ghosts S) (opened last : Held S) (events : List Ev
   stopped_so only may = record {
     handled = run.leaves.handled;
     told = run.leaves.told;
-    left = elim (run.leaves.left run.lives left may) [
+    left = elim (run.leaves.left tt left may) [
       | inl whole ↦ inl whole
       | inr other ↦ elim other [
         | inl front ↦ inr (inl front)
@@ -78,7 +80,7 @@ left_by_and first [] one = refl
 left_by_and first (early ∷ others) one = left_by_and early.left others one
 
 pub one_start_more : {S : Type 0} (disk : Ghosts S) (first : Meaning) (starts : List Start)
-    (opened last : Held S) (events : List Event) (taken : List Bool) (left : Meaning) →
+    (opened last : Held S) (events : List Happening) (taken : List Bool) (left : Meaning) →
     AreSoFar first starts (file_world disk opened).meaning →
     IsRunOver disk opened last events taken →
     ((held : Meaning) → (file_world disk opened).may_leave held →
@@ -92,6 +94,43 @@ one_start_more disk first starts opened last events taken left so_far run only m
           (stopped_so disk opened last events taken run left only may),
       λ code. sym (ap (λ (held : Meaning). held code) (left_by_and first starts one)),
     )
+
+-- ---- a service
+
+-- what is told where something holds, where it does
+told_so : (was_live : Type 0) (old new : World) (events : List Happening) (taken : List Bool) →
+    was_live → LeavesRun was_live old new events taken → LeavesRun (Unit {0}) old new events taken
+told_so was_live old new events taken is leaves = record {
+  handled = leaves.handled;
+  told = leaves.told;
+  left = λ so. leaves.left is;
+  safe = λ so. leaves.safe is;
+  left_within = λ so. leaves.left_within is;
+  left_releasing = λ so. leaves.left_releasing is;
+}
+
+pub served_over : {S : Type 0} (disk : Ghosts S) (reply : List ℕ) (opened last : Held S)
+    (visits : List Visit) →
+    GivenWithin (file_world disk opened) (file_world disk last)
+    (AreVisits (file_keeper disk) (GoesOn (file_keeper disk)) reply opened visits last) →
+    Passes (file_world disk opened) (file_world disk last) → (file_world disk last).is_live →
+    GivenWithin (file_world disk opened) (file_world disk last)
+    (IsServedOver disk opened last visits)
+served_over disk reply opened last visits are passes live within honest reached =
+    let served = served_run (file_keeper disk) reply opened last visits
+    (are within honest reached) within honest reached in
+    record {
+      handled = served.handled;
+      are = served.are;
+      run = record {
+        handled = served.handled;
+        told = record { events_are = refl; taken_are = refl };
+        run = served.run;
+        leaves = told_so (file_world disk last).is_live (file_world disk opened)
+            (file_world disk last) _ _ live served.leaves;
+        passes = passes;
+      };
+    }
 
 -- ---- an empty file
 

@@ -7,12 +7,15 @@ ghost use Rattle.sqlite_store.specs.FileStore.{recovers, state as pages_of, view
 ghost use Rattle.sqlite.specs.Files.{file_state, over_files};
 ghost use Rattle.sqlite.specs.Held.{Held, IsConnected, state};
 ghost use Rattle.sqlite.specs.State.{HasCleanDisk};
-ghost use Rattle.lab_records_kept.specs.Worlds.{Meaning, SameMeaning};
+ghost use Rattle.lab_records_kept.specs.Worlds.{Meaning, Passes, SameMeaning};
 ghost use Rattle.lab_store.specs.StoreWorlds.{world_of};
-ghost use Rattle.lab_desk_runs.specs.declared.events.Event.{Event};
+ghost use Rattle.lab_desk_runs.specs.Alone.{Happening};
+ghost use Rattle.lab_desk_runs.specs.Keeping.{GivenWithin};
 ghost use Rattle.lab_desk_runs.specs.Starts.{Start};
 ghost use Rattle.lab_program_shelves.specs.Files.{AreHeldIn, IsOpened, IsOurs};
-ghost use Rattle.lab_program_files.specs.Starts.{AreSoFar, IsRunOver, start_of};
+ghost use Rattle.lab_program_serve.specs.Visits.{AreVisits, GoesOn, Visit};
+ghost use Rattle.lab_program_files.specs.FileWorlds.{file_keeper, file_world};
+ghost use Rattle.lab_program_files.specs.Starts.{AreSoFar, IsRunOver, IsServedOver, start_of};
 
 use sqlite::Alter;
 use sqlite_disk::Disk;
@@ -39,7 +42,7 @@ pub fn a_start_finds_what_was_left<D: Disk, S: Alter>()
         SameMeaning (world_of (state S.Store next)).meaning held) }
     ensures goes_on { (first : Meaning) (starts : List Start) (before after : Image)
         (opened last : Held (FileStore D D.Disk)) (next : Held S)
-        (events : List Event) (taken : List Bool) →
+        (events : List Happening) (taken : List Bool) →
         AreSoFar first starts (world_of (file_state opened)).meaning →
         IsOurs over_files (AreHeldIn before) opened → IsRunOver over_files opened last events taken →
         IsConnected (view last.store) (recovers last.store) last.schema last.saved
@@ -59,4 +62,18 @@ pub fn a_new_file_is_empty<S: Alter>()
         IsOpened S.Store (AreHeldIn image) next → HasCleanDisk (state S.Store next) →
         IsTrue (state S.Store next).is_open
         × ((code : List ℕ) → (world_of (state S.Store next)).meaning code ≡ None) }
+{}
+
+/// Law: what a server did over a file, from its opening until it was given up, is a run over that file, as one of
+/// `Desk::run`, where no fault has shut it by then; `IsTime` says of each time of a server what is asked here. So it is one
+/// of the starts of `goes_on`: each laboratory's replies and rows over services and stops are those of its own small
+/// machine.
+pub fn what_is_served_is_a_start<S: Alter>()
+    ensures { (reply : List ℕ) (opened last : Held S) (visits : List Visit) →
+        GivenWithin (file_world S.Store opened) (file_world S.Store last)
+        (AreVisits (file_keeper S.Store) (GoesOn (file_keeper S.Store)) reply opened visits last) →
+        Passes (file_world S.Store opened) (file_world S.Store last) →
+        (file_world S.Store last).is_live →
+        GivenWithin (file_world S.Store opened) (file_world S.Store last)
+        (IsServedOver S.Store opened last visits) }
 {}

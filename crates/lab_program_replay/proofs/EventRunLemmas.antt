@@ -12,6 +12,7 @@ use Rattle.lab_desk_runs.specs.declared.events.Event.{Event}
 use Rattle.lab_desk_foundings.specs.declared.run_faults.RunFault.{RunFault}
 use Rattle.lab_desk_foundings.specs.declared.run_faults.RunFault.TheVariants.{Memory as RunMemory, Write}
 use Rattle.std.proofs.lemmas.List.{map-append}
+use Rattle.lab_desk_runs.specs.Alone.{happening}
 use Rattle.lab_desk_runs.specs.Runs.{Handled, IsRun, Runs, RunsCut, answers_of}
 use Rattle.lab_desk_foundings.specs.RunFaults.{IfWrite, IfMemory}
 use Rattle.lab_program_replay.specs.declared.fault.ReplayFault.{ReplayFault}
@@ -19,16 +20,35 @@ use Rattle.lab_program_replay.specs.declared.fault.ReplayFault.TheVariants.{BadE
 use Rattle.lab_program_replay.specs.Event.{next_event}
 use Rattle.lab_program_replay.specs.Fault.{IsInputFault, fault_of_run, fault_line}
 use Rattle.lab_program_replay.specs.Reading.{TakesNext}
-use Rattle.lab_program_replay.specs.Replay.{BeginsWith, Stops, IsTold, IsWritten, Replays, events_of}
+use Rattle.lab_program_replay.specs.Replay.{BeginsWith, Stops, IsTold, IsWritten, Replays, AreEvents}
 use Rattle.lab_desk_runs.proofs.Running.{run_then, no_run}
 
 -- the events so far were run, and the rest of the input is left
 pub record SoFar (old new : World) (input now before after : Option (List ℕ)) : Type 0 where
+  pub events : List Event
   pub handled : List Handled
+  pub are : AreEvents events handled
   pub rest : List ℕ
-  pub begins : IfSome input (λ bytes. BeginsWith (events_of handled) bytes rest × (now ≡ Some rest))
+  pub begins : IfSome input (λ bytes. BeginsWith events bytes rest × (now ≡ Some rest))
   pub run : IsRun old new handled
   pub wrote : Appends before after (answers_of handled)
+
+-- the events of two runs
+events_then : (events more : List Event) (first next : List Handled) → AreEvents events first →
+    AreEvents more next → AreEvents (events ++ more) (first ++ next)
+events_then events more first next are next_are =
+    map-append (λ (one : Handled). one.event) first next
+    ∙ ap (λ es. es ++ map (λ (one : Handled). one.event) next) are
+    ∙ ap (λ es. map happening events ++ es) next_are
+    ∙ sym (map-append happening events more)
+
+-- one event, or none
+one_cut : (count : ℕ) (event : Event) →
+    map happening (take count (event ∷ [])) ≡ take count (happening event ∷ [])
+one_cut zero event = refl
+one_cut (suc count) event =
+    ap (λ rest. happening event ∷ rest)
+    (ap (λ es. map happening es) (take-nil count) ∙ sym (take-nil count))
 
 BeginsWith-append : (es fs : List Event) (a b c : List ℕ) → BeginsWith es a b → BeginsWith fs b c →
     BeginsWith (es ++ fs) a c
@@ -46,7 +66,9 @@ begins_at (Some bytes) = (refl, refl)
 pub so_far_none : (old : World) (input before : Option (List ℕ)) →
     SoFar old old input input before before
 so_far_none old input before = record {
+  events = [];
   handled = [];
+  are = refl;
   rest = unwrap_or input [];
   begins = begins_at input;
   run = no_run old;
@@ -65,12 +87,14 @@ module _ (old : World) (before : Option (List ℕ)) where
   -- the replay ended where the events so far end
   ended : (ending : Result (Unit {0}) ReplayFault) (new : World)
       (input now mid after : Option (List ℕ)) (sofar : SoFar old new input now before mid)
-      → IfSome input (λ bytes. BeginsWith (events_of sofar.handled) bytes sofar.rest
+      → IfSome input (λ bytes. BeginsWith sofar.events bytes sofar.rest
       × Stops ending (next_event sofar.rest)) →
       IsWritten ending sofar.handled (answers_of sofar.handled)
       → Keeps mid after → Replays old new input before after ending
   ended ending new input now mid after sofar stops answered kept = record {
+    events = sofar.events;
     handled = sofar.handled;
+    are = sofar.are;
     written = answers_of sofar.handled;
     rest = sofar.rest;
     begins = stops;
@@ -94,7 +118,7 @@ module _ (old : World) (before : Option (List ℕ)) where
       Replays old new input before after (Ok tt)
   replays_whole new input now left after sofar next =
       ended (Ok tt) new input now after after sofar
-      (ends input now left (events_of sofar.handled) sofar.rest sofar.begins next) refl
+      (ends input now left sofar.events sofar.rest sofar.begins next) refl
       (Keeps-refl after)
 
   fails : (fault : ReplayFault) (input now left : Option (List ℕ)) (events : List Event)
@@ -124,7 +148,7 @@ module _ (old : World) (before : Option (List ℕ)) where
       Replays old new input before after (Err fault)
   replays_up_to fault new input now left after sofar next input_fault =
       ended (Err fault) new input now after after sofar
-      (fails fault input now left (events_of sofar.handled) sofar.rest sofar.begins next)
+      (fails fault input now left sofar.events sofar.rest sofar.begins next)
       (answered_whole fault sofar.handled input_fault) (Keeps-refl after)
 
   stopped : (input now : Option (List ℕ)) (events : List Event) (rest : List ℕ) →
@@ -139,7 +163,7 @@ module _ (old : World) (before : Option (List ℕ)) where
       → Replays old new input before after (Err ReadFault)
   replays_tired new input now after sofar =
       ended (Err ReadFault) new input now after after sofar
-      (stopped input now (events_of sofar.handled) sofar.rest sofar.begins) refl (Keeps-refl after)
+      (stopped input now sofar.events sofar.rest sofar.begins) refl (Keeps-refl after)
 
   -- there was no memory to run the event
   no_memory : (new : World) (input now mid after : Option (List ℕ)) →
@@ -147,7 +171,7 @@ module _ (old : World) (before : Option (List ℕ)) where
       → Replays old new input before after (Err Memory)
   no_memory new input now mid after sofar kept =
       ended (Err Memory) new input now mid after sofar
-      (stopped input now (events_of sofar.handled) sofar.rest sofar.begins) refl kept
+      (stopped input now sofar.events sofar.rest sofar.begins) refl kept
 
   abbrev Rest : (input left : Option (List ℕ)) (events : List Event) → Type 0
   Rest input left events = (rest : List ℕ)
@@ -181,16 +205,17 @@ module _ (old : World) (before : Option (List ℕ)) where
       (input now left after last : Option (List ℕ)) → (mid.may_refuse → old.may_refuse)
       → SoFar old mid input now before after →
       IfSome now (λ input. TakesNext (next_event input) left (Ok (Some event)))
-      → Runs mid new (event ∷ []) taken after last → SoFar old new input left before last
+      → Runs mid new (happening event ∷ []) taken after last → SoFar old new input left before last
   so_far_more event mid new taken input now left after last wider sofar next runs =
       let more = taken_on event input now left
-      (events_of sofar.handled) sofar.rest sofar.begins next in
-      let told : events_of (sofar.handled ++ runs.handled) ≡ events_of sofar.handled ++ event ∷ [] =
-      map-append (λ (one : Handled). one.event) sofar.handled runs.handled
-      ∙ ap (λ es. events_of sofar.handled ++ es) runs.told.events_are in record {
+      sofar.events sofar.rest sofar.begins next in
+      record {
+        events = sofar.events ++ event ∷ [];
         handled = sofar.handled ++ runs.handled;
+        are = events_then sofar.events (event ∷ []) sofar.handled runs.handled sofar.are
+            runs.told.events_are;
         rest = more.0;
-        begins = rw told more.1;
+        begins = more.1;
         run = run_then old mid new sofar.handled runs.handled wider sofar.run runs.run;
         wrote = subst (Appends before last) (sym (answers_then sofar.handled runs.handled))
             (Appends-trans before after last (answers_of sofar.handled)
@@ -225,21 +250,21 @@ module _ (old : World) (before : Option (List ℕ)) where
       (input now left after last : Option (List ℕ)) → (mid.may_refuse → old.may_refuse)
       → SoFar old mid input now before after →
       IfSome now (λ input. TakesNext (next_event input) left (Ok (Some event)))
-      → RunsCut mid new (event ∷ []) taken sent after last →
+      → RunsCut mid new (happening event ∷ []) taken sent after last →
       Replays old new input before last (Err WriteFault)
   replays_cut event taken sent mid new input now left after last wider sofar next runs =
       let more = taken_some (length taken) event input now left
-      (events_of sofar.handled) sofar.rest sofar.begins next in
+      sofar.events sofar.rest sofar.begins next in
       let ends : List Handled = runs.handled ++ runs.last ∷ [] in
-      let told : events_of (sofar.handled ++ ends)
-      ≡ events_of sofar.handled ++ take (length taken) (event ∷ []) =
-      map-append (λ (one : Handled). one.event) sofar.handled ends
-      ∙ ap (λ es. events_of sofar.handled ++ es) runs.told.events_are in record {
+      record {
+        events = sofar.events ++ take (length taken) (event ∷ []);
         handled = sofar.handled ++ ends;
+        are = events_then sofar.events (take (length taken) (event ∷ [])) sofar.handled ends sofar.are
+            (runs.told.events_are ∙ sym (one_cut (length taken) event));
         written = answers_of sofar.handled
             ++ (answers_of runs.handled ++ take sent runs.last.answer);
         rest = more.0;
-        begins = rw told more.1;
+        begins = more.1;
         run = run_then old mid new sofar.handled ends wider sofar.run runs.run;
         answered = (
           sofar.handled ++ runs.handled,
@@ -262,7 +287,7 @@ module _ (old : World) (before : Option (List ℕ)) where
       → (event : Event) (fault : RunFault) (input now left after last : Option (List ℕ))
       → SoFar old (world mid) input now before after →
       IfSome now (λ input. TakesNext (next_event input) left (Ok (Some event)))
-      → IfWrite (λ taken sent. RunsCut (world mid) (world new) (event ∷ []) taken sent after last)
+      → IfWrite (λ taken sent. RunsCut (world mid) (world new) (happening event ∷ []) taken sent after last)
       fault
       → IfMemory ((new ≡ mid) × Keeps after last) fault
       → Replays old (world new) input before last (Err (fault_of_run fault))

@@ -46,7 +46,9 @@ nothing_written Memory h = refl
 pub never_begun : (fault : ReplayFault) (input before : Option (List ℕ)) → IsBeginFault fault →
     ReplaysFromNothing input before before (Err fault)
 never_begun fault input before h = record {
+  events = [];
   handled = [];
+  are = refl;
   written = [];
   rest = unwrap_or input [];
   begins = stops_none fault input h;
@@ -115,7 +117,9 @@ pub from_nobody : (s : State) (new : World) (input now before after : Option (Li
     → ReplaysFromNothing input before after ending
 from_nobody s new input now before after ending none same replays =
     subst (λ known. ReplaysFromNothing known before after ending) same (record {
+      events = replays.events;
       handled = replays.handled;
+      are = replays.are;
       written = replays.written;
       rest = replays.rest;
       begins = replays.begins;

@@ -5,6 +5,7 @@ use Rattle.std.specs.Io.KnownBytes.{Keeps, Appends}
 use Rattle.lab_wire_heads.specs.declared.sending.WriteFault.{WriteFault as Untold}
 use Rattle.lab_records_kept.specs.Worlds.{World}
 use Rattle.lab_desk_runs.specs.declared.events.Event.{Event as EventRead}
+use Rattle.lab_desk_runs.specs.Alone.{happening}
 use Rattle.lab_desk_runs.specs.Runs.{Handled, IsRun, answers_of}
 use Rattle.lab_program_replay.specs.declared.fault.ReplayFault.{ReplayFault}
 use Rattle.lab_program_replay.specs.declared.fault.ReplayFault.TheVariants.{BadEvent, ReadFault, WriteFault, Storage, Memory}
@@ -41,18 +42,20 @@ IsWritten (Err ReadFault) handled written = written ≡ answers_of handled
 IsWritten (Err Storage) handled written = written ≡ answers_of handled
 IsWritten (Err Memory) handled written = written ≡ answers_of handled
 
--- the events that were handled
-abbrev pub events_of : List Handled → List EventRead
-events_of = map (λ (one : Handled). one.event)
+-- these are the events that were handled
+abbrev pub AreEvents : List EventRead → List Handled → Type 0
+AreEvents events handled = map (λ (one : Handled). one.event) handled ≡ map happening events
 
 -- a replay over a keeper of which this is known before and after: the events that the input begins
 -- with were run, and their answers were written
 pub record Replays (old new : World) (input before after : Option (List ℕ))
     (ending : Result (Unit {0}) ReplayFault) : Type 0 where
+  pub events : List EventRead
   pub handled : List Handled
+  pub are : AreEvents events handled
   pub written : List ℕ
   pub rest : List ℕ
-  pub begins : IfSome input (λ bytes. BeginsWith (events_of handled) bytes rest × Stops ending
+  pub begins : IfSome input (λ bytes. BeginsWith events bytes rest × Stops ending
       (next_event rest))
   pub run : IsRun old new handled
   pub answered : IsWritten ending handled written

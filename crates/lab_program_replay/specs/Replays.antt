@@ -6,12 +6,13 @@ use Rattle.std.specs.Io.KnownBytes.{Appends}
 use Rattle.lab_wire_heads.specs.declared.sending.WriteFault.{WriteFault as Untold}
 use Rattle.lab_records_kept.specs.Worlds.{Meaning}
 use Rattle.lab_records_laws.specs.Runs.{IsReleasing}
+use Rattle.lab_desk_runs.specs.declared.events.Event.{Event}
 use Rattle.lab_desk_runs.specs.Keeping.{OfAll}
 use Rattle.lab_desk_runs.specs.Runs.{Handled, AreAlone, IsAnswer, KeepsAlong, after_run}
 use Rattle.lab_program_replay.specs.declared.fault.ReplayFault.{ReplayFault}
 use Rattle.lab_program_replay.specs.declared.fault.ReplayFault.TheVariants.{BadEvent, ReadFault, WriteFault, Storage, Memory}
 use Rattle.lab_program_replay.specs.Event.{next_event}
-use Rattle.lab_program_replay.specs.Replay.{BeginsWith, IsWritten, Stops, Tells, events_of}
+use Rattle.lab_program_replay.specs.Replay.{AreEvents, BeginsWith, IsWritten, Stops, Tells}
 
 -- there is no laboratory
 abbrev pub nobody : Meaning
@@ -32,10 +33,12 @@ IsBeginFault Memory = Unit {0}
 -- under dual control
 pub record ReplaysFromNothing (input before after : Option (List ℕ))
     (ending : Result (Unit {0}) ReplayFault) : Type 0 where
+  pub events : List Event
   pub handled : List Handled
+  pub are : AreEvents events handled
   pub written : List ℕ
   pub rest : List ℕ
-  pub begins : IfSome input (λ bytes. BeginsWith (events_of handled) bytes rest × Stops ending
+  pub begins : IfSome input (λ bytes. BeginsWith events bytes rest × Stops ending
       (next_event rest))
   pub each : All (IsAnswer (Unit {0})) handled
   pub alone : AreAlone nobody handled

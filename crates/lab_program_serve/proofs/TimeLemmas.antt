@@ -1,6 +1,6 @@
 -- One connection more: it is served over the keeper that was there, or over one that was opened anew, or refused.
-use Rattle.std.proofs.Common.{◌≡◌, ◌⊎◌, inl, inr, ◌+◌, length, ℕ, List, [], ◌∷◌, ◌++◌, Option, Some, None, Result, Ok, Err, refl, sym, ap, subst, ◌∙◌, append_assoc, arith, ◌≤◌}
-use Rattle.std.specs.Prelude.{IfSome, false}
+use Rattle.std.proofs.Common.{◌≡◌, inl, inr, ◌+◌, length, ℕ, List, [], ◌∷◌, ◌++◌, Option, Some, None, Result, Ok, Err, refl, sym, ap, subst, ◌∙◌, append_assoc, arith, ◌≤◌}
+use Rattle.std.specs.Prelude.{IfSome}
 use Rattle.std.proofs.lemmas.List.{length-append}
 use Rattle.lab_records_kept.specs.declared.keeper.Keeper.{Ghosts}
 use Rattle.lab_records_kept.specs.Worlds.{Passes, World}
@@ -9,7 +9,7 @@ use Rattle.lab_desk_runs.specs.Keeping.{GivenWithin, Stays, StaysOn}
 use Rattle.lab_desk_runs.proofs.Lasting.{stays_after, stays_first, still_stays}
 use Rattle.lab_program_outside.specs.Sources.{Gives}
 use Rattle.lab_program_serve.specs.Times.{AreRefused, AreTimes, BeginWith, IsMended, IsMet, IsNext, IsRefused, IsServed, IsTime, ServesTimes, Time, visits_of}
-use Rattle.lab_program_serve.specs.Visits.{AreCounted, AreGiven, AreVisits, GoesOn, KeepsGiven, Sources, Visit, is_unavailable, reply_after}
+use Rattle.lab_program_serve.specs.Visits.{AreCounted, AreGiven, GoesOn, KeepsGiven, Sources, Visit, reply_after}
 use Rattle.lab_program_serve.proofs.VisitLemmas.{first_of, given_more, given_none, reply_last, sources_of, visits_more}
 
 -- ---- lists

@@ -1,5 +1,6 @@
 pub mod Rehearsals
 pub mod RehearseTask
+pub mod Runs
 pub mod ServeTask
 pub mod Shut
 pub mod Texts

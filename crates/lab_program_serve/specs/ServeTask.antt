@@ -1,5 +1,5 @@
 -- What the task `serve` comes to, by its status and what standard error was told.
-use Rattle.std.specs.Prelude.{◌≡◌, ℕ, Option, Some, Result, IfSome}
+use Rattle.std.specs.Prelude.{ℕ, Option, Result, IfSome}
 use Rattle.lab_records_kept.specs.declared.keeper.Keeper.{Ghosts}
 use Rattle.lab_desk.specs.Desk.{Served}
 use Rattle.lab_program_outside.specs.Faults.{Tells, server_fault_word}

@@ -1,5 +1,5 @@
 -- A keeper that a fault has shut: it tells of no laboratory, and refuses every call.
-use Rattle.std.specs.Prelude.{Option, None}
+use Rattle.std.specs.Prelude.{None}
 use Rattle.lab_records_kept.specs.declared.keeper.Keeper.{Ghosts}
 use Rattle.lab_records_kept.specs.Worlds.{World}
 use Rattle.lab_program_serve.specs.declared.shut.Shut.{Shut}

@@ -9,6 +9,7 @@ mod offices;
 mod openings;
 mod rehearsal_loopback;
 mod rehearsals;
+mod runs;
 mod serving;
 mod shut;
 
@@ -24,5 +25,6 @@ pub use offices::Office;
 pub use openings::Opener;
 pub use rehearsal_loopback::rehearse;
 pub use rehearsals::{rehearse_over, request_bytes};
+pub use runs::what_is_served_is_a_run;
 pub use serving::{serve_connection, serve_over};
 pub use shut::Shut;

@@ -1,5 +1,4 @@
 -- Where the file or the clock fails nothing goes out; then the walk tells.
-use Rattle.std.proofs.KnownBytes.{Keeps-refl}
 use Rattle.lab_program_files.proofs.copying.copy_file.Goals as goal
 
 pub returns-clause-copies : goal.returns-clause-copies

@@ -1,5 +1,4 @@
 -- Where there is no desk nothing is asked of a keeper; then a founding over it tells.
-use Rattle.std.proofs.KnownBytes.{Keeps-refl}
 use Rattle.lab_program_outside.specs.declared.faults.ServerFault.TheVariants.{Memory}
 use Rattle.lab_program_files.specs.FileWorlds.{file_keeper}
 use Rattle.lab_program_shelves.specs.Files.{IsOpened}

@@ -1,5 +1,5 @@
 -- The answer that was written is the witness; one event is a run by the lemmas of `Running`.
-use Rattle.lab_desk_runs.proofs.Leaving.{call_leaves, found_leaves}
+use Rattle.lab_desk_runs.proofs.Leaving.{call_leaves, found_leaves, request_lives}
 use Rattle.lab_desk_runs.proofs.Running.{one_founding, one_call, sent_as}
 use Rattle.lab_desk.proofs.desk.Desk.answer.Goals as goal
 
@@ -46,6 +46,16 @@ returns-in-Call-clause-leaves g c = λ within honest reached.
       quiet = λ idle. c.handle.ensures.quiet idle honest reached;
       durable = c.handle.ensures.durable within honest reached;
     })
+
+pub returns-in-Found-clause-lives : goal.returns-in-Found-clause-lives
+returns-in-Found-clause-lives g c = λ within honest reached.
+    c.answer_founding-line.ensures.lives honest reached
+
+pub returns-in-Call-clause-lives : goal.returns-in-Call-clause-lives
+returns-in-Call-clause-lives g c = λ within honest reached taken.
+    request_lives g.S.Keeper.world c.args.self.now.keeper c.handle.new.self.keeper _
+    (c.handle.ensures.taken within honest reached taken).lives
+    c.handle.ensures.untouched
 
 pub returns-in-Call-clause-stays : goal.returns-in-Call-clause-stays
 returns-in-Call-clause-stays g c = c.handle.ensures.stays

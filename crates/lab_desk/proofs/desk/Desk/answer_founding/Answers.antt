@@ -3,7 +3,7 @@ use Rattle.lab_desk_foundings.specs.Foundings.{founding_in}
 use Rattle.lab_desk_foundings.proofs.Bearing.{takes_founded, takes_refused}
 use Rattle.std.proofs.Common.{inl}
 use Rattle.lab_desk_runs.proofs.Lasting.{still_stays}
-use Rattle.lab_desk_runs.proofs.Leaving.{settles_refused}
+use Rattle.lab_desk_runs.proofs.Leaving.{lives_refused, settles_refused}
 use Rattle.lab_desk.proofs.desk.Desk.answer_founding.Goals as goal
 use Rattle.lab_desk.proofs.desk.Desk.answer_founding.Goals.{in-Ok-found, in-Err}
 
@@ -30,6 +30,14 @@ returns-clause-settles g c = λ honest reached taken. elim c.match-found.branch 
       c.found.result _ w.in-Err.is (w.line_of_fault.ensures.taken (rw w.result-is at taken)).0
       (c.found.ensures.quiet honest reached) (c.found.ensures.err honest reached)
       c.found.ensures.untouched (c.found.ensures.lives honest reached)
+]
+
+pub returns-clause-lives : goal.returns-clause-lives
+returns-clause-lives g c = λ honest reached taken live. elim c.match-found.branch [
+  | in-Ok-found w ↦ (rw w.in-Ok-found.is at c.found.ensures.lives honest reached).1
+  | in-Err w ↦ lives_refused g.S.Keeper.world c.args.self.now.keeper c.found.new.self.keeper
+      c.found.result _ w.in-Err.is (w.line_of_fault.ensures.taken (rw w.result-is at taken)).0
+      c.found.ensures.untouched (c.found.ensures.lives honest reached) live
 ]
 
 pub returns-in_default-clause-crash : goal.returns-in_default-clause-crash

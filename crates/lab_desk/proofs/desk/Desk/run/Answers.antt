@@ -1,11 +1,13 @@
 -- The run goes on by each event; a write fault ends it within the answer of its last event.
-use Rattle.std.proofs.Common.{rules, ◌≡◌, ◌+◌, [], ◌∷◌, ◌++◌, length, refl, subst, arith}
+use Rattle.std.proofs.Common.{rules, ◌≡◌, ◌+◌, [], ◌∷◌, ◌++◌, length, map, refl, subst, take, arith}
 use Rattle.std.proofs.lemmas.List.{take_all}
-use Rattle.lab_desk_runs.specs.Leaving.{LeavesRun}
+use Rattle.lab_desk_runs.specs.Leaving.{IsLiveToLast, LeavesRun}
 use Rattle.lab_desk_runs.specs.Runs.{Runs}
 use Rattle.lab_desk_runs.proofs.Lasting.{stays_first, stays_after}
-use Rattle.lab_desk_runs.proofs.Leaving.{leaves_more, leaves_none}
+use Rattle.lab_desk_runs.proofs.Leaving.{leaves_of, living_more, living_none}
 use Rattle.lab_desk_runs.proofs.Running.{run_more, run_cut, runs_none}
+use Rattle.lab_desk_runs.specs.Alone.{happening}
+use Rattle.lab_desk.proofs.Happenings.{as_many, happening_at, within_happenings}
 use Rattle.lab_desk.proofs.desk.Desk.run.Goals as goal
 
 pub loop-event-init : goal.loop-event-init
@@ -17,11 +19,11 @@ loop-event-init g c = record {
   room = search rules;
   run = λ within honest reached.
       rw c.in-Ok.ensures.empty (runs_none
-      (g.S.Keeper.world c.args.self.now.keeper) c.args.events.now
+      (g.S.Keeper.world c.args.self.now.keeper) (map happening c.args.events.now)
       (g.W.Write.contents c.args.writer.now));
   leaves = λ within honest reached.
       rw c.in-Ok.ensures.empty
-      (leaves_none g.S.Keeper c.args.self.now.keeper c.args.events.now);
+      (living_none g.S.Keeper c.args.self.now.keeper (map happening c.args.events.now));
 }
 
 pub returns-in_default-clause-stays : goal.returns-in_default-clause-stays
@@ -43,10 +45,10 @@ loop-event-preserved g c = record {
       let here = c.answer-answered.ensures.answered before.within honest before.reached in
       let pushed : c.push.new.self.items
       ≡ c.loop-event.taken.items ++ c.answer-answered.result.taken ∷ [] = search rules in
-      rw pushed (run_more _ _ _ c.args.events.now c.loop-event.event-index c.loop-event.taken.items
+      rw pushed (run_more _ _ _ (map happening c.args.events.now) c.loop-event.event-index c.loop-event.taken.items
       _ _ _
       (record {
-        event = c.event-item.result;
+        event = happening c.event-item.result;
         taken = c.answer-answered.result.taken;
         answer = here.0;
       })
@@ -54,8 +56,10 @@ loop-event-preserved g c = record {
         so_far = c.loop-event.invariant.run within earlier reached;
         passes = c.loop-event.invariant.passes.refusing;
         next = here.1;
-        is = c.event-item.is;
-        within = c.loop-event-test.true;
+        is = happening_at c.args.events.now c.loop-event.event-index c.event-item.result
+            c.event-item.is;
+        within = within_happenings c.args.events.now c.loop-event.event-index
+            c.loop-event-test.true;
       }) (rw c.in_default-sent.is at here.2));
   leaves = λ within honest reached.
       let earlier = c.answer-answered.ensures.passes.honest honest in
@@ -63,10 +67,12 @@ loop-event-preserved g c = record {
       let here = c.answer-answered.ensures.answered before.within honest before.reached in
       let pushed : c.push.new.self.items
       ≡ c.loop-event.taken.items ++ c.answer-answered.result.taken ∷ [] = search rules in
-      rw pushed (leaves_more g.S.Keeper c.args.self.now.keeper c.loop-event.self.keeper
-      c.answer-answered.new.self.keeper c.args.events.now c.loop-event.event-index
-      c.loop-event.taken.items c.event-item.result c.answer-answered.result.taken
-      c.event-item.is c.loop-event-test.true (c.loop-event.invariant.leaves within earlier reached)
+      rw pushed (living_more g.S.Keeper c.args.self.now.keeper c.loop-event.self.keeper
+      c.answer-answered.new.self.keeper (map happening c.args.events.now) c.loop-event.event-index
+      c.loop-event.taken.items (happening c.event-item.result) c.answer-answered.result.taken
+      (happening_at c.args.events.now c.loop-event.event-index c.event-item.result c.event-item.is)
+      (within_happenings c.args.events.now c.loop-event.event-index c.loop-event-test.true)
+      (c.loop-event.invariant.leaves within earlier reached)
       (record {
         back = c.answer-answered.ensures.passes.live honest;
         leaves = c.answer-answered.ensures.leaves before.within honest before.reached;
@@ -75,7 +81,8 @@ loop-event-preserved g c = record {
         releasing = before.releasing;
         after = here.1.after (g.S.Keeper.world c.loop-event.self.keeper).meaning
             (λ live code. refl);
-      }));
+      })
+      (c.answer-answered.ensures.lives before.within honest before.reached));
 }
 
 pub returns-in-Err-clause-cut : goal.returns-in-Err-clause-cut
@@ -86,10 +93,10 @@ returns-in-Err-clause-cut g c = λ within honest reached.
     let pushed : c.push.new.self.items
     ≡ c.loop-event.taken.items ++ c.answer-answered.result.taken ∷ [] = search rules in
     let counted : length c.push.new.self.items ≡ c.loop-event.event-index + 1 = search rules in
-    run_cut _ _ _ c.args.events.now c.loop-event.event-index c.loop-event.taken.items
+    run_cut _ _ _ (map happening c.args.events.now) c.loop-event.event-index c.loop-event.taken.items
     c.push.new.self.items _ _ _
     (record {
-      event = c.event-item.result;
+      event = happening c.event-item.result;
       taken = c.answer-answered.result.taken;
       answer = here.0;
     }) _
@@ -97,8 +104,10 @@ returns-in-Err-clause-cut g c = λ within honest reached.
       so_far = c.loop-event.invariant.run within earlier reached;
       passes = c.loop-event.invariant.passes.refusing;
       next = here.1;
-      is = c.event-item.is;
-      within = c.loop-event-test.true;
+      is = happening_at c.args.events.now c.loop-event.event-index c.event-item.result
+          c.event-item.is;
+      within = within_happenings c.args.events.now c.loop-event.event-index
+          c.loop-event-test.true;
     }) pushed counted (rw c.in-Err.is at here.2)
 
 pub returns-in-Err-clause-leaves_cut : goal.returns-in-Err-clause-leaves_cut
@@ -109,10 +118,16 @@ returns-in-Err-clause-leaves_cut g c = λ within honest reached.
     let pushed : c.push.new.self.items
     ≡ c.loop-event.taken.items ++ c.answer-answered.result.taken ∷ [] = search rules in
     let counted : length c.push.new.self.items ≡ c.loop-event.event-index + 1 = search rules in
-    rw (counted, pushed) (leaves_more g.S.Keeper c.args.self.now.keeper c.loop-event.self.keeper
-    c.answer-answered.new.self.keeper c.args.events.now c.loop-event.event-index
-    c.loop-event.taken.items c.event-item.result c.answer-answered.result.taken
-    c.event-item.is c.loop-event-test.true (c.loop-event.invariant.leaves within earlier reached)
+    rw (counted, pushed) (leaves_of g.S.Keeper c.args.self.now.keeper
+    c.answer-answered.new.self.keeper
+    (take (c.loop-event.event-index + 1) (map happening c.args.events.now))
+    (c.loop-event.taken.items ++ c.answer-answered.result.taken ∷ [])
+    (living_more g.S.Keeper c.args.self.now.keeper c.loop-event.self.keeper
+    c.answer-answered.new.self.keeper (map happening c.args.events.now) c.loop-event.event-index
+    c.loop-event.taken.items (happening c.event-item.result) c.answer-answered.result.taken
+    (happening_at c.args.events.now c.loop-event.event-index c.event-item.result c.event-item.is)
+    (within_happenings c.args.events.now c.loop-event.event-index c.loop-event-test.true)
+    (c.loop-event.invariant.leaves within earlier reached)
     (record {
       back = c.answer-answered.ensures.passes.live honest;
       leaves = c.answer-answered.ensures.leaves before.within honest before.reached;
@@ -121,7 +136,8 @@ returns-in-Err-clause-leaves_cut g c = λ within honest reached.
       releasing = before.releasing;
       after = here.1.after (g.S.Keeper.world c.loop-event.self.keeper).meaning
           (λ live code. refl);
-    })).leaves
+    })
+    (c.answer-answered.ensures.lives before.within honest before.reached)))
 
 pub returns-in-Err-clause-stays : goal.returns-in-Err-clause-stays
 returns-in-Err-clause-stays g c =
@@ -136,13 +152,19 @@ returns-clause-alone g c = λ within honest reached.
     subst (λ events. Runs (g.S.Keeper.world c.args.self.now.keeper)
     (g.S.Keeper.world c.loop-event.self.keeper) events c.loop-event.taken.items
     (g.W.Write.contents c.args.writer.now) (g.W.Write.contents c.loop-event.writer))
-    (take_all c.loop-event.event-index c.args.events.now (omega arith))
+    (take_all c.loop-event.event-index (map happening c.args.events.now)
+    (omega (arith, as_many c.args.events.now)))
     (c.loop-event.invariant.run within honest reached)
 
 pub returns-clause-leaves : goal.returns-clause-leaves
 returns-clause-leaves g c = λ within honest reached.
     let done = c.loop-event-test.false in
-    subst (λ events. LeavesRun g.S.Keeper c.args.self.now.keeper c.loop-event.self.keeper events
+    subst (λ events. LeavesRun (IsLiveToLast (g.S.Keeper.world c.args.self.now.keeper)
+    (g.S.Keeper.world c.loop-event.self.keeper) c.loop-event.taken.items)
+    (g.S.Keeper.world c.args.self.now.keeper) (g.S.Keeper.world c.loop-event.self.keeper) events
     c.loop-event.taken.items)
-    (take_all c.loop-event.event-index c.args.events.now (omega arith))
-    (c.loop-event.invariant.leaves within honest reached).leaves
+    (take_all c.loop-event.event-index (map happening c.args.events.now)
+    (omega (arith, as_many c.args.events.now)))
+    (leaves_of g.S.Keeper c.args.self.now.keeper c.loop-event.self.keeper
+    (take c.loop-event.event-index (map happening c.args.events.now)) c.loop-event.taken.items
+    (c.loop-event.invariant.leaves within honest reached))

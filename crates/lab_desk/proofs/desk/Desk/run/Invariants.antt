@@ -1,8 +1,9 @@
-use Rattle.std.proofs.Common.{◌≡◌, ◌≤◌, take, length, vec_capacity}
+use Rattle.std.proofs.Common.{◌≡◌, ◌≤◌, take, length, map, vec_capacity}
 use Rattle.lab_records_kept.specs.Worlds.{Passes}
+use Rattle.lab_desk_runs.specs.Alone.{happening}
 use Rattle.lab_desk_runs.specs.Keeping.{GivenWithin, StaysOn}
 use Rattle.lab_desk_runs.specs.Runs.{Runs}
-use Rattle.lab_desk_runs.proofs.Leaving.{LeavesSoFar}
+use Rattle.lab_desk_runs.proofs.Leaving.{LeavesLiving}
 use Rattle.lab_desk.proofs.desk.Desk.run.Given as goal
 
 -- the events so far are a run from the start, and its answers are what was written
@@ -15,9 +16,9 @@ invariant-loop-event g l = record {
   room : length l.events ≤ vec_capacity l.taken;
   run : GivenWithin (g.S.Keeper.world l.fn.self.keeper) (g.S.Keeper.world l.self.keeper)
       (Runs (g.S.Keeper.world l.fn.self.keeper) (g.S.Keeper.world l.self.keeper)
-      (take l.event-index l.events) l.taken.items
+      (take l.event-index (map happening l.events)) l.taken.items
       (g.W.Write.contents l.fn.writer) (g.W.Write.contents l.writer));
   leaves : GivenWithin (g.S.Keeper.world l.fn.self.keeper) (g.S.Keeper.world l.self.keeper)
-      (LeavesSoFar g.S.Keeper l.fn.self.keeper l.self.keeper
-      (take l.event-index l.events) l.taken.items);
+      (LeavesLiving g.S.Keeper l.fn.self.keeper l.self.keeper
+      (take l.event-index (map happening l.events)) l.taken.items);
 }

@@ -1,0 +1,4 @@
+pub mod Rooms
+pub mod Cases
+pub mod Others
+pub mod Steps
