@@ -6,7 +6,7 @@ import re
 from laboratory import Refused, Thing, amount, read_value
 from streams import LEAD, NOTE
 
-CONTROLS = "[\0-\x1f\x7f]"
+CONTROLS, CONTROLS_BUT_LINES = "[\0-\x1f\x7f]", "[\0-\t\x0b-\x1f\x7f]"
 CODES = {"lab": r"[a-z][a-z0-9-]{0,11}", "person": r"[a-z][a-z0-9-]{1,15}", "key": r"[a-z][a-z0-9_]{0,23}"}
 # The most bytes of a text that may have any letters.
 MOST = {"name": 120, "unit": 20, "note": 1000}
@@ -24,7 +24,7 @@ def admits(rule, text):
     if rule in CODES:
         return bool(re.fullmatch(CODES[rule], text))
     if rule == "note":
-        return 1 <= len(text.encode()) <= MOST["note"] and not re.search(CONTROLS.replace(r"-\x1f", "-\t\x0b-\x1f"), text)
+        return 1 <= len(text.encode()) <= MOST["note"] and not re.search(CONTROLS_BUT_LINES, text)
     if rule == "unit" and text == "":
         return True
     return 1 <= len(text.encode()) <= MOST[rule] and not re.search(CONTROLS, text) and text[0] != " " and text[-1] != " "
