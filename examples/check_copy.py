@@ -6,11 +6,11 @@ different persons signed.
     check_copy.py < COPY   checks what comes from standard input
 
 It prints 'good' and how many record, version, entry and signature rows the copy has, with status 0; or 'bad', the first flaw and its
-row, with status 1. Where the copy can't be read it says why, with status 2. The file is read byte by byte, as Latin-1, so that
+row, with status 1. If the copy can't be read, it prints why, with status 2. The file is read byte by byte, as Latin-1, so that
 lengths are those of bytes.
 
-Beside 'good' it prints a line on standard error for each row that no server writes and that no rule of a check forbids: a remark. The
-verdict and the status stay. At most a hundred are printed."""
+With 'good' it also prints remarks on standard error, at most a hundred: a line for each row that no server writes, although no rule of
+a check forbids it. A remark changes neither the verdict nor the status."""
 import csv
 import datetime
 import hashlib

@@ -4,11 +4,11 @@
     check_file.py FILE LAB
 
 No server may hold the file. Nothing is written into it; beside a file that has a log, FILE-wal, SQLite may leave FILE-shm. Each digest
-and each seal is computed anew from the rows. Beside that the script looks at who signed, whether numbers have gaps, whether a row leads
+and each seal is computed anew from the rows. The script also looks at who signed, whether numbers have gaps, whether a row leads
 to another laboratory, and whether values are those that their forms admit; and it reads the trail row by row, as it was written, and
 compares what the trail says with the persons, the sessions, the forms and the records that are there. It prints 'good' and how many
 records, versions, entries and signatures the laboratory has, with status 0; or a line for each of the first hundred flaws, 'bad', a word
-and a place, with status 1. Where the file can't be read it says why, with status 2.
+and a place, with status 1. If the file can't be read, it prints why, with status 2.
 
     integrity   what SQLite itself finds of the whole file
     schema      a table or the index isn't as docs/TABLES.md has it, or the file has a trigger
@@ -16,14 +16,14 @@ and a place, with status 1. Where the file can't be read it says why, with statu
     seal        a signature's seal isn't that of its items
     one_person  the signatures aren't those of a state, or the persons aren't different ones, as the rules of signers and of one-time
                 passwords want it
-    order       a number is missing, a version follows one that isn't settled, or a reason stands where none may, or lacks
-    value       a value, its key or its unit is none that the form admits, a required one lacks, or an amendment alters nothing
+    order       a number is missing, a version follows one that isn't settled, or a reason is missing or not allowed
+    value       the form doesn't admit a value, its key or its unit, a required value is missing, or an amendment alters nothing
     arrow       a row leads to a row of another laboratory
     person      a person isn't what the trail says: who there is, roles, retirement, locks, and which password was given when
-    trail       something has no row of the trail, a row of the trail has nothing or can't stand there, or its moments go back
-    row         a row has what no row can have; the check ends there
+    trail       something has no row of the trail, a row of the trail is about nothing or can't be there, or its moments go back
+    row         no row can have what this row has; the check ends there
 
-Before the verdict stands a line for each table, view or index that another program added, 'added' and its name: they may be there.
+Before the verdict it prints 'added' and the name of each table, view or index that another program added. They are allowed.
 """
 import collections
 import contextlib

@@ -11,9 +11,9 @@
     client.py URL LAB CODE sign RECORD VERSION MEANING [WHY]  shows a version, asks, and signs what was shown
     client.py URL LAB CODE copy FIRST LAST FILE               joins inspection copies of hundreds into one file
 
-The password is asked for at the terminal; where there is none, it is the first line of standard input. The status is 0 where the command
-was done, 1 where it was refused or certainly not done, as where no server was reached, 2 where the words of the command line are wrong,
-and 3 where it isn't known whether it was done. While the script waits, it says so on standard error.
+The script asks for the password at the terminal; without a terminal it reads it from the first line of standard input. The status is 0 if
+the command was done, 1 if it was refused or certainly not done (for example, no server was reached), 2 if the command line is wrong, and
+3 if nobody knows whether it was done. While the script waits, it prints a line on standard error.
 """
 import contextlib
 import getpass

@@ -3,11 +3,11 @@
 
     compare_files.py OLD NEW
 
-Neither may be held by a server, and nothing was done in the new file yet. Copies of both are read, with their logs; nothing is written
-into either, nor left beside it. Ids are left out: each row is read with the codes and numbers by which it is known. An empty text where
-a reason may stand is read as none. Beside the rows of the old file the new one has to have text format 1, no approvals, and the rounds
+No server may hold either file, and the new file must be as `labdesk migrate` left it. The script reads copies of both, with their logs; it
+writes into neither, and leaves nothing beside them. Rows are compared by their codes and numbers, not by their ids. An empty text in
+place of a reason counts as no reason. Besides the rows of the old file, the new one must have text format 1, no approvals, and the rounds
 of each verifier. The script prints 'same' and how many rows there are of each kind, with status 0; or a line for each of the first
-hundred rows that one file alone has, 'old' or 'new' and the row, with status 1. Where a file can't be read it says why, with status 2.
+hundred rows that one file alone has, 'old' or 'new' and the row, with status 1. If a file can't be read, it prints why, with status 2.
 """
 import contextlib
 import os

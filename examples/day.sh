@@ -1,12 +1,12 @@
 #!/usr/bin/env bash
 # A laboratory's day, played with labdesk, curl and jq: two laboratories are founded in one file, people are let in, a result is
 # entered, signed by one person and released by another, amended, rejected, amended again, read, and carried away as a copy that
-# anybody can check. Then the server is started once more over the same file, and tells the same.
+# anybody can check. Then the server is started again over the same file, and returns the same.
 #
 #     examples/day.sh [PROGRAM]
 #
-# PROGRAM is ./labdesk where none is given. Each reply is looked at: the day stops, with status 1, at the first that isn't the
-# expected one. What it made stays in a folder, which it names.
+# Without PROGRAM it runs ./labdesk. The day stops with status 1 at the first reply that isn't the expected one. It prints the folder in
+# which its files stay.
 set -euo pipefail
 unset CDPATH
 case ${1:-} in

@@ -18,7 +18,8 @@ Each record that is found meets all of the options that are given:
     --csv            they are printed as CSV, and not as a table
 
 A table is for people: a character that can't be seen has its code before it. CSV has each text as it is. How many records were found, of
-how many, is printed on standard error. The status is 0 where there is one, and else 1; or 2 where the words or the file can't be read.
+how many, is printed on standard error. The status is 0 if a record was found, 1 if none was, and 2 if the command line is wrong or the file
+can't be read.
 
 The trail ends in a row with the number of its rows and the SHA-256 of all bytes before that row. A check prints 'good' and that number; or
 'bad', a word and a row: 'bad_row', 'order' (a number is missing, or a moment goes back), 'digest' or 'no_end'.

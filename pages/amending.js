@@ -54,7 +54,7 @@ function amend({ record, current }, reason, altered) {
 }
 
 function amending_row(about, value) {
-  const { part, control } = value_control(about, `value_${about.key}`, [words.other_value, ' ', given(about.label)]);
+  const { part, control } = value_control(about, `value_${about.key}`, words.other_value(given(about.label)));
   const standing = element('div', { class: 'standing' }, paragraph(label_of(about)),
     paragraph(words.stands_now, ' ', value_of(value, 'standing')));
   return { part: element('div', { class: 'amend-row', 'data-key': about.key }, standing, part), control };

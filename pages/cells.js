@@ -32,7 +32,7 @@ function name(control, heads, { told }) {
 }
 
 function grid_cell(about, heads, row) {
-  const [control, advice, outcome] = [control_of(about, 'value', 1), advice_part(about), named('outcome')];
+  const [control, advice, outcome] = [control_of(about, 'value', 1, true), advice_part(about), named('outcome')];
   if (control.size) control.size = 9;
   name(control, heads, row);
   control.setAttribute('aria-describedby', advice.id);

@@ -7,6 +7,9 @@
 // A field is kept as a string of which each character is one byte, so that lengths are those of bytes; `text_of` gives it as people
 // read it.
 
+import { GREATEST_NUMBER, MOST_OF_NAME, MOST_OF_NOTE, MOST_OF_UNIT } from './limits.js';
+import { is_key, is_lab_code, is_person_code } from './rules.js';
+
 const HEADER = 'kind,lab,record,version,key,value,unit,person,name,moment,reason,digest,seal';
 const COLUMNS = HEADER.split(',');
 const BYTE_ORDER_MARK = [0xef, 0xbb, 0xbf];
@@ -145,14 +148,14 @@ function is_moment(field) {
 }
 
 const TEXTS = {
-  lab: (field) => /^[a-z][a-z0-9-]{0,11}$/.test(field),
-  person: (field) => /^[a-z][a-z0-9-]{1,15}$/.test(field),
-  key: (field) => /^[a-z][a-z0-9_]{0,23}$/.test(field),
-  name: (field) => is_name(field, 120),
-  unit: (field) => is_name(field, 20),
-  note: (field) => is_text(field, 1, 1000, /[\x00-\x09\x0b-\x1f\x7f]/),
+  lab: is_lab_code,
+  person: is_person_code,
+  key: is_key,
+  name: (field) => is_name(field, MOST_OF_NAME),
+  unit: (field) => is_name(field, MOST_OF_UNIT),
+  note: (field) => is_text(field, 1, MOST_OF_NOTE, /[\x00-\x09\x0b-\x1f\x7f]/),
   digest: (field) => /^[0-9a-f]{64}$/.test(field),
-  number: (field) => /^([1-9][0-9]{0,8}|1000000000)$/.test(field),
+  number: (field) => /^[1-9][0-9]{0,9}$/.test(field) && Number(field) <= GREATEST_NUMBER,
   count: (field) => /^(0|[1-9][0-9]{0,11}|1000000000000)$/.test(field),
   format: (field) => field === '1' || field === '2',
   state: (field) => ['open', 'signed', 'reviewed', 'released', 'rejected'].includes(field),
@@ -260,7 +263,7 @@ function text_of_version(kept) {
 }
 
 // The text of which a signature's seal is the SHA-256.
-export function text_of_seal(line) {
+function text_of_seal(line) {
   return text_of_items([line.digest, line.lab, line.person, line.name, line.value, line.moment, line.reason]);
 }
 

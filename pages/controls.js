@@ -1,18 +1,18 @@
 // A control for a value of a field, made from the form: what fits it, and the advice beside it.
 
-import { area, choice, element, field, fresh_id, given, input } from './elements.js';
+import { area, choice, element, field, fresh_id, given, input, radios } from './elements.js';
+import { MOST_OF_NAME } from './limits.js';
 import { bytes_of, flaw_of_value } from './rules.js';
 import { slip_of_value, text_of_slip } from './slips.js';
 import { hint_of } from './showing.js';
 import { texts } from './texts.js';
 
 const words = texts.entering;
-// A text that may be longer has room for several lines where there is room.
-const SHORT = 120;
 
 // A control for a value of a field, and the part of the page with its hint, unit and advice: { part, control }.
 export function value_control(about, name, label) {
-  const control = control_of(about, name, about.size > SHORT ? 3 : 1);
+  // (a text that may be longer than a name has room for several lines)
+  const control = control_of(about, name, about.size > MOST_OF_NAME ? 3 : 1);
   const advice = advice_part(about);
   const part = field(label, control, hint_of(about), unit_of(about));
   part.append(advice);
@@ -21,11 +21,20 @@ export function value_control(about, name, label) {
   return { part, control };
 }
 
-export function control_of({ kind, choices }, name, rows) {
-  if (kind === 'choice') return choice(name, [['', texts.choose], ...choices.map((text) => [text, text])], '');
-  if (kind === 'yesno') return choice(name, [['', texts.choose], ['yes', words.yes], ['no', words.no]], '');
+// So few choices are all seen at once; in a narrow place, where they are so short together.
+const [FEW, SHORT_TOGETHER] = [5, 12];
+
+export function control_of({ kind, choices }, name, rows, is_narrow) {
+  if (kind === 'choice') return choice_of(name, choices.map((text) => [text, text]), is_narrow);
+  if (kind === 'yesno') return choice_of(name, [['yes', words.yes], ['no', words.no]], is_narrow);
   if (kind === 'text') return area(name, { dir: 'auto', rows });
   return input(name, { size: kind === 'date' ? 12 : 18 });
+}
+
+function choice_of(name, options, is_narrow) {
+  const are_short = options.map(([, text]) => text).join('').length <= SHORT_TOGETHER;
+  if (options.length <= FEW && (are_short || !is_narrow)) return radios(name, options);
+  return choice(name, [['', texts.choose], ...options], '');
 }
 
 export const unit_of = ({ unit }) => unit && element('span', { class: 'unit', 'data-part': 'unit' }, given(unit));

@@ -7,7 +7,8 @@ import {
   button, buttons, element, facts, field, given, heading, input, moment, paragraph, replace, save_file, section, table,
 } from './elements.js';
 import { is_left } from './life.js';
-import { AT_ONCE, hundreds, number_of } from './numbers.js';
+import { AT_ONCE } from './limits.js';
+import { hundreds, number_of } from './numbers.js';
 import { last_record } from './reading.js';
 import { say } from './saying.js';
 import { refuse, sending_form } from './sending.js';

@@ -147,8 +147,66 @@ export function choice(name, options, chosen, attributes) {
     element('option', { value, selected: value === chosen, dir: 'auto' }, marked(text))));
 }
 
+// A few options, each a radio button. The group is used like a list to choose from: it has a name and a value, and takes the focus. A
+// letter chooses the next option that begins with it. Where nothing was chosen at first, Delete and a button choose nothing again.
+export function radios(name, options, chosen = '') {
+  const own = fresh_id(name);
+  const boxes = options.map(([value]) => element('input', { type: 'radio', name: own, value, checked: value === chosen }));
+  const none = element('button', { type: 'button', 'data-do': 'clear', click: () => choose('') }, texts.clear);
+  const group = element('fieldset', { class: 'radios', role: 'radiogroup', name, input: () => show_none() },
+    boxes.map((box, at) => element('label', null, box, ' ', given(options[at][1]))), chosen === '' && none);
+  const chosen_box = () => boxes.find(({ checked }) => checked);
+  const show_none = () => { none.toggleAttribute('data-idle', !chosen_box()); };
+  const put = (value) => {
+    for (const box of boxes) box.checked = box.value === value;
+    show_none();
+  };
+  const choose = (value) => {
+    put(value);
+    group.focus();
+    for (const event of ['input', 'change']) group.dispatchEvent(new Event(event, { bubbles: true }));
+  };
+  show_none();
+  Object.defineProperties(group, {
+    value: { get: () => chosen_box()?.value ?? '', set: put },
+    defaultValue: { value: chosen },
+    focus: { value: (how) => (chosen_box() ?? boxes[0]).focus(how) },
+  });
+  group.addEventListener('keydown', (event) => {
+    const value = value_by_key(event, options, group.value, chosen === '');
+    if (value === null) return;
+    event.preventDefault();
+    choose(value);
+  });
+  return group;
+}
+
+// What a key chooses among options, or null.
+function value_by_key({ key, ctrlKey, metaKey, altKey }, options, value, may_be_none) {
+  if (ctrlKey || metaKey || altKey) return null;
+  if (['Delete', 'Backspace'].includes(key)) return may_be_none ? '' : null;
+  const at = options.findIndex(([one]) => one === value);
+  const in_turn = [...options.slice(at + 1), ...options.slice(0, at + 1)];
+  const found = key.length === 1 && key !== ' ' && in_turn.find(([, text]) => text.toLowerCase().startsWith(key.toLowerCase()));
+  return found ? found[0] : null;
+}
+
+// The control that a node is, or is of: the group of a radio button.
+export const control_at = (node) => node.closest('fieldset[name]') ?? node;
+
+// The legend and the hint of a group of radio buttons.
+function group_field(label, group, hint) {
+  const legend = element('legend', { id: fresh_id('legend') }, label);
+  const about = hint && element('p', { class: 'hint', id: fresh_id('hint') }, hint);
+  group.setAttribute('aria-labelledby', legend.id);
+  if (about) group.setAttribute('aria-describedby', about.id);
+  group.prepend(...[legend, about].filter(Boolean));
+  return element('div', { class: 'field', 'data-field': group.name }, group);
+}
+
 // A control with its label and hint. What stands behind it, as a unit, is part of its name.
 export function field(label, control, hint, behind) {
+  if (control.matches('fieldset')) return group_field(label, control, hint);
   control.id ||= fresh_id(control.name);
   const name = behind ? fresh_id('label') : null;
   if (behind) {
@@ -173,6 +231,20 @@ export function folded_filter(made, filter) {
   const is_open = matchMedia('(min-width: 46rem)').matches || Object.values(filter).some(Boolean);
   return element('details', { open: is_open }, element('summary', null, texts.filter), made);
 }
+
+// A part that is folded on the screen until it is opened, and stands on paper.
+export function folded(title, attributes, ...children) {
+  return element('details', { class: 'folded', ...attributes }, element('summary', null, title), children);
+}
+
+let opened_for_paper = [];
+addEventListener('beforeprint', () => {
+  opened_for_paper = [...document.querySelectorAll('details.folded:not([open])')];
+  for (const one of opened_for_paper) one.open = true;
+});
+addEventListener('afterprint', () => {
+  for (const one of opened_for_paper) one.open = false;
+});
 
 // A control of a filter: a list to choose from, and any of it at first.
 export function filter_choice(name, options, filter, changed) {

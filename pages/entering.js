@@ -2,7 +2,7 @@
 // after the other, and each row says what came of its own.
 
 import { what_to_type } from './controls.js';
-import { button, buttons, element, given, section, table } from './elements.js';
+import { button, buttons, control_at, element, given, section, table } from './elements.js';
 import { enter_at, is_about_reason, is_about_value } from './entries.js';
 import { is_left, view_of } from './life.js';
 import { column_of } from './pasting.js';
@@ -53,8 +53,8 @@ function listen(sheet) {
   made.addEventListener('keydown', (event) => go_down(sheet, event));
   made.addEventListener('paste', (event) => paste(sheet, event));
   made.addEventListener('input', ({ target }) => {
-    const row = rows.find(({ control }) => control === target);
-    if (row) tell(row, target.value === '' ? null : 'typed');
+    const row = rows.find(({ control }) => control === control_at(target));
+    if (row) tell(row, row.control.value === '' ? null : 'typed');
     count_typed(sheet);
   });
 }
@@ -72,8 +72,8 @@ function go_down({ made }, event) {
   if (event.shiftKey && target.matches('textarea')) return;
   event.preventDefault();
   if (event.repeat) return;
-  const controls = [...made.querySelectorAll('[name]')].filter((control) => !control.closest('[hidden]'));
-  const next = event.ctrlKey || event.metaKey ? null : controls[controls.indexOf(target) + 1];
+  const controls = [...made.querySelectorAll('[name]')].filter((control) => control.type !== 'radio' && !control.closest('[hidden]'));
+  const next = event.ctrlKey || event.metaKey ? null : controls[controls.indexOf(control_at(target)) + 1];
   if (next) next.focus();
   else made.requestSubmit();
 }
@@ -82,7 +82,7 @@ function go_down({ made }, event) {
 
 // Several lines that are pasted fill the rows below, each as if it was typed; a text keeps its lines. Nothing is sent.
 function paste(sheet, event) {
-  const at = sheet.rows.findIndex(({ control }) => control === event.target);
+  const at = sheet.rows.findIndex(({ control }) => control === control_at(event.target));
   const column = at < 0 || sheet.rows[at].about.kind === 'text' ? null : column_of(event.clipboardData.getData('text'));
   if (!column) return;
   event.preventDefault();
@@ -150,7 +150,7 @@ async function send_all(sheet, came) {
 }
 
 function tell_none({ made, rows }) {
-  const about = rows.find(({ control }) => control === document.activeElement) ?? rows.find(is_open);
+  const about = rows.find(({ control }) => control === control_at(document.activeElement)) ?? rows.find(is_open);
   try {
     refuse('no_value');
   } catch (refusal) {
@@ -213,7 +213,7 @@ function say_what_came({ made, shown }, { steps, entered, refused, looked }) {
   const [one] = entered;
   const unknown = refused.filter(({ look }) => look).length;
   const counts = { entered: entered.length, refused: refused.length - unknown, unknown, left: steps.length - entered.length - refused.length };
-  const what = steps.length === 1 && one ? [given(one.about.label), ' ', words.said_entered] : words.said_all(counts);
+  const what = steps.length === 1 && one ? words.said_entered(given(one.about.label)) : words.said_all(counts);
   say(texts.record(shown.record), ': ', what, looked && [' ', texts.said_looked]);
 }
 

@@ -1,13 +1,17 @@
 // Signing in, signing in again over a page that stays as it is, and changing the password.
 
 import { Refusal, change_the_password } from './api.js';
-import { button, element, facts, field, given, heading, input, paragraph, password_field, replace } from './elements.js';
+import { button, buttons, element, facts, field, given, heading, input, paragraph, password_field, replace } from './elements.js';
+import { go } from './life.js';
+import { LEAST_OF_PASSWORD, MOST_OF_PASSWORD } from './limits.js';
 import { write } from './outcomes.js';
 import { first_place, password_place } from './places.js';
 import { bytes_of } from './rules.js';
 import { say } from './saying.js';
 import { clear_refusals, refuse, sending_form, show_refusal } from './sending.js';
-import { ask, ask_once, card_of, is_password_due, password_changed, sign_in, sign_out, who } from './session.js';
+import {
+  ask, ask_once, card_of, is_password_due, learn_roles_again, password_changed, sign_in, sign_out, who,
+} from './session.js';
 import { texts } from './texts.js';
 
 const words = texts.entrance;
@@ -80,6 +84,20 @@ export function password_view(place) {
     }));
 }
 
+// Who has no role is told whom to ask. One that was given meanwhile is found without signing in again.
+export function no_role_view(view) {
+  const look = async () => {
+    await learn_roles_again();
+    if (who().roles.size) go(view, first_place(), true);
+    else say(words.said_no_role);
+  };
+  const check = button('look_for_role', words.look_for_role, async () => {
+    clear_refusals(view);
+    await look().catch((refusal) => show_refusal(view, refusal));
+  });
+  replace(view, heading(words.no_role_title), paragraph(words.no_role(who().code)), paragraph(words.no_role_then), buttons(check));
+}
+
 // The form that changes the password. `by` asks the command.
 function change_form(done, by = ask) {
   const old = typed;
@@ -124,7 +142,7 @@ function new_password_field() {
   made.append(length);
   made.querySelector('[name="new"]').addEventListener('input', (event) => {
     const bytes = bytes_of(event.target.value);
-    length.textContent = bytes < 12 || bytes > 128 ? words.length(bytes) : '';
+    length.textContent = bytes < LEAST_OF_PASSWORD || bytes > MOST_OF_PASSWORD ? words.length(bytes) : '';
   });
   return made;
 }

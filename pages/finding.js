@@ -6,7 +6,8 @@ import {
   named, offer, reading, replace, replace_focused, table,
 } from './elements.js';
 import { is_left, is_over, leave_at, take_up } from './life.js';
-import { AT_ONCE, hundred_to, hundreds, number_of } from './numbers.js';
+import { AT_ONCE, SHOWN_AT_ONCE } from './limits.js';
+import { hundred_to, hundreds, number_of } from './numbers.js';
 import { filter_of_query, opening_place, record_place, records_place } from './places.js';
 import { last_record } from './reading.js';
 import { say } from './saying.js';
@@ -19,7 +20,6 @@ import { kept_records, known_of, learn, missing_hundreds, read_altered, read_rec
 
 const words = texts.records;
 const FILTERS = ['state', 'form', 'sample', 'person', 'day'];
-const MOST_ROWS = 300;
 const [MILLISECONDS_SAID, MILLISECONDS_SHOWN] = [100, 500];
 
 export async function records_view(view, query) {
@@ -29,7 +29,7 @@ export async function records_view(view, query) {
   const rows = kept_records();
   const filter = filter_of_query(query, FILTERS);
   if (!texts.states[filter.state]) filter.state = '';
-  const list = { view, body, rows, filter, most: MOST_ROWS, last: 0, walk: null, said_at: 0 };
+  const list = { view, body, rows, filter, most: SHOWN_AT_ONCE, last: 0, walk: null, said_at: 0 };
   await read_altered();
   list.last = await last_record();
   if (list.last) await read_records_into(rows, hundred_to(list.last));
@@ -109,9 +109,9 @@ function more_of(list, found) {
   const [older] = missing_hundreds(list.rows, list.last);
   if (found.length <= list.most) return older && load_more_button(list, older);
   return button('show_more', words.show_more, () => {
-    list.most += MOST_ROWS;
+    list.most += SHOWN_AT_ONCE;
     draw(list);
-    list.shown.querySelectorAll('tbody a')[list.most - MOST_ROWS]?.focus();
+    list.shown.querySelectorAll('tbody a')[list.most - SHOWN_AT_ONCE]?.focus();
   });
 }
 

@@ -3,9 +3,10 @@
 import { Refusal, make_a_form } from './api.js';
 import {
   action, actions, area, button, buttons, checkbox, choice, element, facts, field, given, heading, input, link, link_row,
-  paragraph, reading, replace, section, table,
+  paragraph, radios, reading, replace, section, table,
 } from './elements.js';
 import { go, is_left, view_of } from './life.js';
+import { MOST_DECIMALS } from './limits.js';
 import { write } from './outcomes.js';
 import { form_place, forms_place, grid_place, making_place, opening_place } from './places.js';
 import { form_of, form_or_null, last_version } from './reading.js';
@@ -21,7 +22,7 @@ import { forms_in_trail } from './trail.js';
 
 const words = texts.forms;
 const KINDS = ['number', 'text', 'choice', 'date', 'yesno'];
-const DECIMALS = ['0', '1', '2', '3', '4', '5', '6'].map((count) => [count, count]);
+const DECIMALS = Array.from({ length: MOST_DECIMALS + 1 }, (_, count) => [String(count), String(count)]);
 
 export async function forms_view(place) {
   const list = element('div', { 'data-part': 'forms' }, reading());
@@ -88,13 +89,14 @@ export async function form_view(place, form, version) {
 }
 
 function fields_table({ fields }, before) {
-  const columns = [words.label, words.key, words.kind, words.fits, words.required];
+  const has_keys = has('manager', 'inspector');
+  const columns = [words.label, has_keys && words.key, words.kind, words.fits, words.required].filter(Boolean);
   return table(words.fields, columns, fields.map((about) => {
     const mark = before && mark_of(before.fields.find(({ key }) => key === about.key), about);
     const label = [given(about.label, 'label'), mark && [' ', element('strong', { class: 'altered' }, mark)]];
     return {
       attributes: { 'data-key': about.key, class: mark ? 'altered-row' : null },
-      cells: [label, about.key, words.kinds[about.kind], what_fits(about), about.required ? texts.yes : texts.no],
+      cells: [label, ...has_keys ? [about.key] : [], words.kinds[about.kind], what_fits(about), about.required ? texts.yes : texts.no],
     };
   }));
 }
@@ -124,8 +126,8 @@ function lines_of(before, after) {
   if (!before) return [words.added(after.key)];
   const members = [...new Set([...Object.keys(before), ...Object.keys(after)])].sort();
   const others = members.filter((member) => JSON.stringify(before[member]) !== JSON.stringify(after[member]));
-  return others.map((member) => [words.member(after.key, words.members[member]), ' ',
-    element('s', null, member_text(before[member])), ' ', words.now, ' ', member_text(after[member])]);
+  return others.map((member) =>
+    words.altered_member(after.key, member, element('s', null, member_text(before[member])), member_text(after[member])));
 }
 
 function member_text(value) {
@@ -212,7 +214,7 @@ function editor_of(before) {
 
 function field_editor(about, list) {
   const rest = element('div', { class: 'rest' });
-  const kind = choice('kind', KINDS.map((word) => [word, words.kinds[word]]), about.kind);
+  const kind = radios('kind', KINDS.map((word) => [word, words.kinds[word]]), about.kind);
   kind.addEventListener('change', () => draw_rest(rest, { kind: kind.value }));
   draw_rest(rest, about);
   const made = element('fieldset', null, element('legend'),

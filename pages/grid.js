@@ -4,9 +4,10 @@
 import { read_a_record, read_a_version } from './api.js';
 import { grid_row, is_shown, is_typed, show_record, show_standing, tell } from './cells.js';
 import { what_to_type } from './controls.js';
-import { button, buttons, element, fresh_id, given, heading, link, paragraph, reading, replace } from './elements.js';
+import { button, buttons, control_at, element, fresh_id, given, heading, link, reading, replace } from './elements.js';
 import { enter_at, is_about_value, open_once } from './entries.js';
 import { is_left } from './life.js';
+import { MOST_SAMPLES } from './limits.js';
 import { know_newest, near_question, refuse_near } from './opening.js';
 import { block_of } from './pasting.js';
 import { record_place } from './places.js';
@@ -23,7 +24,6 @@ import { while_pressed, while_silent } from './waiting.js';
 
 const words = texts.grid;
 const ROWS = 5;
-const MOST_ROWS = 200;
 // What is refused for one of these is about one sample: the next one is gone on with.
 const ABOUT_SAMPLE = new Set(['near_name', 'no_sample', 'bad_name', 'bad_body', 'not_open', 'other_form']);
 
@@ -58,7 +58,7 @@ function table_of(grid) {
 
 // Adds rows, as long as there is room for them.
 function add_rows({ rows, cells, form, heads, body }, count) {
-  const room = Math.min(count, MOST_ROWS - rows.length);
+  const room = Math.min(count, MOST_SAMPLES - rows.length);
   const added = Array.from({ length: room }, (_, at) => grid_row(rows.length + at + 1, form.fields, heads));
   rows.push(...added);
   for (const cell of added.flatMap((row) => row.cells)) cells.set(cell.control, cell);
@@ -75,8 +75,8 @@ function listen(grid) {
   made.addEventListener('keydown', (event) => go_down(grid, event));
   made.addEventListener('paste', (event) => paste(grid, event));
   made.addEventListener('input', ({ target }) => {
-    const cell = grid.cells.get(target);
-    if (cell) tell(cell.outcome, target.value === '' ? null : 'typed');
+    const cell = grid.cells.get(control_at(target));
+    if (cell) tell(cell.outcome, cell.control.value === '' ? null : 'typed');
     count_typed(grid);
   });
 }
@@ -101,7 +101,7 @@ function go_down(grid, event) {
   event.preventDefault();
   if (event.repeat) return;
   if (event.ctrlKey || event.metaKey) grid.made.requestSubmit();
-  else next_of(grid, target).focus();
+  else next_of(grid, control_at(target)).focus();
 }
 
 function next_of(grid, control) {
@@ -118,11 +118,12 @@ function next_of(grid, control) {
 // Cells that are pasted fill the rows below and the columns behind, each as if it was typed. Nothing is sent.
 function paste(grid, event) {
   const columns = columns_of(grid);
-  const across = columns.findIndex((column) => column.includes(event.target));
+  const target = control_at(event.target);
+  const across = columns.findIndex((column) => column.includes(target));
   const block = across < 0 ? null : block_of(event.clipboardData.getData('text'));
   if (!block) return;
   event.preventDefault();
-  const down = columns[across].indexOf(event.target);
+  const down = columns[across].indexOf(target);
   const lacking = down + block.length - grid.rows.length;
   if (lacking > 0) add_rows(grid, lacking);
   fill(grid, block, down, across);

@@ -2,17 +2,19 @@
 
 import { amending_view } from './amending.js';
 import { button, buttons, element, focus_view, given, heading, link, named, paragraph, replace } from './elements.js';
-import { again_dialog, entrance_view, password_view } from './entrance.js';
+import { again_dialog, entrance_view, no_role_view, password_view } from './entrance.js';
 import { checking_view, copies_view } from './copies.js';
 import { records_view } from './finding.js';
 import { form_view, forms_view, making_view } from './forms.js';
 import { grid_view } from './grid.js';
+import { help_button } from './help.js';
 import { ask_first, guard_views } from './leaving.js';
 import { begin_view, is_over, name_view } from './life.js';
+import { WARNING_SECONDS } from './limits.js';
 import { enrolling_view, person_view, persons_view } from './persons.js';
 import { opening_view } from './opening.js';
 import {
-  PATTERNS, checking_place, copies_place, day_place, enrolling_place, first_place, forms_place, grid_place, making_place,
+  PATTERNS, checking_place, copies_place, day_place, enrolling_place, first_place, forms_place, grid_place, making_place, no_role_place,
   opening_place, password_place, persons_place, records_place, trail_place,
 } from './places.js';
 import { forget_said, say } from './saying.js';
@@ -27,12 +29,11 @@ import { trail_view } from './trail.js';
 import { paper_view, version_view } from './versions.js';
 import { day_view } from './worklist.js';
 
-const WARNING_SECONDS = 120;
 const VIEWS = {
   day: day_view, records: records_view, opening: opening_view, grid: grid_view, record: version_view, version: version_view,
   signing: signing_view, amending: amending_view, paper: paper_view, forms: forms_view, form: form_view, making: making_view,
   persons: persons_view, person: person_view, enrolling: enrolling_view, trail: trail_view, copies: copies_view,
-  checking: checking_view, password: password_view,
+  checking: checking_view, password: password_view, no_role: no_role_view,
 };
 const main = document.getElementById('main');
 const head = document.getElementById('head');
@@ -55,7 +56,7 @@ const LINKS = [
 function home() {
   if (has('analyst', 'reviewer', 'manager')) return day_place();
   if (may_read()) return records_place();
-  return may_see_persons() ? persons_place() : password_place();
+  return may_see_persons() ? persons_place() : no_role_place();
 }
 
 // The view of the place in the address: its name, the function that fills it, and what it is about.
@@ -133,8 +134,10 @@ function draw_links() {
   if (!links) return;
   const person = who();
   const useful = person ? LINKS.filter(([, , has_use]) => !person.due && has_use()) : LINKS_OUTSIDE;
+  const name = main.querySelector('[data-page]')?.dataset.page;
   replace(links, useful.length > 0 && element('ul', null, useful.map(([place, text]) =>
-    element('li', null, link(place, text, { 'aria-current': is_within(place) ? 'page' : null, click: read_again })))));
+    element('li', null, link(place, text, { 'aria-current': is_within(place) ? 'page' : null, click: read_again })))),
+  name && help_button(name));
 }
 
 // A link to the page that is shown reads it again.
@@ -211,6 +214,7 @@ on_session((person) => {
 guard_views(show);
 const skip = document.getElementById('skip');
 skip.textContent = texts.skip;
+document.documentElement.lang = texts.language;
 skip.addEventListener('click', (event) => {
   event.preventDefault();
   main.focus();

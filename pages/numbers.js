@@ -1,7 +1,6 @@
 // Numbers that are given without gaps from 1 on, as those of records and of rows of the trail. No command says which is the last.
 
-const GREATEST = 1_000_000_000;
-export const AT_ONCE = 100;
+import { AT_ONCE, GREATEST_NUMBER } from './limits.js';
 
 // The last number that is given, 0 where there is none. `read(from, to)` gives the list of what has these numbers, and `known` is
 // a number that is given, or 0. Up to a hundred above the known one it is a single request.
@@ -10,10 +9,10 @@ export async function last_number(read, known = 0) {
   const near = await read(first, end_of(first));
   if (near.length < AT_ONCE) return first + near.length - 1;
   let low = first + AT_ONCE - 1;
-  let high = Math.min(low * 2, GREATEST);
+  let high = Math.min(low * 2, GREATEST_NUMBER);
   while (high > low && (await read(high, high)).length) {
     low = high;
-    high = Math.min(high * 2, GREATEST);
+    high = Math.min(high * 2, GREATEST_NUMBER);
   }
   while (high - low > AT_ONCE) {
     const middle = Math.floor((low + high) / 2);
@@ -35,7 +34,7 @@ export async function first_number(last, is_before) {
 }
 
 function end_of(first) {
-  return Math.min(first + AT_ONCE - 1, GREATEST);
+  return Math.min(first + AT_ONCE - 1, GREATEST_NUMBER);
 }
 
 // The hundred that ends with a number: [from, to].
@@ -51,5 +50,5 @@ export function* hundreds(from, to) {
 // A number as the server reads it, or null.
 export function number_of(text) {
   const number = /^[1-9][0-9]{0,9}$/.test(text.trim()) ? Number(text.trim()) : 0;
-  return number >= 1 && number <= GREATEST ? number : null;
+  return number >= 1 && number <= GREATEST_NUMBER ? number : null;
 }

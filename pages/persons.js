@@ -158,7 +158,7 @@ function one_time_part(person) {
 // of it, or it wasn't done; the half is lost then.
 async function ask_for_half(person, which, place) {
   const { send, action, lost } = HALVES[which];
-  const [own, name] = [notes(), `asked for ${person.code}`];
+  const [own, name] = [notes(), `issue ${person.code}`];
   if (which === 'first' && own.delete(name)) refuse('asked_already');
   const last = await last_row();
   await write(send, person.code, {

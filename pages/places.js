@@ -1,7 +1,9 @@
 // The places of the pages, behind the # of the address. No place has a token or a password. That of a list has its filter.
 
+import { KEY as KEY_PATTERN, PERSON_CODE } from './limits.js';
+
 const NUMBER = '([1-9][0-9]{0,9})';
-const KEY = '([a-z][a-z0-9_]{0,23})';
+const KEY = `(${KEY_PATTERN})`;
 
 export const first_place = () => '#/';
 export const day_place = () => '#/day';
@@ -25,6 +27,7 @@ export const trail_place = (filter) => `#/trail${query_of(filter)}`;
 export const copies_place = () => '#/copies';
 export const checking_place = () => '#/checking';
 export const password_place = () => '#/password';
+export const no_role_place = () => '#/no-role';
 
 // The views by their places, each with a name and a pattern whose groups are what the view is about.
 export const PATTERNS = {
@@ -41,16 +44,17 @@ export const PATTERNS = {
   form: new RegExp(`^#/forms/${KEY}/${NUMBER}$`),
   making: new RegExp(`^#/making(?:/${KEY}/${NUMBER})?$`),
   persons: /^#\/persons$/,
-  person: /^#\/persons\/([a-z][a-z0-9-]{1,15})$/,
+  person: new RegExp(`^#/persons/(${PERSON_CODE})$`),
   enrolling: /^#\/enrolling$/,
   trail: /^#\/trail(\?.*)?$/,
   copies: /^#\/copies$/,
   checking: /^#\/checking$/,
   password: /^#\/password$/,
+  no_role: /^#\/no-role$/,
 };
 
 // A filter as the address has it, without what is empty, and read from there: of the members that are named each is a text.
-export function query_of(filter = {}) {
+function query_of(filter = {}) {
   const given = Object.entries(filter).filter(([, value]) => value);
   return given.length ? `?${new URLSearchParams(given)}` : '';
 }

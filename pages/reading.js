@@ -1,10 +1,9 @@
 // What several views read of the laboratory; what never changes is read once a session.
 
 import { read_a_form, read_a_record, read_a_version, read_records, read_the_trail } from './api.js';
+import { AT_ONCE, MOST_VERSIONS } from './limits.js';
 import { last_number } from './numbers.js';
 import { ask, notes } from './session.js';
-
-const MOST_VERSIONS = 99;
 
 export async function records_between(from, to) {
   const own = notes();
@@ -67,7 +66,7 @@ export async function form_or_null(form, version) {
 
 // The rows of the trail behind one, of which there are few.
 export async function rows_after(last) {
-  return rows_between(last + 1, last + 100);
+  return rows_between(last + 1, last + AT_ONCE);
 }
 
 // The number of a form's last version, 0 where there is no such form. No command says it, so versions are asked for.

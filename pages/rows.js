@@ -32,7 +32,8 @@ function name_control(row) {
   const { about, control, advice, told } = row;
   row.unit = unit_of(about);
   control.id = fresh_id('value');
-  const label = element('label', { for: control.id, id: fresh_id('label') }, label_of(about, false));
+  const is_group = control.matches('fieldset');
+  const label = element(is_group ? 'span' : 'label', { class: 'label', for: is_group ? null : control.id, id: fresh_id('label') }, label_of(about, false));
   const hint = element('span', { class: 'hint', id: fresh_id('hint') }, short_hint_of(about));
   if (row.unit) row.unit.id = fresh_id('behind');
   control.setAttribute('aria-labelledby', [label.id, row.unit?.id].filter(Boolean).join(' '));

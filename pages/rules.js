@@ -1,24 +1,33 @@
 // What docs/NAMES.md and docs/FORMS.md admit, so that a person is advised before a text is sent. The server decides; these don't.
 
+import {
+  KEY, LAB_CODE, MOST_CHOICES, MOST_DECIMALS, MOST_DIGITS, MOST_OF_NAME, MOST_OF_NOTE, MOST_OF_UNIT, PERSON_CODE,
+} from './limits.js';
+
 const BYTES = new TextEncoder();
-const AMOUNT = /^[<>]?([+-]?)([0-9]{1,15})(?:\.([0-9]{1,6}))?$/;
+const AMOUNT = new RegExp(`^[<>]?([+-]?)([0-9]{1,${MOST_DIGITS}})(?:\\.([0-9]{1,${MOST_DECIMALS}}))?$`);
 
 export function bytes_of(text) {
   return BYTES.encode(text).length;
 }
 
-export const is_lab_code = (text) => /^[a-z][a-z0-9-]{0,11}$/.test(text);
-export const is_person_code = (text) => /^[a-z][a-z0-9-]{1,15}$/.test(text);
-export const is_key = (text) => /^[a-z][a-z0-9_]{0,23}$/.test(text);
-export const is_name = (text, most = 120) => /^(?! )[^\x00-\x1f\x7f]+(?<! )$/.test(text) && bytes_of(text) <= most;
-const is_note = (text, most = 1000) => /^[^\x00-\x09\x0b-\x1f\x7f]+$/.test(text) && bytes_of(text) <= most;
-const is_unit = (text) => text === '' || is_name(text, 20);
+const is_whole = (pattern) => {
+  const whole = new RegExp(`^${pattern}$`);
+  return (text) => whole.test(text);
+};
+
+export const is_lab_code = is_whole(LAB_CODE);
+export const is_person_code = is_whole(PERSON_CODE);
+export const is_key = is_whole(KEY);
+export const is_name = (text, most = MOST_OF_NAME) => /^(?! )[^\x00-\x1f\x7f]+(?<! )$/.test(text) && bytes_of(text) <= most;
+const is_note = (text, most = MOST_OF_NOTE) => /^[^\x00-\x09\x0b-\x1f\x7f]+$/.test(text) && bytes_of(text) <= most;
+const is_unit = (text) => text === '' || is_name(text, MOST_OF_UNIT);
 
 // A number's amount in whole millionths, without < and >; null where the text is none with so many decimals.
-function amount_of(text, decimals = 6) {
+function amount_of(text, decimals = MOST_DECIMALS) {
   const [, sign, whole, behind = ''] = AMOUNT.exec(text) ?? [];
   if (whole === undefined || behind.length > decimals) return null;
-  const amount = BigInt(whole + behind.padEnd(6, '0'));
+  const amount = BigInt(whole + behind.padEnd(MOST_DECIMALS, '0'));
   return sign === '-' ? -amount : amount;
 }
 
@@ -66,14 +75,14 @@ function bad_name_in({ key, label, unit, choices }) {
 
 function bad_rule_in({ kind, decimals, min, max, size, choices }) {
   if (kind === 'number') return bad_bound_in(decimals, min, max);
-  if (kind === 'text') return size >= 1 && size <= 1000 ? null : 'size';
+  if (kind === 'text') return size >= 1 && size <= MOST_OF_NOTE ? null : 'size';
   if (kind !== 'choice') return null;
   const are_different = new Set(choices).size === choices.length;
-  return are_different && choices.length >= 1 && choices.length <= 20 ? null : 'choices';
+  return are_different && choices.length >= 1 && choices.length <= MOST_CHOICES ? null : 'choices';
 }
 
 function bad_bound_in(decimals, min, max) {
-  if (decimals > 6) return 'decimals';
+  if (decimals > MOST_DECIMALS) return 'decimals';
   const reads = (bound) => bound === undefined || (!/[<>]/.test(bound) && amount_of(bound, decimals) !== null);
   if (!reads(min)) return 'min';
   if (!reads(max)) return 'max';

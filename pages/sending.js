@@ -66,7 +66,7 @@ function leave_for(place, view, made, { keeps }) {
 function values_of(made) {
   const values = {};
   for (const control of made.elements) {
-    if (!control.name) continue;
+    if (!control.name || control.type === 'radio') continue;
     if (control.type !== 'checkbox') values[control.name] = control.value;
     else if (control.dataset.word === undefined) values[control.name] = control.checked;
     else (values[control.name] ??= []).push(...(control.checked ? [control.dataset.word] : []));
@@ -104,7 +104,7 @@ export function show_refusal(place, refusal, about, began = place) {
   const found = typeof about === 'function' ? about(refusal, place) : about?.[refusal.word];
   const is_control = typeof found === 'string' || found instanceof Element;
   const { control: wanted, what_to_do, others = [] } = is_control ? { control: found } : found ?? {};
-  const shown = refusal_element(refusal, what_to_do);
+  const shown = refusal_element(place, refusal, what_to_do);
   const control = control_of(place, wanted);
   const buttons = place.matches('form') ? [...place.children].findLast((child) => child.matches('.buttons')) : null;
   if (control) show_at(control, shown);
@@ -127,7 +127,7 @@ function show_at(control, shown) {
 // Tells a refusal at a control, and leaves the focus where it is. Where several controls are told in one place, each has its name.
 export function tell_refusal(control, refusal, what_to_do, name) {
   if (!(refusal instanceof Refusal)) console.error(refusal);
-  const shown = refusal_element(refusal, what_to_do);
+  const shown = refusal_element(control, refusal, what_to_do);
   if (name) shown.prepend(paragraph(name));
   show_at(control, shown);
   name_view(view_of(control), texts.error);
@@ -174,22 +174,27 @@ function texts_of(refusal) {
   return { word, first: texts.refused, ...texts.refusals[word] ?? texts.refusals.unknown };
 }
 
-function refusal_element(refusal, advice) {
+function refusal_element(place, refusal, advice) {
   const { word, first, when, what_to_do } = texts_of(refusal);
-  const number = refusal.number ? ` ${refusal.number}` : '';
   const about = { class: 'refusal', role: 'alert', id: fresh_id('refusal'), tabindex: '-1', 'data-refusal': word,
     'data-number': refusal.number };
   return element('div', about,
-    paragraph(element('strong', null, first), ' ', when, ' ', element('span', { class: 'word' }, `(${word}${number})`)),
-    paragraph(advice ?? what_to_do, further(refusal)),
+    paragraph(element('strong', null, first), ' ', when, ' ', element('span', { class: 'word' }, texts.word_of_refusal(word, refusal.number))),
+    paragraph(advice ?? what_to_do, further(place, refusal)),
     refusal.look && buttons(element('button', { type: 'submit', 'data-do': 'look' }, texts.look)));
 }
 
+// The label of a field as the view has it, or else its key.
+function label_of(place, key) {
+  const label = view_of(place)?.querySelector(`[data-key="${key}"] [data-part="label"]`);
+  return label?.cloneNode(true) ?? key;
+}
+
 // What some refusals say beside their word.
-function further(refusal) {
-  if (refusal.rule) return [' ', texts.rules[refusal.rule] ?? texts.unknown_rule(refusal.rule)];
+function further(place, refusal) {
+  if (refusal.rule) return [' ', texts.rule(refusal.rule)];
   if (refusal.record) return [' ', link(record_place(refusal.record), texts.go_to_record(refusal.record), { 'data-done': true })];
-  if (refusal.key) return [' ', texts.about_key(refusal.key)];
+  if (refusal.key) return [' ', texts.about_key(label_of(place, refusal.key))];
   if (refusal.digest) return [' ', texts.digest_now, ' ', element('code', { class: 'digest' }, refusal.digest)];
   if (refusal.form) return [' ', link(making_place(refusal.form, refusal.version), texts.forms.begin_from(refusal.version))];
   return [];

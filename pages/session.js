@@ -5,11 +5,9 @@ import {
   Refusal, amend_a_record, change_the_password, close_the_session, open_a_session, read_records, read_the_card, read_the_persons,
   sign_a_version,
 } from './api.js';
+import { GREATEST_NUMBER as NO_RECORD, IDLE_SECONDS, LONGEST_SECONDS } from './limits.js';
 import { is_lab_code } from './rules.js';
 
-const IDLE_SECONDS = 900;
-const LONGEST_SECONDS = 28_800;
-const NO_RECORD = 1_000_000_000;
 const NOT_SENT_AGAIN = new Set([sign_a_version, change_the_password]);
 // Words of requests that didn't come as far as the session: they don't prolong it.
 const BEFORE_THE_SESSION = new Set(['no_reply', 'too_often', 'no_server', 'head_too_long', 'bad_head', 'transfer_coding',
@@ -194,6 +192,12 @@ async function learn_roles() {
   const reviewer = await has_role(sign_a_version,
     { record: NO_RECORD, version: 1, digest: '0'.repeat(64), meaning: 'review', password: '' });
   person.roles = new Set([analyst && 'analyst', reviewer && 'reviewer'].filter(Boolean));
+}
+
+// Another role may have been given since.
+export async function learn_roles_again() {
+  await learn_roles();
+  tell();
 }
 
 async function has_role(command, body) {

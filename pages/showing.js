@@ -33,14 +33,14 @@ export function value_text({ value, unit }) {
 }
 
 export function label_of({ label, key, required }, has_key = true) {
-  return [given(label, 'label'), has_key && [' ', element('span', { class: 'key', 'aria-hidden': 'true' }, key)],
-    required && [' ', element('span', { class: 'required' }, texts.required)]];
+  return [given(label, 'label'), required && [' ', element('span', { class: 'required' }, texts.required)],
+    has_key && element('span', { class: 'key', 'aria-hidden': 'true' }, ' ', key)];
 }
 
 // What fits a field, in words.
 export function hint_of({ kind, decimals, min, max, size, choices }) {
-  const { number, bounds, limits, text, choice, date, yesno } = texts.entering;
-  if (kind === 'number') return [number(decimals), bounds(min, max), limits].filter(Boolean).join(' ');
+  const { number, text, choice, date, yesno } = texts.entering;
+  if (kind === 'number') return number(decimals, min, max);
   if (kind === 'text') return text(size);
   if (kind === 'choice') return choice(choices.length);
   return kind === 'date' ? date : yesno;
@@ -49,7 +49,7 @@ export function hint_of({ kind, decimals, min, max, size, choices }) {
 // The same in few words, where a list shows what may be chosen.
 export function short_hint_of({ kind, decimals, min, max, size }) {
   const { short } = texts.entering;
-  if (kind === 'number') return [short.decimals(decimals), short.bounds(min, max)].filter(Boolean).join(', ');
+  if (kind === 'number') return short.number(decimals, min, max);
   if (kind === 'text') return short.text(size);
   return kind === 'date' ? short.date : '';
 }
@@ -67,6 +67,5 @@ export function facts_of(shown, record) {
     [words.opener, [shown.opener, ', ', moment(shown.moment, 'opened')], 'opener'],
     shown.reason && [words.reason, given(shown.reason), 'reason'],
     [words.approval, shown.approval ? words.with_approval : words.without_approval, 'approval'],
-    [words.digest, element('code', { class: 'digest' }, shown.digest), 'digest'],
   ]);
 }

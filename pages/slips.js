@@ -1,6 +1,7 @@
 // What is probably meant by a text that doesn't fit, so that a message can say what to type: a word of `texts.slips`, and what stands
 // in its holes. Nothing here touches a page, and nothing is altered: the person types it.
 
+import { MOST_DIGITS, MOST_OF_NAME } from './limits.js';
 import { bytes_of, flaw_of_value, is_day, is_key, is_name } from './rules.js';
 import { texts } from './texts.js';
 
@@ -18,10 +19,12 @@ const NUMBERS = [
   [/^[<>]?[+-]?\d+(\.\d+)?e[+-]?\d+$/i, 'exponent', () => []],
   [/^[<>]?[+-]?\.\d+$/, 'no_digit_before', (value) => [value.replace('.', '0.')]],
   [/^[<>]?[+-]?\d+\.$/, 'no_digit_behind', (value) => [value.replace('.', '')]],
-  [/^[<>]?[+-]?\d{16}/, 'long_number', () => []],
+  [new RegExp(`^[<>]?[+-]?\\d{${MOST_DIGITS + 1}}`), 'long_number', () => []],
   [/^[<>]?[+-]?\d+(\.\d+)?\s?[^\s\d.]+$/, 'unit', () => []],
   [/^[a-zäöüéèà]/i, 'no_number', () => []],
 ];
+
+const DECIMALS = new RegExp(`^[<>]?[+-]?\\d{1,${MOST_DIGITS}}\\.(\\d+)$`);
 
 const ABOUT_KIND = { number: slip_of_number, date: slip_of_date, text: slip_of_text };
 
@@ -39,7 +42,7 @@ function slip_of_number(about, value) {
   if (flaw_of_value(about, value) === 'out_of_range') {
     return flaw_of_value({ ...about, max: undefined }, value) ? ['below', value, min] : ['above', value, max];
   }
-  const behind = /^[<>]?[+-]?\d{1,15}\.(\d+)$/.exec(value)?.[1].length;
+  const behind = DECIMALS.exec(value)?.[1].length;
   if (behind > decimals) return ['decimals', decimals, behind];
   const [, word, holes] = NUMBERS.find(([pattern]) => pattern.test(value)) ?? [];
   return word ? [word, ...holes(value, unit)] : null;
@@ -70,7 +73,7 @@ function slip_of_text({ size }, value) {
 }
 
 // What is wrong with a name, as that of a sample or a person.
-export function slip_of_name(text, most = 120) {
+export function slip_of_name(text, most = MOST_OF_NAME) {
   if (is_name(text, most)) return null;
   if (text === '') return ['empty'];
   if (/^\s|\s$/.test(text)) return ['space_at_end', text.trim()];

@@ -6,7 +6,8 @@ import {
   reading, replace, replace_focused, table,
 } from './elements.js';
 import { is_over } from './life.js';
-import { AT_ONCE, first_number, hundred_to, hundreds, number_of } from './numbers.js';
+import { AT_ONCE, SHOWN_AT_ONCE } from './limits.js';
+import { first_number, hundred_to, hundreds, number_of } from './numbers.js';
 import { filter_of_query, form_place, person_place, record_place, trail_place, version_place } from './places.js';
 import { last_row, rows_between } from './reading.js';
 import { say } from './saying.js';
@@ -17,7 +18,7 @@ import { texts } from './texts.js';
 import { kept_rows, missing_hundreds, read_rows_into, walk } from './walking.js';
 
 const words = texts.trail;
-const [MOST_ROWS, MILLISECONDS_SHOWN] = [300, 500];
+const MILLISECONDS_SHOWN = 500;
 const DAY = /^[0-9]{4}(-[0-9]{2}(-[0-9]{2})?)?$/;
 const ABOUT_PERSONS = ['lock', 'password', 'issue', 'confirm', 'retire', 'unlock', 'roles', 'enrol'];
 
@@ -36,7 +37,7 @@ export async function forms_in_trail(looked) {
 export async function trail_view(view, query) {
   const filter = filter_of_query(query, ['day', 'person', 'action']);
   if (!DAY.test(filter.day)) filter.day = '';
-  const trail = { view, rows: kept_rows(), filter, last: 0, range: [1, 0], is_newest: true, most: MOST_ROWS, walk: null };
+  const trail = { view, rows: kept_rows(), filter, last: 0, range: [1, 0], is_newest: true, most: SHOWN_AT_ONCE, walk: null };
   const body = element('div', null, reading());
   replace(view, heading(words.title), paragraph(words.intro), body);
   trail.last = await last_row();
@@ -226,9 +227,9 @@ function draw(trail) {
 function more_of(trail, found) {
   if (found.length <= trail.most) return trail.is_newest && trail.range[0] > 1 && load_more_button(trail);
   return button('show_more', texts.records.show_more, () => {
-    trail.most += MOST_ROWS;
+    trail.most += SHOWN_AT_ONCE;
     draw(trail);
-    trail.shown.querySelectorAll('tr[data-row]')[trail.most - MOST_ROWS]?.focus();
+    trail.shown.querySelectorAll('tr[data-row]')[trail.most - SHOWN_AT_ONCE]?.focus();
   });
 }
 

@@ -2,7 +2,7 @@
 // signatures. The same is shown on the screen, before a signature, and on paper.
 
 import {
-  action, actions, button, buttons, element, facts, given, heading, link, link_row, moment, named, paragraph, reading, replace,
+  action, actions, button, buttons, element, facts, folded, given, heading, link, link_row, moment, named, paragraph, reading, replace,
   section, table,
 } from './elements.js';
 import { entering_part } from './entering.js';
@@ -23,7 +23,9 @@ export async function version_view(view, number, version) {
   const read_again = async () => {
     const history = await history_of(number, version);
     replace(head, head_of(shown_of(history)));
-    replace(article, article_of(history));
+    const is_open = article.querySelector('.folded')?.open;
+    replace(article, article_of(history, true));
+    article.querySelector('.folded').open = Boolean(is_open);
     replace(doing, doing_of(history));
     replace(read, read_line());
     entering?.update(history);
@@ -51,7 +53,7 @@ function versions_line(history) {
 }
 
 // Whether this person entered a value of a version, or signed it.
-export const is_own = ({ rows, signatures }) => [...rows, ...signatures].some(({ person }) => person === who().code);
+const is_own = ({ rows, signatures }) => [...rows, ...signatures].some(({ person }) => person === who().code);
 
 // Whether this person may sign a version now. The server decides in the end.
 export function may_sign(history, meaning) {
@@ -95,7 +97,8 @@ function note_of(history, is_own_work) {
   const { record, state } = shown_of(history);
   if (!is_last(history)) return [words.not_last, ' ', link(record_place(record), words.go_to_last)];
   if (state === 'open') {
-    return [has('analyst') && !is_own_work ? words.sign_once_entered : words.next.open, ' ', missing_in(history)];
+    const to_analyst = is_own_work ? words.sign_when_done : words.sign_once_entered;
+    return [has('analyst') ? to_analyst : words.next.open, ' ', missing_in(history)];
   }
   if (is_own_work && ['signed', 'reviewed'].includes(state) && has('reviewer', 'manager')) return words.own_work;
   return words.next[state];
@@ -105,18 +108,18 @@ function note_of(history, is_own_work) {
 function missing_in({ versions, form }) {
   const missing = form.fields.filter(({ key, required }) => required && !value_in(versions.at(-1), key));
   const labels = missing.flatMap(({ label }, at) => [at > 0 && ', ', given(label)]);
-  return missing.length > 0 && named('missing', words.missing, ' ', labels, '.');
+  return missing.length > 0 && named('missing', words.missing(labels));
 }
 
-// A version, for the screen, above a signature and on paper.
-export function article_of({ record, versions, form }) {
+// A version, for the screen, above a signature and on paper. Where it is only looked at, digest and seals are folded.
+export function article_of({ record, versions, form }, is_folded = false) {
   const shown = shown_of({ versions });
   const about = { 'data-version': shown.version, 'data-record': shown.record, 'aria-label': texts.version(shown.version) };
   const article = element('article', about,
     section(texts.version(shown.version), null, facts_of(shown, record)),
     section(words.values, null, values_table(versions, form)),
     section(words.entries, null, shown.rows.length ? entries_table(shown, form) : paragraph(words.no_entries)),
-    section(words.signatures, null, signatures_of(shown)));
+    section(words.signatures, null, signatures_of(shown)), integrity_of(shown, is_folded));
   if (article.querySelector('.unseen')) article.append(element('p', { 'data-part': 'unseen' }, words.unseen));
   return article;
 }
@@ -181,23 +184,30 @@ function replaced_value(row) {
   return [element('s', { 'data-part': 'value' }, value_text(row)), ' ', element('span', { class: 'mark' }, words.replaced)];
 }
 
+// By what a change of the version shows.
+function integrity_of({ digest, signatures }, is_folded) {
+  const seals = signatures.map(({ meaning, seal }) =>
+    [words.seal(texts.meanings[meaning].word), element('code', { class: 'digest', 'data-part': 'seal' }, seal)]);
+  const list = facts([[words.digest, element('code', { class: 'digest' }, digest), 'digest'], ...seals]);
+  return (is_folded ? folded : section)(words.integrity, { 'data-part': 'integrity' }, list);
+}
+
 // The signatures in order, each with the printed name, the moment and the meaning.
 function signatures_of({ signatures }) {
   if (!signatures.length) return paragraph(words.no_signatures);
-  return element('ol', { class: 'signatures' }, signatures.map(({ meaning, moment: at, name, person, reason, seal }) =>
+  return element('ol', { class: 'signatures' }, signatures.map(({ meaning, moment: at, name, person, reason }) =>
     element('li', { 'data-signature': meaning }, facts([
       [words.signed_by, [given(name, 'name'), ' (', named('person', person), ')']],
       [words.at, moment(at)],
       [words.meaning, [named('meaning', texts.meanings[meaning].word), ': ', texts.meanings[meaning].statement]],
       reason && [words.reason, given(reason, 'reason')],
-      [words.seal, element('code', { class: 'digest', 'data-part': 'seal' }, seal)],
     ]))));
 }
 
 // Who read what stands on the page, and when.
 function read_line() {
   const now = new Date().toISOString().replace(/\.[0-9]+Z$/, 'Z');
-  return paragraph(words.read_by(who().code), ' ', moment(now, 'read'), ', ', words.by_this_clock);
+  return paragraph(words.read_by(who().code, moment(now, 'read')));
 }
 
 // All versions of a record, one below the other, for paper.

@@ -2,7 +2,7 @@
 // list of records, of the last version of some of them what lists tell, and the rows of the trail.
 
 import { read_a_version } from './api.js';
-import { AT_ONCE } from './numbers.js';
+import { AT_ONCE } from './limits.js';
 import { records_between, rows_between } from './reading.js';
 import { altered_records, ask, notes, who } from './session.js';
 

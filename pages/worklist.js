@@ -171,7 +171,7 @@ function table_of(name, { columns, cells }, found) {
   return table(words.titles[name], [texts.records.sample, texts.records.record, ...columns], found.map(([row, known]) => ({
     attributes: { 'data-record': row.record },
     cells: [[link(record_place(row.record), given(row.sample, 'sample'), { click: () => leave_at(row.record) }), ' · ', named('form', row.form)],
-      element('span', { class: 'whole' }, row.record, ', ', words.version, ' ', named('current', row.current)), ...cells(row, known)],
+      element('span', { class: 'whole' }, words.record_and_version(row.record, named('current', row.current))), ...cells(row, known)],
   })));
 }
 

@@ -120,7 +120,7 @@ def access(calm):
             for node in nodes if node.get("role", {}).get("value") == "textbox" and node.get("name", {}).get("value", "").startswith("Lead")]
     same("a screen reader tells of a control its label, that it is required, and its unit", told, [("Lead required mg/L", True)])
     heads = [node["name"]["value"] for node in nodes if node.get("role", {}).get("value") == "rowheader"]
-    say(heads and heads[0].startswith("Lead"), f"a row of a table has a header: {heads}")
+    say("Lead required" in heads, f"a row of a table has a header: {heads}")
     low = screen.low_contrasts()
     say(not low, f"each text is well seen, in light and in dark colours {low[:3] or ''}".rstrip())
     dark = screen.run("return matchMedia('(prefers-color-scheme: dark)').matches")
@@ -130,7 +130,135 @@ def access(calm):
     say(not dark and background != "rgb(255, 255, 255)", f"who prefers dark colours has them: {background}")
 
 
-PARTS = {"dan": (access, sample_first, slips_of_values, slips_at_once, bad_copy), "gus": (slips_of_form,)}
+def help_of_pages(calm):
+    """A button at the head says what the page is for; another view's help isn't left open."""
+    screen = calm.screen
+    shown = []
+    for place in ("#/day", "#/records/4", "#/records/4/versions/1/authorship", "#/opening", "#/grid/water", "#/forms/water/1", "#/password"):
+        calm.go(place)
+        closed = screen.all("#help")
+        opener = screen.one('#head [data-do="help"]')
+        opener.click()
+        shown.append((screen.one("#help").text, len(closed), opener.get_attribute("aria-expanded")))
+    texts = {text for text, _, _ in shown}
+    same("each page has a help of its own, which is closed until it is asked for", (len(texts), {one[1:] for one in shown}), (len(shown), {(0, "true")}))
+    say(all(len(text) > 80 for text in texts), f"in sentences: {shown[0][0]!r}")
+    opener.click()
+    same("and is closed again by the same button", (screen.all("#help"), opener.get_attribute("aria-expanded")), ([], "false"))
+
+
+SHOWN_OF_INTEGRITY = """
+const is_seen = (one) => one.checkVisibility() && one.getClientRects().length > 0;
+return ["[data-part=digest]", "[data-part=seal]", "article .key"].map((selector) => [...document.querySelectorAll(selector)].some(is_seen));
+"""
+
+
+def integrity(calm):
+    """Digest, seals and keys are out of sight until they are asked for, but where one signs and on paper."""
+    screen = calm.screen
+    calm.go("#/records/1")
+    same("of a record neither digest nor seal nor key is seen", screen.run(SHOWN_OF_INTEGRITY), [False, False, False])
+    screen.run("dispatchEvent(new Event('beforeprint'))")
+    same("on paper they are there", screen.run(SHOWN_OF_INTEGRITY), [True, True, True])
+    screen.run("dispatchEvent(new Event('afterprint'))")
+    same("and are folded again afterwards", screen.run(SHOWN_OF_INTEGRITY), [False, False, False])
+    screen.one('[data-part="integrity"] summary').click()
+    same("who opens them sees them", screen.run(SHOWN_OF_INTEGRITY), [True, True, True])
+    calm.go("#/records/1/paper")
+    same("so does who prints all versions", screen.run(SHOWN_OF_INTEGRITY), [True, True, True])
+    calm.go("#/records/4/versions/1/authorship")
+    same("and who signs", screen.run(SHOWN_OF_INTEGRITY), [True, False, True])
+
+
+COLOUR = {"key": "colour", "label": "Colour", "required": True, "kind": "choice", "choices": ["none", "faint", "strong"]}
+CLEAR = {"key": "clear", "label": "Clear to the eye", "required": False, "kind": "yesno"}
+SMELL = {"key": "smell", "label": "Smell", "required": False, "kind": "choice", "choices": list("abcdef")}
+# The roles of what one chooses by, as a screen reader has them.
+CHOICES = {"radiogroup", "radio", "combobox"}
+
+
+def chosen(calm, key):
+    return calm.screen.run("return document.querySelector(`main [data-key=${arguments[0]}] [name=value]`).value", key)
+
+
+def few_choices(calm):
+    """Few choices are radio buttons, by the mouse and by the keyboard; many are a list."""
+    screen = calm.screen
+    calm.of["gus"].post("forms", form="choices", approval=False, fields=[COLOUR, CLEAR, SMELL, LEAD])
+    number = calm.of["dan"].post("records", form="choices", sample="Choice 1")["record"]
+    calm.go(f"#/records/{number}")
+    nodes = screen.driver.execute_cdp_cmd("Accessibility.getFullAXTree", {})["nodes"]
+    told = [(node["role"]["value"], node["name"]["value"]) for node in nodes if not node["ignored"] and node.get("role", {}).get("value") in CHOICES]
+    wanted = [("radiogroup", "Colour required"), ("radio", "none"), ("radio", "faint"), ("radio", "strong"), ("radiogroup", "Clear to the eye"),
+              ("radio", "yes"), ("radio", "no"), ("combobox", "Smell")]
+    same("few choices are radio buttons in a group with its name; six are a list", sorted(told), sorted(wanted))
+    screen.tab_to('[data-key="colour"] input')
+    screen.press(screen.keys.ARROW_DOWN)
+    screen.press(screen.keys.ARROW_DOWN)
+    by_arrows = chosen(calm, "colour")
+    screen.press(screen.keys.DELETE)
+    emptied = chosen(calm, "colour")
+    screen.press("f", screen.keys.ENTER)
+    screen.press("n", screen.keys.ENTER)
+    same("arrows, letters and Delete choose, and Enter goes to the next row", (by_arrows, emptied, chosen(calm, "colour"), chosen(calm, "clear")),
+         ("strong", "", "faint", "no"))
+    there = screen.run("return document.activeElement.closest('[data-key]').dataset.key"), screen.part("typed")[:2], calm.values(number)
+    same("and nothing is sent by that", there, ("smell", "2 ", []))
+    screen.do("clear", screen.one('.entering [data-key="clear"]'))
+    asks_and_stays(calm, chosen)
+    screen.do("enter_a_value")
+    same("what is chosen is entered", calm.values(number), [("colour", "faint")])
+    calm.go("#/grid/choices")
+    screen.fill(screen.one('tr[data-at="1"]'), sample="Choice 2")
+    group = screen.one('tr[data-at="1"] [data-key="clear"] [name="value"]')
+    screen.put(group, "yes")
+    screen.press(screen.keys.ENTER)
+    same("in a grid, too, Enter goes down the column", screen.run("return document.activeElement.closest('tr').dataset.at"), "2")
+    screen.run("document.querySelector('main form[data-keep]').reset()")
+
+
+def asks_and_stays(calm, read):
+    """Who leaves what is chosen is asked first."""
+    screen = calm.screen
+    screen.one('a[href="#/records"]').click()
+    screen.do("stay")
+    focus = screen.run("return document.activeElement.closest('[data-key]')?.dataset.key")
+    same("what is chosen isn't left without a question", (read(calm, "colour"), focus), ("faint", "colour"))
+
+
+def choices_amended(calm):
+    """Few choices of an amendment have a legend."""
+    screen = calm.screen
+    number = calm.of["dan"].post("records", form="choices", sample="Choice 3")["record"]
+    for key, value, unit in (("colour", "none", ""), ("lead", "1", "mg/L")):
+        calm.of["dan"].post("entries", record=number, key=key, value=value, unit=unit)
+    calm.sign("dan", number, "authorship")
+    calm.sign("eve", number, "review")
+    calm.go(f"#/records/{number}/amending")
+    same("few choices of an amendment have a legend", screen.one('[data-key="colour"] legend').text, "New result of Colour")
+    screen.fill(value_colour="faint", reason="looked again")
+    screen.do("amend_a_record")
+    screen.wait(lambda: screen.place() == f"#/records/{number}", "the record is shown")
+    same("and what is chosen is sent", calm.values(number, 2), [("colour", "faint")])
+
+
+def no_role(calm):
+    """Who has no role is told what to do, and need not sign in again once there is one."""
+    screen = calm.screen
+    same("who has no role comes to a page that says so", screen.place(), "#/no-role")
+    text = screen.one("main").text
+    say("administrator" in text and "ned" in text, f"and what to do: {text!r}")
+    screen.do("look_for_role")
+    say("no role" in calm.said(), f"as long as there is none that is said: {calm.said()!r}")
+    calm.of["ann"].post("roles", code="ned", roles=["analyst"])
+    screen.do("look_for_role")
+    screen.wait(lambda: screen.place() == "#/day", "the day is shown")
+    screen.settle()
+    say("analyst" in screen.part("roles"), "and then the pages are there")
+
+
+PARTS = {"dan": (access, sample_first, slips_of_values, slips_at_once, bad_copy, help_of_pages, integrity, few_choices, choices_amended), "gus": (slips_of_form,),
+         "ned": (no_role,)}
 
 
 def look_at_bench(calm):

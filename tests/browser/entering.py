@@ -85,7 +85,7 @@ def enter_goes_down(calm):
     screen.click(screen.one('[data-key="lead"] [name="value"]'))
     went = []
     for at in range(9):
-        screen.press(f"{at}.5" if at < 8 else "faint", screen.keys.ENTER)
+        screen.press(f"{at}.5" if at < 8 else "f", screen.keys.ENTER)
         went.append(focused(calm)[0])
     same("Enter goes down, row by row", went, KEYS[1:])
     screen.press("kept cool", screen.keys.SHIFT + screen.keys.ENTER + screen.keys.NULL, "in the dark")
@@ -111,7 +111,7 @@ def rows_say(calm):
     wanted = {"lead": "entered", "copper": "bad_value", "zinc": "out_of_range", "cadmium": "entered"}
     same("each row says which", (outcomes(calm), typed(calm)), (wanted, {"copper": "7,05", "zinc": "77"}))
     same("the focus is in the first refused one", focused(calm), ["copper", "value"])
-    say("Type 7.05" in screen.one('[data-key="copper"]').text and "2 values are entered, 2 are refused" in calm.said(), f"in words: {calm.said()!r}")
+    say("Type 7.05" in screen.one('[data-key="copper"]').text and "2 results are entered, 2 are refused" in calm.said(), f"in words: {calm.said()!r}")
     for key, value in (("copper", "7.05"), ("zinc", "")):
         screen.fill(entry_row(screen, key), value=value)
     press_all(calm)
@@ -218,7 +218,7 @@ def column_fills(calm):
     same("a column fills the rows below, but for an empty cell and for what stands already", typed(calm), wanted)
     same("nothing of it is sent", calm.values(number), [("nickel", "5")])
     text = calm.said()
-    say(all(piece in text for piece in ("8 values are pasted", "1 does not fit", "1 line had no row")), f"what is to be looked at is said: {text!r}")
+    say(all(piece in text for piece in ("8 results are pasted", "1 is not accepted", "1 line had no row")), f"what is to be looked at is said: {text!r}")
     screen.do("take_back")
     same("it can be taken back", (typed(calm), focused(calm)[0]), ({"zinc": "9.9"}, "lead"))
     copied(calm, "1.5\n2.5")
@@ -246,7 +246,7 @@ def column_is_none(calm):
     copied(calm, "red\nkept cool")
     pasted(calm, "colour")
     there = typed(calm), screen.part("advice", screen.one('.entering [data-key="colour"]'))
-    same("a choice that isn't there isn't chosen, and that is said", there, ({"note": "kept cool"}, "red is none of the choices."))
+    same("a choice that isn't there isn't chosen, and that is said", there, ({"note": "kept cool"}, "red is not one of the choices."))
     screen.fill(entry_row(screen, "note"), value="")
     texts = ["1", "1\n", "1\n2", "1\r\n2\r\n", "1\r2\n\n", "a\tb\nc", ""]
     wanted = ["null", "null", '{"is_wide":false,"cells":["1","2"]}', '{"is_wide":false,"cells":["1","2"]}', '{"is_wide":false,"cells":["1","2",""]}',
@@ -385,13 +385,13 @@ def grid_is_entered(calm):
     press_all(calm)
     screen.settle()
     same("each sample is opened, and its values are entered, also where a reply is lost", values_of_grid(calm, "three", samples), wanted)
-    say("7 records are opened, 21 values are entered." in calm.said(), f"it is said: {calm.said()!r}")
+    say("7 records are created, 21 results are entered." in calm.said(), f"it is said: {calm.said()!r}")
     calm.go("#/records")
     calm.go("#/grid/three")
     block_pasted(calm, grid_text(samples))
     press_all(calm)
     screen.settle()
-    there = values_of_grid(calm, "three", samples), "0 values are entered" in calm.said()
+    there = values_of_grid(calm, "three", samples), "0 results are entered" in calm.said()
     same("what is pasted again isn't entered twice", there, (wanted, True))
 
 

@@ -9,7 +9,7 @@ from selenium.common.exceptions import WebDriverException
 LAB = "calm"
 FOUNDERS = [(code, f"{code.title()} Calm", f"correct horse {code}") for code in ("ann", "bob", "cid")]
 PEOPLE = (("dan", ["analyst"]), ("eve", ["analyst", "reviewer"]), ("gus", ["manager"]), ("gil", ["manager"]), ("hal", ["inspector"]),
-          ("jon", ["analyst"]))
+          ("jon", ["analyst"]), ("ned", []))
 LEAD = {"key": "lead", "label": "Lead", "required": True, "kind": "number", "unit": "mg/L", "decimals": 2, "min": "0", "max": "50"}
 NOTE = {"key": "note", "label": "Note", "required": False, "kind": "text", "size": 1000}
 # More than the newest five hundred, of which the first few wait.
@@ -115,7 +115,7 @@ def late_heading(calm):
     screen.settle()
     come_late(screen)
     time.sleep(0.5)
-    same("a page that was left gives no title", screen.run("return document.title"), "Forms · Koghdise")
+    same("a page that was left gives no title", screen.run("return document.title"), "Test forms · Koghdise")
 
 
 def late_refusal(calm):

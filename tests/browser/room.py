@@ -12,7 +12,7 @@ import sys
 import tempfile
 
 TOP = pathlib.Path(__file__).resolve().parent.parent.parent
-PATIENCE = 30
+PATIENCE = 120
 SAID = {"ok": 0, "FAILED": 0}
 
 

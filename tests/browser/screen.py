@@ -232,6 +232,8 @@ class Screen:
         kind, is_chosen, there = self.run("const [one] = arguments; return [one.type, Boolean(one.checked), one.value]", field)
         if kind == "select-one":
             Select(field).select_by_value(value)
+        elif kind == "fieldset":
+            self.choose(field, value, there)
         elif kind in ("checkbox", "radio"):
             if is_chosen != bool(value):
                 field.click()
@@ -246,6 +248,14 @@ class Screen:
             # (chromedriver types no character beyond the first plane)
             self.run("arguments[0].value = arguments[1]; arguments[0].dispatchEvent(new Event('input', {bubbles: true}));"
                      "arguments[0].dispatchEvent(new Event('change', {bubbles: true}));", field, value)
+
+    def choose(self, group, value, there):
+        """Chooses one of a group of radio buttons, or none."""
+        if value == "" and there:
+            self.click(self.one('[data-do="clear"]', group))
+        elif value != there:
+            self.click(self.run("const [group, value] = arguments; return [...group.querySelectorAll('input')].find((one) => one.value === value)",
+                                group, value))
 
     def press(self, *keys):
         """Types without a mouse, into what has the focus."""

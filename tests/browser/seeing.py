@@ -1,7 +1,10 @@
 """What stands on the screen, read as the server's replies are made, so that both can be compared."""
 from room import same
 
+# (what is folded is opened meanwhile)
 HELP = """
+const folded = [...document.querySelectorAll("details.folded:not([open])")];
+for (const one of folded) one.open = true;
 const part = (name, within = document) => within.querySelector(`[data-part="${name}"]`);
 const text = (name, within) => { const found = part(name, within); return found?.checkVisibility() ? found.textContent : null; };
 const at = (name, within) => part(name, within)?.getAttribute("datetime") ?? null;
@@ -15,6 +18,7 @@ return each("tr[data-record]", document, (row) => ({
 """
 VERSION = """
 const article = [...document.querySelectorAll("article[data-version]")].at(-1);
+const seals = [...article.querySelectorAll("[data-part=seal]")];
 const [values, entries] = article.querySelectorAll("table").length > 1 ? article.querySelectorAll("table") : [article.querySelector("table"), null];
 return {
     record: Number(article.dataset.record), version: Number(article.dataset.version), state: word("state", article), digest: text("digest", article),
@@ -26,7 +30,7 @@ return {
     rows: entries ? each("tr[data-entry]", entries, (row) => [text("value", row), text("person", row), at("moment", row), text("reason", row) ?? "",
         row.querySelector("s") !== null]) : [],
     signatures: each("li[data-signature]", article, (one) => [one.dataset.signature, text("name", one), text("person", one), at("moment", one),
-        text("reason", one) ?? "", text("seal", one)]),
+        text("reason", one) ?? "", seals.shift()?.textContent]),
 };
 """
 PERSONS = """
@@ -41,7 +45,7 @@ return { form: text("form"), fields: each("tr[data-key]", document, (row) => [ro
 
 
 def seen(screen, what):
-    return screen.run(HELP + what)
+    return screen.run(f"{HELP} const shown = (() => {{ {what} }})(); for (const one of folded) one.open = false; return shown;")
 
 
 def with_unit(one):

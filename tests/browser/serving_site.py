@@ -11,7 +11,7 @@ import time
 
 from room import PATIENCE, TOP, Asker, Served, Stop, same, say
 
-MOST_BYTES = 302_000
+MOST_BYTES = 330_000
 TYPES = {".html": "text/html; charset=utf-8", ".css": "text/css; charset=utf-8", ".js": "text/javascript; charset=utf-8", ".svg": "image/svg+xml"}
 POLICY = ("default-src 'self'; base-uri 'none'; form-action 'none'; frame-ancestors 'none'; object-src 'none'; "
           "require-trusted-types-for 'script'; trusted-types 'none'")

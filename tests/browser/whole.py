@@ -25,7 +25,7 @@ PAPER = 794
 COLOURS = 64
 # A window of 1280 pixels at 400 per cent.
 SMALL = (320, 256)
-NAMED = {"button", "textbox", "searchbox", "combobox", "checkbox", "link", "listbox", "spinbutton"}
+NAMED = {"radio", "radiogroup", "button", "textbox", "searchbox", "combobox", "checkbox", "link", "listbox", "spinbutton"}
 # Controls that are seen and that the tabulator passes by.
 UNREACHED = """
 return [...document.querySelectorAll("a, button, input, select, textarea")].filter((one) => one.checkVisibility() && one.getClientRects().length > 0)

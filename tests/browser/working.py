@@ -160,7 +160,7 @@ def read_in_part(busy):
     screen.settle()
     there = screen.refusal(), len(screen.all('[data-do="look_on"]'))
     same("a read that fails is told, and what is left can be looked at", there, ("no_reply", 1))
-    say(f"of {COUNT} records are looked at so far" in screen.part("counts"), f"it says how far it is: {screen.part('counts')!r}")
+    say(f"of {COUNT} records are searched so far" in screen.part("counts"), f"it says how far it is: {screen.part('counts')!r}")
     no_more_faults(screen)
     fault(screen, "too_often", "GET", "records?from=101")
     screen.do("look_on")
@@ -274,7 +274,7 @@ def left_alone(busy):
     screen.settle()
     no_more_faults(screen)
     state = busy.of["hal"].get(f"records/{order[0]}")["versions"][-1]["state"]
-    same("where the next one can't be looked for, the day is shown, and it is signed", (state, "could not be looked for" in busy.said()), ("released", True))
+    same("where the next one can't be looked for, the day is shown, and it is signed", (state, "could not be found" in busy.said()), ("released", True))
 
 
 PARTS = {"dan": (day_of_analyst, read_in_part, stopped, own_entry_shows), "eve": (six_at_a_time, late), "fay": (reviews,), "gus": (by_address, left_alone)}

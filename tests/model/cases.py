@@ -21,6 +21,7 @@ import random
 import subprocess
 import sys
 
+import admitted
 import cases_of_requests
 import laboratory
 from accounts import FROM_NOTHING, FROM_SETUP
@@ -380,6 +381,38 @@ def a_form_has_ninety_nine_versions(s):
     s.post(11, "ann", "/forms", form="water", fields=[LEAD, NOTE], wants=48)
     s.post(12, "ann", "/forms", form="water", fields=[LEAD, NOTE], approval=True, wants=28)
     s.post(13, "ann", "/forms", form="soil", fields=[LEAD], approval=True, wants={"version": 1})
+
+
+@case(founders)
+def what_is_drawn_around_each_bound_is_admitted_as_the_rules_say(s):
+    """Texts, forms and values of tests/model/admitted.py, of which tests/pages_code gives more to the pages."""
+    draw = random.Random(47)
+
+    def ask(place, number, **members):
+        s.refuse(10, request_of("aqua", "POST", place, compact(members), s.tokens["aqua", "ann"]), number)
+    for rule, place, members in (("person", "/unlock", lambda text: {"code": text}), ("name", "/records", lambda text: {"form": "none", "sample": text}),
+                                 ("key", "/records", lambda text: {"form": text, "sample": "S1"}),
+                                 ("unit", "/entries", lambda text: {"record": 9, "key": "lead", "value": "7", "unit": text}),
+                                 ("note", "/entries", lambda text: {"record": 9, "key": "lead", "value": "7", "unit": "", "reason": text})):
+        for text in dict.fromkeys(admitted.drawn_text(draw, rule) for _ in range(150)):
+            if admitted.admits(rule, text):
+                s.post(10, "ann", place, wants=..., **members(text))
+            else:
+                ask(place, 1, **members(text))
+    for number in range(300):
+        fields, faults = admitted.drawn_form(draw)
+        refused = admitted.number_of(faults)
+        if refused is None:
+            s.post(10, "ann", "/forms", form=f"f{number}", fields=fields, wants={"version": 1})
+        else:
+            ask("/forms", refused, form=f"f{number}", fields=fields)
+    for number, kind in enumerate(("number", "number", "number", "text", "choice", "date", "yesno")):
+        field = admitted.drawn_field(draw, kind)
+        s.post(10, "ann", "/forms", form=f"v{number}", fields=[field], wants={"version": 1})
+        record = s.post(10, "ann", "/records", form=f"v{number}", sample="S1")["record"]
+        for value in dict.fromkeys(admitted.drawn_value(draw, field) for _ in range(190)):
+            refused = admitted.flaw_of(field, value)
+            s.post(10, "ann", "/entries", record=record, key=field["key"], value=value, unit=field.get("unit", ""), reason="drawn", wants=refused or ...)
 
 
 # ---- records, entries, amendments and signatures

@@ -1,0 +1,51 @@
+"""The checker of copies without a browser: the copies of tests/copies, and many that are altered by chance, each beside what
+examples/check_copy.py finds, which follows docs/COPIES.md and is no part of the pages."""
+import base64
+import importlib.util
+import io
+import pathlib
+import random
+import tempfile
+
+from copying import altered_copies, hashed_anew, mutated
+from said import TOP, same, say
+
+ALTERED = 5_000
+FLAWS = {"good", "bad_row", "order", "digest", "seal", "one_person", "no_end"}
+
+
+def checker():
+    about = importlib.util.spec_from_file_location("check_copy", TOP / "examples/check_copy.py")
+    module = importlib.util.module_from_spec(about)
+    about.loader.exec_module(module)
+    return module
+
+
+def line_of(module, copy):
+    try:
+        return " ".join(map(str, ["good", *module.check(io.BytesIO(copy)).counts.values()]))
+    except module.Bad as flaw:
+        return " ".join(map(str, ["bad", *flaw.args]))
+
+
+def lines_of_page(node, copies):
+    verdicts = node.call("checking", "checked_copy", [[{"base64": base64.b64encode(one).decode()}] for one in copies])
+    return node.call("checking", "line_of", [[one] for one in verdicts])
+
+
+def look_at_copies(node):
+    module, chance = checker(), random.Random(54)
+    with tempfile.TemporaryDirectory(prefix="labdesk-pages-copies.") as room:
+        told = altered_copies(pathlib.Path(room))
+    differing = [(mine, wanted) for mine, (_, wanted) in zip(lines_of_page(node, [one for one, _ in told]), told) if mine != wanted]
+    say(len(told) > 100, f"{len(told)} copies of tests/copies")
+    same("the page finds of each what that test wants", differing[:4], [])
+    sources = [one for one, line in told if line.startswith("good") and one.startswith(b"kind,") and b"record," in one and b"\r" not in one]
+    sources += [(TOP / "examples/copy.csv").read_bytes()] + 4 * [one for one in sources if b",approval,," in one]
+    for what, change in (("in bytes and rows", mutated), ("in persons and meanings, with hashes made anew", hashed_anew)):
+        copies = [change(chance.choice(sources), chance) for _ in range(ALTERED)]
+        wanted = [line_of(module, one) for one in copies]
+        differing = [pair for pair in zip(lines_of_page(node, copies), wanted) if pair[0] != pair[1]]
+        same(f"{ALTERED:,} copies altered by chance {what}: the page finds of each what examples/check_copy.py finds", differing[:4], [])
+        kinds = {line.split()[1] if line.startswith("bad") else "good" for line in wanted}
+        say(kinds >= (FLAWS if change is mutated else {"good", "one_person", "order"}), f"they come to {sorted(kinds)}")
