@@ -23,9 +23,9 @@ export async function version_view(view, number, version) {
   const read_again = async () => {
     const history = await history_of(number, version);
     replace(head, head_of(shown_of(history)));
-    const is_open = article.querySelector('.folded')?.open;
+    const is_open = article.querySelector('.on-paper')?.open;
     replace(article, article_of(history, { is_folded: true }));
-    article.querySelector('.folded').open = Boolean(is_open);
+    article.querySelector('.on-paper').open = Boolean(is_open);
     replace(doing, doing_of(history));
     replace(read, read_line());
     entering?.update(history);
