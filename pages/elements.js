@@ -234,12 +234,12 @@ export function folded_filter(made, filter) {
 
 // A part that is folded on the screen until it is opened, and stands on paper.
 export function folded(title, attributes, ...children) {
-  return element('details', { class: 'folded', ...attributes }, element('summary', null, title), children);
+  return element('details', { class: 'on-paper', ...attributes }, element('summary', null, title), children);
 }
 
 let opened_for_paper = [];
 addEventListener('beforeprint', () => {
-  opened_for_paper = [...document.querySelectorAll('details.folded:not([open])')];
+  opened_for_paper = [...document.querySelectorAll('details.on-paper:not([open])')];
   for (const one of opened_for_paper) one.open = true;
 });
 addEventListener('afterprint', () => {

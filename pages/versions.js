@@ -23,9 +23,9 @@ export async function version_view(view, number, version) {
   const read_again = async () => {
     const history = await history_of(number, version);
     replace(head, head_of(shown_of(history)));
-    const is_open = article.querySelector('.folded')?.open;
-    replace(article, article_of(history, true));
-    article.querySelector('.folded').open = Boolean(is_open);
+    const is_open = article.querySelector('.on-paper')?.open;
+    replace(article, article_of(history, { is_folded: true }));
+    article.querySelector('.on-paper').open = Boolean(is_open);
     replace(doing, doing_of(history));
     replace(read, read_line());
     entering?.update(history);
@@ -112,7 +112,7 @@ function missing_in({ versions, form }) {
 }
 
 // A version, for the screen, above a signature and on paper. Where it is only looked at, digest and seals are folded.
-export function article_of({ record, versions, form }, is_folded = false) {
+export function article_of({ record, versions, form }, { is_folded = false } = {}) {
   const shown = shown_of({ versions });
   const about = { 'data-version': shown.version, 'data-record': shown.record, 'aria-label': texts.version(shown.version) };
   const article = element('article', about,

@@ -166,7 +166,9 @@ def integrity(calm):
     same("who opens them sees them", screen.run(SHOWN_OF_INTEGRITY), [True, True, True])
     calm.go("#/records/1/paper")
     same("so does who prints all versions", screen.run(SHOWN_OF_INTEGRITY), [True, True, True])
-    calm.go("#/records/4/versions/1/authorship")
+    number = calm.of["dan"].post("records", form="water", sample="To be signed")["record"]
+    calm.of["dan"].post("entries", record=number, key="lead", value="1", unit="mg/L")
+    calm.go(f"#/records/{number}/versions/1/authorship")
     same("and who signs", screen.run(SHOWN_OF_INTEGRITY), [True, False, True])
 
 

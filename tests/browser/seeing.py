@@ -3,7 +3,7 @@ from room import same
 
 # (what is folded is opened meanwhile)
 HELP = """
-const folded = [...document.querySelectorAll("details.folded:not([open])")];
+const folded = [...document.querySelectorAll("details.on-paper:not([open])")];
 for (const one of folded) one.open = true;
 const part = (name, within = document) => within.querySelector(`[data-part="${name}"]`);
 const text = (name, within) => { const found = part(name, within); return found?.checkVisibility() ? found.textContent : null; };
