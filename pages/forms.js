@@ -243,7 +243,7 @@ function draw_rest(rest, { kind, unit = '', decimals = 2, min = '', max = '', si
     yesno: () => [],
   };
   replace(rest, parts[kind]());
-  if (kind === 'choice') rest.querySelector('textarea').value = choices.join('\n');
+  if (kind === 'choice') rest.querySelector('textarea').defaultValue = choices.join('\n');
 }
 
 function read_field(made) {

@@ -275,6 +275,10 @@ class Open:
         self.screen.wait(lambda: self.screen.place() == place, f"the place is {place}")
         self.screen.settle()
 
+    def drop(self):
+        """What is typed here may be lost."""
+        self.screen.run("for (const one of document.querySelectorAll('main form')) one.removeAttribute('data-keep')")
+
     def come(self, code, password=None):
         self.screen.load()
         self.screen.open_session(lab=LAB, code=code, password=password or password_of(code))
@@ -348,13 +352,13 @@ def entering(lab):
     screen.do("enter_a_value")
     look("many samples, refused")
     screen.put(screen.one('tr[data-at="1"] [data-key="lead"] [name="value"]'), "")
-    screen.run("document.querySelector('main form').removeAttribute('data-keep')")
+    lab.drop()
     lab.go("#/opening/water")
     look("opening")
     screen.fill(sample="Well  1")
     screen.do("open_a_record")
     look("opening, a near name", ())
-    screen.fill(form="", sample="")
+    lab.drop()
 
 
 def tell_names(screen, what, part):
@@ -371,9 +375,10 @@ def making(lab):
     lab.go("#/making/water/2")
     look("making the next version of a form", ("1366",))
     lab.go("#/making")
+    same("an editor into which nobody typed is left without a question", screen.place(), "#/making")
     screen.do("make_a_form")
     look("making a form, refused")
-    screen.run("document.querySelector('main form').removeAttribute('data-keep')")
+    lab.drop()
 
 
 def people(lab):
@@ -389,11 +394,11 @@ def people(lab):
     lab.go("#/enrolling")
     screen.do("enrol_a_person")
     look("enrolling, refused")
-    screen.run("document.querySelector('main form').removeAttribute('data-keep')")
+    lab.drop()
     lab.go("#/password")
     screen.do("change_the_password")
     look("changing the password, refused")
-    screen.run("document.querySelector('main form').removeAttribute('data-keep')")
+    lab.drop()
     lab.go("#/copies")
     screen.do("take_an_inspection_copy")
     look("copies")

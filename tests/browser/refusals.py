@@ -103,7 +103,7 @@ class Refuser:
             self.reply(word, request)
             self.screen.do(command)
             self.look(word, control, place)
-        self.screen.run("for (const one of document.querySelectorAll('main form')) one.removeAttribute('data-keep')")
+        self.lab.drop()
 
     def come(self, place):
         """(whoever is at a place already comes there anew)"""
