@@ -42,6 +42,10 @@ export const texts = {
   about_key: (key) => `It is the field ${key}.`,
   digest_now: 'The digest is now:',
   unknown_rule: (rule) => `The rule is ${rule}.`,
+  show_more: (count) => `Show ${count} more`,
+  show_older: (count) => `Show ${count} older ones`,
+  said_kept: 'Something is typed that is not sent, or is shown only once. So this page stays as it is.',
+  said_closed_elsewhere: 'You are signed out, by another tab of this browser.',
 
   moments: { utc: 'UTC', local: (text) => `(your time: ${text})` },
 
@@ -125,7 +129,6 @@ export const texts = {
     unread: (count) => `Of ${some(count, 'record', 'records')} it is not read yet who worked on ${count === 1 ? 'it' : 'them'}, and when.`,
     look_through: 'Look through all records',
     look_again: 'Look through all records again',
-    show_more: 'Show 300 more',
     person: 'Person, by code',
     day: 'Day or month (UTC)',
     last: 'Last done by',
@@ -164,7 +167,6 @@ export const texts = {
     others: {
       rejected: (count) => `All rejected records, with ${count} of others`, open: (count) => `All open records, with ${count} of others`,
     },
-    show_all: (count) => `Show all ${count}`,
     version: 'version',
     why: 'Why',
     rejected_by: 'Rejected by',
@@ -235,6 +237,8 @@ export const texts = {
     unseen: 'A mark as [U+202E] stands for a character that is not seen, or that turns the order of others. It is part of the text.',
     read_by: (code) => `Read by ${code},`,
     by_this_clock: 'by the clock of this machine.',
+    unreleased: 'NOT RELEASED',
+    read_of: (count, last) => `${count} of ${last} versions are read …`,
   },
 
   entering: {
@@ -430,6 +434,8 @@ export const texts = {
     said_made: (form, version) => `Form ${form} has version ${version} now.`,
     said_between: (version) => `Somebody made version ${version} at the same time: compare both.`,
     begin_from: (version) => `Begin anew from version ${version}.`,
+    fold: 'Show it in a line',
+    insert_below: 'Insert a field below',
   },
 
   persons: {
