@@ -2,8 +2,8 @@
 // filter stand in the address.
 
 import {
-  button, buttons, element, field, filter_choice, filter_form, given, heading, input, link, moment, named, offer, paragraph,
-  reading, replace, replace_focused, table,
+  button, buttons, element, field, filter_choice, filter_form, first_rows, given, heading, input, link, moment, more_button, named,
+  offer, paragraph, reading, replace, replace_focused, table,
 } from './elements.js';
 import { is_over } from './life.js';
 import { AT_ONCE, first_number, hundred_to, hundreds, number_of } from './numbers.js';
@@ -17,7 +17,7 @@ import { texts } from './texts.js';
 import { kept_rows, missing_hundreds, read_rows_into, walk } from './walking.js';
 
 const words = texts.trail;
-const [MOST_ROWS, MILLISECONDS_SHOWN] = [300, 500];
+const MILLISECONDS_SHOWN = 500;
 const DAY = /^[0-9]{4}(-[0-9]{2}(-[0-9]{2})?)?$/;
 const ABOUT_PERSONS = ['lock', 'password', 'issue', 'confirm', 'retire', 'unlock', 'roles', 'enrol'];
 
@@ -36,7 +36,7 @@ export async function forms_in_trail(looked) {
 export async function trail_view(view, query) {
   const filter = filter_of_query(query, ['day', 'person', 'action']);
   if (!DAY.test(filter.day)) filter.day = '';
-  const trail = { view, rows: kept_rows(), filter, last: 0, range: [1, 0], is_newest: true, most: MOST_ROWS, walk: null };
+  const trail = { view, rows: kept_rows(), filter, last: 0, range: [1, 0], is_newest: true, most: first_rows(), walk: null };
   const body = element('div', null, reading());
   replace(view, heading(words.title), paragraph(words.intro), body);
   trail.last = await last_row();
@@ -178,6 +178,7 @@ function load_more_button(trail) {
       await read_rows_into(trail.rows, hundred_to(from - 1));
       if (is_over(trail.view)) return;
       trail.range = [hundred_to(from - 1)[0], to];
+      trail.most += AT_ONCE;
       draw(trail);
       draw_going(trail);
       say(words.said_loaded(rows_of(trail).length));
@@ -225,10 +226,9 @@ function draw(trail) {
 
 function more_of(trail, found) {
   if (found.length <= trail.most) return trail.is_newest && trail.range[0] > 1 && load_more_button(trail);
-  return button('show_more', texts.records.show_more, () => {
-    trail.most += MOST_ROWS;
+  return more_button(trail.most, found.length, () => trail.shown.querySelectorAll('tr[data-row]'), (most) => {
+    trail.most = most;
     draw(trail);
-    trail.shown.querySelectorAll('tr[data-row]')[trail.most - MOST_ROWS]?.focus();
   });
 }
 
