@@ -193,7 +193,7 @@ def sixty_fields(calm):
     same("a field is inserted below another one, and has the focus", screen.run("return arguments[0].contains(document.activeElement)", third), True)
     screen.fill(third, kind="text", key="Colour", label="Colour", size="100")
     screen.do("fold_field", third)
-    screen.click(screen.one('a[href="#/forms"]'))
+    screen.one('a[href="#/forms"]').click()
     screen.click(screen.one('dialog[open] [data-do="stay"]'))
     same("what is typed in a folded field isn't left without a question", len(screen.all('[name="key"]', third)), 1)
     if screen.all('[name="key"]', third):
