@@ -1,5 +1,5 @@
 #!/usr/bin/env python3
-"""The pages in a browser, over nginx: bytes, the first paint, an entry from the key to the reply on the screen, and the check of a copy.
+"""The pages in a browser, over nginx: bytes, the first screen, an entry from the key to the reply on the screen, and the check of a copy.
 
     bench/pages.py [PROGRAM]
 
@@ -22,6 +22,7 @@ from wanted import prepare  # noqa: E402
 
 ROUNDS = 15
 MEGABYTES = (1, 10)
+LATENCY, BYTES_A_SECOND = 150, 200_000
 CHECKED = """
 const done = arguments[arguments.length - 1];
 import("/pages/checking.js").then(async ({ checked_copy, line_of }) => {
@@ -38,7 +39,7 @@ const look = () => {
     const shown = document.querySelector("main h1");
     if (!painted || !shown || document.querySelector("[aria-busy]")) return setTimeout(look, 5);
     const all = [...performance.getEntriesByType("navigation"), ...performance.getEntriesByType("resource")];
-    done([painted.startTime, Math.max(...all.map((one) => one.responseEnd)), all.length,
+    done([performance.now(), painted.startTime, Math.max(...all.map((one) => one.responseEnd)), all.length,
         all.reduce((sum, one) => sum + one.transferSize, 0), all.reduce((sum, one) => sum + one.decodedBodySize, 0)]);
 };
 look();
@@ -72,16 +73,25 @@ def line(what, figures):
     print(f"{what}: least {min(figures):.1f} ms, median {statistics.median(figures):.1f} ms, of {len(figures)}")
 
 
-def measure_paint(screen):
+def measure_paint(screen, by):
     """(of a site whose certificate nobody vouches for chromium keeps no file, so each round fetches all)"""
     rounds = []
     for _ in range(ROUNDS):
         screen.driver.get("about:blank")
         screen.driver.get(screen.address)
         rounds.append(screen.driver.execute_async_script(PAINTED))
-    line("the first paint", [one[0] for one in rounds])
-    line("all files there", [one[1] for one in rounds])
-    print(f"{rounds[-1][2]} requests, {rounds[-1][3]:,} bytes over the wire, {rounds[-1][4]:,} bytes of files")
+    for at, what in enumerate(("the first useful screen", "the first paint", "all files there")):
+        line(f"{what}, {by}", [one[at] for one in rounds])
+    print(f"{rounds[-1][3]} requests, {rounds[-1][4]:,} bytes over the wire, {rounds[-1][5]:,} bytes of files")
+
+
+def measure_paints(screen):
+    measure_paint(screen, "on this machine")
+    slow = {"offline": False, "latency": LATENCY, "downloadThroughput": BYTES_A_SECOND, "uploadThroughput": BYTES_A_SECOND}
+    screen.driver.execute_cdp_cmd("Network.enable", {})
+    screen.driver.execute_cdp_cmd("Network.emulateNetworkConditions", slow)
+    measure_paint(screen, f"with {LATENCY} ms a request and {BYTES_A_SECOND // 1000} kB/s")
+    screen.driver.execute_cdp_cmd("Network.disable", {})
 
 
 def entry_of(record, number):
@@ -152,7 +162,7 @@ def main():
     with tempfile.TemporaryDirectory(prefix="labdesk-browser.") as room, serving(program) as served:
         screen = Screen(served.address, room)
         try:
-            measure_paint(screen)
+            measure_paints(screen)
             measure_entry(screen, served.port)
             measure_check(screen, program, room)
         finally:

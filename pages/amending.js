@@ -3,9 +3,9 @@
 import { amend_a_record, read_a_record, read_a_version } from './api.js';
 import { what_to_type, value_control } from './controls.js';
 import { area, element, field, given, heading, link, paragraph, reading, replace, section } from './elements.js';
+import { newest_of } from './history.js';
 import { write } from './outcomes.js';
 import { record_place } from './places.js';
-import { history_of } from './reading.js';
 import { flaw_of_value } from './rules.js';
 import { say } from './saying.js';
 import { sending_form } from './sending.js';
@@ -17,7 +17,7 @@ const words = texts.entering;
 
 export async function amending_view(view, number) {
   replace(view, heading(words.amend), reading());
-  const history = await history_of(number);
+  const history = await newest_of(number);
   const head = element('div', { class: 'record-head' }, head_of(history.versions.at(-1), words.amend));
   replace(view, head, paragraph(words.amending_intro),
     section(words.stands, null, facts_of(history.versions.at(-1), history.record)), amending_form(history),

@@ -4,7 +4,8 @@
 import { take_an_inspection_copy } from './api.js';
 import { checked_copy, line_of, rows_of, text_of } from './checking.js';
 import {
-  button, buttons, element, facts, field, given, heading, input, moment, paragraph, replace, save_file, section, table,
+  button, buttons, element, facts, field, first_rows, given, heading, input, moment, more_button, paragraph, replace, save_file, section,
+  table,
 } from './elements.js';
 import { is_left } from './life.js';
 import { AT_ONCE } from './limits.js';
@@ -68,18 +69,25 @@ function draw_copies(copies, place) {
   const name = (from, to) => `${lab}-${from}-${to}.csv`;
   const range = [copies[0].from, copies.at(-1).to];
   const columns = [words.records, words.bytes, words.check, words.save];
-  replace(place, section(words.taken(...range), null, paragraph(words.taken_intro),
-    table(words.copies, columns, copies.map((copy) => ({
-      attributes: { 'data-from': copy.from, 'data-to': copy.to },
-      cells: [words.range(copy.from, copy.to), copy.bytes.length, verdict_of(copy.verdict),
-        button('save', words.save_one(copy.from, copy.to), () => save_file(name(copy.from, copy.to), copy.bytes, TYPE))],
-    }))),
+  const row_of = (copy) => ({
+    attributes: { 'data-from': copy.from, 'data-to': copy.to },
+    cells: [words.range(copy.from, copy.to), copy.bytes.length, verdict_of(copy.verdict),
+      button('save', words.save_one(copy.from, copy.to), () => save_file(name(copy.from, copy.to), copy.bytes, TYPE))],
+  });
+  const listed = element('div');
+  const list = (most) => replace(listed, table(words.copies, columns, [...copies].sort(bad_first).slice(0, most).map(row_of)),
+    buttons(more_button(most, copies.length, () => listed.querySelectorAll('tbody button'), list)));
+  list(first_rows());
+  replace(place, section(words.taken(...range), null, paragraph(words.taken_intro), listed,
     buttons(button('save_all', words.save_all(copies.length), () => {
       for (const copy of copies) save_file(name(copy.from, copy.to), copy.bytes, TYPE);
       say(words.said_saved(copies.length));
     }), copies.length > 1 && words.several),
     copies.length > 1 && joined_part(() => save_file(name(...range).replace('.csv', '-joined.csv'), joined_copy(copies), TYPE))));
 }
+
+// (what isn't good mustn't hide below)
+const bad_first = (one, other) => (one.verdict.verdict === 'good') - (other.verdict.verdict === 'good');
 
 function verdict_of(verdict) {
   return element('code', { 'data-part': 'verdict' }, line_of(verdict));

@@ -4,6 +4,7 @@ import { texts } from './texts.js';
 import { marked, pieces_of } from './unseen.js';
 import { while_waiting } from './waiting.js';
 
+const MOST_LINKS = 5;
 let last_id = 0;
 
 export function fresh_id(word) {
@@ -88,11 +89,41 @@ export function action(hash, text, name) {
   return link(hash, text, { class: 'action', 'data-do': name });
 }
 
-// Links of which one is to the page that is shown: each { place, text, is_shown, behind }.
+// Links of which one is to the page that is shown: each { place, text, is_shown, behind }. Of many the last two, and the one that is
+// shown, are seen at first.
 export function link_row(label, links) {
-  const items = links.map(({ place, text, is_shown, behind }) =>
-    element('li', null, link(place, text, { 'aria-current': is_shown ? 'page' : null }), ' ', behind));
-  return element('nav', { 'aria-label': label, class: 'versions' }, element('ol', null, items));
+  const is_older = (at, is_shown) => links.length > MOST_LINKS && at < links.length - 2 && !is_shown;
+  const items = links.map(({ place, text, is_shown, behind }, at) =>
+    element('li', { class: is_older(at, is_shown) && 'older' },
+      link(place, text, { 'aria-current': is_shown ? 'page' : null }), ' ', behind));
+  const list = element('ol', null, items);
+  return element('nav', { 'aria-label': label, class: 'versions' }, unfolding(list, texts.show_older), list);
+}
+
+// How many rows a list has at first, so that it isn't much longer than three windows, and how many more a press shows.
+export const first_rows = () => (matchMedia('(min-width: 46rem)').matches ? 36 : 11);
+const MORE_ROWS = 300;
+
+// A button that shows more of a list: `show` draws it with `most` rows at most. The focus goes to the first row that is added.
+export function more_button(shown, all, rows_of, show) {
+  const count = Math.min(MORE_ROWS, all - shown);
+  return count > 0 && button('show_more', texts.show_more(count), () => {
+    show(shown + count);
+    rows_of()[shown]?.focus();
+  });
+}
+
+// A button that shows, and hides, what is older in a part: its descendants of that class, if it has any. On paper they are there in
+// any case. `text` is a function of how many there are.
+export function unfolding(part, text) {
+  const count = part.querySelectorAll('.older').length;
+  if (!count) return null;
+  part.id ||= fresh_id('part');
+  part.setAttribute('data-folded', '');
+  const made = button('unfold', text(count), () => {
+    made.setAttribute('aria-expanded', !part.toggleAttribute('data-folded'));
+  }, { class: 'as-link', 'aria-expanded': 'false', 'aria-controls': part.id });
+  return made;
 }
 
 // A button. While what it does isn't done it says so, and another click does nothing.

@@ -5,6 +5,7 @@ import { button, buttons, element, facts, field, given, heading, input, paragrap
 import { go } from './life.js';
 import { LEAST_OF_PASSWORD, MOST_OF_PASSWORD } from './limits.js';
 import { write } from './outcomes.js';
+import { last_lab } from './lab.js';
 import { first_place, password_place } from './places.js';
 import { bytes_of } from './rules.js';
 import { say } from './saying.js';
@@ -23,13 +24,14 @@ const ABOUT_CHANGE = { credentials: 'old', bad_password: 'new', same_password: '
 
 // A password that is due is changed in one go with the opening: the one just typed is kept for that alone.
 let typed = null;
-// The laboratory of the last session on this page; at first the one that the address names, as ?lab=aqua.
-let last_lab = new URLSearchParams(location.search).get('lab') ?? '';
+// How the dialog that is shown is ended, if one is.
+let end_dialog = null;
 
 export function entrance_view(place) {
   const named = element('output', { 'data-part': 'lab_name', 'aria-live': 'polite' });
-  const lab = input('lab', { value: last_lab, 'data-first': !last_lab });
-  const code = input('code', { autocomplete: 'username', 'data-first': Boolean(last_lab) });
+  const known = last_lab();
+  const lab = input('lab', { value: known, 'data-first': !known });
+  const code = input('code', { autocomplete: 'username', 'data-first': Boolean(known) });
   const made = sending_form({
     command: 'open_a_session', submit: words.sign_in, about: ABOUT_OPENING, keeps: false, send: (values) => enter(values),
   },
@@ -68,7 +70,6 @@ async function enter({ lab, code, password }) {
   typed = password;
   try {
     await sign_in(lab.trim(), code.trim(), password);
-    last_lab = lab.trim();
   } finally {
     if (!who()?.due) typed = null;
   }
@@ -159,8 +160,10 @@ export function again_dialog(is_due) {
       dialog.removeAttribute('aria-labelledby');
       dialog.replaceChildren();
       if (is_back && first_focus?.isConnected) first_focus.focus();
+      end_dialog = null;
       resolve(is_back);
     };
+    end_dialog = end;
     dialog.oncancel = (event) => event.preventDefault();
     dialog.onclose = () => dialog.showModal();
     if (is_due) show_change(dialog, end);
@@ -170,6 +173,13 @@ export function again_dialog(is_due) {
     focus_first(dialog);
   });
 }
+
+// Another tab opened the session again, changed the password, or signed out.
+export const end_again_dialog = (is_back) => end_dialog?.(is_back);
+
+// Whether somebody has begun to sign in.
+export const is_typing = () => [...document.querySelectorAll('form[data-form="open_a_session"] input:not([type="checkbox"])')]
+  .some(({ value, defaultValue }) => value !== defaultValue);
 
 const focus_first = (dialog) => dialog.querySelector('input:not([hidden])').focus();
 

@@ -2,11 +2,11 @@
 // state, person and day; the filter stands in the address. All records are looked through at a click.
 
 import {
-  action, actions, button, buttons, element, field, filter_choice, filter_form, folded_filter, given, heading, input, link, moment,
-  named, offer, reading, replace, replace_focused, table,
+  action, actions, button, buttons, element, field, filter_choice, filter_form, first_rows, folded_filter, given, heading, input, link,
+  moment, more_button, named, offer, reading, replace, replace_focused, table,
 } from './elements.js';
-import { is_left, is_over, leave_at, take_up } from './life.js';
-import { AT_ONCE, SHOWN_AT_ONCE } from './limits.js';
+import { is_left, is_over, leave_at, left_at, take_up } from './life.js';
+import { AT_ONCE } from './limits.js';
 import { hundred_to, hundreds, number_of } from './numbers.js';
 import { filter_of_query, opening_place, record_place, records_place } from './places.js';
 import { last_record } from './reading.js';
@@ -29,7 +29,7 @@ export async function records_view(view, query) {
   const rows = kept_records();
   const filter = filter_of_query(query, FILTERS);
   if (!texts.states[filter.state]) filter.state = '';
-  const list = { view, body, rows, filter, most: SHOWN_AT_ONCE, last: 0, walk: null, said_at: 0 };
+  const list = { view, body, rows, filter, most: first_rows(), last: 0, walk: null, said_at: 0 };
   await read_altered();
   list.last = await last_record();
   if (list.last) await read_records_into(rows, hundred_to(list.last));
@@ -60,7 +60,8 @@ const unread = (list) => (wants_versions(list) ? matching(list).filter((row) => 
 function draw_list(list) {
   const [shown, going, below] = ['div', 'div', 'div'].map((name) => element(name));
   const counts = element('p', { role: 'status', 'data-part': 'counts' });
-  Object.assign(list, { shown, going, below, counts, drawn: null });
+  const left = passing(list).findIndex(({ record }) => record === left_at());
+  Object.assign(list, { shown, going, below, counts, drawn: null, most: Math.max(list.most, left + 1) });
   replace(list.body, filter_of(list), element('div', { class: 'counts' }, counts, going), shown, below);
   draw(list);
   draw_going(list);
@@ -108,10 +109,9 @@ function counts_of(list, found) {
 function more_of(list, found) {
   const [older] = missing_hundreds(list.rows, list.last);
   if (found.length <= list.most) return older && load_more_button(list, older);
-  return button('show_more', words.show_more, () => {
-    list.most += SHOWN_AT_ONCE;
+  return more_button(list.most, found.length, () => list.shown.querySelectorAll('tbody a'), (most) => {
+    list.most = most;
     draw(list);
-    list.shown.querySelectorAll('tbody a')[list.most - SHOWN_AT_ONCE]?.focus();
   });
 }
 
@@ -121,6 +121,7 @@ function load_more_button(list, older) {
       const before = list.shown.querySelectorAll('tr[data-record]').length;
       await read_records_into(list.rows, older);
       if (is_left(list.shown)) return;
+      list.most = Math.max(list.most, before + AT_ONCE);
       offer(list.filters.querySelector('[name="form"]'), forms_of(list));
       draw(list);
       if (!list.walk) draw_going(list);

@@ -2,7 +2,7 @@
 
 import { Refusal, make_a_form } from './api.js';
 import {
-  action, actions, area, button, buttons, checkbox, choice, element, facts, field, given, heading, input, link, link_row,
+  action, actions, area, button, buttons, checkbox, choice, element, facts, field, fresh_id, given, heading, input, link, link_row,
   paragraph, radios, reading, replace, section, table,
 } from './elements.js';
 import { go, is_left, view_of } from './life.js';
@@ -19,9 +19,12 @@ import { hint_of } from './showing.js';
 import { slip_of_code, text_of_slip } from './slips.js';
 import { texts } from './texts.js';
 import { forms_in_trail } from './trail.js';
+import { marked } from './unseen.js';
 
 const words = texts.forms;
 const KINDS = ['number', 'text', 'choice', 'date', 'yesno'];
+// An editor of more fields shows each in a line at first.
+const MOST_OPEN = 5;
 const DECIMALS = Array.from({ length: MOST_DECIMALS + 1 }, (_, count) => [String(count), String(count)]);
 
 export async function forms_view(place) {
@@ -194,11 +197,8 @@ function editor_of(before) {
   const read = () => ({ approval: approval.querySelector('input').checked, fields: [...list.children].map(read_field) });
   for (const about of before?.fields ?? [{ kind: 'number' }]) list.append(field_editor(about, list));
   number_fields(list);
-  const add_one = button('add_field', words.add, () => {
-    list.append(field_editor({ kind: 'number' }, list));
-    number_fields(list, true);
-    list.lastElementChild.querySelector('[name="key"]').focus();
-  });
+  if (list.children.length > MOST_OPEN) for (const made of list.children) fold(made, true);
+  const add_one = button('add_field', words.add, () => insert(list));
   let newest = before;
   const compare = () => newest && replace(compared,
     section(words.compared(newest.version), { 'data-part': 'compared' }, differences_of(newest, read())));
@@ -217,11 +217,14 @@ function field_editor(about, list) {
   const kind = radios('kind', KINDS.map((word) => [word, words.kinds[word]]), about.kind);
   kind.addEventListener('change', () => draw_rest(rest, { kind: kind.value }));
   draw_rest(rest, about);
-  const made = element('fieldset', null, element('legend'),
+  const body = element('div', { class: 'body', id: fresh_id('field') },
     field(words.key, input('key', { value: about.key ?? '' }), words.key_hint),
     field(words.label, input('label', { value: about.label ?? '', dir: 'auto' }), words.label_hint),
-    checkbox('required', words.required_box, { checked: about.required ?? false }), field(words.kind, kind), rest,
-    buttons(button('move_up', words.move_up, (event) => move(made, list, -1, event.target)),
+    checkbox('required', words.required_box, { checked: about.required ?? false }), field(words.kind, kind), rest);
+  const made = element('fieldset', null, element('legend'), body,
+    buttons(button('fold_field', words.fold, () => fold(made, !made.matches('.folded')), { 'aria-controls': body.id, 'aria-expanded': 'true' }),
+      button('insert_below', words.insert_below, () => insert(list, made)),
+      button('move_up', words.move_up, (event) => move(made, list, -1, event.target)),
       button('move_down', words.move_down, (event) => move(made, list, 1, event.target)),
       button('remove', words.remove, () => remove(made, list))));
   return made;
@@ -269,6 +272,28 @@ function number_fields(list, is_altered = false) {
   }
 }
 
+// Adds a field below another one, or at the end.
+function insert(list, above = list.lastElementChild) {
+  const made = field_editor({ kind: 'number' }, list);
+  if (above) above.after(made);
+  else list.append(made);
+  number_fields(list, true);
+  made.querySelector('[name="key"]').focus();
+}
+
+// Shows a field in a line, or with its controls. What was typed in it isn't lost by that.
+function fold(made, is_folded) {
+  const button_of_it = made.querySelector('[data-do="fold_field"]');
+  made.classList.toggle('folded', is_folded);
+  button_of_it.setAttribute('aria-expanded', !is_folded);
+  replace(button_of_it, is_folded ? line_of(read_field(made)) : words.fold);
+}
+
+function line_of({ key, label, required, kind, unit }) {
+  const facts_of_it = [words.kinds[kind], unit, required && texts.required].filter(Boolean).join(', ');
+  return marked(`${key}: ${label} (${facts_of_it})`);
+}
+
 function move(made, list, by, pressed) {
   const other = by < 0 ? made.previousElementSibling : made.nextElementSibling;
   if (!other) return;
@@ -283,7 +308,8 @@ function remove(made, list) {
   const near = made.nextElementSibling ?? made.previousElementSibling;
   made.remove();
   number_fields(list, true);
-  (near?.querySelector('[name="key"]') ?? list.parentNode.querySelector('[data-do="add_field"]')).focus();
+  (near?.querySelector('.folded [data-do="fold_field"], :not(.folded) > .body [name="key"]')
+    ?? list.parentNode.querySelector('[data-do="add_field"]')).focus();
   say(words.said_removed);
 }
 
@@ -296,5 +322,6 @@ function about_making({ word }, { list, read }, made) {
   }));
   if (slip) flaws.unshift({ word: 'bad_name', control: code, what_to_do: text_of_slip(slip) });
   const first = flaws.find((one) => one.word === word);
+  if (first) for (const { control } of flaws) if (control.closest('.folded')) fold(control.closest('.folded'), false);
   return first ? { ...first, others: flaws.filter((one) => one !== first) } : null;
 }

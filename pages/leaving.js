@@ -55,6 +55,9 @@ export function guard_views(show) {
   });
 }
 
+// Whether something is typed and isn't sent, or is shown only once.
+export const has_work = () => Boolean(what_is_lost(true));
+
 // Where the focus goes if the person stays; or null. What a form, or a row of one, is sending by now isn't lost, unless the whole
 // page is.
 function what_is_lost(is_all = false) {
@@ -74,6 +77,7 @@ function is_typed(control) {
 // After Back the browser has put its caret elsewhere, also where the focus is: what had the focus loses it first.
 function focus_anew(lost) {
   document.activeElement.blur();
+  lost.closest('.folded')?.querySelector('[aria-expanded="false"]').click();
   lost.focus();
 }
 

@@ -36,8 +36,10 @@ export function go(view, place, is_done) {
 // A list that is left by the link of a record notes the record in the browser's history, so that Back leads to its row.
 export const leave_at = (record) => history.replaceState({ record }, '');
 
+export const left_at = () => history.state?.record;
+
 export function take_up(list) {
-  const record = history.state?.record;
+  const record = left_at();
   if (!record) return;
   list.querySelector(`[data-record="${record}"] a`)?.focus();
   history.replaceState(null, '');

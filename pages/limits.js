@@ -22,5 +22,5 @@ export const [MOST_DIGITS, MOST_DECIMALS, MOST_CHOICES] = [15, 6, 20];
 // A session, in seconds (docs/COMMANDS.md), and how long before its end the pages warn.
 export const [IDLE_SECONDS, LONGEST_SECONDS, WARNING_SECONDS] = [900, 28_800, 120];
 
-// Samples of a grid, and rows of a list that are shown at a time (docs/PAGES.md).
-export const [MOST_SAMPLES, SHOWN_AT_ONCE] = [200, 300];
+// Samples of a grid (docs/PAGES.md).
+export const MOST_SAMPLES = 200;

@@ -2,13 +2,14 @@
 
 import { amending_view } from './amending.js';
 import { button, buttons, element, focus_view, given, heading, link, named, paragraph, replace } from './elements.js';
-import { again_dialog, entrance_view, no_role_view, password_view } from './entrance.js';
+import { again_dialog, end_again_dialog, entrance_view, is_typing, no_role_view, password_view } from './entrance.js';
 import { checking_view, copies_view } from './copies.js';
 import { records_view } from './finding.js';
 import { form_view, forms_view, making_view } from './forms.js';
 import { grid_view } from './grid.js';
 import { help_button } from './help.js';
-import { ask_first, guard_views } from './leaving.js';
+import { remember_lab } from './lab.js';
+import { ask_first, guard_views, has_work } from './leaving.js';
 import { begin_view, is_over, name_view } from './life.js';
 import { WARNING_SECONDS } from './limits.js';
 import { enrolling_view, person_view, persons_view } from './persons.js';
@@ -17,11 +18,12 @@ import {
   PATTERNS, checking_place, copies_place, day_place, enrolling_place, first_place, forms_place, grid_place, making_place, no_role_place,
   opening_place, password_place, persons_place, records_place, trail_place,
 } from './places.js';
+import { guard_reloads } from './reloading.js';
 import { forget_said, say } from './saying.js';
 import { show_refusal } from './sending.js';
 import {
-  back_again, go_on, has, is_opening_again, may_copy, may_read, may_see_persons, on_session, on_session_ended, seconds_left,
-  sign_out, who,
+  back_again, go_on, has, is_opening_again, join_other_tabs, may_copy, may_read, may_see_persons, on_session, on_session_ended,
+  seconds_left, sign_out, who,
 } from './session.js';
 import { signing_view } from './signing.js';
 import { texts } from './texts.js';
@@ -200,9 +202,12 @@ function state_of_session(person) {
   return person ? `${person.lab} ${person.code} ${person.due}` : '';
 }
 
-on_session_ended(again_dialog);
+on_session_ended({
+  ask_again: again_dialog, end_asking: end_again_dialog, has_work, is_typing, tell_closed: () => say(texts.said_closed_elsewhere),
+});
 on_session((person) => {
   draw_head();
+  if (person) remember_lab(person.lab);
   if (is_opening_again() && person) return;
   const state = state_of_session(person);
   if (state === shown_for) return;
@@ -212,6 +217,11 @@ on_session((person) => {
 });
 
 guard_views(show);
+guard_reloads(show);
+// A page that Back brings from the browser's memory didn't hear of a sign-out meanwhile: it asks whether its session lives.
+addEventListener('pageshow', ({ persisted }) => {
+  if (persisted && who()) prolong();
+});
 const skip = document.getElementById('skip');
 skip.textContent = texts.skip;
 document.documentElement.lang = texts.language;
@@ -222,4 +232,5 @@ skip.addEventListener('click', (event) => {
 setInterval(count_down, 1000);
 shown_for = state_of_session(null);
 draw_head();
-show();
+await join_other_tabs();
+if (!who()) show();

@@ -5,8 +5,8 @@ import {
   set_a_persons_roles, unlock_a_person,
 } from './api.js';
 import {
-  action, actions, button, buttons, checkbox, element, facts, field, filter_choice, filter_form, focus_view, given, heading,
-  input, link, named, paragraph, reading, replace, section, table,
+  action, actions, button, buttons, checkbox, element, facts, field, filter_choice, filter_form, first_rows, focus_view, given, heading,
+  input, link, more_button, named, paragraph, reading, replace, section, table,
 } from './elements.js';
 import { is_left } from './life.js';
 import { write } from './outcomes.js';
@@ -33,8 +33,8 @@ export async function persons_view(place) {
   const { persons } = await ask(read_the_persons);
   const filter = { has: '', role: '', account: '' };
   const shown = element('div', { 'data-part': 'persons' });
-  const draw = () => draw_rows(persons, filter, shown);
-  replace(body, filter_of(filter, draw), shown);
+  const draw = (most = first_rows()) => draw_rows(persons, filter, shown, most, draw);
+  replace(body, filter_of(filter, () => draw()), shown);
   draw();
 }
 
@@ -51,12 +51,13 @@ function filter_of(filter, changed) {
     field(words.account, filter_choice('account', Object.entries(words.accounts), filter, changed)));
 }
 
-function draw_rows(persons, { has: text, role, account }, shown) {
+function draw_rows(persons, { has: text, role, account }, shown, most, draw) {
   const found = persons.filter((person) => `${person.code} ${person.name.toLowerCase()}`.includes(text)
     && (!role || person.roles.includes(role)) && [account_word(person), ''].includes(account));
   const columns = [words.code, words.name, words.roles, words.account];
   replace(shown, element('p', { role: 'status', 'data-part': 'counts' }, words.shown(found.length, persons.length)),
-    found.length > 0 && table(words.title, columns, found.map(row_of)));
+    found.length > 0 && table(words.title, columns, found.slice(0, most).map(row_of)),
+    buttons(more_button(most, found.length, () => shown.querySelectorAll('tbody a'), draw)));
 }
 
 function row_of(person) {

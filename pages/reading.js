@@ -1,6 +1,6 @@
 // What several views read of the laboratory; what never changes is read once a session.
 
-import { read_a_form, read_a_record, read_a_version, read_records, read_the_trail } from './api.js';
+import { read_a_form, read_records, read_the_trail } from './api.js';
 import { AT_ONCE, MOST_VERSIONS } from './limits.js';
 import { last_number } from './numbers.js';
 import { ask, notes } from './session.js';
@@ -46,7 +46,7 @@ async function last_of(name, read) {
   return last;
 }
 
-async function once(name, read) {
+export async function once(name, read) {
   const own = notes();
   if (!own.has(name)) own.set(name, await read());
   return own.get(name);
@@ -85,18 +85,3 @@ export async function last_version(form, known = 0) {
   }
   return low;
 }
-
-// A record up to one of its versions, or to its last: { record, versions, form }; each version is as the server gave it. All
-// versions before a last one are settled and never change, so each is read once.
-export async function history_of(number, version) {
-  const own = notes();
-  const record = await ask(read_a_record, number);
-  const last = version ?? record.current;
-  const versions = [];
-  for (let at = 1; at < Math.min(last, record.current); at += 1) versions.push(await settled_version(number, at));
-  versions.push(await ask(read_a_version, number, last));
-  remember(own, [versions.at(-1)]);
-  return { record, versions, form: await form_of(record.form, record.form_version) };
-}
-
-const settled_version = (number, version) => once(`version ${number} ${version}`, () => ask(read_a_version, number, version));

@@ -5,10 +5,10 @@ import {
   area, button, buttons, element, field, focus_view, fresh_id, heading, input, link, paragraph, password_field, reading, replace,
   section,
 } from './elements.js';
+import { history_of } from './history.js';
 import { go, is_over, view_of } from './life.js';
 import { write } from './outcomes.js';
 import { day_place, record_place, signing_on_place, signing_place, version_place } from './places.js';
-import { history_of } from './reading.js';
 import { say } from './saying.js';
 import { refuse, sending_form, show_refusal } from './sending.js';
 import { ask, has_signed, who } from './session.js';

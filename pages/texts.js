@@ -46,6 +46,10 @@ export const texts = {
   about_key: (label) => ['It is ', label, '.'],
   digest_now: 'The digest is now:',
   rule: (rule) => (texts.rules[rule] ? `Rule ${rule}: ${texts.rules[rule]}` : `The rule is ${rule}.`),
+  show_more: (count) => `Show ${count} more`,
+  show_older: (count) => `Show ${count} older ones`,
+  said_kept: 'Something is typed that is not sent, or is shown only once. So this page stays as it is.',
+  said_closed_elsewhere: 'You are signed out, by another tab of this browser.',
 
   moments: { utc: 'UTC', local: (text) => `(your time: ${text})` },
 
@@ -135,7 +139,6 @@ export const texts = {
       : `Of ${count} records it is not known yet who worked on them, and when.`),
     look_through: 'Search all records',
     look_again: 'Search all records again',
-    show_more: 'Show 300 more',
     person: 'Person, by code',
     day: 'Day or month (UTC)',
     last: 'Last change by',
@@ -174,7 +177,6 @@ export const texts = {
     others: {
       rejected: (count) => `All rejected records, with ${count} of others`, open: (count) => `All open records, with ${count} of others`,
     },
-    show_all: (count) => `Show all ${count}`,
     record_and_version: (record, version) => [record, ', version ', version],
     why: 'Reason',
     rejected_by: 'Rejected by',
@@ -246,6 +248,8 @@ export const texts = {
     seal: (meaning) => `Seal of the ${meaning} (SHA-256)`,
     unseen: 'A mark such as [U+202E] shows a character that is not seen, or that changes the order of others. It is part of the text.',
     read_by: (code, at) => [`Read by ${code}, `, at, ', by the clock of this computer.'],
+    unreleased: 'NOT RELEASED',
+    read_of: (count, last) => `${count} of ${last} versions are loaded …`,
   },
 
   entering: {
@@ -437,6 +441,8 @@ export const texts = {
     said_made: (form, version) => `Test form ${form} has version ${version} now.`,
     said_between: (version) => `Somebody made version ${version} at the same time: compare both.`,
     begin_from: (version) => `Begin anew from version ${version}.`,
+    fold: 'Show it in a line',
+    insert_below: 'Insert an analysis below',
   },
 
   persons: {

@@ -2,11 +2,11 @@
 // filter stand in the address.
 
 import {
-  button, buttons, element, field, filter_choice, filter_form, given, heading, input, link, moment, named, offer, paragraph,
-  reading, replace, replace_focused, table,
+  button, buttons, element, field, filter_choice, filter_form, first_rows, given, heading, input, link, moment, more_button, named,
+  offer, paragraph, reading, replace, replace_focused, table,
 } from './elements.js';
 import { is_over } from './life.js';
-import { AT_ONCE, SHOWN_AT_ONCE } from './limits.js';
+import { AT_ONCE } from './limits.js';
 import { first_number, hundred_to, hundreds, number_of } from './numbers.js';
 import { filter_of_query, form_place, person_place, record_place, trail_place, version_place } from './places.js';
 import { last_row, rows_between } from './reading.js';
@@ -37,7 +37,7 @@ export async function forms_in_trail(looked) {
 export async function trail_view(view, query) {
   const filter = filter_of_query(query, ['day', 'person', 'action']);
   if (!DAY.test(filter.day)) filter.day = '';
-  const trail = { view, rows: kept_rows(), filter, last: 0, range: [1, 0], is_newest: true, most: SHOWN_AT_ONCE, walk: null };
+  const trail = { view, rows: kept_rows(), filter, last: 0, range: [1, 0], is_newest: true, most: first_rows(), walk: null };
   const body = element('div', null, reading());
   replace(view, heading(words.title), paragraph(words.intro), body);
   trail.last = await last_row();
@@ -179,6 +179,7 @@ function load_more_button(trail) {
       await read_rows_into(trail.rows, hundred_to(from - 1));
       if (is_over(trail.view)) return;
       trail.range = [hundred_to(from - 1)[0], to];
+      trail.most += AT_ONCE;
       draw(trail);
       draw_going(trail);
       say(words.said_loaded(rows_of(trail).length));
@@ -226,10 +227,9 @@ function draw(trail) {
 
 function more_of(trail, found) {
   if (found.length <= trail.most) return trail.is_newest && trail.range[0] > 1 && load_more_button(trail);
-  return button('show_more', texts.records.show_more, () => {
-    trail.most += SHOWN_AT_ONCE;
+  return more_button(trail.most, found.length, () => trail.shown.querySelectorAll('tr[data-row]'), (most) => {
+    trail.most = most;
     draw(trail);
-    trail.shown.querySelectorAll('tr[data-row]')[trail.most - SHOWN_AT_ONCE]?.focus();
   });
 }
 

@@ -3,40 +3,49 @@
 
 import {
   action, actions, button, buttons, element, facts, folded, given, heading, link, link_row, moment, named, paragraph, reading, replace,
-  section, table,
+  replace_focused, section, table, unfolding,
 } from './elements.js';
 import { entering_part } from './entering.js';
+import { is_whole, newest_of, with_older } from './history.js';
+import { is_over } from './life.js';
 import { amending_place, grid_place, opening_place, paper_place, record_place, signing_place, version_place } from './places.js';
-import { history_of, is_just_opened } from './reading.js';
+import { is_just_opened } from './reading.js';
 import { read_anew } from './sending.js';
 import { has, who } from './session.js';
 import { facts_of, head_of, label_of, state_of, value_in, value_of, value_text } from './showing.js';
 import { texts } from './texts.js';
 
 const words = texts.versions;
+// Of a longer list what is older is folded.
+const [MOST_OVERWRITTEN, MOST_ENTRIES] = [3, 12];
 
+// The version and the one before are shown first. Those before are read then, for what was overwritten in them, and by whom what stands
+// was entered.
 export async function version_view(view, number, version) {
   const [head, body] = [element('div', { class: 'record-head' }, heading(texts.record(number))), element('div', null, reading())];
   replace(view, head, body);
   const [doing, missed, article, read] = ['div', 'div', 'div', 'div'].map((name) => element(name));
   let entering = null;
-  const read_again = async () => {
-    const history = await history_of(number, version);
+  const draw = (history) => {
     replace(head, head_of(shown_of(history)));
     const is_open = article.querySelector('.on-paper')?.open;
-    replace(article, article_of(history, { is_folded: true }));
+    replace_focused(article, article_of(history, { is_folded: true }));
     article.querySelector('.on-paper').open = Boolean(is_open);
     replace(doing, doing_of(history));
     replace(read, read_line());
     entering?.update(history);
-    return history;
   };
-  const history = await read_again();
+  const read_again = async () => draw(await with_older(await newest_of(number, version)));
+  const history = await newest_of(number, version);
+  draw(history);
   if (may_enter(history)) entering = entering_part(history, (made) => read_anew(missed, read_again, made));
   const again = button('read_again', words.read_again, () => read_anew(missed, read_again));
   const parts = entering ? [missed, entering.part, doing, versions_line(history)] : [versions_line(history), doing, missed];
   replace(body, parts, article, read, buttons(again));
   if (entering && is_just_opened(number)) entering.part.querySelector('[name="value"]').dataset.first = '';
+  if (is_whole(history)) return;
+  const whole = await with_older(history, () => !is_over(view));
+  if (!is_over(view)) draw(whole);
 }
 
 const shown_of = ({ versions }) => versions.at(-1);
@@ -111,13 +120,18 @@ function missing_in({ versions, form }) {
   return missing.length > 0 && named('missing', words.missing(labels));
 }
 
-// A version, for the screen, above a signature and on paper. Where it is only looked at, digest and seals are folded.
-export function article_of({ record, versions, form }, { is_folded = false } = {}) {
+// A version, for the screen, above a signature and on paper. Where it is only looked at, digest and seals are folded. Of what was
+// overwritten it has all, or its own share, as where the versions before are on the same paper.
+export function article_of({ record, versions, form }, { is_folded = false, has_all = true } = {}) {
   const shown = shown_of({ versions });
-  const about = { 'data-version': shown.version, 'data-record': shown.record, 'aria-label': texts.version(shown.version) };
+  const is_released = shown.state === 'released';
+  const about = {
+    'data-version': shown.version, 'data-record': shown.record, 'aria-label': texts.version(shown.version), 'data-unreleased': !is_released,
+  };
   const article = element('article', about,
+    !is_released && element('p', { class: 'unreleased' }, words.unreleased),
     section(texts.version(shown.version), null, facts_of(shown, record)),
-    section(words.values, null, values_table(versions, form)),
+    section(words.values, null, values_table(versions, form, has_all)),
     section(words.entries, null, shown.rows.length ? entries_table(shown, form) : paragraph(words.no_entries)),
     section(words.signatures, null, signatures_of(shown)), integrity_of(shown, is_folded));
   if (article.querySelector('.unseen')) article.append(element('p', { 'data-part': 'unseen' }, words.unseen));
@@ -125,19 +139,21 @@ export function article_of({ record, versions, form }, { is_folded = false } = {
 }
 
 // The standing values, each with who entered it, and from the second version on beside the value of the version before.
-function values_table(versions, form) {
+function values_table(versions, form, has_all) {
   const before = versions.at(-2);
   const columns = [words.field, before && words.value_before(before.version), words.value, words.entered].filter(Boolean);
-  return table(words.values_caption, columns, form.fields.map((field) => values_row(versions, field)));
+  return table(words.values_caption, columns, form.fields.map((field) => values_row(versions, field, has_all)));
 }
 
-function values_row(versions, field) {
+function values_row(versions, field, has_all) {
   const [before, shown] = [versions.at(-2), versions.at(-1)];
   const is_altered = Boolean(before) && shown.altered.includes(field.key);
   const entries = entries_of(versions, field.key);
+  const overwritten = entries.slice(0, -1).filter(({ version }) => has_all || version === shown.version);
   const mark = is_altered && [' ', element('strong', { class: 'altered' }, words.altered)];
-  const value = [value_of(value_in(shown, field.key)), mark, overwritten_list(entries.slice(0, -1), shown)];
-  const entered = entries.length > 0 && entered_by(entries.at(-1), shown);
+  const value = [value_of(value_in(shown, field.key)), mark, overwritten_list(overwritten, shown)];
+  const is_unread = !entries.length && !is_whole({ versions }) && value_in(shown, field.key);
+  const entered = entries.length ? entered_by(entries.at(-1), shown) : is_unread && texts.reading;
   return {
     attributes: { 'data-key': field.key, class: is_altered ? 'altered-row' : null },
     cells: [label_of(field), ...before ? [value_before(before, field, is_altered)] : [], value, entered],
@@ -161,23 +177,26 @@ function entered_by({ person, moment: at, reason, version }, shown) {
 
 function overwritten_list(entries, shown) {
   if (!entries.length) return null;
-  return element('ul', { class: 'overwritten', 'aria-label': words.overwritten }, entries.map((entry) =>
-    element('li', null, element('span', { class: 'mark' }, words.overwritten), ' ',
+  const list = element('ul', { class: 'overwritten', 'aria-label': words.overwritten }, entries.map((entry, at) =>
+    element('li', { class: at < entries.length - MOST_OVERWRITTEN && 'older' },
+      element('span', { class: 'mark' }, words.overwritten), ' ',
       element('s', { 'data-part': 'overwritten' }, value_text(entry)), ' ', entered_by(entry, shown))));
+  return [unfolding(list, texts.show_older), list];
 }
 
 // The entries of this version in their order; one that a later one replaced is struck through.
 function entries_table({ rows, version }, form) {
   const columns = [words.number, words.field, words.value, words.by, words.at, words.reason];
-  return table(words.entries_caption(version), columns, rows.map((row, at) => {
+  const made = table(words.entries_caption(version), columns, rows.map((row, at) => {
     const is_replaced = rows.slice(at + 1).some(({ key }) => key === row.key);
     const field = form.fields.find(({ key }) => key === row.key);
     return {
-      attributes: { 'data-entry': at + 1 },
+      attributes: { 'data-entry': at + 1, class: at < rows.length - MOST_ENTRIES && 'older' },
       cells: [at + 1, field ? given(field.label) : row.key, is_replaced ? replaced_value(row) : value_of(row),
         named('person', row.person), moment(row.moment), row.reason && given(row.reason, 'reason')],
     };
   }));
+  return [unfolding(made, texts.show_older), made];
 }
 
 function replaced_value(row) {
@@ -210,11 +229,15 @@ function read_line() {
   return paragraph(words.read_by(who().code, moment(now, 'read')));
 }
 
-// All versions of a record, one below the other, for paper.
+// All versions of a record, one below the other, for paper. Each has what it overwrote of the version before.
 export async function paper_view(place, number) {
-  replace(place, heading(texts.record(number)), reading());
-  const history = await history_of(number);
-  const articles = history.versions.map((_, at) => article_of({ ...history, versions: history.versions.slice(0, at + 1) }));
+  const how_far = reading();
+  replace(place, heading(texts.record(number)), how_far);
+  const newest = await newest_of(number);
+  const last = shown_of(newest).version;
+  const history = await with_older(newest, () => !is_over(place), (count) => replace(how_far, words.read_of(count, last)));
+  if (is_over(place)) return;
+  const articles = history.versions.map((_, at) => article_of({ ...history, versions: history.versions.slice(0, at + 1) }, { has_all: false }));
   const print_it = button('print', words.print, () => print());
   const head = element('div', { class: 'record-head' }, head_of(shown_of(history), '', words.all(history.versions.length)));
   replace(place, head, actions(print_it, link(record_place(number), words.back)), read_line(), articles);

@@ -2,8 +2,8 @@
 // are looked through, while the page is shown.
 
 import {
-  action, actions, button, buttons, element, given, heading, link, moment, named, paragraph, reading, replace, replace_focused, section,
-  table,
+  action, actions, button, buttons, element, given, heading, link, moment, more_button, named, paragraph, reading, replace,
+  replace_focused, section, table,
 } from './elements.js';
 import { is_over, leave_at, take_up } from './life.js';
 import { hundreds } from './numbers.js';
@@ -17,8 +17,8 @@ import { marked } from './unseen.js';
 import { in_turn, kept_records, known_of, learn, read_altered, read_records_into, walk } from './walking.js';
 
 const words = texts.day;
-const MOST_ROWS = 30;
-const MILLISECONDS_SHOWN = 1000;
+const MOST_ROWS = 12;
+const [MILLISECONDS_SHOWN, MILLISECONDS_COUNTED] = [1000, 200];
 
 // What is told of records: of which a kind is, whether a version is one of it, and what a row of it has behind the record.
 const KINDS = {
@@ -61,7 +61,7 @@ const key_of = ([{ record }, { last }]) => `${last.moment} ${String(record).padS
 const by_age = (one, other) => (key_of(one) < key_of(other) ? -1 : 1);
 
 export async function day_view(view) {
-  const day = { left: [], last: 0, shows_all: new Set(), drawn: 0, parts: new Map() };
+  const day = { left: [], last: 0, most: new Map(), drawn: 0, counted: 0, parts: new Map() };
   const counts = element('p', { role: 'status', 'data-part': 'counts' });
   const [going, sections] = [element('div'), element('div', { class: 'day' }, reading())];
   replace(view, heading(words.title), has('analyst') && actions(action(opening_place(), texts.records.open_one)), counts, going, sections);
@@ -81,7 +81,7 @@ async function look(day, jobs) {
     day.left.splice(day.left.indexOf(range), 1);
     if (is_over(day.view)) return;
     if (Date.now() - day.drawn > MILLISECONDS_SHOWN) draw(day);
-    else draw_counts(day);
+    else if (Date.now() - day.counted > MILLISECONDS_COUNTED) draw_counts(day);
   });
 }
 
@@ -133,7 +133,9 @@ function draw(day) {
   for (const [name, kind] of kinds()) draw_part(day, name, kind);
 }
 
-function draw_counts({ counts, left, last }) {
+function draw_counts(day) {
+  const { counts, left, last } = day;
+  day.counted = Date.now();
   const looked = left.reduce((count, [from, to]) => count - (to - from + 1), last);
   const parts = kinds().map(([name, kind]) => words.counts[name](found_of(kind).found.length));
   const own = has('reviewer', 'manager') ? found_of(KINDS.waiting).others : 0;
@@ -144,7 +146,7 @@ function draw_counts({ counts, left, last }) {
 // A part is drawn anew where something else is to be shown. What has the focus in it has it afterwards.
 function draw_part(day, name, kind) {
   const { found, others } = found_of(kind);
-  const most = day.shows_all.has(name) ? Infinity : MOST_ROWS;
+  const most = day.most.get(name) ?? MOST_ROWS;
   const drawn = JSON.stringify([found.slice(0, most), found.length, others]);
   const part = day.parts.get(name) ?? { body: element('div') };
   if (part.drawn === drawn) return;
@@ -153,8 +155,8 @@ function draw_part(day, name, kind) {
   day.parts.set(name, Object.assign(part, { drawn }));
   const focused = is_here(part.body) ? place_of(document.activeElement) : null;
   replace(part.body, found.length ? table_of(name, kind, found.slice(0, most)) : paragraph(words.none[name]),
-    found.length > most && buttons(button('show_all', words.show_all(found.length), () => {
-      day.shows_all.add(name);
+    buttons(more_button(most, found.length, () => part.body.querySelectorAll('tbody th a'), (more) => {
+      day.most.set(name, more);
       draw_part(day, name, kind);
     })),
     name !== 'waiting' && others > 0 && paragraph(link(records_place({ state: name }), words.others[name](others))));

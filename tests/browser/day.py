@@ -570,9 +570,10 @@ class Day:
 
     def nothing_is_kept(self, log):
         screen = self.screen
-        there = screen.run("return [localStorage.length, sessionStorage.length, document.cookie, location.href, JSON.stringify(history.state)]")
+        there = screen.run("return [{ ...localStorage }, sessionStorage.length, document.cookie, location.href, JSON.stringify(history.state), window.name]")
         there.append(screen.driver.execute_async_script("indexedDB.databases().then((all) => arguments[arguments.length - 1](all.length))"))
-        same("nothing is in storage, in a cookie or in the address", there, [0, 0, "", self.screen.address, "null", 0])
+        same("nothing but the laboratory's code is in storage, in a cookie or in the address", there,
+             [{"koghdise lab": LAB}, 0, "", f"{self.screen.address}?lab={LAB}", "null", "", 0])
         requests = log.read_text()
         say(len(requests) > 1000 and not re.search(r"[0-9a-f]{64}", requests), "no line of nginx's log has a token or a digest")
 

@@ -1,5 +1,6 @@
 """labdesk-pages as its user meets it, what the site sends with each reply, and what the files of the pages hold."""
 import contextlib
+import gzip
 import http.client
 import re
 import shutil
@@ -11,7 +12,9 @@ import time
 
 from room import PATIENCE, TOP, Asker, Served, Stop, same, say
 
-MOST_BYTES = 330_000
+MOST_BYTES, MOST_SENT = 330_000, 125_000
+# The one module that keeps something, and how it may: the code of a laboratory, which is no secret, under one key.
+KEEPER, KEEPS = "lab.js", (r"const KEY = 'koghdise lab';", r"localStorage\.getItem\(KEY\)", r"localStorage\.setItem\(KEY, lab\)")
 TYPES = {".html": "text/html; charset=utf-8", ".css": "text/css; charset=utf-8", ".js": "text/javascript; charset=utf-8", ".svg": "image/svg+xml"}
 POLICY = ("default-src 'self'; base-uri 'none'; form-action 'none'; frame-ancestors 'none'; object-src 'none'; "
           "require-trusted-types-for 'script'; trusted-types 'none'")
@@ -65,10 +68,40 @@ def look_at_files(served):
         if (status, headers["Content-Type"], body) != (200, TYPES.get(page.suffix), page.read_bytes()):
             wrong.append((page.name, status, headers["Content-Type"]))
         text = page.read_text()
+        if page.name == KEEPER:
+            for one in KEEPS:
+                text, count = re.subn(one, "", text)
+                wrong += [(page.name, one, count)] if count != 1 else []
         wrong += [(page.name, one) for one in FORBIDDEN if page.suffix != ".svg" and re.search(one, text)]
         wrong += [(page.name, one) for one in INLINE if page.suffix == ".html" and re.search(one, text)]
     say(not wrong, f"{len(pages())} files of the pages, each as it is and without what it mustn't hold {wrong[:4] or ''}")
     say(total < MOST_BYTES, f"together they have {total:,} bytes, fewer than {MOST_BYTES:,}")
+
+
+def look_at_compression(served):
+    """Pages are sent compressed to who takes that, and are the same then; no reply of the server is, nor is a refusal."""
+    wrong, sent = [], 0
+    for page in pages():
+        _, headers, body = fetched(served.tls, f"/{page.relative_to(TOP)}", headers={"Accept-Encoding": "gzip"})
+        sent += len(body)
+        is_small = page.stat().st_size < 256
+        if (headers["Content-Encoding"], headers["Vary"]) != ((None, None) if is_small else ("gzip", "Accept-Encoding")):
+            wrong.append((page.name, headers["Content-Encoding"], headers["Vary"]))
+        elif not is_small and gzip.decompress(body) != page.read_bytes():
+            wrong.append((page.name, "isn't the same"))
+        if not is_small and fetched(served.tls, f"/{page.relative_to(TOP)}")[1]["Content-Encoding"] is not None:
+            wrong.append((page.name, "is compressed unasked"))
+    say(not wrong, f"each page is sent compressed to who takes that, with Vary, and as it is to others {wrong[:3] or ''}".rstrip())
+    say(sent < MOST_SENT, f"together {sent:,} bytes are sent, fewer than {MOST_SENT:,}")
+    cid = Asker(served.port, "aqua", "cid", "correct horse 3")
+    found = []
+    for path in ("/labs/aqua", "/labs/none", "/labs/aqua/persons", "/labs/aqua/trail?from=1&to=100", "/none"):
+        headers = {"Accept-Encoding": "gzip", "Authorization": f"LabSession {cid.token}"}
+        found += [path for one in (fetched(served.tls, path, headers=headers)[1],) if one["Content-Encoding"] or one["Vary"]]
+    same("no reply of the server is compressed", found, [])
+    there, headers, _ = fetched(served.tls, "/pages/main.js", headers={"Accept-Encoding": "gzip"})
+    again = fetched(served.tls, "/pages/main.js", headers={"Accept-Encoding": "gzip", "If-None-Match": headers["ETag"]})[0]
+    same("a page that the browser has compressed isn't sent again", (there, again), (200, 304))
 
 
 # ---- labdesk-pages

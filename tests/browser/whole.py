@@ -8,6 +8,7 @@ from copying import look_at_altered, look_at_mutated
 from day import FOUNDERS, LAB, NAME, Day
 from entering import look_at_entering
 from hostile import found_wild, look_at_hostile
+from long import look_at_long
 from losing import found_calm, look_at_losing
 from many import found_many, look_at_many, look_at_no_server, look_at_too_often
 from paper import look_at_copies, look_at_paper
@@ -15,7 +16,8 @@ from room import SAID, Refused, Stop, found, program_of, say, serving
 from screen import NARROW, WIDE, Screen, looked_over
 from seeking import look_at_seeking
 from selenium.common.exceptions import WebDriverException
-from serving_site import look_at_files, look_at_headers, look_at_the_starter
+from serving_site import look_at_compression, look_at_files, look_at_headers, look_at_the_starter
+from tabs import look_at_tabs
 from working import found_busy, look_at_working
 
 # The pictures of docs/pages/, each at two widths.
@@ -98,6 +100,8 @@ def look_at_calm(screen, port):
     calm = look_at_losing(screen, port)
     look_at_bench(calm)
     look_at_entering(calm)
+    look_at_tabs(calm)
+    look_at_long(calm)
 
 
 def play_over(served, program, room, pictures):
@@ -107,7 +111,7 @@ def play_over(served, program, room, pictures):
         screen.load()
         day = Day(screen, served.port, Pictures(screen, pictures))
         parts = [("the checker", lambda: (look_at_altered(screen, program, room), look_at_mutated(screen, program, room))),
-                 ("the site", lambda: (look_at_headers(served), look_at_files(served))),
+                 ("the site", lambda: (look_at_headers(served), look_at_files(served), look_at_compression(served))),
                  ("the day", lambda: morning_to_evening(day, program, room)),
                  ("what is kept", lambda: day.nothing_is_kept(served.log())),
                  ("work that isn't lost", lambda: (look_at_calm(screen, served.port), looked_over(screen, "work that isn't lost"))),

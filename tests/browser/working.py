@@ -147,9 +147,9 @@ def six_at_a_time(busy):
     say(counted["all"] > 150 and 1 < counted["most"] <= 6, f"of {counted['all']} reads at most {counted['most']} are under way at a time")
     same("own work isn't what waits, and is counted", (rows_of(busy, "waiting"), "11 others are your own work" in busy.screen.part("counts")), ([201], True))
     opened = [one for one in range(5, 201) if one != 6]
-    same("of many open ones the oldest are shown", rows_of(busy, "open"), busy.by_age(*opened)[:30])
-    busy.screen.click(busy.screen.one('[data-part="open"] [data-do="show_all"]'))
-    same("and all, at a click", rows_of(busy, "open"), busy.by_age(*opened))
+    same("of many open ones the oldest are shown", rows_of(busy, "open"), busy.by_age(*opened)[:12])
+    busy.screen.click(busy.screen.one('[data-part="open"] [data-do="show_more"]'))
+    same("and all, at a press", rows_of(busy, "open"), busy.by_age(*opened))
 
 
 def read_in_part(busy):

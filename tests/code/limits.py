@@ -13,13 +13,13 @@ TIED = {
     "MOST_VERSIONS": ("RECORDS", r"(\d+) versions of a record"), "MOST_DIGITS": ("FORMS", r"1 to (\d+) digits"), "MOST_DECIMALS": ("FORMS", r"decimals, 0 to (\d+)"),
     "MOST_CHOICES": ("FORMS", r"1 to (\d+) different `Name`s"), "IDLE_SECONDS": ("PERSONS", r"no longer than ([\d,]+) seconds after its last request"),
     "LONGEST_SECONDS": ("PERSONS", r"no longer than ([\d,]+) seconds after its opening"), "MOST_SAMPLES": ("PAGES", r"up to (\d+) samples"),
-    "SHOWN_AT_ONCE": ("PAGES", r"shows (\d+) rows at a time"), "WARNING_SECONDS": ("PAGES", r"(Two) minutes before the end a warning"),
+    "WARNING_SECONDS": ("PAGES", r"(Two) minutes before the end a warning"),
 }
 PATTERNS = {"LAB_CODE": "LabCode", "PERSON_CODE": "PersonCode", "KEY": "Key"}
 # What a page counts otherwise than the document: one less, and in minutes.
 COUNTED = {"AT_ONCE": lambda number: number + 1, "WARNING_SECONDS": lambda number: number * 60}
 # Numbers that say what they are wherever they stand.
-TELLING = {"IDLE_SECONDS", "LONGEST_SECONDS", "GREATEST_NUMBER", "AT_ONCE", "MOST_VERSIONS", "MOST_OF_PASSWORD", "MOST_OF_NAME", "SHOWN_AT_ONCE"}
+TELLING = {"IDLE_SECONDS", "LONGEST_SECONDS", "GREATEST_NUMBER", "AT_ONCE", "MOST_VERSIONS", "MOST_OF_PASSWORD", "MOST_OF_NAME"}
 # What else the texts on the screen say: each number with its document.
 SAID_ELSEWHERE = {"60": ("FORMS", r"1 to 60 fields"), "500": ("RECORDS", r"at most 500 persons"), "200": ("RECORDS", r"200 rows of a version"),
                   "65,536": ("COMMANDS", r"at most 65,536 bytes"), "90": ("PERSONS", r"more than 90 days back"), "64": ("PERSONS", r"64 characters")}

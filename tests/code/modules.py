@@ -13,7 +13,9 @@ OUTSIDE = re.compile(r'import\("/pages/(\w+)\.js"\)\.then\((?:async )?\(\{([^}]*
 AT_WORK = r"(?<![\w$])(?<!(?<!\.\.)\.)"
 COMMENT = re.compile(r"^\s*//.*$", re.M)
 # What touches a page or the browser around it.
-TOUCHES = re.compile(r"\b(?:document|location|history|addEventListener|matchMedia|localStorage|innerWidth|scrollTo)\b(?!:)|\bwindow\.")
+TOUCHES = re.compile(r"\b(?:document|location|addEventListener|matchMedia|localStorage|innerWidth|scrollTo)\b(?!:)|\bwindow\.|\bhistory\.[a-z]+State\b")
+# These know the address, what the browser keeps, and its other tabs, and no page either.
+AROUND = {"lab", "tabs"}
 # What docs/PAGES.md wants of a browser, and what of that decides: each as it stands in the pages.
 FLOOR = "Chromium and Edge from 105 on, Firefox from 121 on, Safari from 16.4 on"
 DECIDING = {
@@ -116,7 +118,8 @@ def look_at_lists(modules):
     same("the page names each module but the first, in order", preloaded, sorted(set(modules) - {"main"}))
     told = re.search(r"((?:`\w+\.js`(?:, | and )?)+) touch no page", (PAGES / "README.md").read_text())
     quiet = set(re.findall(r"`(\w+)\.js`", told[1])) if told else set()
-    touching = sorted(name for name in quiet if TOUCHES.search(re.sub(r"'[^'\n]*'", "''", COMMENT.sub("", modules[name]))))
+    touching = sorted(name for name in quiet - AROUND if TOUCHES.search(re.sub(r"'[^'\n]*'", "''", COMMENT.sub("", modules[name]))))
+    touching += sorted(name for name in AROUND if re.search(r"\bdocument\b", COMMENT.sub("", modules[name])))
     same(f"{len(quiet)} modules of which the README says that they touch no page touch none", touching, [])
     return quiet
 
