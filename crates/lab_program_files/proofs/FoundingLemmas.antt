@@ -4,10 +4,11 @@ use Rattle.std.specs.Prelude.{Err, IfErr, IfSome, IsSome, Ok, Result}
 use Rattle.std.specs.Io.KnownBytes.{Keeps}
 use Rattle.lab_forms_texts.specs.declared.tick.Tick.{Tick}
 use Rattle.lab_records_kept.specs.declared.keeper.Keeper.{Ghosts}
-use Rattle.lab_records_kept.specs.Worlds.{Given, IsDurable, Leaves}
+use Rattle.lab_records_kept.specs.Worlds.{Given, IsDurable, Leaves, Lives}
 use Rattle.lab_desk_foundings.specs.declared.faults.FoundFault.{FoundFault}
 use Rattle.lab_desk_foundings.specs.Faults.{FoundFaultFits}
 use Rattle.lab_desk_foundings.specs.Foundings.{Founds, founding_in}
+use Rattle.lab_desk_runs.specs.Keeping.{Stays}
 use Rattle.lab_program_outside.specs.declared.faults.ServerFault.{ServerFault}
 use Rattle.lab_program_outside.specs.declared.faults.ServerFault.TheVariants.{Memory, Read, Write}
 use Rattle.lab_program_outside.specs.Faults.{IsReaderFault}
@@ -82,10 +83,20 @@ module _ {S : Type 0} (keeper : Ghosts S) (drawing : Drawing) (code : List ℕ) 
       Given (keeper.world old) (keeper.world new) (Founds (keeper.world old) (keeper.world new)
       (keeper.places old new) code tick (founding_in read)) →
       Given (keeper.world old) (keeper.world new) (IsDurable (keeper.world new)) →
+      Given (keeper.world old) (keeper.world new) (Lives (keeper.world old) (keeper.world new)) →
+      Given (keeper.world old) (keeper.world new) (Stays (keeper.world old) (keeper.world new)) →
       Ends keeper (task_of drawing code known) old new result
-  ends_founded known read bytes old new tick result drawn same whole printed founds durable =
+  ends_founded known read bytes old new tick result drawn same whole printed founds durable lives stays =
       λ honest reached. for_known known read
       (λ all. EndsFounding keeper (task_of drawing code known) all old new result)
       (known_as known read bytes same whole)
-      (printed_so known read old new result printed
-      (tick, drawn, founds honest reached, durable honest reached))
+      (printed_so known read old new result printed (
+        tick,
+        drawn,
+        record {
+          founds = founds honest reached;
+          durable = durable honest reached;
+          lives = lives honest reached;
+          stays = stays honest reached;
+        },
+      ))

@@ -1,6 +1,7 @@
 -- What the next start finds, and that a file without a byte is found empty.
-use Rattle.std.proofs.Common.{◌≡◌, ◌∙◌, ◌≤◌, ℕ, List, [], ◌∷◌, ◌++◌, Bool, ap, arith, inl, inr, refl, subst, sym}
+use Rattle.std.proofs.Common.{◌≡◌, ◌∙◌, ◌≤◌, ℕ, List, [], ◌∷◌, ◌++◌, Bool, true, ap, arith, inl, inr, refl, subst, sym}
 use Rattle.std.specs.Prelude.{IsTrue, Option, Some, None, Result, Ok, Err, ℤ, false}
+use Rattle.std.proofs.lemmas.Bool.{false≢true}
 use Rattle.std.specs.List.{AllZip}
 use Rattle.sqlite_trees.specs.Tree.{Trees}
 use Rattle.sqlite_trees.specs.declared.store.Store.{Ghosts}
@@ -10,21 +11,29 @@ use Rattle.sqlite_wal.specs.Recovery.{Image}
 use Rattle.sqlite.specs.Effect.{Database}
 use Rattle.sqlite.specs.Held.{Held, state}
 use Rattle.sqlite.specs.State.{HasCleanDisk, State}
-use Rattle.lab_records_kept.specs.Worlds.{Meaning, Passes, SameMeaning, World}
+use Rattle.lab_records_kept.specs.Worlds.{Given, Meaning, Passes, SameMeaning, World}
 use Rattle.lab_store_tables.specs.Meaning.{meaning}
 use Rattle.lab_store_tables.specs.Rows.{tables_in}
 use Rattle.lab_store_files.specs.NewFiles.{IsBlank, no_schema}
 use Rattle.lab_store_files.specs.declared.faults.FileFault.{FileFault}
 use Rattle.lab_store_files.specs.declared.faults.FileFault.TheVariants.{Memory, NotADeskFile, Storage}
 use Rattle.lab_store_files.specs.Verdicts.{Answers, file_verdict, number_shown, number_verdict, shown_verdict, whole_verdict}
-use Rattle.lab_desk_runs.specs.Alone.{Happening}
-use Rattle.lab_desk_runs.specs.Keeping.{GivenWithin}
+use Rattle.lab_forms_texts.specs.declared.tick.Tick.{Tick}
+use Rattle.lab_records_walks.specs.Resting.{IsRead}
+use Rattle.lab_desk_foundings.proofs.Bearing.{takes_founded}
+use Rattle.lab_desk_foundings.specs.Foundings.{founded_line, founding_in}
+use Rattle.lab_desk_runs.specs.declared.events.Event.TheVariants.{Found}
+use Rattle.lab_desk_runs.specs.Alone.{Founding, Happening}
+use Rattle.lab_desk_runs.specs.Keeping.{AreWithin, GivenWithin}
 use Rattle.lab_desk_runs.specs.Leaving.{LeavesRun}
+use Rattle.lab_desk_runs.specs.Runs.{Handled, IsRun}
+use Rattle.lab_desk_runs.proofs.Running.{one_founding, still_run}
 use Rattle.lab_desk_runs.specs.Starts.{AreStarts, IsAnswered, IsStopped, Start, left_by}
 use Rattle.lab_program_shelves.specs.Files.{AreHeldIn, IsFound, IsNew, IsOpened, IsOurs}
 use Rattle.lab_program_serve.specs.Visits.{AreVisits, GoesOn, Visit}
 use Rattle.lab_program_serve.proofs.RunLemmas.{served_run}
-use Rattle.lab_program_files.specs.FileWorlds.{file_keeper, file_world}
+use Rattle.lab_program_files.specs.FileWorlds.{file_keeper, file_rests, file_world}
+use Rattle.lab_program_files.specs.Foundings.{IsFoundedAt}
 use Rattle.lab_program_files.specs.Starts.{AreSoFar, IsRunOver, IsServedOver, start_of}
 
 -- ---- starts
@@ -131,6 +140,66 @@ served_over disk reply opened last visits are passes live within honest reached 
         passes = passes;
       };
     }
+
+-- ---- a founding
+
+module _ {S : Type 0} (disk : Ghosts S) (opened last : Held S) (code : List ℕ) (tick : Tick)
+    (bytes : List ℕ) (founded : IsFoundedAt (file_keeper disk) opened last code tick bytes)
+    (passes : Passes (file_world disk opened) (file_world disk last))
+    (within : AreWithin (file_world disk opened)) where
+  founding : Handled
+  founding = record { event = Founding code tick bytes; taken = true; answer = founded_line code }
+
+  run_of_founding : IsRun (file_world disk opened) (file_world disk last) (founding ∷ [])
+  unfolding founding
+  run_of_founding =
+      one_founding (file_world disk opened) (file_world disk last) (Found code tick bytes) code tick
+      bytes bytes true (founded_line code) (founded_line code) refl refl refl
+      (λ live. founded.lives.0)
+      (λ taken. takes_founded (file_world disk opened) (file_world disk last)
+      ((file_keeper disk).places opened last) code tick (founding_in bytes) (founded_line code) (Ok tt)
+      tt refl founded.founds founded.lives refl)
+      (λ refused. absurd (false≢true (sym refused)))
+
+  pub founded_over : IsRunOver disk opened last (Founding code tick bytes ∷ []) (true ∷ [])
+  unfolding founding
+  founded_over = record {
+    handled = founding ∷ [];
+    told = record { events_are = refl; taken_are = refl };
+    run = run_of_founding;
+    leaves = record {
+      handled = founding ∷ [];
+      told = record { events_are = refl; taken_are = refl };
+      left = λ so held left. inl (λ name. founded.durable.0 held left name
+          ∙ run_of_founding.after (file_world disk opened).meaning (λ live it. refl) founded.lives.1 name);
+      safe = λ so safe. founded.durable.1;
+      left_within = λ so. founded.stays.left_within founded.lives.0 within;
+      left_releasing = λ so. founded.stays.left_releasing founded.lives.0;
+    };
+    passes = passes;
+  }
+
+-- ---- a copy
+
+pub copied_over : {S : Type 0} (disk : Ghosts S) (opened last : Held S) →
+    IsRead (file_world disk) (file_rests disk) opened last → (file_world disk opened).is_live →
+    Given (file_world disk opened) (file_world disk last) (IsRunOver disk opened last [] [])
+copied_over disk opened last read live honest reached = record {
+  handled = [];
+  told = record { events_are = refl; taken_are = refl };
+  run = still_run (file_world disk opened) (file_world disk last) (read.passes.live honest)
+      (read.same honest reached);
+  leaves = record {
+    handled = [];
+    told = record { events_are = refl; taken_are = refl };
+    left = λ so held left. inr (inr (read.quiet honest reached live held left, λ code. refl));
+    safe = λ so. read.safe honest reached live;
+    left_within = λ so only held left. only held (read.quiet honest reached live held left);
+    left_releasing = λ so releasing only held left.
+        only held (read.quiet honest reached live held left);
+  };
+  passes = read.passes;
+}
 
 -- ---- an empty file
 

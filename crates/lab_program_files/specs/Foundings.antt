@@ -4,9 +4,10 @@ use Rattle.std.specs.Prelude.{◌≡◌, ◌<◌, ℕ, List, Option, Result, Ok,
 use Rattle.std.specs.Io.KnownBytes.{Appends, Keeps}
 use Rattle.lab_forms_texts.specs.declared.tick.Tick.{Tick}
 use Rattle.lab_records_kept.specs.declared.keeper.Keeper.{Ghosts}
-use Rattle.lab_records_kept.specs.Worlds.{Given, Leaves, IsDurable}
+use Rattle.lab_records_kept.specs.Worlds.{Given, Leaves, Lives, IsDurable}
 use Rattle.lab_desk_foundings.specs.Faults.{FoundFaultFits}
 use Rattle.lab_desk_foundings.specs.Foundings.{Founds, founded_line, founding_in}
+use Rattle.lab_desk_runs.specs.Keeping.{Stays}
 use Rattle.lab_program_outside.specs.Sources.{Drawing, IsDrawn}
 use Rattle.lab_program_outside.specs.TaskEnds.{TaskEnd}
 use Rattle.lab_program_outside.specs.Faults.{rehearsal_fault_word}
@@ -40,14 +41,22 @@ pub record FoundTask : Type 0 where
   -- the body, where it is known
   pub body : Option (List ℕ)
 
+-- at a tick a laboratory was founded from a body, and its rows last; the keeper was live, and all that
+-- stays true over an event stays so
+pub record IsFoundedAt {S : Type 0} (keeper : Ghosts S) (old new : S) (code : List ℕ) (tick : Tick)
+    (bytes : List ℕ) : Type 0 where
+  pub founds : Founds (keeper.world old) (keeper.world new) (keeper.places old new) code tick
+      (founding_in bytes)
+  pub durable : IsDurable (keeper.world new)
+  pub lives : Lives (keeper.world old) (keeper.world new)
+  pub stays : Stays (keeper.world old) (keeper.world new)
+
 module _ {S : Type 0} (keeper : Ghosts S) (task : FoundTask) where
   module _ (bytes : List ℕ) (old new : S) where
-    -- at the tick that was drawn the laboratory was founded from the body, and its rows last
+    -- so it was at the tick that was drawn
     abbrev pub IsFounded : Type 0
     IsFounded = (tick : Tick) × IsDrawn task.drawing tick
-        × Founds (keeper.world old) (keeper.world new) (keeper.places old new) task.code tick
-        (founding_in bytes)
-        × IsDurable (keeper.world new)
+        × IsFoundedAt keeper old new task.code tick bytes
 
     -- by how it ended: where the output failed the laboratory is founded all the same; a refusal is
     -- the founding's, at the tick, and every laboratory means what it meant; where body, clock or

@@ -16,4 +16,7 @@ pub use lab_program_shelves::{
     Closing, FoundingFault, OpenFault, Progress, Shelf, Trouble, Unheard,
 };
 pub use serving::serve;
-pub use starts::{a_start_finds_what_was_left, what_is_served_is_a_start};
+pub use starts::{
+    a_start_finds_what_was_left, what_is_copied_is_a_start, what_is_founded_is_a_start,
+    what_is_served_is_a_start,
+};

@@ -1,20 +1,23 @@
 //! The laws of the next start over a file. The functions do nothing: their contracts say the laws.
 
-ghost use Rattle.std.specs.Prelude.{◌≡◌, ◌++◌, IsTrue, List, [], ◌∷◌, Bool, None, ℕ};
+ghost use Rattle.std.specs.Prelude.{◌≡◌, ◌++◌, IsTrue, List, [], ◌∷◌, Bool, true, None, ℕ};
 ghost use Rattle.sqlite_wal.specs.Recovery.{Image};
 ghost use Rattle.sqlite_store.specs.declared.store.FileStore.{FileStore};
 ghost use Rattle.sqlite_store.specs.FileStore.{recovers, state as pages_of, view};
 ghost use Rattle.sqlite.specs.Files.{file_state, over_files};
 ghost use Rattle.sqlite.specs.Held.{Held, IsConnected, state};
 ghost use Rattle.sqlite.specs.State.{HasCleanDisk};
-ghost use Rattle.lab_records_kept.specs.Worlds.{Meaning, Passes, SameMeaning};
+ghost use Rattle.lab_forms_texts.specs.declared.tick.Tick.{Tick};
+ghost use Rattle.lab_records_kept.specs.Worlds.{Given, Meaning, Passes, SameMeaning};
+ghost use Rattle.lab_records_walks.specs.Resting.{IsRead};
 ghost use Rattle.lab_store.specs.StoreWorlds.{world_of};
-ghost use Rattle.lab_desk_runs.specs.Alone.{Happening};
-ghost use Rattle.lab_desk_runs.specs.Keeping.{GivenWithin};
+ghost use Rattle.lab_desk_runs.specs.Alone.{Founding, Happening};
+ghost use Rattle.lab_desk_runs.specs.Keeping.{AreWithin, GivenWithin};
 ghost use Rattle.lab_desk_runs.specs.Starts.{Start};
 ghost use Rattle.lab_program_shelves.specs.Files.{AreHeldIn, IsOpened, IsOurs};
 ghost use Rattle.lab_program_serve.specs.Visits.{AreVisits, GoesOn, Visit};
-ghost use Rattle.lab_program_files.specs.FileWorlds.{file_keeper, file_world};
+ghost use Rattle.lab_program_files.specs.FileWorlds.{file_keeper, file_rests, file_world};
+ghost use Rattle.lab_program_files.specs.Foundings.{IsFoundedAt};
 ghost use Rattle.lab_program_files.specs.Starts.{AreSoFar, IsRunOver, IsServedOver, start_of};
 
 use sqlite::Alter;
@@ -76,4 +79,24 @@ pub fn what_is_served_is_a_start<S: Alter>()
         (file_world S.Store last).is_live →
         GivenWithin (file_world S.Store opened) (file_world S.Store last)
         (IsServedOver S.Store opened last visits) }
+{}
+
+/// Law: a founding in a file is a run over that file of one event, and so one of the starts of `goes_on`; `IsFounding` says
+/// of the task `found` what is asked here.
+pub fn what_is_founded_is_a_start<S: Alter>()
+    ensures { (opened last : Held S) (code : List ℕ) (tick : Tick) (bytes : List ℕ) →
+        IsFoundedAt (file_keeper S.Store) opened last code tick bytes →
+        Passes (file_world S.Store opened) (file_world S.Store last) →
+        AreWithin (file_world S.Store opened) →
+        IsRunOver S.Store opened last (Founding code tick bytes ∷ []) (true ∷ []) }
+{}
+
+/// Law: a copy out of a file is a run over that file without an event, and so one of the starts of `goes_on`; `IsCopying`
+/// says of the task `copy` what is asked here, and `found` that the connection of a start is live.
+pub fn what_is_copied_is_a_start<S: Alter>()
+    ensures { (opened last : Held S) →
+        IsRead (file_world S.Store) (file_rests S.Store) opened last →
+        (file_world S.Store opened).is_live →
+        Given (file_world S.Store opened) (file_world S.Store last)
+        (IsRunOver S.Store opened last [] []) }
 {}

@@ -45,6 +45,7 @@ returns-clause-ends g c =
     c.in_ok-intake.ensures.tick c.as_slice.ensures.value
     c.in_ok-intake.ensures.body c.print.ensures.fault (rw founded at c.found-founded.ensures.founded)
     (rw founded at c.found-founded.ensures.durable)
+    (rw founded at c.found-founded.ensures.lives) c.found-founded.ensures.stays
 
 pub returns-clause-prints : goal.returns-clause-prints
 returns-clause-prints g c =
