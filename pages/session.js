@@ -13,7 +13,7 @@ import { ask_tabs, join_tabs, tell_tabs } from './tabs.js';
 const IDLE_SECONDS = 900;
 const LONGEST_SECONDS = 28_800;
 const NO_RECORD = 1_000_000_000;
-const MILLISECONDS_FOR_AN_ANSWER = 60;
+const MILLISECONDS_FOR_AN_ANSWER = 40;
 const NOT_SENT_AGAIN = new Set([sign_a_version, change_the_password]);
 // Words of requests that didn't come as far as the session: they don't prolong it.
 const BEFORE_THE_SESSION = new Set(['no_reply', 'too_often', 'no_server', 'head_too_long', 'bad_head', 'transfer_coding',
