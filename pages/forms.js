@@ -19,7 +19,6 @@ import { hint_of } from './showing.js';
 import { slip_of_code, text_of_slip } from './slips.js';
 import { texts } from './texts.js';
 import { forms_in_trail } from './trail.js';
-import { marked } from './unseen.js';
 
 const words = texts.forms;
 const KINDS = ['number', 'text', 'choice', 'date', 'yesno'];
@@ -290,8 +289,7 @@ function fold(made, is_folded) {
 }
 
 function line_of({ key, label, required, kind, unit }) {
-  const facts_of_it = [words.kinds[kind], unit, required && texts.required].filter(Boolean).join(', ');
-  return marked(`${key}: ${label} (${facts_of_it})`);
+  return [given(key), ': ', given(label), ' (', words.kinds[kind], unit && [', ', given(unit)], required && `, ${texts.required}`, ')'];
 }
 
 function move(made, list, by, pressed) {

@@ -11,7 +11,7 @@ import { GREATEST_NUMBER as NO_RECORD, IDLE_SECONDS, LONGEST_SECONDS } from './l
 import { is_lab_code } from './rules.js';
 import { ask_tabs, join_tabs, tell_tabs } from './tabs.js';
 
-const MILLISECONDS_FOR_AN_ANSWER = 60;
+const MILLISECONDS_FOR_AN_ANSWER = 40;
 const NOT_SENT_AGAIN = new Set([sign_a_version, change_the_password]);
 // Words of requests that didn't come as far as the session: they don't prolong it.
 const BEFORE_THE_SESSION = new Set(['no_reply', 'too_often', 'no_server', 'head_too_long', 'bad_head', 'transfer_coding',

@@ -134,6 +134,9 @@ def as_manager(screen, wild):
         compare_form(screen, wild.hal, "wild", version, "labels, choices and units that are markup")
         fits(screen, f"version {version} of the form")
     screen.go("#/making/wild/2")
+    fits(screen, "the editor, folded")
+    for folded in screen.all('[data-do="fold_field"][aria-expanded="false"]'):
+        screen.click(folded)
     labels = [one.get_attribute("value") for one in screen.all('[name="label"]')]
     same("the editor has the labels", labels, [one["label"] for one in wild.gus.get("forms/wild/2")["fields"]])
     fits(screen, "the editor")

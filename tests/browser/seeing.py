@@ -45,9 +45,11 @@ return { form: text("form"), fields: each("tr[data-key]", document, (row) => [ro
 
 
 def seen(screen, what):
-    """What is on the screen; of a list all that is loaded, also what a press shows."""
+    """What is on the screen; of a list all that is loaded, and of a version what is older, too, also what a press shows."""
     while what in (RECORDS, TRAIL, PERSONS) and screen.all('[data-do="show_more"]'):
         screen.do("show_more")
+    while what == VERSION and screen.all('[data-do="unfold"][aria-expanded="false"]'):
+        screen.click(screen.one('[data-do="unfold"][aria-expanded="false"]'))
     return screen.run(f"{HELP} const shown = (() => {{ {what} }})(); for (const one of folded) one.open = false; return shown;")
 
 
