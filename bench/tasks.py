@@ -133,7 +133,7 @@ class Tasks:
                     if row < 19:
                         screen.press(keys.ENTER)
             screen.press(keys.CONTROL + keys.ENTER + keys.NULL)
-            screen.wait(lambda: "records are opened" in screen.run("return document.getElementById('said').innerText"), "all is entered")
+            screen.wait(lambda: len(screen.all('[data-outcome="entered"]')) == 100, "all is entered")
         for _ in range(3):
             screen.do("add_rows")
         self.task("type 20 samples of 5 fields in the grid, and enter all", type_all)

@@ -93,7 +93,7 @@ const scope = document.querySelector("dialog[open]") ?? document;
 const all = [...scope.querySelectorAll("a[href], button, input, select, textarea, summary")].filter(seen);
 const box_of = (one) => {
     const own = one.getBoundingClientRect();
-    const label = one.type === "checkbox" ? one.labels[0]?.getBoundingClientRect() : null;
+    const label = ["checkbox", "radio"].includes(one.type) ? one.labels[0]?.getBoundingClientRect() : null;
     if (!label) return own;
     const [left, top] = [Math.min(own.left, label.left), Math.min(own.top, label.top)];
     return new DOMRect(left, top, Math.max(own.right, label.right) - left, Math.max(own.bottom, label.bottom) - top);
@@ -119,9 +119,14 @@ return all.filter((one, at) => is_small(boxes[at]) && !in_sentence(one) && (one.
 """
 # What the tabulator has to come to.
 STOPS = """
+// (of choices that are seen all at once it comes to the one that is chosen, or else to one of them; arrows go on)
+const is_passed = (one) => {
+    const group = one.type === "radio" ? [...document.querySelectorAll("input[type=radio]")].filter((other) => other.name === one.name && other.form === one.form) : [one];
+    return one !== (group.find((other) => other.checked) ?? group[0]);
+};
 const seen = (one) => one.checkVisibility({ visibilityProperty: true }) && one.getClientRects().length > 0;
 const scope = document.querySelector("dialog[open]") ?? document;
-window.stops = [...scope.querySelectorAll("a[href], button, input, select, textarea, summary, [tabindex='0']")].filter((one) => seen(one) && !one.disabled && one.id !== "skip");
+window.stops = [...scope.querySelectorAll("a[href], button, input, select, textarea, summary, [tabindex='0']")].filter((one) => seen(one) && !one.disabled && one.id !== "skip" && !is_passed(one));
 window.come_to = new Set();
 (scope.querySelector("#skip") ?? scope).focus?.();
 return window.stops.length;

@@ -185,6 +185,7 @@ class Day:
         self.field(1, kind="number", key="lead", label="Lead", required=True, unit="mg/L", decimals="2", min="0", max="50")
         screen.do("make_a_form")
         screen.wait(lambda: screen.place() == "#/forms/water/1", "the form is shown")
+        screen.settle()
         compare_form(screen, self.inspector, "water", 1, "a form that was made")
         self.make_drinking()
         self.make_next_water()
@@ -203,6 +204,7 @@ class Day:
         self.picture("making-a-form")
         screen.do("make_a_form")
         screen.wait(lambda: screen.place() == "#/forms/drinking/1", "the form is shown")
+        screen.settle()
         compare_form(screen, self.inspector, "drinking", 1, "a form with each kind of field")
         fields = self.inspector.get("forms/drinking/1")
         there = fields["approval"], [one["kind"] for one in fields["fields"]]
