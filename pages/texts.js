@@ -29,7 +29,7 @@ export const texts = {
   look: 'Check whether it is done',
   shown_is_old: 'This page shows what was there before.',
   refused: 'Refused:',
-  word_of_refusal: (word, number) => `(code ${word}${number ? ` ${number}` : ''})`,
+  word_of_refusal: (word, number) => `(${word}${number ? ` ${number}` : ''})`,
   required: 'required',
   choose: 'choose …',
   clear: 'Clear',
@@ -738,7 +738,7 @@ export const texts = {
     no_key: { when: 'this is not the code of a test form.', what_to_do: 'Type 1 to 24 letters a to z, digits and underscores. The first is a letter.' },
     no_file: { when: 'no file is chosen.', what_to_do: 'Choose the file of a copy.' },
     page_fault: { first: 'Fault:', when: 'this page has a fault.', what_to_do: 'Reload the page. If it comes back, report it to your IT support.' },
-    unknown: { when: "the server gave a refusal that this page doesn't know.", what_to_do: 'Report its code to your IT support.' },
+    unknown: { when: "the server gave a refusal that this page doesn't know.", what_to_do: 'Report the word in brackets to your IT support.' },
   },
 
   // What each page is for, and what to do next, by the name of its view.
