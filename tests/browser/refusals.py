@@ -122,7 +122,7 @@ class Refuser:
         text, wrong, focused, number, about = self.screen.run(SHOWN, word)
         wanted = self.texts[word]["when"]
         good = wanted in text and f"{word} {self.words[word][0]})" in text and number == str(self.words[word][0])
-        good = good and FURTHER.get(word, ({}, ""))[1] in text
+        good = good and FURTHER.get(word, ({}, ""))[1].lower() in text.lower()
         if control:
             good = good and control in wrong and focused == control and (about == control or control == "reason")
         else:
