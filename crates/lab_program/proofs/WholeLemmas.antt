@@ -4,6 +4,7 @@ use Rattle.std.specs.Prelude.{IfOk, IfSome, IsSome, option_map}
 use Rattle.lab_records_kept.specs.declared.keeper.Keeper.{Ghosts as KeeperOf}
 use Rattle.lab_records_kept.specs.Worlds.{Given}
 use Rattle.lab_desk_foundings.specs.Faults.{FoundFaultFits}
+use Rattle.lab_forms_texts.specs.declared.tick.Tick.{Tick}
 use Rattle.lab_desk_foundings.specs.Foundings.{Body, Founds, IsNewborn, founding_in}
 use Rattle.lab_desk_foundings.proofs.Bodies.{said_by_front}
 use Rattle.lab_program_outside.specs.Sources.{Drawing}
@@ -14,7 +15,7 @@ use Rattle.lab_program_outside.specs.declared.faults.ServerFault.TheVariants.{Re
 use Rattle.lab_program_shelves.specs.declared.faults.OpenFault.{OpenFault}
 use Rattle.lab_program_serve.specs.Rehearsals.{rehearsal_tick}
 use Rattle.lab_program_serve.specs.RehearseTask.{FoundsBy, IsRehearsal}
-use Rattle.lab_program_files.specs.Foundings.{Ends, EndsFounding, EndsOver, FoundTask, IsFounding}
+use Rattle.lab_program_files.specs.Foundings.{Ends, EndsFounding, EndsOver, FoundTask, IsFoundedAt, IsFounding}
 use Rattle.lab_program.specs.Laboratories.{front_of}
 
 -- what is said of the first bytes of an input, said of the input
@@ -32,15 +33,21 @@ abbrev task_of : Drawing → List ℕ → Option (List ℕ) → FoundTask
 task_of drawing code body = record { drawing = drawing; code = code; body = body }
 
 module _ {S : Type 0} (keeper : KeeperOf S) (drawing : Drawing) (code : List ℕ) (input : Option (List ℕ)) where
+  founded_as : (one other : List ℕ) (old new : S) (tick : Tick) → founding_in one ≡ founding_in other
+      → IsFoundedAt keeper old new code tick one → IsFoundedAt keeper old new code tick other
+  founded_as one other old new tick same at = record {
+    founds = subst (λ (body : Body). Founds (keeper.world old) (keeper.world new) (keeper.places old new) code tick body) same
+        at.founds;
+    durable = at.durable;
+    lives = at.lives;
+    stays = at.stays;
+  }
+
   ends_as : (one other : List ℕ) (old new : S) (ending : Result (Unit {0}) RehearsalFault) → founding_in one ≡ founding_in other
       → EndsFounding keeper (task_of drawing code (front_of input)) one old new ending
       → EndsFounding keeper (task_of drawing code input) other old new ending
-  ends_as one other old new (Ok done) same ends = (
-    ends.0,
-    ends.1,
-    subst (λ (body : Body). Founds (keeper.world old) (keeper.world new) (keeper.places old new) code ends.0 body) same ends.2,
-    ends.3,
-  )
+  ends_as one other old new (Ok done) same ends =
+      (ends.0, ends.1, founded_as one other old new ends.0 same ends.2)
   ends_as one other old new (Err (Founding fault)) same ends = (
     ends.0,
     ends.1,
@@ -49,12 +56,8 @@ module _ {S : Type 0} (keeper : KeeperOf S) (drawing : Drawing) (code : List ℕ
     ends.3,
   )
   ends_as one other old new (Err (Server Read)) same ends = ends
-  ends_as one other old new (Err (Server Write)) same ends = (
-    ends.0,
-    ends.1,
-    subst (λ (body : Body). Founds (keeper.world old) (keeper.world new) (keeper.places old new) code ends.0 body) same ends.2,
-    ends.3,
-  )
+  ends_as one other old new (Err (Server Write)) same ends =
+      (ends.0, ends.1, founded_as one other old new ends.0 same ends.2)
   ends_as one other old new (Err (Server Memory)) same ends = ends
 
   pub ends_whole : (old new : S) (ending : Result (Unit {0}) RehearsalFault)
