@@ -75,6 +75,24 @@ def is_in(screen):
     return screen.all('[data-do="close_the_session"]')
 
 
+def seen(screen, selector):
+    """The one element of a selector, for which it waits long: a tab that isn't seen is slow."""
+    wait(screen, lambda: screen.all(selector), f"{selector} is seen")
+    return screen.one(selector)
+
+
+def answered(screen, name, lab=LAB):
+    """Asks, and asks again after a while, until a session is given."""
+    asked = []
+
+    def is_given():
+        if not asked or time.monotonic() - asked[-1] > 3:
+            asked.append(time.monotonic())
+            screen.run(ASK, name, lab, None)
+        return screen.run("return arguments[0] in (window.given ?? {})", name)
+    wait(screen, is_given, f"who asks as {name} is answered")
+
+
 # ---- a session that is handed on
 
 
@@ -126,18 +144,16 @@ def asked_wrongly(calm):
     """A session is given to who asked just now, for its laboratory or for any, and not once it has ended."""
     screen = calm.screen
     calm.go("#/records/24")
-    asks = (("old", LAB, 1_000_000), ("other", "busy", None), ("own", LAB, None), ("any", "", None))
-    for name, lab, asked in asks:
+    for name, lab, asked in (("old", LAB, 1_000_000), ("other", "busy", None)):
         screen.run(ASK, name, lab, asked)
-    wait(screen, lambda: screen.run("return 'any' in window.given"), "the last one who asked is answered")
-    wait(screen, lambda: screen.run("return 'own' in window.given"), "the one before is answered")
+    answered(screen, "own")
+    answered(screen, "any", "")
     same("a session is given for its laboratory, to who asked just now", screen.run("return window.given"), {"own": ["dan", 64], "any": ["dan", 64]})
     screen.run(AHEAD, 1_800_000)
-    dialog = screen.one("dialog[open]")
-    screen.run(ASK, "ended", LAB, screen.run("return Date.now()"))
+    dialog = seen(screen, "dialog[open]")
+    screen.run(ASK, "ended", LAB, None)
     back(calm, dialog)
-    screen.run(ASK, "last", LAB, screen.run("return Date.now()"))
-    wait(screen, lambda: screen.run("return 'last' in window.given"), "once it is opened again, it is given again")
+    answered(screen, "last")
     same("a session that has ended isn't given", screen.run("return 'ended' in window.given"), False)
     calm.come("dan")
 
@@ -157,8 +173,7 @@ def other_lab(calm):
     screen.driver.get(f"{screen.address}?lab=busy")
     screen.wait(lambda: screen.all("main h1"), "a page is there", PATIENCE)
     show_tab(screen, first)
-    screen.run(ASK, "behind", LAB, None)
-    wait(screen, lambda: screen.run("return 'behind' in window.given"), "who asked later is answered")
+    answered(screen, "behind")
     show_tab(screen, second)
     there = len(is_in(screen)), screen.one('[name="lab"]').get_attribute("value")
     same("a tab at another laboratory's address isn't signed in", there, (0, "busy"))
@@ -192,9 +207,9 @@ def replaced(calm):
     screen.fill(entry_row(screen, "note"), value="typed in the second")
     before = who(screen)["id"]
     screen.run(AHEAD, 1_800_000)
-    screen.one("dialog[open]")
+    seen(screen, "dialog[open]")
     show_tab(screen, first)
-    dialog = screen.one("dialog[open]")
+    dialog = seen(screen, "dialog[open]")
     say("ended" in dialog.text, f"an end is told in both tabs: {dialog.text.splitlines()[0]!r}")
     back(calm, dialog)
     now = who(screen)["id"]
@@ -221,12 +236,13 @@ def closed(calm):
     wait(screen, lambda: is_in(screen), "the third tab is signed in")
     screen.settle()
     screen.do("close_the_session")
-    screen.one('[data-do="open_a_session"]')
+    seen(screen, '[data-do="open_a_session"]')
     show_tab(screen, second)
-    screen.one('[data-do="open_a_session"]')
+    seen(screen, '[data-do="open_a_session"]')
+    wait(screen, calm.said, "the line says something")
     same("a sign-out in one tab signs out in another", (who(screen), "signed out" in calm.said()), (None, True))
     show_tab(screen, first)
-    dialog = screen.one("dialog[open]")
+    dialog = seen(screen, "dialog[open]")
     backdrop = screen.run("return getComputedStyle(arguments[0], '::backdrop').backgroundColor", dialog)
     say(backdrop.startswith("rgb("), f"where something is typed, a page that isn't seen through asks for the password: {backdrop}")
     back(calm, dialog)
@@ -240,7 +256,7 @@ def closed(calm):
     close_tab(screen, third, second)
     screen.do("close_the_session")
     show_tab(screen, first)
-    screen.one('[data-do="open_a_session"]')
+    seen(screen, '[data-do="open_a_session"]')
     close_tab(screen, second, first)
     same("the laboratory's code is remembered", screen.one('[name="lab"]').get_attribute("value"), LAB)
     screen.open_session(code="dan", password=password_of("dan"))
