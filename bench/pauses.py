@@ -84,7 +84,8 @@ def measure(backup, program, folder):
         alter(file)
         with Server(program, str(file)) as server:
             seconds, most = copies(backup, file, folder, server)
-        print(f"| {os.path.getsize(file) / MEGABYTE:,.0f} MB | {kind} | {statistics.median(seconds):.3f} s | {max(seconds):.3f} s | {most:.3f} s |", flush=True)
+        size, median = os.path.getsize(file) / MEGABYTE, statistics.median(seconds)
+        print(f"| {size:,.0f} MB | {kind} | {median:.3f} s | {max(seconds):.3f} s | {most:.3f} s |", flush=True)
 
 
 def main(words):
