@@ -30,7 +30,7 @@ const about = shown.closest("[data-field]")?.dataset.field ?? "";
 return [shown.innerText.replace(/\\s+/g, " "), wrong, document.activeElement.name || document.activeElement.dataset.refusal || "", shown.dataset.number, about];
 """
 # What some refusals have beside their word, and what the page makes of that.
-FURTHER = {"role_wanted": ({"rule": "P13"}, "Rule P13"), "record_exists": ({"record": 7}, "7"), "not_altered": ({"key": "lead"}, "lead"),
+FURTHER = {"role_wanted": ({"rule": "P13"}, "Rule P13"), "record_exists": ({"record": 7}, "7"), "not_altered": ({"key": "lead"}, "It is Lead."),
            "stale_digest": ({"digest": "ab" * 32}, "abab")}
 # Refusals of the request itself, which any command can meet; no control is at fault.
 OF_REQUESTS = ["bad_head", "head_too_long", "transfer_coding", "length_wanted", "body_too_long", "short_body", "method"]
