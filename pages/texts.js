@@ -421,7 +421,7 @@ export const texts = {
     add: 'Add an analysis',
     move_up: 'Move up',
     move_down: 'Move down',
-    remove: 'Remove this analysis',
+    remove: 'Remove',
     advice: {
       bad_name: {
         key: 'A key is 1 to 24 letters a to z, digits and underscores, and the first is a letter.',
@@ -442,7 +442,7 @@ export const texts = {
     said_between: (version) => `Somebody made version ${version} at the same time: compare both.`,
     begin_from: (version) => `Begin anew from version ${version}.`,
     fold: 'Show it in a line',
-    insert_below: 'Insert an analysis below',
+    insert_below: 'Insert below',
   },
 
   persons: {

@@ -22,7 +22,7 @@ FIELDS = [
     {"key": "note", "label": "Note", "required": False, "kind": "text", "size": 200},
 ]
 NAMED = {"button", "textbox", "searchbox", "combobox", "checkbox", "link", "listbox", "spinbutton", "dialog", "navigation", "region", "table",
-         "img", "image", "progressbar", "radio", "heading", "alertdialog", "rowheader", "columnheader", "DisclosureTriangle"}
+         "img", "image", "progressbar", "radio", "radiogroup", "heading", "alertdialog", "rowheader", "columnheader", "DisclosureTriangle"}
 # What is in the document, whatever it looks like.
 STRUCTURE = """
 const told = [];
@@ -117,17 +117,16 @@ const is_near = (box, at) => {
 return all.filter((one, at) => is_small(boxes[at]) && !in_sentence(one) && (one.closest("td, th") ? boxes[at].height < 23.9 : is_near(boxes[at], at)))
     .map((one) => `${Math.round(box_of(one).width)} by ${Math.round(box_of(one).height)}: ${one.outerHTML.slice(0, 90)}`);
 """
-# What the tabulator has to come to.
+# What the tabulator has to come to: of the radio buttons of a group one.
 STOPS = """
-// (of choices that are seen all at once it comes to the one that is chosen, or else to one of them; arrows go on)
-const is_passed = (one) => {
-    const group = one.type === "radio" ? [...document.querySelectorAll("input[type=radio]")].filter((other) => other.name === one.name && other.form === one.form) : [one];
-    return one !== (group.find((other) => other.checked) ?? group[0]);
-};
+window.are_alike = (one, other) => one === other || one.type === "radio" && other.type === "radio" && one.name === other.name;
 const seen = (one) => one.checkVisibility({ visibilityProperty: true }) && one.getClientRects().length > 0;
 const scope = document.querySelector("dialog[open]") ?? document;
-window.stops = [...scope.querySelectorAll("a[href], button, input, select, textarea, summary, [tabindex='0']")].filter((one) => seen(one) && !one.disabled && one.id !== "skip" && !is_passed(one));
+const all = [...scope.querySelectorAll("a[href], button, input, select, textarea, summary, [tabindex='0']")]
+    .filter((one) => seen(one) && !one.disabled && one.id !== "skip");
+window.stops = all.filter((one, at) => all.findIndex((other) => are_alike(one, other)) === at);
 window.come_to = new Set();
+window.missed_stops = () => window.stops.filter((stop) => ![...window.come_to].some((one) => are_alike(one, stop)));
 (scope.querySelector("#skip") ?? scope).focus?.();
 return window.stops.length;
 """
@@ -147,10 +146,9 @@ const { outlineStyle, outlineWidth, outlineColor, outlineOffset } = getComputedS
 const parts = (colour) => colour.match(/[\\d.]+/g).map(Number);
 const around = parseFloat(outlineOffset) >= 0 ? one.parentElement : one;
 const ring = outlineStyle === "none" ? 0 : contrast_of(parts(outlineColor), behind_of(around));
-const missed = window.stops.filter((stop) => !window.come_to.has(stop)).length;
-return { missed, is_new, hits, width: parseFloat(outlineWidth), ring, told: one.outerHTML.slice(0, 100) };
+return { missed: missed_stops().length, is_new, hits, width: parseFloat(outlineWidth), ring, told: one.outerHTML.slice(0, 100) };
 """
-MISSED = "return window.stops.filter((one) => !window.come_to.has(one)).map((one) => one.outerHTML.slice(0, 100))"
+MISSED = "return missed_stops().map((one) => one.outerHTML.slice(0, 100))"
 TAB = {"key": "Tab", "code": "Tab", "windowsVirtualKeyCode": 9}
 
 

@@ -124,7 +124,7 @@ def left_meanwhile(calm):
     screen.run("window.hold = null; for (const go_on of window.made.held) go_on();")
     screen.settle()
     screen.wait(lambda: screen.run("return window.made.now") == 0, "what was under way is there", PATIENCE)
-    same("a record that was left reads no more of its versions", (screen.run("return window.made.all"), screen.one("main h1").text), (9, "Forms"))
+    same("a record that was left reads no more of its versions", (screen.run("return window.made.all"), screen.one("main h1").text), (9, "Test forms"))
 
 
 def many_entries(calm):
@@ -159,7 +159,7 @@ def paper_of_versions(calm):
     lacking = [at for at, text in enumerate(pages) if not all(one in text for one in ("Well 41", "Record 41", f"versions 1 to {count}"))]
     same("each sheet has sample, record and versions", lacking, [])
     numbers = ["".join(text.split()) for text in pages]
-    same("and its number among all", [at for at, text in enumerate(numbers) if f"page{at + 1}of{len(pages)}" not in text], [])
+    same("and its number among all", [at for at, text in enumerate(numbers) if f"{at + 1}/{len(pages)}" not in text], [])
     unreleased = ["NOT RELEASED" in text for text in pages]
     same("those of the open version say that it isn't released", unreleased, sorted(unreleased))
     say(unreleased[-1] and not unreleased[0], "and those of released ones don't")

@@ -30,7 +30,7 @@ const about = shown.closest("[data-field]")?.dataset.field ?? "";
 return [shown.innerText.replace(/\\s+/g, " "), wrong, document.activeElement.name || document.activeElement.dataset.refusal || "", shown.dataset.number, about];
 """
 # What some refusals have beside their word, and what the page makes of that.
-FURTHER = {"role_wanted": ({"rule": "P13"}, "Rule P13"), "record_exists": ({"record": 7}, "7"), "not_altered": ({"key": "lead"}, "lead"),
+FURTHER = {"role_wanted": ({"rule": "P13"}, "Rule P13"), "record_exists": ({"record": 7}, "7"), "not_altered": ({"key": "lead"}, "It is Lead."),
            "stale_digest": ({"digest": "ab" * 32}, "abab")}
 # Refusals of the request itself, which any command can meet; no control is at fault.
 OF_REQUESTS = ["bad_head", "head_too_long", "transfer_coding", "length_wanted", "body_too_long", "short_body", "method"]
@@ -121,8 +121,8 @@ class Refuser:
         self.screen.wait(lambda: self.screen.run(SHOWN, word), f"{word} is shown at {place}")
         text, wrong, focused, number, about = self.screen.run(SHOWN, word)
         wanted = self.texts[word]["when"]
-        good = wanted in text and f"{word} {self.words[word][0]})" in text and number == str(self.words[word][0])
-        good = good and FURTHER.get(word, ({}, ""))[1].lower() in text.lower()
+        good = wanted in text and f"(code {word} {self.words[word][0]})" in text and number == str(self.words[word][0])
+        good = good and FURTHER.get(word, ({}, ""))[1] in text
         if control:
             good = good and control in wrong and focused == control and (about == control or control == "reason")
         else:

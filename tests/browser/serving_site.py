@@ -12,7 +12,7 @@ import time
 
 from room import PATIENCE, TOP, Asker, Served, Stop, same, say
 
-MOST_BYTES, MOST_SENT = 330_000, 125_000
+MOST_BYTES, MOST_SENT = 340_000, 125_000
 # The one module that keeps something, and how it may: the code of a laboratory, which is no secret, under one key.
 KEEPER, KEEPS = "lab.js", (r"const KEY = 'koghdise lab';", r"localStorage\.getItem\(KEY\)", r"localStorage\.setItem\(KEY, lab\)")
 TYPES = {".html": "text/html; charset=utf-8", ".css": "text/css; charset=utf-8", ".js": "text/javascript; charset=utf-8", ".svg": "image/svg+xml"}
