@@ -99,6 +99,8 @@ def answered(screen, name, lab=LAB):
 def second_tab(calm):
     """Another tab at a bookmark of a record, and its reload, want no password; nothing of the session is kept anywhere."""
     screen = calm.screen
+    # (where nothing is read in the background, which would go on beside what is looked at)
+    calm.go("#/opening")
     before = openings(calm, "dan")
     first, second = another_tab(calm, "#/records/21")
     wait(screen, lambda: is_in(screen), "the other tab is signed in")
@@ -117,7 +119,7 @@ def second_tab(calm):
     mine = who(screen)
     say(mine["asked"] > asked, "a request prolongs the session")
     show_tab(screen, first)
-    wait(screen, lambda: who(screen)["asked"] == mine["asked"], "the countdown is one")
+    wait(screen, lambda: who(screen)["asked"] >= mine["asked"], "the countdown is one")
     same("it is prolonged in the other tab, too", who(screen), mine)
     close_tab(screen, second, first)
     same("a tab that is closed takes nothing from the other one", who(screen)["id"], mine["id"])
