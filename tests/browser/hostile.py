@@ -134,7 +134,7 @@ def as_manager(screen, wild):
         compare_form(screen, wild.hal, "wild", version, "labels, choices and units that are markup")
         fits(screen, f"version {version} of the form")
     screen.go("#/making/wild/2")
-    labels = [one.get_attribute("value") for one in screen.all('[name="label"]')]
+    labels = screen.run("return [...document.querySelectorAll('[name=label]')].map((one) => one.value)")
     same("the editor has the labels", labels, [one["label"] for one in wild.gus.get("forms/wild/2")["fields"]])
     fits(screen, "the editor")
 
