@@ -5,11 +5,17 @@ from room import same
 HELP = """
 const folded = [...document.querySelectorAll("details.on-paper:not([open])")];
 for (const one of folded) one.open = true;
+const shortened = [...document.querySelectorAll("[data-folded]")];
+for (const one of shortened) one.removeAttribute("data-folded");
 const part = (name, within = document) => within.querySelector(`[data-part="${name}"]`);
 const text = (name, within) => { const found = part(name, within); return found?.checkVisibility() ? found.textContent : null; };
 const at = (name, within) => part(name, within)?.getAttribute("datetime") ?? null;
 const word = (name, within) => part(name, within)?.getAttribute(`data-${name}`) ?? null;
 const each = (selector, within, read) => [...within.querySelectorAll(selector)].filter((one) => one.checkVisibility()).map(read);
+"""
+FOLD = """
+for (const one of folded) one.open = false;
+for (const one of shortened) one.setAttribute("data-folded", "");
 """
 RECORDS = """
 return each("tr[data-record]", document, (row) => ({
@@ -48,9 +54,7 @@ def seen(screen, what):
     """What is on the screen; of a list all that is loaded, and of a version what is older, too, also what a press shows."""
     while what in (RECORDS, TRAIL, PERSONS) and screen.all('[data-do="show_more"]'):
         screen.do("show_more")
-    while what == VERSION and screen.all('[data-do="unfold"][aria-expanded="false"]'):
-        screen.click(screen.one('[data-do="unfold"][aria-expanded="false"]'))
-    return screen.run(f"{HELP} const shown = (() => {{ {what} }})(); for (const one of folded) one.open = false; return shown;")
+    return screen.run(f"{HELP} const shown = (() => {{ {what} }})(); {FOLD} return shown;")
 
 
 def with_unit(one):
