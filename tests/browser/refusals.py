@@ -121,7 +121,7 @@ class Refuser:
         self.screen.wait(lambda: self.screen.run(SHOWN, word), f"{word} is shown at {place}")
         text, wrong, focused, number, about = self.screen.run(SHOWN, word)
         wanted = self.texts[word]["when"]
-        good = wanted in text and f"(code {word} {self.words[word][0]})" in text and number == str(self.words[word][0])
+        good = wanted in text and f"({word} {self.words[word][0]})" in text and number == str(self.words[word][0])
         good = good and FURTHER.get(word, ({}, ""))[1] in text
         if control:
             good = good and control in wrong and focused == control and (about == control or control == "reason")
