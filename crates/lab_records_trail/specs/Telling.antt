@@ -1,8 +1,9 @@
--- What the audit trail tells of a command once it is answered: of each accepted command, but for the
--- card and the readings, who gave it, when, what was done and to what (21 CFR 11.10(e), "secure,
--- computer-generated, time-stamped audit trails to independently record the date and time of operator
--- entries and actions that create, modify, or delete electronic records"); and of each failed password
--- of an account (21 CFR 11.300(d), "to detect and report .. any attempts at their unauthorized use").
+-- What the audit trail tells of a command once it is answered: of each accepted command, but for
+-- the card and the readings, who gave it, when, what was done and to what (21 CFR 11.10(e),
+-- "secure, computer-generated, time-stamped audit trails to independently record the date and time
+-- of operator entries and actions that create, modify, or delete electronic records"); and of each
+-- failed password of an account (21 CFR 11.300(d), "to detect and report .. any attempts at their
+-- unauthorized use").
 use Rattle.std.specs.Prelude.{◌≡◌, ◌≢◌, ◌⊎◌, ℕ, ◌+◌, ◌-◌, Bool, true, false, not, ◌||◌, ◌&&◌, nat_lt, if◌then◌else◌, List, [], ◌∷◌, ◌++◌, length, take, Option, Some, None, option_map}
 use Rattle.lab_people_access.specs.declared.persons.Person.{Person}
 use Rattle.lab_people_access.specs.declared.refusals.PeopleRefusal.TheVariants.{Credentials}
@@ -35,7 +36,8 @@ use Rattle.lab_records_machine.specs.Machine.{named_session}
 
 -- ---- who gives a command
 
--- whoever opens a session, by the code that is typed; in a session its person; nobody gives the card
+-- whoever opens a session, by the code that is typed; in a session its person; nobody gives the
+-- card
 abbrev pub giver : Option Person → Command → Option (List ℕ)
 giver caller Card = None
 giver caller (Open code password) = Some code
@@ -90,8 +92,8 @@ is_told (In (OnRecord command)) = true
 is_told (In (Reading command)) = false
 
 -- it has one row more, under the next number: who gave the command, when, what was done and to what
-pub record HasItsRow (old : Lab) (moment : ℕ) (instruction : Instruction) (reply : Reply) (new : Lab)
-    : Type 0 where
+pub record HasItsRow (old : Lab) (moment : ℕ) (instruction : Instruction) (reply : Reply)
+    (new : Lab) : Type 0 where
   pub person : List ℕ
   pub by : giver_of old instruction ≡ Some person
   pub deed : Deed

@@ -9,13 +9,15 @@ ghost use Rattle.lab_records_machine.specs.Machine.{step};
 ghost use Rattle.lab_records_laws.specs.Stepping.{HoldsOf};
 ghost use Rattle.lab_records_trail.specs.Telling.{is_accepted, AcceptedTells, RefusedTells};
 
-/// Law: of each accepted command, but for the card and what only reads, the trail has one row more, which says who gave the
-/// command, when, what was done and to what. A refused command adds no row, but for a failed password of an account: that
-/// has a row, and a second one where it locks the account, as long as the trail has room.
+/// Law: of each accepted command, but for the card and what only reads, the trail has one row more,
+/// which says who gave the command, when, what was done and to what. A refused command adds no row,
+/// but for a failed password of an account: that has a row, and a second one where it locks the
+/// account, as long as the trail has room.
 pub fn a_step_is_told()
     ensures accepted { (lab : Lab) (tick : Tick) (instruction : Instruction)
         → IsTrue (is_accepted (step (Some lab) tick instruction).reply)
-        → HoldsOf (AcceptedTells lab tick.moment instruction (step (Some lab) tick instruction).reply)
+        → HoldsOf
+        (AcceptedTells lab tick.moment instruction (step (Some lab) tick instruction).reply)
         (step (Some lab) tick instruction).after }
     ensures refused { (lab : Lab) (tick : Tick) (instruction : Instruction) (refusal : Refusal)
         → (step (Some lab) tick instruction).reply ≡ Refused refusal
