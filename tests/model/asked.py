@@ -75,8 +75,9 @@ READING = {
     "a copy over HTTP": lambda s, wants, words: s.copy(1200, "hal", 1, 100, words=words),
 }
 COMMANDS = {**WRITING, **READING}
-TRYING_PASSWORDS = ["an opening", "an opening that locks", "another password", "an issue", "a confirmation", "a signing", "a review", "a rejection",
-                    "an approval"]
+# What makes a password, or a half of one, with today's rounds; and what tries one alone.
+MAKING_PASSWORDS = ["another password", "an issue", "a confirmation"]
+TRYING_PASSWORDS = ["an opening", "an opening that locks", "a signing", "a review", "a rejection", "an approval"]
 
 
 def one(name):

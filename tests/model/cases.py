@@ -104,8 +104,9 @@ def as_before(start):
     s = copy.deepcopy(start())
     for lab in s.labs.values():
         for p in lab.persons:
-            salt = bytes.fromhex(p.password[1][0])
-            p.password = ("chosen", laboratory.verifier(s.passwords[lab.code, p.code], salt, laboratory.OLD_ROUNDS), p.password[2])
+            if p.password and p.password[0] == "chosen":
+                salt = bytes.fromhex(p.password[1][0])
+                p.password = ("chosen", laboratory.verifier(s.passwords[lab.code, p.code], salt, laboratory.OLD_ROUNDS), p.password[2])
     s.events, s.answers = [], []
     return s
 
