@@ -9,6 +9,7 @@ import copy
 import functools
 import hashlib
 
+import cases
 import laboratory
 import rows
 from streams import FOUNDERS, LEAD, NOTE, Stream, reply_of
@@ -104,6 +105,69 @@ def played(*parts):
     return s
 
 
+# Of cases.py, those in which a result is entered, signed, reviewed and amended, each from the same beginning.
+WORKED = ["a_second_value_wants_a_reason_and_both_stay", "the_first_signing_takes_the_code_and_a_second_person_releases",
+          "a_session_rests_for_nine_hundred_seconds", "and_not_for_a_second_more", "who_entered_a_row_signs_as_author_alone",
+          "an_author_who_is_a_reviewer_too_does_not_review", "what_is_released_is_amended_and_nothing_overwritten",
+          "one_form_and_sample_make_one_record", "a_record_is_opened_beside_a_crowd"]
+
+
+@functools.cache
+def beginning():
+    """Where these cases begin, with passwords of the rounds of before. In brick there is a form, so that its people can open records."""
+    s = copy.deepcopy(cases.as_before(cases.setup))
+    for who in ("ann", "bob"):
+        s.open(1100, who, lab="brick", who=f"{who} of brick")
+    s.post(1100, "bob of brick", "/roles", lab="brick", code="ann", roles=["analyst", "manager", "administrator"])
+    s.post(1100, "ann of brick", "/forms", lab="brick", form="water", fields=[LEAD])
+    s.events, s.answers, s.next_word = [], [], 10_000
+    return s
+
+
+# What a crowd is made of: 400 persons, and 2,000 records with a version, an entry and a row of the trail each.
+CROWD = {
+    "CROWD_PERSON": ("Adds a person of brick: an id and a code.",
+                     "INSERT INTO persons (id, lab, code, name, roles, retired, failures, kind) VALUES (?, {lab}, ?, 'P', 1, 0, 0, 0)"),
+    "CROWD_RECORD": ("Adds a record of brick: an id, a number and a sample.",
+                     "INSERT INTO records (id, lab, number, form, form_code, sample, current) VALUES (?, {lab}, ?, {form}, 'water', ?, 1)"),
+    "CROWD_VERSION": ("Adds a version: its id and that of its record.",
+                      "INSERT INTO versions (id, record, number, format, opener, opened) VALUES (?, ?, 1, 2, {ann}, 1100)"),
+    "CROWD_ENTRY": ("Adds an entry: its id and that of its version.",
+                    "INSERT INTO entries (id, version, place, key, value, unit, person, moment) VALUES (?, ?, 1, 'lead', '1.5', 'mg/L', {ann}, 1100)"),
+    "CROWD_TRAIL": ("Adds a row of brick's trail: an id, a number and a subject.",
+                    "INSERT INTO trail (id, lab, number, moment, person, action, subject) VALUES (?, {lab}, ?, 1100, {ann}, 'record', ?)"),
+    "CROWD_COUNTS": ("Counts what a crowd has added to brick.", "UPDATE labs SET records = 2000, trail = trail + 2000 WHERE id = {lab}"),
+}
+
+
+def crowd_texts():
+    """Statements that put a crowd into brick, where the ids are seven times a number, and three."""
+    tables = rows.Rows(rows.two(beginning().labs)).tables
+
+    def id_of(table, **wanted):
+        return next(row["id"] for row in tables[table] if wanted.items() <= row.items())
+
+    lab = id_of("labs", code="brick")
+    ids = {"lab": lab, "form": id_of("forms", lab=lab), "ann": id_of("persons", lab=lab, code="ann")}
+    text = "//! A crowd in brick, by `tests/model/disked.py`, where the ids are those of rows that are spread.\n"
+    trail = beginning().labs["brick"].trail
+    text += constant("CROWD_TRAIL_BEGINS", "i64", len(trail), "How many rows brick's trail has before.")
+    for name, (comment, sql) in CROWD.items():
+        text += constant(name, "&str", literal(sql.format(**ids)), comment)
+    return text
+
+
+def a_record_is_opened_beside_a_crowd(s):
+    s.post(1200, "dan", "/records", form="water", sample="S9", wants='{"record":2,"version":1}')
+    s.get(1200, "dan", "/records/2")
+
+
+def worked(name):
+    s = copy.deepcopy(beginning())
+    (globals().get(name) or getattr(cases, name))(s)
+    return s
+
+
 # ---- as Rattle
 
 
@@ -133,9 +197,9 @@ def constant(name, kind, value, comment=None):
 
 def exchange(event, answer):
     head, _, request = event.partition(b"\n")
-    first = int(head.split()[2])
+    seconds, first = map(int, head.split()[1:3])
     told = "".join(f"    {member}: {value},\n" for member, value in (
-        ("first", first), ("request", literal(request.decode(), 'b"')), ("reply", literal(answer.decode(), 'b"'))))
+        ("seconds", seconds), ("first", first), ("request", literal(request.decode(), 'b"')), ("reply", literal(answer.decode(), 'b"'))))
     return "Exchange {\n" + told + "}"
 
 
@@ -146,14 +210,21 @@ def exchanges(name, s, comment):
 
 
 def row_texts():
-    labs = laboratories().labs
+    return rows_of(laboratories().labs, "")
+
+
+def worked_row_texts():
+    return rows_of(beginning().labs, "WORKED_")
+
+
+def rows_of(labs, begins):
     both = rows.Rows(rows.two(labs), Id)
     text = "//! The rows of two laboratories, by `tests/model/disked.py`. Each id is a number behind #.\n"
     # The rows of one stand in front of those of the other, in each table.
     counts = {table: len(kept) for table, kept in rows.Rows([labs["brick"]]).tables.items()}
     for lab in ("brick", "aqua"):
         tables = {table: kept[:counts[table]] if lab == "brick" else kept[counts[table]:] for table, kept in both.tables.items()}
-        text += constant(f"{lab.upper()}_ROWS", "&str", literal("; ".join(statements(tables))), f"Those of {lab}.").replace("pub(crate)", "pub")
+        text += constant(f"{begins}{lab.upper()}_ROWS", "&str", literal("; ".join(statements(tables))), f"Those of {lab}.").replace("pub(crate)", "pub")
     return text
 
 
@@ -226,5 +297,17 @@ def day_texts():
     return text
 
 
-SOURCES = {"lab_tests_rows/src/rows": row_texts, "lab_tests_rows/src/questions": question_texts,
+def worked_texts():
+    """What is asked from one beginning, story by story."""
+    text = "//! What is asked from one beginning, each story by itself, and the replies, by `tests/model/disked.py`.\nuse crate::exchanges::Exchange;\n"
+    tokens = beginning().tokens
+    for who in ("dan", "ann"):
+        text += constant(f"TOKEN_OF_{who.upper()}", "u32", tokens["aqua", who], f"The first word of the token of {who}.").replace("(crate)", "")
+    for name in WORKED:
+        text += exchanges(name.upper(), worked(name), "A story: " + name.replace("_", " ") + ".").replace("(crate)", "")
+    return text
+
+
+SOURCES = {"lab_tests_rows/src/rows": row_texts, "lab_tests_rows/src/worked_rows": worked_row_texts,
+           "lab_tests_rows/src/worked": worked_texts, "lab_tests_rows/src/crowd_texts": crowd_texts, "lab_tests_rows/src/questions": question_texts,
            "lab_tests_stops/src/events": event_texts, "lab_tests_served/src/events": served_texts, "lab_tests_twins/src/day": day_texts}

@@ -1,8 +1,10 @@
 //! What is asked of a desk, and its reply.
 use lab_forms_texts::{Moment, MomentFault, Tick};
 
-/// A request, and the reply that it has to get. It comes in the hundredth second.
+/// A request, and the reply that it has to get.
 pub struct Exchange {
+    /// The second in which it comes.
+    pub seconds: i64,
     /// The first of its eight random words.
     pub first: u32,
     /// Its bytes.
@@ -37,10 +39,10 @@ pub fn words(first: u32) -> [u64; 8] {
 /// When it comes, and its words.
 ///
 /// # Errors
-/// None: there is that moment.
+/// Those of a second that is no moment.
 pub fn tick(exchange: &Exchange) -> Result<Tick, MomentFault> {
     Ok(Tick {
-        moment: moment()?,
+        moment: Moment::from_seconds(exchange.seconds)?,
         words: words(exchange.first),
     })
 }

@@ -14,6 +14,7 @@ pub(crate) static FOUNDING: &[u8] = b"\
 /// An opening, and a reading with its token.
 pub(crate) static SERVED: [Exchange; 2] = [
     Exchange {
+        seconds: 100,
         first: 1016,
         request: b"\
         POST /labs/aqua/open HTTP/1.1\r\nHost: d\r\nContent-Length: 43\r\n\r\n\
@@ -25,6 +26,7 @@ pub(crate) static SERVED: [Exchange; 2] = [
         000000000003fb\"}",
     },
     Exchange {
+        seconds: 100,
         first: 1024,
         request: b"\
         GET /labs/aqua/persons HTTP/1.1\r\nHost: d\r\nAuthorization: LabSession \

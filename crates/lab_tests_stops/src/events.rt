@@ -12,6 +12,7 @@ pub(crate) static STORAGE_REPLY: &[u8] = b"\
     {\"error\":\"storage\",\"number\":63}";
 
 pub(crate) static ENTRY: Exchange = Exchange {
+    seconds: 100,
     first: 10008,
     request: b"\
     POST /labs/aqua/entries HTTP/1.1\r\nHost: d\r\nAuthorization: LabSession \
@@ -28,6 +29,7 @@ pub(crate) static ROWS_AFTER_ENTRY: &[u8; 64] = b"\
     f65b5818d331e92024cad6ed9946659ae4be0f177adc76af56192e8de1905a0a";
 
 pub(crate) static SIGNING: Exchange = Exchange {
+    seconds: 100,
     first: 10008,
     request: b"\
     POST /labs/aqua/signatures HTTP/1.1\r\nHost: d\r\nAuthorization: LabSession \
@@ -47,6 +49,7 @@ pub(crate) static ROWS_AFTER_SIGNING: &[u8; 64] = b"\
     7f3cedacfd04a0fec8e99799b1f6898d7d13f4d52b5d23dee878b6fead2ef99d";
 
 pub(crate) static REVIEW: Exchange = Exchange {
+    seconds: 100,
     first: 10008,
     request: b"\
     POST /labs/aqua/signatures HTTP/1.1\r\nHost: d\r\nAuthorization: LabSession \
@@ -66,6 +69,7 @@ pub(crate) static ROWS_AFTER_REVIEW: &[u8; 64] = b"\
     cd0d91ed53deaaa47ba0bda8923c27544d80c9dd5d2c3124b837cb4d7924abb1";
 
 pub(crate) static AMENDMENT: Exchange = Exchange {
+    seconds: 100,
     first: 10008,
     request: b"\
     POST /labs/aqua/amendments HTTP/1.1\r\nHost: d\r\nAuthorization: LabSession \
@@ -83,6 +87,7 @@ pub(crate) static ROWS_AFTER_AMENDMENT: &[u8; 64] = b"\
     80e5280f1e1d7d60463e3bc9b6361a2744e3f93087515758146398aca140b10f";
 
 pub(crate) static ISSUE: Exchange = Exchange {
+    seconds: 100,
     first: 10008,
     request: b"\
     POST /labs/aqua/issue HTTP/1.1\r\nHost: d\r\nAuthorization: LabSession \
@@ -98,6 +103,7 @@ pub(crate) static ROWS_AFTER_ISSUE: &[u8; 64] = b"\
     10714bb25abc4d263420c00f9687eac00930d57920778a9bd4a7ca2f049fd086";
 
 pub(crate) static CONFIRMATION: Exchange = Exchange {
+    seconds: 100,
     first: 10008,
     request: b"\
     POST /labs/aqua/confirm HTTP/1.1\r\nHost: d\r\nAuthorization: LabSession \
@@ -113,6 +119,7 @@ pub(crate) static ROWS_AFTER_CONFIRMATION: &[u8; 64] = b"\
     7247f583adc76bfbe05de99d3e6bcfe2a0ce65b22301a996b2395ccbc1a0de7a";
 
 pub(crate) static COPY: Exchange = Exchange {
+    seconds: 100,
     first: 10008,
     request: b"\
     GET /labs/aqua/copy?from=1&to=100 HTTP/1.1\r\nHost: d\r\nAuthorization: LabSession \

@@ -4,6 +4,7 @@ use lab_tests_rows::Exchange;
 /// All of it is asked of aqua.
 pub(crate) static DAY: [Exchange; 15] = [
     Exchange {
+        seconds: 100,
         first: 10008,
         request: b"\
         POST /labs/aqua/entries HTTP/1.1\r\nHost: d\r\nAuthorization: LabSession \
@@ -16,6 +17,7 @@ pub(crate) static DAY: [Exchange; 15] = [
         :1,\"rows\":2,\"version\":1}",
     },
     Exchange {
+        seconds: 100,
         first: 10016,
         request: b"\
         POST /labs/aqua/signatures HTTP/1.1\r\nHost: d\r\nAuthorization: LabSession \
@@ -31,6 +33,7 @@ pub(crate) static DAY: [Exchange; 15] = [
         e\":\"signed\"}",
     },
     Exchange {
+        seconds: 100,
         first: 10024,
         request: b"\
         POST /labs/aqua/signatures HTTP/1.1\r\nHost: d\r\nAuthorization: LabSession \
@@ -46,6 +49,7 @@ pub(crate) static DAY: [Exchange; 15] = [
         e\":\"released\"}",
     },
     Exchange {
+        seconds: 100,
         first: 10032,
         request: b"\
         POST /labs/aqua/amendments HTTP/1.1\r\nHost: d\r\nAuthorization: LabSession \
@@ -59,6 +63,7 @@ pub(crate) static DAY: [Exchange; 15] = [
         :3,\"version\":2}",
     },
     Exchange {
+        seconds: 100,
         first: 10040,
         request: b"\
         POST /labs/aqua/issue HTTP/1.1\r\nHost: d\r\nAuthorization: LabSession \
@@ -70,6 +75,7 @@ pub(crate) static DAY: [Exchange; 15] = [
         {\"half\":\"00000000000027380000000000002739\"}",
     },
     Exchange {
+        seconds: 100,
         first: 10048,
         request: b"\
         POST /labs/aqua/confirm HTTP/1.1\r\nHost: d\r\nAuthorization: LabSession \
@@ -81,6 +87,7 @@ pub(crate) static DAY: [Exchange; 15] = [
         {\"half\":\"00000000000027400000000000002741\"}",
     },
     Exchange {
+        seconds: 100,
         first: 10056,
         request: b"\
         GET /labs/aqua/copy?from=1&to=100 HTTP/1.1\r\nHost: d\r\nAuthorization: LabSession \
@@ -114,6 +121,7 @@ pub(crate) static DAY: [Exchange; 15] = [
         d,7.4,mg/L,ann,,1970-01-01T00:01:40Z,misread scale,,\nend,aqua,3,4,5,5,,,,,,,\n",
     },
     Exchange {
+        seconds: 100,
         first: 10064,
         request: b"\
         POST /labs/aqua/open HTTP/1.1\r\nHost: d\r\nContent-Length: 43\r\n\r\n\
@@ -125,6 +133,7 @@ pub(crate) static DAY: [Exchange; 15] = [
         00000000002753\"}",
     },
     Exchange {
+        seconds: 100,
         first: 10072,
         request: b"\
         GET /labs/aqua HTTP/1.1\r\nHost: d\r\nAuthorization: LabSession \
@@ -135,6 +144,7 @@ pub(crate) static DAY: [Exchange; 15] = [
         {\"lab\":\"aqua\",\"name\":\"Aqua Lab\"}",
     },
     Exchange {
+        seconds: 100,
         first: 10080,
         request: b"\
         GET /labs/aqua/persons HTTP/1.1\r\nHost: d\r\nAuthorization: LabSession \
@@ -151,6 +161,7 @@ pub(crate) static DAY: [Exchange; 15] = [
         \":false,\"name\":\"Eve Ems\",\"retired\":false,\"roles\":[\"analyst\"]}]}",
     },
     Exchange {
+        seconds: 100,
         first: 10088,
         request: b"\
         GET /labs/aqua/forms/water/1 HTTP/1.1\r\nHost: d\r\nAuthorization: LabSession \
@@ -165,6 +176,7 @@ pub(crate) static DAY: [Exchange; 15] = [
         form\":\"water\",\"version\":1}",
     },
     Exchange {
+        seconds: 100,
         first: 10096,
         request: b"\
         GET /labs/aqua/records/1 HTTP/1.1\r\nHost: d\r\nAuthorization: LabSession \
@@ -177,6 +189,7 @@ pub(crate) static DAY: [Exchange; 15] = [
         tate\":\"signed\",\"version\":1}]}",
     },
     Exchange {
+        seconds: 100,
         first: 10104,
         request: b"\
         GET /labs/aqua/records/3/versions/1 HTTP/1.1\r\nHost: d\r\nAuthorization: LabSession \
@@ -197,6 +210,7 @@ pub(crate) static DAY: [Exchange; 15] = [
         \"lead\",\"unit\":\"mg/L\",\"value\":\"8.00\"}],\"version\":1}",
     },
     Exchange {
+        seconds: 100,
         first: 10112,
         request: b"\
         GET /labs/aqua/records?from=1&to=9 HTTP/1.1\r\nHost: d\r\nAuthorization: LabSession \
@@ -210,6 +224,7 @@ pub(crate) static DAY: [Exchange; 15] = [
         }]}",
     },
     Exchange {
+        seconds: 100,
         first: 10120,
         request: b"\
         GET /labs/aqua/trail?from=1&to=40 HTTP/1.1\r\nHost: d\r\nAuthorization: LabSession \

@@ -14,6 +14,8 @@ mod slice_tests;
 #[cfg(test)]
 mod slices;
 #[cfg(test)]
+mod story_tests;
+#[cfg(test)]
 mod tests;
 #[cfg(test)]
 mod texts;
