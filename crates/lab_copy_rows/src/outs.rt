@@ -104,7 +104,7 @@ impl CopyOut {
         })
     }
 
-    /// Writes rows.
+    /// Writes rows, and counts them.
     ///
     /// # Errors
     /// The writer failed, or memory ran out.

@@ -1,4 +1,4 @@
-//! The dates that values write.
+//! Dates in values.
 ghost use Rattle.std.specs.Prelude.{◌≡◌, ◌<◌};
 ghost use Rattle.lab_forms.specs.Dates.{has_hyphens, is_calendar_day, is_date};
 

@@ -24,7 +24,7 @@ pub struct Field {
     pub key: Key,
     /// The label that people read beside the field.
     pub label: Name,
-    /// Whether a record must have a value of the field before it is signed.
+    /// Whether a record must have a value of the field before the record is signed.
     pub required: bool,
     /// What the field takes as a value.
     pub kind: Kind,

@@ -125,7 +125,8 @@ impl Rule for Keys {
     }
 }
 
-/// The key of a form or of a field: 1 to 24 characters of `a` to `z`, `0` to `9` and `_`, the first a letter.
+/// The key of a form or of a field: 1 to 24 characters of `a` to `z`, `0` to `9` and `_`, the first
+/// a letter.
 pub type Key = Text<Keys>;
 
 /// The rule of names.

@@ -42,7 +42,7 @@ pub enum Fault<R> {
 }
 
 impl<R: RefusalKind> Fault<R> {
-    /// The number of the refusal, or that of memory that ran out.
+    /// The number of the refusal. If memory ran out, the number of that fault.
     pub fn number(&self) -> Option<u32>
         ensures { result ≡ Some (fault_entry R.listed self.now).number }
     {
@@ -52,7 +52,7 @@ impl<R: RefusalKind> Fault<R> {
         }
     }
 
-    /// The word of the refusal, or that of memory that ran out.
+    /// The word of the refusal. If memory ran out, the word of that fault.
     pub fn word(&self) -> &'static str
         ensures { result.now ≡ (fault_entry R.listed self.now).word }
     {

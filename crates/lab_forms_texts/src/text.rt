@@ -12,7 +12,7 @@ use std::cmp::Ordering;
 use std::fmt;
 use std::marker::{Model, PhantomData};
 
-/// Which texts a kind of text admits.
+/// The rule of a kind of text: which texts it admits.
 pub trait Rule {
     /// The rule, over the bytes of a text.
     ghost admits: { List ℕ → Bool };

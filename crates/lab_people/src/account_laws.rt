@@ -55,7 +55,7 @@ pub fn a_one_time_word_takes_two()
 {}
 
 /// Law: retiring a person closes all sessions of the person. A retired person can't open a session,
-/// no password of theirs is accepted, a failed one isn't counted for any person, and no command
+/// no password of theirs is accepted, no attempt with one is counted for any person, and no command
 /// changes the person. Nothing reopens a closed session: no request, no signing, no change of the
 /// password, and no closing.
 pub fn retirement_is_for_good()

@@ -22,7 +22,7 @@ pub struct Opened {
     pub due: bool,
 }
 
-/// Opens a session with a code, by which the person was looked up, and a password. `sessions` is
+/// Opens a session with a code, with which the person was looked up, and a password. `sessions` is
 /// how many session numbers the laboratory has used, and `repeated` is the session that already has
 /// the token of the tick, if there is one.
 ///

@@ -30,7 +30,7 @@ pub enum PeopleRefusal {
     SamePassword,
     /// Another person has or had the code.
     CodeTaken,
-    /// The laboratory has no room for another person or session.
+    /// The laboratory has no room for one more.
     LabFull,
     /// The command is about the caller's own account.
     OwnIssue,

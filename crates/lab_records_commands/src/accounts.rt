@@ -18,7 +18,7 @@ use lab_records_rules::{Refusal, Typed};
 use std::alloc::Global;
 
 /// Returns the result of a change of one's own password. Fails only if memory runs out, and only if
-/// the password is changed.
+/// both passwords are accepted.
 ///
 /// # Errors
 /// Memory ran out.
@@ -72,7 +72,7 @@ fn changed_done(
 }
 
 /// Returns the result of an enrolment; `persons` is how many persons the laboratory has. Fails only
-/// if memory runs out, and only if the person is enrolled.
+/// if memory runs out, and only if the result isn't a refusal.
 ///
 /// # Errors
 /// Memory ran out.
@@ -146,7 +146,7 @@ fn closing_changes(
 }
 
 /// Returns the result of a request for a one-time word. Fails only if memory runs out, and only if
-/// a half is returned.
+/// the result isn't a refusal.
 ///
 /// # Errors
 /// Memory ran out.
@@ -177,7 +177,7 @@ fn asked_done(alloc: Global, issued: Issued) -> Result<Done, OutOfMemory>
 }
 
 /// Returns the result of a confirmation of a one-time word. Fails only if memory runs out, and only
-/// if the word is confirmed.
+/// if the result isn't a refusal.
 ///
 /// # Errors
 /// Memory ran out.
@@ -208,7 +208,7 @@ fn confirmed_done(alloc: Global, issued: Issued) -> Result<Done, OutOfMemory>
 }
 
 /// Returns the result of setting a person's roles. Fails only if memory runs out, and only if the
-/// roles are set.
+/// result isn't a refusal.
 ///
 /// # Errors
 /// Memory ran out.
@@ -243,8 +243,8 @@ fn roles_done(alloc: Global, effect: Effect) -> Result<Done, OutOfMemory>
     ))
 }
 
-/// Returns the result of a retirement. Fails only if memory runs out, and only if the person is
-/// retired.
+/// Returns the result of a retirement. Fails only if memory runs out, and only if the result isn't
+/// a refusal.
 ///
 /// # Errors
 /// Memory ran out.
@@ -274,7 +274,7 @@ fn retired_done(alloc: Global, effect: Effect) -> Result<Done, OutOfMemory>
 }
 
 /// Returns the result of unlocking an account. Fails only if memory runs out, and only if the
-/// account is unlocked.
+/// result isn't a refusal.
 ///
 /// # Errors
 /// Memory ran out.

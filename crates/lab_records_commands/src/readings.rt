@@ -27,8 +27,8 @@ pub fn form_read_done(form: Option<FormVersion>) -> Done
     }
 }
 
-/// Returns the result of reading a record. Fails only if memory runs out, and only if the record is
-/// read.
+/// Returns the result of reading a record. Fails only if memory runs out, and only if the result
+/// isn't a refusal.
 ///
 /// # Errors
 /// Memory ran out.
@@ -51,7 +51,7 @@ pub fn record_read_done(
 }
 
 /// Returns the result of reading a version of a record. Fails only if memory runs out, and only if
-/// the version is read.
+/// the result isn't a refusal.
 ///
 /// # Errors
 /// Memory ran out.

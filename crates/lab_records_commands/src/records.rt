@@ -21,8 +21,8 @@ use lab_records_versions::{amend, enter, is_code_wanted, sign};
 use lab_seal_versions::Digest;
 use std::alloc::Global;
 
-/// Returns the result of making a form. Fails only if memory runs out, and only if the form is
-/// made.
+/// Returns the result of making a form. Fails only if memory runs out, and only if the result isn't
+/// a refusal.
 ///
 /// # Errors
 /// Memory ran out.
@@ -63,8 +63,8 @@ fn form_done(alloc: Global, form: FormVersion) -> Result<Done, OutOfMemory>
     ))
 }
 
-/// Returns the result of opening a record. Fails only if memory runs out, and only if the record is
-/// opened.
+/// Returns the result of opening a record. Fails only if memory runs out, and only if the result
+/// isn't a refusal.
 ///
 /// # Errors
 /// Memory ran out.
@@ -108,8 +108,8 @@ fn record_done(alloc: Global, kept: Record) -> Result<Done, OutOfMemory>
     ))
 }
 
-/// Returns the result of entering a value. Fails only if memory runs out, and only if the value is
-/// entered.
+/// Returns the result of entering a value. Fails only if memory runs out, and only if the result
+/// isn't a refusal.
 ///
 /// # Errors
 /// Memory ran out.

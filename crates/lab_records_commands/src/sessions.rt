@@ -11,8 +11,8 @@ use lab_records_machine::{Done, Reply, pair, single};
 use lab_records_rules::{Refusal, Typed};
 use std::alloc::Global;
 
-/// Returns the result of opening a session with a code, by which the person was looked up, and a
-/// password. Fails only if memory runs out, and only if the session is opened.
+/// Returns the result of opening a session with a code, with which the person was looked up, and a
+/// password. Fails only if memory runs out, and only if the result is an open session.
 ///
 /// # Errors
 /// Memory ran out.

@@ -20,7 +20,7 @@ use lab_forms_texts::{LabCode, Series};
 
 /// A keeper of laboratories.
 pub trait Keeper {
-    /// What is known of the keeper at a moment.
+    /// What is known about the keeper at a moment.
     ghost world: { Self → World };
 
     /// The rows are as they were before.

@@ -1,4 +1,4 @@
-//! The laws of births.
+//! The laws of foundings.
 ghost use Rattle.std.specs.Prelude.{◌≡◌, ◌≢◌, ℕ, List, true, false, Some, None, Ok};
 ghost use Rattle.lab_forms_texts.specs.declared.tick.Tick.{Tick};
 ghost use Rattle.lab_records_kept.specs.declared.labs.Lab.{Lab};

@@ -1,4 +1,4 @@
-//! The law of keeping.
+//! The law that a step keeps what was.
 ghost use Rattle.std.specs.Prelude.{Some, []};
 ghost use Rattle.lab_forms_texts.specs.declared.tick.Tick.{Tick};
 ghost use Rattle.lab_records_kept.specs.declared.labs.Lab.{Lab};

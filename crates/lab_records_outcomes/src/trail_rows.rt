@@ -128,7 +128,7 @@ pub fn fail(
     }
 }
 
-// Adds what a failed password changes that is counted: always the person.
+// Adds the changes of a failed password that is counted. The person always changes.
 fn fail_counted(
     alloc: Global,
     changes: &mut Series<Change>,
@@ -146,7 +146,7 @@ fn fail_counted(
     add_row_if_room(alloc, changes, rows, moment, &code, &refused)
 }
 
-// Adds what a failed password changes that locks the account: always the person.
+// Adds the changes of a failed password that locks the account. The person always changes.
 fn fail_locking(
     alloc: Global,
     changes: &mut Series<Change>,

@@ -49,7 +49,7 @@ pub fn make_form(code: Key, form: Form, last: Option<FormVersion>) -> Result<For
 }
 
 /// Opens a record with the last version of its form, once for a form and a sample; `records` is how
-/// many records the laboratory has. Memory is the fault only if the record is opened.
+/// many records the laboratory has. Memory is the fault only if these rules accept the command.
 ///
 /// # Errors
 /// The refusal of the command, or memory ran out.

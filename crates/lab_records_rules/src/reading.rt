@@ -31,7 +31,7 @@ pub fn read_form(form: Option<FormVersion>) -> Result<FormVersion, Refusal>
 }
 
 /// Returns the record that was looked up, with the states and digests of its versions. Memory is
-/// the fault only if the record is read.
+/// the fault only if these rules accept the command.
 ///
 /// # Errors
 /// The refusal of the command, or memory ran out.
@@ -93,7 +93,7 @@ fn version_line(
 }
 
 /// Returns the version of the record with the number, and the values of the record at it. Memory is
-/// the fault only if the version is read.
+/// the fault only if these rules accept the command.
 ///
 /// # Errors
 /// The refusal of the command, or memory ran out.

@@ -17,7 +17,8 @@ use lab_seal_versions::{Digest, EntryRow, State};
 use std::alloc::Global;
 
 /// Enters a value into the last version of the record that was looked up, if that version is open.
-/// A key that already has a value wants a reason. Memory is the fault only if the value is entered.
+/// A key that already has a value wants a reason. Memory is the fault only if these rules accept
+/// the command.
 ///
 /// # Errors
 /// The refusal of the command, or memory ran out.

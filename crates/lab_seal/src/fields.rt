@@ -94,7 +94,7 @@ pub fn bytes(text: &[u8]) -> Option<(&[u8], &[u8])>
     line_of(&text[colon + 1..], count)
 }
 
-/// A text that the rule admits.
+/// Reads a text that the rule admits.
 #[tactic(auto, unfolding(crate::specs::Reading::first_as))]
 pub fn text<R: Rule>(front: &[u8]) -> Option<(&str, &[u8])>
     ensures { option_map (λ found. (found.0.now, found.1.now)) result
@@ -145,7 +145,7 @@ pub fn choice<'a>(text: &'a [u8], yes: &[u8], no: &[u8]) -> Option<(bool, &'a [u
     }
 }
 
-/// The number of a list's elements.
+/// Reads the number of a list's elements.
 #[tactic(auto, unfolding(crate::specs::Reading::first_as))]
 pub fn count(text: &[u8]) -> Option<(usize, &[u8])>
     ensures { option_map (λ found. (found.0, found.1.now)) result ≡ first_as number_of text.now }
@@ -155,7 +155,7 @@ pub fn count(text: &[u8]) -> Option<(usize, &[u8])>
     Some((count, rest))
 }
 
-/// The number of a record, a version or a form's version.
+/// Reads the number of a record, a version or a form's version.
 #[tactic(auto, unfolding(crate::specs::Reading::first_as))]
 pub fn ordinal(text: &[u8]) -> Option<(u32, &[u8])>
     ensures { option_map (λ found. (found.0, found.1.now)) result ≡ first_as ordinal_in text.now }
@@ -174,7 +174,7 @@ fn ordinal_in(digits: &[u8]) -> Option<u32>
     }
 }
 
-/// A note, or nothing if the item is empty.
+/// Reads a note, or nothing if the item is empty.
 #[tactic(auto, unfolding(crate::specs::Reading::first_as))]
 pub fn reason(text: &[u8]) -> Option<(Option<&str>, &[u8])>
     ensures { option_map (λ found. (option_map (λ note. note.now) found.0, found.1.now)) result
@@ -208,7 +208,7 @@ fn moment_in(bytes: &[u8]) -> Option<u64>
     Some(moment.seconds() as u64)
 }
 
-/// A moment.
+/// Reads a moment.
 #[tactic(auto, unfolding(crate::specs::Reading::first_as))]
 pub fn moment(text: &[u8]) -> Option<(u64, &[u8])>
     ensures { option_map (λ found. (found.0, found.1.now)) result ≡ first_as moment_in text.now }
@@ -217,7 +217,7 @@ pub fn moment(text: &[u8]) -> Option<(u64, &[u8])>
     Some((moment_in(bytes)?, rest))
 }
 
-/// A digest.
+/// Reads a digest.
 #[tactic(auto, unfolding(crate::specs::Reading::first_as))]
 pub fn digest(text: &[u8]) -> Option<([u8; 32], &[u8])>
     ensures { option_map (λ found. (found.0, found.1.now)) result

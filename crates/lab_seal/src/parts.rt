@@ -7,7 +7,7 @@ use crate::fields;
 use lab_forms_texts::{Keys, LabCodes, Names, Notes, Ordinal, PersonCodes, Units};
 use lab_seal_versions::Format;
 
-/// Which version it is.
+/// Which version the text is of.
 #[derive(Clone, Copy)]
 pub struct Heading<'a> {
     pub is_newer: bool,
@@ -49,7 +49,7 @@ pub struct Front<'a> {
     pub opening: Opening<'a>,
 }
 
-/// A row.
+/// A row of a version.
 #[derive(Clone, Copy)]
 pub struct Row<'a> {
     pub key: &'a str,
