@@ -1,4 +1,5 @@
-//! A reader that isn't asked forever, and that stops in a row which is longer than any that reads.
+//! A reader that asks its source only a limited number of times, and stops in a row that is longer
+//! than any valid row.
 ghost use Rattle.std.specs.Prelude.{◌≡◌, ℕ, ◌+◌, ◌<◌, ◌≤◌, OnOk, option_map};
 ghost use Rattle.std.specs.Io.{ReadsAtMost};
 ghost use Rattle.std.specs.Io.KnownBytes.{ReadConsumes};
@@ -10,16 +11,17 @@ use std::io;
 use std::io::{ErrorKind, Read};
 use std::marker::{Brand, PhantomData};
 
-/// How often the source of a copy is asked before it counts as failed. No copy has as many bytes.
+/// The number of asks after which the source of a copy counts as failed. No copy has as many bytes.
 pub(crate) const MOST_ASKS: u64 = 1_000_000_000_000_000;
 
-/// One check of a copy, as the type of its reader names it, so that a reader of CSV, which may do with its reader what it likes,
-/// still asks the check's own source, and not too often.
+/// One check of a copy, named in the type of its reader. A reader of CSV may do what it likes with
+/// its reader; with this name it is known that it still asks the check's own source, and not too
+/// often.
 pub(crate) trait Asking {
-    // The source's name as a borrow.
+    // The name of the source, as a borrow.
     ghost name: { ℕ };
 
-    // What the source's count may come to.
+    // The most that the source's count may come to.
     ghost most: { ℕ };
 }
 
@@ -29,7 +31,7 @@ impl Asking for Brand {
     ghost most = { 0 };
 }
 
-/// A reader that asks a source, how often it may still ask, and the row that it is in.
+/// A reader that asks a source, with the number of asks that are left, and the row so far.
 #[derive(Drop)]
 pub(crate) struct AskedReader<'a, A: Asking, R: ByteSource> {
     pub(crate) source: &'a mut R,
@@ -41,7 +43,7 @@ pub(crate) struct AskedReader<'a, A: Asking, R: ByteSource> {
 }
 
 impl<'a, A: Asking, R: ByteSource> AskedReader<'a, A, R> {
-    /// The source, given back.
+    /// Returns the source.
     pub(crate) fn into_source(self) -> &'a mut R
         ensures name { result.ghost_name ≡ A.name }
         ensures asks { R.asks result.now ≤ A.most }
@@ -71,7 +73,8 @@ impl<A: Asking, R: ByteSource> Read for AskedReader<'_, A, R> {
     }
 }
 
-// Asks for bytes, and gives them up to the one with which a row is too long. Then the bytes have ended.
+// Asks for bytes, and returns those up to the byte with which a row is too long. After that byte it
+// returns no more bytes.
 fn read_front<R: ByteSource>(
     source: &mut R,
     asks_left: &mut u64,
@@ -90,7 +93,7 @@ fn read_front<R: ByteSource>(
     Ok(row.pass(&buffer[..count]))
 }
 
-// Asks for bytes, while asks are left. Where a signal interrupted the source, it is asked again.
+// Asks for bytes, while asks are left. If a signal interrupted the source, asks again.
 fn read_some<R: ByteSource>(
     source: &mut R,
     asks_left: &mut u64,
@@ -100,7 +103,7 @@ fn read_some<R: ByteSource>(
     ensures bytes { ReadConsumes (R.remaining source.old) (R.remaining source.new)
         result buffer.new }
 
-    // Each answer costs an ask, so with none left there is a fault; and no ask is given back.
+    // Each successful read uses up an ask, so with no ask left there is a fault. No ask is added.
     ensures asked { OnOk result (asks_left.new < asks_left.old) }
     ensures asks { R.asks source.new + asks_left.new ≤ R.asks source.old + asks_left.old }
 {

@@ -1,4 +1,4 @@
-//! The check of a copy, which keeps only the version at hand.
+//! The check of a copy. It keeps only the current version.
 ghost use Rattle.std.specs.Prelude.{◌≡◌, ℕ, ◌+◌, ◌≤◌, true, List, Option, IfOk, IfErr, OnOk, IfSome, length, option_map};
 ghost use Rattle.csv.specs.Reading.{ReadRecord, Ready, default_config, reader_config, reader_state, reader_trim, source_of, strip_bom, took_first};
 ghost use Rattle.csv.specs.Records.{fields_of};
@@ -25,13 +25,13 @@ use std::marker::{Brand, PhantomData};
 /// The most rows that are read. No copy has as many.
 const MOST_ROWS: u64 = 1_000_000_000_000;
 
-/// Reads a copy as CSV to its end, and answers how many rows of each kind it has, where it is sound; else the first flaw that
-/// is told. It recomputes every digest and every seal. A row is read no further once it has more fields, or a longer one, than a
-/// row that reads.
+/// Reads a copy as CSV to its end, and returns the number of rows of each kind if the copy is
+/// sound, else the first flaw. It recomputes every digest and every seal. It doesn't read a row
+/// further once the row has more fields, or a longer field, than a valid row.
 ///
 /// # Errors
-/// The copy's first flaw; a reader that failed, was asked 1,000,000,000,000,000 times or gave more than 1,000,000,000,000 rows;
-/// or memory that ran out.
+/// The first flaw of the copy; the reader failed, was asked 1,000,000,000,000,000 times or returned
+/// more than 1,000,000,000,000 rows; or memory ran out.
 pub fn check_copy<R: ByteSource>(alloc: Global, reader: &mut R) -> Result<Counts, CheckFault>
     ensures verdict { IfSome (R.remaining reader.old) (λ bytes.
         IsAnswer (verdict (rows_of bytes)) result) }
@@ -43,7 +43,7 @@ pub fn check_copy<R: ByteSource>(alloc: Global, reader: &mut R) -> Result<Counts
     answer
 }
 
-// The same of a source whose name and count the type names. The source is given back.
+// Does the same for a source whose name and count are in the type. Returns the source too.
 fn check_asking<'a, A: Asking, R: ByteSource>(
     alloc: Global,
     source: &'a mut R,
@@ -69,7 +69,7 @@ fn check_asking<'a, A: Asking, R: ByteSource>(
     (answer, rows.into_inner().into_source())
 }
 
-// Checks the rows that a reader gives from its start.
+// Checks the rows of a reader from its start.
 fn check_all<R: Read>(alloc: Global, rows: &mut Reader<R>) -> Result<Counts, CheckFault>
     requires config { reader_config rows.old ≡ default_config }
     requires trim { reader_trim rows.old ≡ trim.None }
@@ -95,7 +95,7 @@ fn check_all<R: Read>(alloc: Global, rows: &mut Reader<R>) -> Result<Counts, Che
     answer
 }
 
-// A reader of rows, that take no header and may have any number of fields.
+// A reader of rows that doesn't treat the first row as a header, and allows any number of fields.
 fn copy_reader<R: Read>(alloc: Global, reader: R) -> Reader<R>
     ensures config { reader_config result ≡ default_config }
     ensures trim { reader_trim result ≡ trim.None }
@@ -109,7 +109,7 @@ fn copy_reader<R: Read>(alloc: Global, reader: R) -> Reader<R>
         .from_reader(alloc, reader)
 }
 
-// Checks the rows behind the header.
+// Checks the rows after the header.
 fn check_rows<R: Read>(
     alloc: Global,
     rows: &mut Reader<R>,
@@ -153,7 +153,7 @@ fn read_row<R: Read>(rows: &mut Reader<R>, row: &mut ByteRecord) -> Result<bool,
     }
 }
 
-// The fault of a check that meets this one in a row.
+// The fault of the check for a fault of a row.
 fn fault_at(row: u64, fault: RowFault) -> CheckFault
     ensures { result ≡ fault_at row fault }
 {

@@ -9,17 +9,17 @@ use thiserror::Error;
 /// Why a copy wasn't found sound.
 #[derive(Clone, Copy, Debug, PartialEq, Eq, Error)]
 pub enum CheckFault {
-    /// The copy has a flaw, the first one that is told.
+    /// The copy has a flaw; this is the first one.
     Flawed(Flaw),
-    /// The reader failed, was asked more than 1,000,000,000,000,000 times, or its rows didn't end within
-    /// 1,000,000,000,000.
+    /// The reader failed, was asked more than 1,000,000,000,000,000 times, or its rows didn't end
+    /// within 1,000,000,000,000.
     Read,
     /// There was no memory for a version and its rows.
     Memory(OutOfMemory),
 }
 
 impl CheckFault {
-    /// The fault's number: none where the reader failed, since no reply can tell of it.
+    /// The number of the fault; `None` if the reader failed, since no reply can state that.
     pub fn number(&self) -> Option<u32>
         ensures { result ≡ fault_number self.now }
     {
@@ -30,7 +30,7 @@ impl CheckFault {
         }
     }
 
-    /// The fault's word.
+    /// The word of the fault.
     pub fn word(&self) -> &'static str
         ensures { result.now ≡ fault_word self.now }
     {

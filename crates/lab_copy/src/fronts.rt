@@ -1,4 +1,4 @@
-//! How far a copy is read: a row that is longer than any that reads isn't read to its end.
+//! How far a copy is read: a row that is longer than any valid row isn't read to its end.
 ghost use Rattle.std.specs.Prelude.{◌≡◌, ◌≤◌, ℕ, List, ◌++◌, false, length, take};
 ghost use Rattle.csv.specs.Machine.{in_field, start_field, start_record, step};
 ghost use Rattle.csv.specs.Reading.{default_config};
@@ -6,31 +6,32 @@ ghost use Rattle.csv.specs.declared.parser.Action.TheVariants as act;
 ghost use Rattle.csv.specs.declared.parser.State.TheVariants as st;
 ghost use Rattle.lab_copy.specs.Fronts.{after, front, is_too_long, mark_after, so_far, state_at, stepped, text_begun, row_begun};
 
-/// How many fields a row has that reads.
+/// The number of fields of a valid row.
 const MOST_FIELDS: u32 = 13;
 
-/// How many bytes a field may have: those of the longest note.
+/// The most bytes of a field: those of the longest note.
 const MOST_BYTES: u32 = 1_000;
 
-/// Where in a row its bytes so far end, as CSV has it.
+/// The state of a CSV reader after the bytes of a row so far.
 #[derive(Clone, Copy, Debug, PartialEq, Eq)]
 enum Inside {
     /// The row has no byte yet.
     RowStart,
-    /// The same behind a CR, to which a LF belongs.
+    /// The row has no byte yet, and a CR came before it, to which a LF may belong.
     ReturnEnd,
     /// A field has no byte yet.
     FieldStart,
-    /// In a field without quotes.
+    /// Inside a field without quotes.
     Plain,
-    /// In quotes.
+    /// Inside quotes.
     Quoted,
-    /// Behind a quote that ends the quotes, unless another one follows.
+    /// After a quote that ends the quotes, unless another quote follows.
     QuoteEnd,
 }
 
-/// A row so far: how much of a byte order mark the text is (3 where it is something else), where the row stands, how many of its
-/// fields have ended, and how many bytes the field at hand has.
+/// A row so far: how many bytes of a byte order mark the text has (3 if it has something else), the
+/// state of the CSV reader, how many fields of the row have ended, and how many bytes the current
+/// field has.
 #[derive(Clone, Copy, Debug, PartialEq, Eq)]
 pub(crate) struct RowSoFar {
     mark: u8,
@@ -40,7 +41,7 @@ pub(crate) struct RowSoFar {
 }
 
 impl RowSoFar {
-    /// Nothing, of a text that may begin with a byte order mark.
+    /// The start of a text that may begin with a byte order mark.
     pub(crate) fn of_text() -> RowSoFar
         ensures { so_far result ≡ text_begun }
     {
@@ -50,7 +51,7 @@ impl RowSoFar {
         }
     }
 
-    // Nothing, of a row.
+    // The start of a row.
     fn of_row() -> RowSoFar
         ensures { so_far result ≡ row_begun }
     {
@@ -62,14 +63,15 @@ impl RowSoFar {
         }
     }
 
-    /// Whether no row that reads is as long.
+    /// Whether the row is longer than any valid row.
     pub(crate) fn is_too_long(self) -> bool
         ensures { result ≡ is_too_long (so_far self) }
     {
         self.fields >= MOST_FIELDS || self.bytes > MOST_BYTES
     }
 
-    /// Goes over bytes that follow, until the row is too long, and answers how many these are.
+    /// Goes over the bytes that follow, until the row is too long, and returns how many bytes these
+    /// are.
     pub(crate) fn pass(&mut self, bytes: &[u8]) -> usize
         requires short { is_too_long (so_far self.old) ≡ false }
         ensures within { result ≤ length bytes.now }
@@ -86,7 +88,7 @@ impl RowSoFar {
         bytes.len()
     }
 
-    // The row with a byte more.
+    // The row with one more byte.
     fn after(self, byte: u8) -> RowSoFar
         requires { is_too_long (so_far self) ≡ false }
         ensures { so_far result ≡ after (so_far self) byte }
@@ -101,7 +103,7 @@ impl RowSoFar {
         row.stepped(byte)
     }
 
-    // The same without a look at the mark.
+    // The row with one more byte, without a look at the mark.
     fn stepped(self, byte: u8) -> RowSoFar
         requires { is_too_long (so_far self) ≡ false }
         ensures { so_far result
@@ -157,14 +159,14 @@ impl RowSoFar {
 
     // ---- what a byte does
 
-    // It is no part of a field.
+    // The byte isn't part of a field.
     fn at(self, inside: Inside) -> RowSoFar
         ensures { so_far result ≡ stepped (state_at inside, act.Skip) (so_far self) }
     {
         RowSoFar { inside, ..self }
     }
 
-    // It is one of the field.
+    // The byte is part of the field.
     fn longer(self, inside: Inside) -> RowSoFar
         requires { is_too_long (so_far self) ≡ false }
         ensures { so_far result ≡ stepped (state_at inside, act.Copy) (so_far self) }
@@ -176,7 +178,7 @@ impl RowSoFar {
         }
     }
 
-    // It ends the field.
+    // The byte ends the field.
     fn with_field(self) -> RowSoFar
         requires { is_too_long (so_far self) ≡ false }
         ensures { so_far result ≡ stepped (st.StartField, act.EndField) (so_far self) }
@@ -189,7 +191,7 @@ impl RowSoFar {
         }
     }
 
-    // It ends the row.
+    // The byte ends the row.
     fn ended(self, inside: Inside) -> RowSoFar
         ensures { so_far result ≡ stepped (state_at inside, act.EndRecord) (so_far self) }
     {
@@ -202,7 +204,7 @@ impl RowSoFar {
     }
 }
 
-// How much of a byte order mark a text is with a byte more.
+// How many bytes of a byte order mark a text has after one more byte.
 fn mark_after(mark: u8, byte: u8) -> u8
     ensures { result ≡ mark_after mark byte }
 {

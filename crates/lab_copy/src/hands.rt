@@ -1,4 +1,4 @@
-//! The version at hand: what is kept of a version while its rows come, and how it is found sound.
+//! The current version: what is kept of a version while its rows are read, and how it is checked.
 ghost use Rattle.std.specs.Prelude.{◌≡◌, IfOk, IsSome, OnErr, OnOk, map, option_map};
 ghost use Rattle.std.specs.List.{list_any};
 ghost use Rattle.std.specs.Str.{bytes_eq};
@@ -19,8 +19,9 @@ use lab_seal_versions::{
 use std::alloc::Global;
 use std::mem;
 
-/// The version whose rows are coming: the number of its row, the version as its digest covers it, the state and the digest in its
-/// row, and the meanings and signers of its signatures.
+/// The current version, whose rows are being read: the number of its row, the version with all that
+/// its digest covers, the state and the digest in its row, and the meanings and signers of its
+/// signatures.
 pub struct VersionAtHand {
     row: u64,
     parts: VersionParts,
@@ -45,7 +46,7 @@ impl Drop for VersionAtHand {
 }
 
 impl VersionAtHand {
-    /// The version that begins in the row, of the record and behind the version before.
+    /// Makes the version that begins in the row, of the record, after the version before.
     ///
     /// # Errors
     /// Memory ran out.
@@ -112,14 +113,14 @@ impl VersionAtHand {
         self.digest
     }
 
-    /// Whether an entry or a signature has the numbers of the version.
+    /// Whether the numbers of an entry or a signature are those of the version.
     pub fn has_numbers(&self, record_number: Ordinal, number: Ordinal) -> bool
         ensures { result ≡ has_numbers record_number number self.now }
     {
         record_number == self.parts.record_number && number == self.parts.origin.number()
     }
 
-    /// Whether a version row is that of the next version, and this one is settled.
+    /// Whether a version row is that of the next version, and this version is released or rejected.
     pub fn is_followed_by(&self, line: &VersionLine) -> bool
         ensures { result ≡ is_next line.now self.now }
     {
@@ -128,7 +129,8 @@ impl VersionAtHand {
             && self.state.is_settled()
     }
 
-    /// What is wrong with the version, once its rows have come. Its text is made to find it.
+    /// Returns what is wrong with the version, after all its rows were read. It makes the text of
+    /// the version for this.
     ///
     /// # Errors
     /// Memory ran out.
@@ -152,7 +154,7 @@ impl VersionAtHand {
         Ok(digest(&text).bytes() == self.digest.bytes())
     }
 
-    // Whether the signatures are those of the state in the row.
+    // Whether the signatures make the state in the row.
     fn has_signatures(&self) -> bool
         ensures { result ≡ has_signatures_at_hand self.now }
     {
@@ -162,7 +164,8 @@ impl VersionAtHand {
         }
     }
 
-    // Whether the author entered a row, every other signer none, and the third isn't the second.
+    // Whether the author entered a row, no other signer entered one, and the third isn't the
+    // second.
     fn has_persons(&self) -> bool
         ensures { result ≡ has_persons_at_hand self.now }
     {
@@ -187,7 +190,7 @@ impl VersionAtHand {
     }
 }
 
-/// The version that begins in the row, where a record's row came.
+/// Makes the version that begins in the row, if the row of a record came before.
 ///
 /// # Errors
 /// Memory ran out.
@@ -209,7 +212,7 @@ pub fn begin(
     }
 }
 
-/// Keeps an entry of the version at hand, where there is one.
+/// Keeps an entry of the current version, if there is one.
 ///
 /// # Errors
 /// Memory ran out.
@@ -227,7 +230,7 @@ pub fn enter(
     }
 }
 
-/// Keeps a signature of the version at hand, where there is one.
+/// Keeps a signature of the current version, if there is one.
 ///
 /// # Errors
 /// Memory ran out.
@@ -246,7 +249,7 @@ pub fn sign(
     }
 }
 
-// Whether one of the rows is the person's.
+// Whether the person entered one of the rows.
 fn has_row_of(rows: &[EntryRow], person: &PersonCode) -> bool
     ensures { result ≡ list_any (λ (row : EntryRow). bytes_eq person.now row.person) rows.now }
 {
@@ -254,7 +257,7 @@ fn has_row_of(rows: &[EntryRow], person: &PersonCode) -> bool
         .any(|row| person.as_str() == row.person.as_str())
 }
 
-// Keeps an entry among the rows of a version.
+// Adds an entry to the rows of a version.
 fn enter_row(parts: &mut VersionParts, alloc: Global, row: EntryRow) -> Result<(), OutOfMemory>
     ensures { OnOk result (parts.new ≡ with_row row parts.old) }
 {
@@ -265,7 +268,7 @@ fn enter_row(parts: &mut VersionParts, alloc: Global, row: EntryRow) -> Result<(
     Ok(())
 }
 
-// The digest of the version at hand.
+// The digest of the current version.
 fn digest_of(version: &Option<VersionAtHand>) -> Option<Digest>
     ensures { result ≡ option_map (λ (hand : VersionAtHand). hand.digest) version.now }
 {
@@ -275,7 +278,7 @@ fn digest_of(version: &Option<VersionAtHand>) -> Option<Digest>
     }
 }
 
-// What a version amends, which has a reason for it unless it is the first.
+// The origin of a version. Every version but the first has a reason and a previous digest.
 fn origin_of(number: Ordinal, reason: Option<Note>, previous: Option<Digest>) -> Origin
     requires { AmendsUnlessFirst number (amendment_by reason previous) }
     ensures { result ≡ record { number = number; amendment = amendment_by reason previous } }
@@ -292,7 +295,7 @@ fn origin_of(number: Ordinal, reason: Option<Note>, previous: Option<Digest>) ->
     }
 }
 
-// Whether an approval is wanted, of which only the newer format tells.
+// Whether an approval is wanted. Only the newer format states that.
 fn wants_approval(format: Format) -> bool
     ensures { result ≡ wants_approval format }
 {

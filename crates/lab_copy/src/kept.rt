@@ -1,4 +1,4 @@
-//! What is kept of the lines so far, and what it tells of the next one.
+//! What is kept of the lines so far, and how the next line is checked with it.
 ghost use Rattle.std.specs.Prelude.{◌≡◌, ◌+◌, List, None, Some, IfErr, IfOk, IsSome, IsTrue, OnErr, OnOk, length, option_map};
 ghost use Rattle.std.specs.Str.{bytes_eq};
 ghost use Rattle.lab_seal_versions.specs.Origins.{AmendsUnlessFirst};
@@ -23,8 +23,8 @@ use lab_copy_rows::{
 use lab_seal_versions::seal;
 use std::alloc::Global;
 
-/// What is kept of the lines so far: the copy row, the last record's row, the version whose rows are coming, the kind of the last
-/// line, and how many lines of each kind there are.
+/// What is kept of the lines so far: the copy row, the row of the last record, the current version,
+/// the kind of the last line, and the number of lines of each kind.
 pub struct Kept {
     copy: Option<CopyLine>,
     about: Option<RecordLine>,
@@ -47,7 +47,7 @@ impl Drop for Kept {
 }
 
 impl Kept {
-    /// Nothing, since no line came.
+    /// What is kept before the first line: nothing.
     pub fn none() -> Kept
         ensures { result ≡ kept_none }
     {
@@ -75,10 +75,10 @@ impl Kept {
         }
     }
 
-    /// Takes the line in the row, and keeps of it what the next ones are compared with; or else tells what it shows.
+    /// Checks the line in the row, and keeps the parts with which the next lines are compared.
     ///
     /// # Errors
-    /// The copy's first flaw, a reader that failed, or memory that ran out.
+    /// The first flaw of the copy, too many lines of one kind, or memory ran out.
     pub fn take(&mut self, alloc: Global, row: u64, line: Line) -> Result<(), CheckFault>
         requires { IsReasoned line }
         ensures { (lines : List Line) → row ≡ length lines + 2 → IsAt self.old lines
@@ -94,10 +94,10 @@ impl Kept {
         }
     }
 
-    /// What is found at the end of the input.
+    /// Checks what is kept at the end of the input, and returns the counts.
     ///
     /// # Errors
-    /// The copy's first flaw, a reader that failed, or memory that ran out.
+    /// The first flaw of the copy, or memory ran out.
     pub fn finish(&self, alloc: Global) -> Result<Counts, CheckFault>
         ensures value { IsAnswer (verdict_kept self.now) result }
         ensures fault { IfErr result (IsEndFault self.now) }
@@ -124,7 +124,7 @@ impl Kept {
         }
     }
 
-    // Whether the line is in its place.
+    // Whether the line may stand at its place.
     fn is_in_place(&self, line: &Line) -> bool
         ensures { result ≡ is_in_place_kept self.now line.now }
     {
@@ -146,7 +146,7 @@ impl Kept {
         }
     }
 
-    // Whether the line has the numbers of its place.
+    // Whether the line has the numbers that its place wants.
     fn has_numbers(&self, copy: &CopyLine, line: &Line) -> bool
         ensures { result ≡ has_kept_numbers copy.now self.now line.now }
     {
@@ -160,7 +160,7 @@ impl Kept {
         }
     }
 
-    // Whether the numbers are those of the version at hand.
+    // Whether the numbers are those of the current version.
     fn is_of_version(&self, record_number: Ordinal, number: Ordinal) -> bool
         ensures { result ≡ is_some_and (has_numbers record_number number) self.now.version }
     {
@@ -179,7 +179,8 @@ impl Kept {
         }
     }
 
-    // Whether the version is the first behind its record's row, or the one after the version at hand.
+    // Whether the version is the first after the row of its record, or the next after the current
+    // version.
     fn is_next_version(&self, line: &VersionLine) -> bool
         ensures { result ≡ is_version_behind self.now.version self.now line.now }
     {
@@ -200,7 +201,7 @@ impl Kept {
 
     // ---- flaws
 
-    // What a line shows that is in its place.
+    // The flaw that a line shows, if it is in its place.
     fn check(&self, alloc: Global, row: u64, line: &Line) -> Result<Option<Flaw>, OutOfMemory>
         ensures value { IfOk result (λ shown. shown ≡ flaw_kept row self.now line.now) }
         ensures memory { OnErr result (IsTrue (is_text_made self.now line.now)) }
@@ -214,7 +215,7 @@ impl Kept {
         }
     }
 
-    // What is wrong with the version at hand, where there is one.
+    // The flaw of the current version, if there is one.
     fn check_version(&self, alloc: Global) -> Result<Option<Flaw>, OutOfMemory>
         ensures value { IfOk result (λ shown. shown ≡ flaw_of_version_kept self.now) }
         ensures memory { OnErr result (IsSome self.now.version) }
@@ -237,7 +238,7 @@ impl Kept {
         None
     }
 
-    // Whether the digest is that in the row of the version at hand.
+    // Whether the digest is that in the row of the current version.
     fn has_digest(&self, digest: &Digest) -> bool
         ensures { result ≡ is_some_and (λ (hand : VersionAtHand). bytes_eq hand.digest digest.now)
             self.now.version }
@@ -250,7 +251,7 @@ impl Kept {
 
     // ---- what is kept of a line
 
-    // Keeps of the line in the row what the next ones are compared with.
+    // Keeps the parts of the line with which the next lines are compared.
     fn keep(&mut self, alloc: Global, row: u64, line: Line) -> Result<(), CheckFault>
         requires { MayBegin self.old.version line }
         ensures kept { OnOk result (self.new ≡ kept_with row self.old line) }
@@ -265,7 +266,7 @@ impl Kept {
         Ok(())
     }
 
-    // Keeps the line's own parts.
+    // Keeps the parts that belong to this kind of line.
     fn keep_parts(&mut self, alloc: Global, row: u64, line: Line) -> Result<(), OutOfMemory>
         requires { MayBegin self.old.version line }
         ensures kept { OnOk result (self.new ≡ with_parts row self.old line) }

@@ -1,5 +1,5 @@
-//! Checking inspection copies, row by row: order, digests, seals and signers (21 CFR 11.10(b)). The
-//! writing of copies is passed on.
+//! The check of inspection copies, row by row: order, digests, seals and signers (21 CFR 11.10(b)).
+//! The functions that write copies are re-exported.
 #![tactic(auto)]
 
 mod asks;

@@ -1,4 +1,4 @@
-//! What a line tells of its place by itself, or beside one other.
+//! Whether a line may stand at its place, as far as the line and one other line decide that.
 ghost use Rattle.std.specs.Prelude.{◌≡◌, ◌+◌, ◌<◌, ◌^◌, SomeIff};
 ghost use Rattle.lab_copy_rows.specs.Copies.{lab_of, was_asked, is_first_version, are_same_counts};
 ghost use Rattle.lab_copy.specs.Places.{count_of, counts_with, is_first_line};
@@ -45,7 +45,7 @@ pub fn is_first_version(line: &VersionLine, about: &RecordLine) -> bool
     line.record_number == about.record_number && line.number == Ordinal::FIRST
 }
 
-/// Whether the numbers of lines are those that were told.
+/// Whether the counts are those that the end row states.
 pub fn are_same_counts(counts: &Counts, told: &Counts) -> bool
     ensures { result ≡ are_same_counts counts.now told.now }
 {
@@ -55,7 +55,8 @@ pub fn are_same_counts(counts: &Counts, told: &Counts) -> bool
         && counts.signatures == told.signatures
 }
 
-/// The numbers of lines after the line. None where there are more of its kind than any copy has.
+/// Returns the counts with the line added. `None` if there are more lines of its kind than any copy
+/// has.
 pub fn counts_with(line: &Line, counts: Counts) -> Option<Counts>
     ensures { SomeIff result (count_of line.now counts + 1 < 2 ^ 64)
         (counts_with line.now counts) }

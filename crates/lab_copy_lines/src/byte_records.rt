@@ -9,10 +9,10 @@ ghost use Rattle.lab_copy_lines.specs.Lines.{field_in, has_header_names};
 use crate::RowFields;
 use csv::ByteRecord;
 
-/// How many columns a row has.
+/// The number of columns of a row.
 const COLUMN_COUNT: usize = 13;
 
-/// The columns of a row that has thirteen fields.
+/// The columns of a row, if it has thirteen fields.
 pub(crate) fn row_fields(row: &ByteRecord) -> Option<RowFields<'_>>
     ensures { option_map columns_in result ≡ columns_of (fields_of row.now) }
 {
@@ -36,7 +36,7 @@ pub(crate) fn row_fields(row: &ByteRecord) -> Option<RowFields<'_>>
     })
 }
 
-// The field at a place, or nothing where there are fewer.
+// The field at a place, or an empty one if the row has fewer fields.
 fn field(row: &ByteRecord, place: usize) -> &[u8]
     ensures { result.now ≡ field_in (fields_of row.now) place }
 {

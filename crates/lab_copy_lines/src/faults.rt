@@ -2,9 +2,9 @@
 
 use lab_forms_texts::Fault;
 
-/// The row is none that a copy can have.
+/// No copy can have the row.
 #[derive(Clone, Copy, Debug, PartialEq, Eq)]
 pub struct BadRow;
 
-/// Why a row wasn't read. Want of memory is the answer only where the row is one that a copy can have.
+/// Why a row wasn't read. Memory is the fault only if a copy can have the row.
 pub type RowFault = Fault<BadRow>;

@@ -14,7 +14,7 @@ use lab_forms_texts::{Notes, PersonCodes, Rule};
 use lab_seal::fields::{moment_of, own_copy, text_in, value_of};
 use std::alloc::Global;
 
-/// The most rows of one kind that an end row can tell of.
+/// The most rows of one kind that an end row can state.
 const LAST_COUNT: u64 = 1_000_000_000_000;
 
 /// Whether the bytes are those of the word.
@@ -26,7 +26,7 @@ pub fn is_word(bytes: &[u8], word: &str) -> bool
 
 // ---- texts
 
-/// A text that the rule admits.
+/// Reads a text, if the rule admits it.
 pub fn text<R: Rule>(bytes: &[u8]) -> Option<&str>
     ensures value { option_map (λ text. text.now) result ≡ text_where R.admits bytes.now }
     ensures admitted { IfSome result (λ text. IsTrue (R.admits text.now)) }
@@ -35,7 +35,7 @@ pub fn text<R: Rule>(bytes: &[u8]) -> Option<&str>
     if R::admits(text) { Some(text) } else { None }
 }
 
-/// A copy of a reason, if there is one.
+/// Returns a copy of a reason, if there is one.
 ///
 /// # Errors
 /// Memory ran out.
@@ -49,7 +49,7 @@ pub fn own_reason(alloc: Global, reason: Option<&str>) -> Result<Option<Note>, O
     }
 }
 
-/// A copy of a person's code, if there is one.
+/// Returns a copy of a person's code, if there is one.
 ///
 /// # Errors
 /// Memory ran out.
@@ -63,7 +63,7 @@ pub fn own_person(alloc: Global, person: Option<&str>) -> Result<Option<PersonCo
     }
 }
 
-/// A person's code, or nobody.
+/// Reads a person's code, or nobody if the field is empty.
 pub fn person(bytes: &[u8]) -> Option<Option<&str>>
     ensures value { option_map (λ person. option_map (λ code. code.now) person) result
         ≡ person_in bytes.now }
@@ -76,7 +76,7 @@ pub fn person(bytes: &[u8]) -> Option<Option<&str>>
     Some(Some(text::<PersonCodes>(bytes)?))
 }
 
-/// A note, or nothing.
+/// Reads a note, or nothing if the field is empty.
 pub fn reason(bytes: &[u8]) -> Option<Option<&str>>
     ensures value { option_map (λ reason. option_map (λ note. note.now) reason) result
         ≡ reason_in bytes.now }
@@ -89,7 +89,8 @@ pub fn reason(bytes: &[u8]) -> Option<Option<&str>>
     Some(Some(text::<Notes>(bytes)?))
 }
 
-/// The reason of the version with the number: the first has none, and every later one has.
+/// Reads the reason of the version with the number: the first version has none, and every later
+/// version has one.
 pub fn version_reason(number: Ordinal, bytes: &[u8]) -> Option<Option<&str>>
     ensures value { option_map (λ reason. option_map (λ note. note.now) reason) result
         ≡ version_reason_in number bytes.now }
@@ -106,7 +107,7 @@ pub fn version_reason(number: Ordinal, bytes: &[u8]) -> Option<Option<&str>>
 
 // ---- numbers, moments and digests
 
-/// The number of a record, a version or a form's version.
+/// Reads the number of a record, a version or a form's version.
 pub fn ordinal(digits: &[u8]) -> Option<Ordinal>
     ensures { result ≡ ordinal_in digits.now }
 {
@@ -114,7 +115,7 @@ pub fn ordinal(digits: &[u8]) -> Option<Ordinal>
     Ordinal::new(number)
 }
 
-/// A number of rows.
+/// Reads a number of rows.
 pub fn count(digits: &[u8]) -> Option<u64>
     ensures { result ≡ count_in digits.now }
 {
@@ -126,21 +127,21 @@ pub fn count(digits: &[u8]) -> Option<u64>
     }
 }
 
-/// The moment with the text.
+/// Reads a moment from its text.
 pub fn moment(bytes: &[u8]) -> Option<Moment>
     ensures { result ≡ moment_in bytes.now }
 {
     moment_of(text_in(bytes)?)
 }
 
-/// The digest with the digits.
+/// Reads a digest from its digits.
 pub fn digest(digits: &[u8]) -> Option<Digest>
     ensures { result ≡ bytes_of_digits 32 digits.now }
 {
     Digest::from_digits(digits)
 }
 
-/// The seal with the digits.
+/// Reads a seal from its digits.
 pub fn seal(digits: &[u8]) -> Option<Seal>
     ensures { result ≡ bytes_of_digits 32 digits.now }
 {
@@ -149,7 +150,7 @@ pub fn seal(digits: &[u8]) -> Option<Seal>
 
 // ---- words
 
-/// Whether nothing stands in the fields.
+/// Whether the fields are all empty: `Some` if they are.
 #[tactic(auto, using(crate::proofs::FieldLemmas::empty_by))]
 pub fn empty(fields: &[&[u8]]) -> Option<()>
     ensures { result ≡ all_empty (map (λ field. field.now) fields.now) }
@@ -163,7 +164,7 @@ fn are_empty(fields: &[&[u8]]) -> bool
     fields.iter().all(|field| field.is_empty())
 }
 
-/// The edition with the key.
+/// Reads an edition from its key.
 pub fn edition(key: &[u8]) -> Option<Edition>
     ensures { result ≡ edition_in key.now }
 {
@@ -176,7 +177,7 @@ pub fn edition(key: &[u8]) -> Option<Edition>
     }
 }
 
-/// The format with the key and the name, which says whether an approval is wanted.
+/// Reads a format from its key and from the name that says whether an approval is wanted.
 pub fn format(key: &[u8], name: &[u8]) -> Option<Format>
     ensures { result ≡ format_in key.now name.now }
 {
@@ -191,7 +192,7 @@ pub fn format(key: &[u8], name: &[u8]) -> Option<Format>
     }
 }
 
-/// The state with the word.
+/// Reads a state from its word.
 pub fn state(word: &[u8]) -> Option<State>
     ensures { result ≡ state_in word.now }
 {
@@ -219,7 +220,7 @@ pub enum MeaningParts<'a> {
     Approval,
 }
 
-/// The meaning with the word and the reason, which only a rejection has.
+/// Reads a meaning from its word and the reason. Only a rejection has a reason.
 pub fn meaning<'a>(word: &[u8], reason: &'a [u8]) -> Option<MeaningParts<'a>>
     ensures value { option_map meaning_of result ≡ meaning_in word.now reason.now }
     ensures admitted { IfSome result IsMeaningText }
@@ -241,7 +242,7 @@ pub fn meaning<'a>(word: &[u8], reason: &'a [u8]) -> Option<MeaningParts<'a>>
     }
 }
 
-/// A copy of a meaning.
+/// Returns a copy of a meaning.
 ///
 /// # Errors
 /// Memory ran out.

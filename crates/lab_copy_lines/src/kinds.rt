@@ -1,4 +1,4 @@
-//! The kinds of lines, and which may come after which.
+//! The kinds of lines, and which kind may come after which.
 ghost use Rattle.std.specs.Prelude.{◌≡◌};
 ghost use Rattle.lab_copy_lines.specs.Kinds.{is_end_kind, kind_of, may_come_after};
 

@@ -1,5 +1,5 @@
-//! What rows of inspection copies stand for: the fields of a row, one by one, and the line of typed parts
-//! that they make, by the kind of the row.
+//! What rows of inspection copies stand for: each field of a row, and the line of typed parts that
+//! they make, depending on the kind of the row.
 #![tactic(auto)]
 
 mod byte_records;

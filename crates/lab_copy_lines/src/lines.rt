@@ -24,10 +24,10 @@ use lab_forms_texts::{Keys, LabCodes, Names, Notes, PersonCodes, Units};
 use lab_seal::fields::own_copy;
 use std::alloc::Global;
 
-/// What a row stands for in a copy of the edition. `BadRow` where it stands for nothing.
+/// Returns what a row stands for in a copy of the edition. `BadRow` if it stands for nothing.
 ///
 /// # Errors
-/// The row is none that a copy can have, or memory ran out.
+/// No copy can have the row, or memory ran out.
 pub fn read_line(alloc: Global, edition: Edition, row: &ByteRecord) -> Result<Line, RowFault>
     ensures value { IsRead (line_at edition (fields_of row.now)) result }
     ensures reasoned { IfOk result IsReasoned }
@@ -38,7 +38,7 @@ pub fn read_line(alloc: Global, edition: Edition, row: &ByteRecord) -> Result<Li
     }
 }
 
-// What a row stands for, by its kind.
+// What a row stands for, depending on its kind.
 #[tactic(auto, unfolding(lab_copy_rows::specs::Reading::line_of))]
 fn line_by(alloc: Global, edition: Edition, row: &RowFields<'_>) -> Result<Line, RowFault>
     ensures value { IsRead (line_by edition (columns_in row.now)) result }
@@ -131,7 +131,7 @@ fn has_version(edition: Edition, parts: &VersionRowParts<'_>) -> bool
     }
 }
 
-// Whether the older rules know the format and the state.
+// Whether the older rules allow the format and the state.
 fn is_older(format: Format, state: State) -> bool
     ensures { result ≡ is_older format state }
 {

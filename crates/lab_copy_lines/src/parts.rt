@@ -1,5 +1,5 @@
-//! What rows stand for that are none of a version's, as far as it can be told without taking
-//! memory: each text is still that of the row.
+//! What copy, record and end rows stand for, as far as it can be read without taking memory: each
+//! text is still borrowed from the row.
 ghost use Rattle.std.specs.Prelude.{◌≡◌, IfSome, option_map};
 ghost use Rattle.lab_copy_rows.specs.Reading.{copy_line, record_line, end_line};
 ghost use Rattle.lab_copy_lines.specs.Fields.{columns_in};
@@ -9,7 +9,7 @@ use crate::{RowFields, fields};
 use lab_copy_rows::{Counts, Edition, Moment, Ordinal};
 use lab_forms_texts::{Keys, LabCodes, Names};
 
-/// What a copy row tells.
+/// What a copy row states.
 #[derive(Drop)]
 pub(crate) struct CopyParts<'a> {
     pub(crate) edition: Edition,
@@ -21,7 +21,7 @@ pub(crate) struct CopyParts<'a> {
     pub(crate) moment: Moment,
 }
 
-/// What a record row tells.
+/// What a record row states.
 #[derive(Drop)]
 pub(crate) struct RecordParts<'a> {
     pub(crate) lab: &'a str,
@@ -31,7 +31,7 @@ pub(crate) struct RecordParts<'a> {
     pub(crate) sample: &'a str,
 }
 
-/// What an end row tells.
+/// What an end row states.
 #[derive(Drop)]
 pub(crate) struct EndParts<'a> {
     pub(crate) lab: &'a str,

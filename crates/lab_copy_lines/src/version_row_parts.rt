@@ -1,5 +1,5 @@
-//! What the rows of a version stand for, as far as it can be told without taking memory: each text
-//! is still that of the row.
+//! What the rows of a version stand for, as far as it can be read without taking memory: each text
+//! is still borrowed from the row.
 ghost use Rattle.std.specs.Prelude.{◌≡◌, IfSome, option_map};
 ghost use Rattle.lab_copy_rows.specs.Reading.{version_line, entry_line, signature_line};
 ghost use Rattle.lab_copy_lines.specs.Fields.{columns_in};
@@ -10,7 +10,7 @@ use crate::{RowFields, fields};
 use lab_copy_rows::{Digest, Format, Moment, Ordinal, Seal, State};
 use lab_forms_texts::{Keys, LabCodes, Names, Notes, PersonCodes, Units};
 
-/// What a version row tells.
+/// What a version row states.
 #[derive(Drop)]
 pub struct VersionRowParts<'a> {
     pub lab: &'a str,
@@ -24,7 +24,7 @@ pub struct VersionRowParts<'a> {
     pub digest: Digest,
 }
 
-/// What an entry row tells.
+/// What an entry row states.
 #[derive(Drop)]
 pub struct EntryParts<'a> {
     pub lab: &'a str,
@@ -38,7 +38,7 @@ pub struct EntryParts<'a> {
     pub reason: Option<&'a str>,
 }
 
-/// What a signature row tells.
+/// What a signature row states.
 #[derive(Drop)]
 pub struct SignatureParts<'a> {
     pub lab: &'a str,
@@ -52,7 +52,7 @@ pub struct SignatureParts<'a> {
     pub seal: Seal,
 }
 
-/// What a version row stands for.
+/// Reads what a version row stands for.
 #[tactic(auto, unfolding(lab_copy_rows::specs::Reading::version_line))]
 pub fn version_parts<'a>(row: &RowFields<'a>) -> Option<VersionRowParts<'a>>
     ensures value { option_map version_of result ≡ version_line (columns_in row.now) }
@@ -93,7 +93,7 @@ pub fn version_parts<'a>(row: &RowFields<'a>) -> Option<VersionRowParts<'a>>
     })
 }
 
-/// What an entry row stands for.
+/// Reads what an entry row stands for.
 #[tactic(auto, unfolding(lab_copy_rows::specs::Reading::entry_line))]
 pub fn entry_parts<'a>(row: &RowFields<'a>) -> Option<EntryParts<'a>>
     ensures value { option_map entry_of result ≡ entry_line (columns_in row.now) }
@@ -134,7 +134,7 @@ pub fn entry_parts<'a>(row: &RowFields<'a>) -> Option<EntryParts<'a>>
     })
 }
 
-/// What a signature row stands for.
+/// Reads what a signature row stands for.
 #[tactic(auto, unfolding(lab_copy_rows::specs::Reading::signature_line))]
 pub fn signature_parts<'a>(row: &RowFields<'a>) -> Option<SignatureParts<'a>>
     ensures value { option_map signature_of result ≡ signature_line (columns_in row.now) }

@@ -1,4 +1,4 @@
-//! Why a copy didn't go out whole.
+//! Why a copy wasn't written whole.
 
 use lab_forms_texts::Fault;
 
@@ -6,6 +6,6 @@ use lab_forms_texts::Fault;
 #[derive(Clone, Copy, Debug, PartialEq, Eq)]
 pub struct WriteFailure;
 
-/// Why a copy didn't go out whole: the writer failed, or there was no memory for the bytes of a row. The front of its text
-/// went out.
+/// Why a copy wasn't written whole: the writer failed, or there was no memory for the bytes of a
+/// row. The beginning of its text was written.
 pub type CopyOutFault = Fault<WriteFailure>;

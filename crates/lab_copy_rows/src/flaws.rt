@@ -1,23 +1,24 @@
-//! Flaws: what a check of a copy can find. Each has a number and a word, by which the interface tells it.
+//! Flaws: what a check of a copy can find. Each flaw has a number and a word, which the interface
+//! shows.
 ghost use Rattle.std.specs.Prelude.{◌≡◌};
 ghost use Rattle.lab_copy_rows.specs.Flaws.{flaw_entry, flaw_row};
 
-/// What is wrong with a copy. Rows are counted from 1, the header's, as a reader of CSV counts them: empty lines are no rows, and
-/// a line feed between quotes ends none.
+/// What is wrong with a copy. Row 1 is the header. Rows are counted as a reader of CSV counts them:
+/// an empty line isn't a row, and a line feed between quotes doesn't end a row.
 #[derive(Clone, Copy, Debug, PartialEq, Eq)]
 pub enum Flaw {
-    /// The row is none that a copy can have, wherever it stands.
+    /// No copy can have the row, at any place.
     BadRow(u64),
-    /// The digest in the row is not that of the version.
+    /// The digest in the row isn't that of the version.
     Digest(u64),
-    /// The seal in the row is not that of the signature.
+    /// The seal in the row isn't that of the signature.
     Seal(u64),
-    /// The row does not follow those before it.
+    /// The row can't follow the rows before it.
     Order(u64),
-    /// The copy ends before its end row.
+    /// The copy ends without its end row.
     NoEnd,
-    /// The signatures of the version that begins in the row are not those of its state, or their persons are not different ones, as
-    /// they have to be.
+    /// The signatures of the version that begins in the row don't make its state, or their persons
+    /// aren't different persons, as they must be.
     OnePerson(u64),
 }
 
@@ -36,21 +37,21 @@ impl Flaw {
         }
     }
 
-    /// The flaw's number.
+    /// The number of the flaw.
     pub fn number(&self) -> u32
         ensures { result ≡ (flaw_entry self.now).number }
     {
         self.entry().0
     }
 
-    /// The flaw's word.
+    /// The word of the flaw.
     pub fn word(&self) -> &'static str
         ensures { result.now ≡ (flaw_entry self.now).word }
     {
         self.entry().1
     }
 
-    /// The row at which the flaw is told; none where the end is missing.
+    /// The row that the flaw names; `None` if the end row is missing.
     pub fn row(&self) -> Option<u64>
         ensures { result ≡ flaw_row self.now }
     {

@@ -1,5 +1,5 @@
-//! The rows of inspection copies: what each kind of row tells, when a copy is sound, and how rows go
-//! out as CSV (RFC 4180).
+//! The rows of inspection copies: what each kind of row states, when a copy is sound, and how rows
+//! are written as CSV (RFC 4180).
 #![tactic(auto)]
 
 mod faults;

@@ -1,4 +1,4 @@
-//! Lines: what the rows of a copy tell, each kind of row with its parts.
+//! Lines: what the rows of a copy state. Each kind of row has its own parts.
 ghost use Rattle.std.specs.Prelude.{◌≡◌};
 ghost use Rattle.lab_copy_rows.specs.Rows.{edition_key};
 
@@ -7,17 +7,17 @@ use lab_seal_versions::{
     SealParts, State,
 };
 
-/// Which rules a copy follows; its second row says so by its key.
+/// The rules that a copy follows. The key in its second row names them.
 #[derive(Clone, Copy, Debug, PartialEq, Eq)]
 pub enum Edition {
-    /// The older rules, which know no approval.
+    /// The older rules, which don't have approvals.
     One,
-    /// The rules of copies that are made now.
+    /// The rules of new copies.
     Two,
 }
 
 impl Edition {
-    /// The key of the copy row.
+    /// The key in the copy row.
     pub fn key(&self) -> &'static str
         ensures { result.now ≡ edition_key self.now }
     {
@@ -28,7 +28,7 @@ impl Edition {
     }
 }
 
-/// What the copy row tells: of which records the copy is, and who asked for it.
+/// What the copy row states: which records were asked for, and who asked.
 #[derive(Drop)]
 pub struct CopyLine {
     /// The rules that the copy follows.
@@ -39,7 +39,7 @@ pub struct CopyLine {
     pub from: Ordinal,
     /// The number of the last record that was asked for.
     pub to: Ordinal,
-    /// Who asked; nobody where the copy was made at the desk's machine.
+    /// Who asked for the copy; `None` if the copy was made on the machine of the desk.
     pub person: Option<PersonCode>,
     /// The laboratory's name.
     pub name: Name,
@@ -47,7 +47,7 @@ pub struct CopyLine {
     pub moment: Moment,
 }
 
-/// What a record row tells.
+/// What a record row states.
 #[derive(Drop)]
 pub struct RecordLine {
     /// The laboratory.
@@ -56,13 +56,13 @@ pub struct RecordLine {
     pub record_number: Ordinal,
     /// The version of the form.
     pub form_version: Ordinal,
-    /// The form that the record is filled in by.
+    /// The key of the form with which the record is filled in.
     pub form: Key,
     /// The sample that the record is about.
     pub sample: Name,
 }
 
-/// What a version row tells.
+/// What a version row states.
 #[derive(Drop)]
 pub struct VersionLine {
     /// The laboratory.
@@ -77,15 +77,15 @@ pub struct VersionLine {
     pub state: State,
     /// Who opened the version.
     pub opener: PersonCode,
-    /// When it was opened.
+    /// When the version was opened.
     pub opened: Moment,
-    /// Why there is another version; the first one has no reason.
+    /// Why there is another version. The first version has no reason.
     pub reason: Option<Note>,
     /// The digest of the version's text.
     pub digest: Digest,
 }
 
-/// What an entry row tells.
+/// What an entry row states.
 #[derive(Drop)]
 pub struct EntryLine {
     /// The laboratory.
@@ -94,49 +94,49 @@ pub struct EntryLine {
     pub record_number: Ordinal,
     /// The version's number.
     pub version: Ordinal,
-    /// What was entered, by whom, when and why.
+    /// What was entered, who entered it, when and why.
     pub row: EntryRow,
 }
 
-/// What a signature row tells.
+/// What a signature row states.
 #[derive(Drop)]
 pub struct SignatureLine {
     /// The record's number.
     pub record_number: Ordinal,
     /// The version's number.
     pub version: Ordinal,
-    /// What was signed, by whom, as what, when and why; the laboratory is among these parts.
+    /// What was signed, who signed, as what, when and why. The laboratory is one of these parts.
     pub parts: SealParts,
     /// The seal.
     pub seal: Seal,
 }
 
-/// How many rows of each kind a copy has.
+/// The number of rows of each kind in a copy.
 #[derive(Clone, Copy, Debug, PartialEq, Eq)]
 pub struct Counts {
-    /// The record rows.
+    /// The number of record rows.
     pub records: u64,
-    /// The version rows.
+    /// The number of version rows.
     pub versions: u64,
-    /// The entry rows.
+    /// The number of entry rows.
     pub entries: u64,
-    /// The signature rows.
+    /// The number of signature rows.
     pub signatures: u64,
 }
 
-/// What the end row tells.
+/// What the end row states.
 #[derive(Drop)]
 pub struct EndLine {
     /// The laboratory.
     pub lab: LabCode,
-    /// How many rows the copy has.
+    /// The number of rows of each kind in the copy.
     pub counts: Counts,
 }
 
-/// What a row tells that is not the header.
+/// What a row states, if it isn't the header.
 #[derive(Drop)]
 pub enum Line {
-    /// Of which records the copy is.
+    /// The copy row: which records were asked for.
     Copy(CopyLine),
     /// A record begins.
     Record(RecordLine),

@@ -1,4 +1,4 @@
-//! A copy on its way out: its text is made row by row, and sent.
+//! A copy that is being written: its text is made row by row, and sent.
 ghost use Rattle.std.specs.Prelude.{◌≡◌, ◌<◌, ◌≤◌, [], None, Some, Ok, Err, OnOk, IfOk, IfErr, IfSome};
 ghost use Rattle.std.specs.Io.KnownBytes.{Keeps};
 ghost use Rattle.lab_copy_rows.specs.Csv.{csv_row, csv_text};
@@ -10,10 +10,12 @@ use crate::{CopyLine, CopyOutFault, CopyRow, Counts, EndLine, LabCode};
 use std::alloc::Global;
 use std::io::Write;
 
-/// How many rows are made into bytes before these go out, by one write where the writer takes all.
+/// The number of rows that are made into bytes before they are sent, in one write if the writer
+/// takes all bytes.
 const ROWS_AT_ONCE: usize = 32;
 
-/// Writes rows as CSV (RFC 4180), each ended by a line feed. The first write that fails or takes no byte is the fault.
+/// Writes rows as CSV (RFC 4180), with a line feed after each. Stops at the first write that fails
+/// or takes no byte.
 ///
 /// # Errors
 /// The writer failed, or memory ran out.
@@ -35,7 +37,7 @@ pub fn write_copy<W: Write>(
     Ok(())
 }
 
-// Where the next rows end that go out together.
+// Where the rows end that are sent together next.
 fn next_stop(sent: usize, len: usize) -> usize
     requires { sent < len }
     ensures further { sent < result }
@@ -55,8 +57,8 @@ const NO_ROWS: Counts = Counts {
     signatures: 0,
 };
 
-/// A copy on its way out. Each call is given the writer that the first one was given. After a fault every further call answers that
-/// fault, and writes nothing.
+/// A copy that is being written. Each call must get the writer that the first call got. After a
+/// fault, every further call returns that fault and writes nothing.
 #[derive(Debug)]
 pub struct CopyOut {
     lab: LabCode,
@@ -102,7 +104,7 @@ impl CopyOut {
         })
     }
 
-    /// Writes rows.
+    /// Writes rows, and counts them.
     ///
     /// # Errors
     /// The writer failed, or memory ran out.
@@ -132,7 +134,7 @@ impl CopyOut {
         Ok(())
     }
 
-    /// Writes the end row, and answers how many rows of each kind were given.
+    /// Writes the end row, and returns the number of rows of each kind that were written.
     ///
     /// # Errors
     /// The writer failed, or memory ran out.
@@ -154,7 +156,7 @@ impl CopyOut {
         Ok(counts)
     }
 
-    // Counts rows that went out.
+    // Counts rows that were written.
     fn count_all(&mut self, rows: &[CopyRow])
         ensures { self.new ≡ record self.old { counts = counted_all self.old.counts rows.now } }
     {
@@ -163,7 +165,7 @@ impl CopyOut {
         }
     }
 
-    // Counts a row that went out.
+    // Counts a row that was written.
     fn count(&mut self, row: &CopyRow)
         ensures { self.new ≡ record self.old { counts = counted self.old.counts row.now } }
     {

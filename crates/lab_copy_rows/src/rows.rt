@@ -1,4 +1,4 @@
-//! Rows of a copy, one maker for each kind.
+//! Rows of a copy. Each kind of row has a function that makes it.
 ghost use Rattle.std.specs.Prelude.{◌≡◌, IfOk, map, string_bytes};
 ghost use Rattle.lab_copy_rows.specs.Rows.{fields_in, kind_in, header_row, copy_row, record_row, version_row, entry_row, signature_row, end_row};
 
@@ -12,7 +12,7 @@ use lab_seal_versions::OutOfMemory;
 use std::alloc::Global;
 use std::marker::Model;
 
-/// A row of a copy: thirteen fields, each a text.
+/// A row of a copy: thirteen fields. Each field is a text.
 ///
 /// A contract sees it as the list of its fields.
 #[derive(Debug)]
@@ -36,7 +36,8 @@ impl Model for CopyRow {
 }
 
 impl CopyRow {
-    /// The header: the names of the columns. The only error of a maker is out of memory.
+    /// Makes the header: the names of the columns. Each function that makes a row fails only if
+    /// memory runs out.
     ///
     /// # Errors
     /// Memory ran out.
@@ -52,7 +53,8 @@ impl CopyRow {
         )
     }
 
-    /// The row after the header: of which records the copy is, who asked for it, and when it was made.
+    /// Makes the row after the header: which records were asked for, who asked, and when the copy
+    /// was made.
     ///
     /// # Errors
     /// Memory ran out.
@@ -81,7 +83,7 @@ impl CopyRow {
         )
     }
 
-    /// The row with which a record begins.
+    /// Makes the row with which a record begins.
     ///
     /// # Errors
     /// Memory ran out.
@@ -109,7 +111,7 @@ impl CopyRow {
         )
     }
 
-    /// The row with which a version begins.
+    /// Makes the row with which a version begins.
     ///
     /// # Errors
     /// Memory ran out.
@@ -139,7 +141,7 @@ impl CopyRow {
         )
     }
 
-    /// The row of a value that was entered.
+    /// Makes the row of a value that was entered.
     ///
     /// # Errors
     /// Memory ran out.
@@ -168,7 +170,7 @@ impl CopyRow {
         )
     }
 
-    /// The row of a signature.
+    /// Makes the row of a signature.
     ///
     /// # Errors
     /// Memory ran out.
@@ -199,7 +201,7 @@ impl CopyRow {
         )
     }
 
-    /// The last row: how many rows of each kind there are.
+    /// Makes the last row: the number of rows of each kind.
     ///
     /// # Errors
     /// Memory ran out.
@@ -245,7 +247,8 @@ impl CopyRow {
         self.fields.as_slice()
     }
 
-    /// The kind of the row: `kind` of the header, `copy`, `record`, `version`, `entry`, `signature` or `end`.
+    /// The kind of the row: `kind` for the header, else `copy`, `record`, `version`, `entry`,
+    /// `signature` or `end`.
     pub fn kind(&self) -> &str
         ensures { result.now ≡ kind_in self.now }
     {

@@ -1,4 +1,4 @@
-//! Sending rows: they are made into bytes in memory, by one writer of CSV, and every byte goes out.
+//! How rows are sent: one CSV writer makes them into bytes in memory, and then every byte is sent.
 ghost use Rattle.std.specs.Prelude.{◌≡◌, ◌≤◌, ◌++◌, ℕ, List, [], IfOk, OnOk, length, take};
 ghost use Rattle.std.specs.Io.KnownBytes.{Appends};
 ghost use Rattle.csv.specs.Records.{fields_of};
@@ -10,7 +10,7 @@ use csv::{StringRecord, Writer, WriterBuilder};
 use std::alloc::Global;
 use std::io::Write;
 
-/// Writes rows as CSV, once the text of all is in memory.
+/// Writes rows as CSV, after the text of all these rows is in memory.
 ///
 /// # Errors
 /// The writer failed, or memory ran out.
@@ -31,7 +31,7 @@ pub(crate) fn send_rows<W: Write>(
     Ok(())
 }
 
-// The text of rows. The writer writes to memory, so its only error is out of memory.
+// The text of rows. The CSV writer writes to memory, so it fails only if memory runs out.
 fn rows_bytes(alloc: Global, rows: &[CopyRow]) -> Result<Vec<u8>, OutOfMemory>
     ensures { IfOk result (λ bytes. bytes.items ≡ csv_text rows.now) }
 {
@@ -43,7 +43,7 @@ fn rows_bytes(alloc: Global, rows: &[CopyRow]) -> Result<Vec<u8>, OutOfMemory>
     }
 }
 
-// Has a writer that wrote nothing write rows.
+// Writes rows with a CSV writer that has written nothing.
 fn put_rows<W: Write + Drop>(
     alloc: Global,
     writer: &mut Writer<W>,
@@ -59,7 +59,7 @@ fn put_rows<W: Write + Drop>(
     Ok(())
 }
 
-// Has the writer write a row behind those before it.
+// Writes a row with the CSV writer, after the rows before it.
 fn put_row<W: Write + Drop>(
     writer: &mut Writer<W>,
     fields: &mut StringRecord,
@@ -75,7 +75,8 @@ fn put_row<W: Write + Drop>(
     Ok(())
 }
 
-// The fields of a row, as the writer takes them, in the place of those before.
+// Puts the fields of a row into the record for the CSV writer, in place of the fields of the row
+// before.
 fn take_fields(made: &mut StringRecord, row: &CopyRow) -> Result<(), OutOfMemory>
     ensures { OnOk result (fields_of made.new ≡ row.now) }
 {
@@ -86,7 +87,7 @@ fn take_fields(made: &mut StringRecord, row: &CopyRow) -> Result<(), OutOfMemory
     Ok(())
 }
 
-// Writes the bytes until a write fails or takes none, and answers how many went out.
+// Writes the bytes until a write fails or takes no byte, and returns how many were written.
 fn send<W: Write>(writer: &mut W, bytes: &[u8]) -> usize
     ensures within { result ≤ length bytes.now }
     ensures sent { Appends (W.contents writer.old) (W.contents writer.new) (take result bytes.now) }

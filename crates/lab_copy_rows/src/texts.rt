@@ -1,4 +1,5 @@
-//! What the fields of a row say of formats, moments, digests, and of what may be left out.
+//! The texts in the fields of a row: of formats, moments and digests, and of values that may be
+//! missing.
 ghost use Rattle.std.specs.Prelude.{◌≡◌, IsUtf8};
 ghost use Rattle.lab_forms_texts.specs.Moment.{moment_text};
 ghost use Rattle.lab_copy_rows.specs.Rows.{approval_name, edition_key, format_key, optional_text};
@@ -9,7 +10,8 @@ use crate::Edition;
 use lab_forms_texts::{Rule, Text};
 use lab_seal_versions::{Format, Meaning, Moment, State};
 
-// Words are borrowed from what they tell of, since the texts of a row live alike.
+// Each word is borrowed from the value that it describes, since all texts of a row have one
+// lifetime.
 
 /// The key of an edition.
 pub(crate) fn edition_text(edition: &Edition) -> &str
@@ -28,7 +30,7 @@ pub(crate) fn format_key(format: &Format) -> &str
     }
 }
 
-/// Whether the form wants an approval.
+/// Whether the form wants an approval, as a text.
 pub(crate) fn approval_name(format: &Format) -> &str
     ensures { result.now ≡ approval_name format.now }
 {
@@ -52,7 +54,7 @@ pub(crate) fn meaning_text(meaning: &Meaning) -> &str
     meaning.word()
 }
 
-/// A text, or nothing.
+/// A text, or an empty one if there is none.
 pub(crate) fn optional_text<R: Rule>(text: &Option<Text<R>>) -> &str
     ensures { result.now ≡ optional_text text.now }
 {
@@ -62,7 +64,7 @@ pub(crate) fn optional_text<R: Rule>(text: &Option<Text<R>>) -> &str
     }
 }
 
-/// A moment as it is printed.
+/// The text of a moment.
 pub(crate) fn moment_text(moment: Moment, printed: &mut [u8; 20]) -> &str
     ensures { result.now ≡ moment_text moment }
 {

@@ -1,11 +1,11 @@
-//! The dates that values write.
+//! Dates in values.
 ghost use Rattle.std.specs.Prelude.{◌≡◌, ◌<◌};
 ghost use Rattle.lab_forms.specs.Dates.{has_hyphens, is_calendar_day, is_date};
 
 use crate::numbers::read_digits;
 use jiff_core::civil::Date;
 
-/// The bytes of a date's text, `YYYY-MM-DD`.
+/// The length of a date's text, `YYYY-MM-DD`, in bytes.
 const DATE_LEN: usize = 10;
 
 fn has_date_hyphens(text: &[u8]) -> bool
@@ -23,7 +23,8 @@ fn is_gregorian(year: u64, month: u64, day: u64) -> bool
     year >= 1 && Date::new(year as i16, month as i8, day as i8).is_ok()
 }
 
-/// Whether a text is `YYYY-MM-DD`, of a day that the Gregorian calendar has in a year from 1 to 9999.
+/// Whether a text is `YYYY-MM-DD`, and the Gregorian calendar has that day, in a year from 1 to
+/// 9999.
 pub fn is_date_text(text: &[u8]) -> bool
     ensures { result ≡ is_date text.now }
 {

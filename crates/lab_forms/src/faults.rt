@@ -1,4 +1,5 @@
-//! Why a form was not made, or a value not read. Each refusal has a number and a word, by which the interface tells it.
+//! Why a form was not made, or a value was not read. Each refusal has a number and a word, which
+//! the interface shows.
 use lab_forms_texts::{Fault, RefusalKind};
 use std::fmt;
 use thiserror::Error;
@@ -6,19 +7,19 @@ use thiserror::Error;
 /// What is wrong with the fields of a form, or with a value.
 #[derive(Clone, Copy, Debug, PartialEq, Eq, Error)]
 pub enum FormRefusal {
-    /// A form without fields.
+    /// The form has no fields.
     NoFields,
-    /// Two fields of a form have one key.
+    /// Two fields of the form have the same key.
     KeyTwice,
-    /// A form of more fields than it may have.
+    /// The form has too many fields.
     TooManyFields,
-    /// A field that no form may have: its decimals, its bounds, its size or its choices.
+    /// No form may have the field: its decimals, its bounds, its size or its choices are wrong.
     BadField,
     /// The form has no field of that key.
     NoSuchField,
-    /// The text is none that a value of the field can have.
+    /// No value of the field can have the text.
     BadValue,
-    /// The unit is not that of the field.
+    /// The unit isn't that of the field.
     WrongUnit,
     /// The amount is below the field's least or above its greatest.
     OutOfRange,

@@ -20,13 +20,13 @@ const FIELDS_LIMIT: usize = 60;
 /// A field of a form.
 #[derive(Debug)]
 pub struct Field {
-    /// By what it is known in its form.
+    /// The key of the field in its form.
     pub key: Key,
-    /// What people read beside it.
+    /// The label that people read beside the field.
     pub label: Name,
-    /// Whether a record has to have a value of it before it is signed.
+    /// Whether a record must have a value of the field before the record is signed.
     pub required: bool,
-    /// What it takes.
+    /// What the field takes as a value.
     pub kind: Kind,
 }
 
@@ -103,10 +103,10 @@ impl Worded for Field {
     }
 }
 
-/// A form: one field or more within the limit, no two of one key, and whether what it records wants a third person's
-/// approval before it is released.
+/// A form: one field or more within the limit, each with a key of its own, and whether a third
+/// person has to approve what it records before the release.
 ///
-/// A contract sees it as a sheet of the list of its fields and of that wish.
+/// A contract sees it as a sheet: the list of its fields, and whether an approval is wanted.
 #[derive(Debug)]
 pub struct Form {
     fields: Vec<Field>,
@@ -135,11 +135,11 @@ impl Model for Form {
 }
 
 impl Form {
-    /// Makes a form of these fields. The first thing that is wrong is told: `NoFields`, `KeyTwice`, `TooManyFields`,
-    /// `BadField`.
+    /// Makes a form of these fields. Refuses for the first of these that holds: `NoFields`,
+    /// `KeyTwice`, `TooManyFields`, `BadField`.
     ///
     /// # Errors
-    /// Why the fields make no form.
+    /// The reason why the fields don't make a form.
     #[tactic(auto, unfolding(crate::specs::Forms::is_form, crate::specs::Forms::form_refusal))]
     pub fn make(fields: Vec<Field>, approval: bool) -> Result<Form, FormRefusal>
         ensures made { result ≡ form_made fields.items approval }
@@ -168,18 +168,18 @@ impl Form {
         self.fields.as_slice()
     }
 
-    /// Whether what the form records wants a third person's approval before it is released.
+    /// Whether a third person has to approve what the form records before the release.
     pub fn approval(&self) -> bool
         ensures { result ≡ self.now.approval }
     {
         self.approval
     }
 
-    /// Reads a text as the value of a field. The first that is wrong is told: `NoSuchField`, `BadValue`, `WrongUnit`,
-    /// `OutOfRange`.
+    /// Reads a text as the value of a field. Refuses for the first of these that holds:
+    /// `NoSuchField`, `BadValue`, `WrongUnit`, `OutOfRange`.
     ///
     /// # Errors
-    /// The value's refusal, or memory ran out.
+    /// The refusal of the value, or memory ran out.
     pub fn read_value(
         &self,
         alloc: Global,
@@ -199,7 +199,7 @@ impl Form {
         read_as(&field.kind, alloc, text, unit)
     }
 
-    // The field of a key, whose kind is one that a form may ask for.
+    // The field with the key. A form may ask for its kind.
     fn field(&self, key: &Key) -> Option<&Field>
         ensures value { option_copied result ≡ field_of self.now.fields key.now }
         ensures kind { IfSome result (λ field. IsTrue (is_kind field.now.kind)) }

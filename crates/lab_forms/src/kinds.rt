@@ -11,17 +11,17 @@ use lab_forms_texts::{Name, Notes, OutOfMemory, Rule, Unit, Writing};
 use std::alloc::AllocError;
 use std::marker::Model;
 
-/// The most bytes of a text.
+/// The most bytes of a text value.
 const SIZE_LIMIT: u32 = 1000;
 
 /// The most choices of a field.
 const CHOICES_LIMIT: usize = 20;
 
-/// The least or the greatest amount of a number, as it is written. Any text may stand here: whether it is a number is
-/// tested where a form is made.
+/// The least or the greatest amount of a number, as it is written. A bound can be any text: whether
+/// it is a number is tested when a form is made.
 pub type Bound = Writing;
 
-/// The names among which a value is chosen, in their order.
+/// The names from which a value is chosen, in their order.
 ///
 /// A contract sees them as the list of the names.
 #[derive(Debug)]
@@ -45,7 +45,7 @@ impl Model for Choices {
 }
 
 impl Choices {
-    /// The choices that the list has.
+    /// Makes choices of a list of names.
     pub fn new(names: Vec<Name>) -> Choices
         ensures { result ≡ names.items }
     {
@@ -106,14 +106,15 @@ impl Worded for Name {
 /// What a field takes as a value.
 #[derive(Debug)]
 pub enum Kind {
-    /// A number of at most so many decimals, 0 to 6, in the unit, from the least to the greatest where they are there.
+    /// A number with at most `decimals` decimals, 0 to 6, in the unit, not below the least and not
+    /// above the greatest, if these are there.
     Number {
         unit: Unit,
         decimals: u32,
         min: Option<Bound>,
         max: Option<Bound>,
     },
-    /// A note of at most so many bytes, 1 to 1,000.
+    /// A note of at most this many bytes, 1 to 1,000.
     Text {
         size: u32,
     },
@@ -209,7 +210,7 @@ impl Kind {
         }
     }
 
-    /// Whether a text is one that a value of this kind can have.
+    /// Whether a value of this kind can have the text.
     pub(crate) fn takes(&self, text: &str) -> bool
         requires { IsTrue (is_kind self.now) }
         ensures { result ≡ is_value self.now text.now }
@@ -217,7 +218,7 @@ impl Kind {
         Notes::admits(text) && self.has_form(text)
     }
 
-    // Whether a text has the form of a value of this kind.
+    // Whether the text has the form of a value of this kind.
     fn has_form(&self, text: &str) -> bool
         requires { IsTrue (is_kind self.now) }
         ensures { result ≡ has_form self.now text.now }
@@ -233,7 +234,7 @@ impl Kind {
         }
     }
 
-    /// The unit of the values.
+    /// The unit of the values of this kind.
     pub(crate) fn unit(&self) -> &str
         ensures { result.now ≡ unit_of self.now }
     {

@@ -1,4 +1,4 @@
-//! The numbers that values and bounds write.
+//! The numbers in values and bounds.
 ghost use Rattle.std.specs.Prelude.{length, ◌≡◌, ◌≤◌, ◌<◌, ◌^◌, ℕ, Some, None, if◌then◌else◌, IfSome, position};
 ghost use Rattle.lab_forms.specs.Numbers.{is_point, is_digits, number_of, is_unsigned_number, millionths_of, without_sign, amount_read, without_comparison};
 
@@ -10,7 +10,7 @@ pub const DECIMALS_LIMIT: u32 = 6;
 
 const MILLION: u128 = 1_000_000;
 
-/// The number that 1 to `most` decimal digits write.
+/// Returns the number that a text writes with 1 to `most` decimal digits.
 #[tactic(auto, unfolding(crate::specs::Numbers::is_digits, crate::specs::Numbers::number_of))]
 pub fn read_digits(most: usize, text: &[u8]) -> Option<u64>
     requires { most ≤ 15 }
@@ -37,7 +37,7 @@ fn point_of(text: &[u8]) -> Option<usize>
     text.iter().position(|byte| *byte == b'.')
 }
 
-// How many millionths a number without a sign is.
+// The number of millionths that a text without a sign writes.
 fn read_unsigned(decimals: u32, text: &[u8]) -> Option<u128>
     requires { decimals ≤ 6 }
     ensures value { result ≡ (if is_unsigned_number decimals text.now
@@ -65,7 +65,8 @@ fn text_without_sign(text: &[u8]) -> &[u8]
     }
 }
 
-/// The amount in millionths that a text writes, if it is a number of at most so many decimals.
+/// Returns the amount in millionths that a text writes, if the text is a number of at most
+/// `decimals` decimals.
 #[tactic(auto, unfolding(crate::specs::Numbers::is_number, crate::specs::Numbers::amount))]
 pub fn read_amount(decimals: u32, text: &[u8]) -> Option<i128>
     requires { decimals ≤ 6 }
@@ -79,7 +80,7 @@ pub fn read_amount(decimals: u32, text: &[u8]) -> Option<i128>
     }
 }
 
-/// The text behind its `<` or `>`, if it has one.
+/// Returns the text after its `<` or `>`, or the whole text if it begins with neither.
 #[tactic(auto, unfolding(crate::specs::Numbers::without_comparison))]
 pub fn text_without_comparison(text: &[u8]) -> &[u8]
     ensures { result.now ≡ without_comparison text.now }

@@ -7,7 +7,7 @@ use lab_forms_texts::{Note, OutOfMemory};
 use std::alloc::AllocError;
 use std::marker::Model;
 
-/// A value that a form has read, as it was written: `7.5` and `7.50` are two values.
+/// A value that a form has read, as it was written: `7.5` and `7.50` are two different values.
 ///
 /// A contract sees it as the list of its text's bytes.
 #[derive(Debug)]
@@ -31,21 +31,21 @@ impl Model for Value {
 }
 
 impl Value {
-    /// A value of this text, which its form has read.
+    /// Makes a value of this text, which its form has read.
     pub(crate) fn of_note(text: Note) -> Value
         ensures { result ≡ text }
     {
         Value { text }
     }
 
-    /// The text as it was written.
+    /// Returns the text as it was written.
     pub fn print(&self) -> &str
         ensures { result.now ≡ self.now }
     {
         self.text.as_str()
     }
 
-    /// Gives the text up, as the note that it is.
+    /// Returns the text as the note that it is.
     pub fn into_note(self) -> Note
         ensures { result ≡ self }
     {

@@ -1,4 +1,4 @@
-//! What is asked for bytes, and how often.
+//! Sources of bytes, and how often they are asked.
 #![tactic(auto)]
 
 mod sources;

@@ -1,4 +1,4 @@
-//! What is asked for bytes: every reader, and whatever counts how often it was asked.
+//! Sources of bytes: every reader, and every type that counts how often it was asked.
 ghost use Rattle.std.specs.Prelude.{ℕ, ◌+◌, ◌≤◌, List, Option, None};
 ghost use Rattle.std.specs.Io.{ReadsAtMost};
 ghost use Rattle.std.specs.Io.KnownBytes.{ReadConsumes};
@@ -6,14 +6,14 @@ ghost use Rattle.std.specs.Io.KnownBytes.{ReadConsumes};
 use std::io;
 use std::io::Read;
 
-/// What is asked for bytes. A function that is proved for each source is proved for one that counts
-/// its asks, so a clause on `asks` bounds how often the function asks.
+/// A source that can be asked for bytes. A function that is proved for every source is also proved
+/// for one that counts its asks, so a clause on `asks` bounds how often the function asks.
 pub trait ByteSource {
-    // The bytes that asks will give from here on, where they are known.
+    // The bytes that the asks from here on will return, if they are known.
     ghost remaining: { Self → Option (List ℕ) } = { λ _. None };
 
-    // How often it was asked: a count that no ask raises by more than one. By default nothing is
-    // counted.
+    // How often the source was asked. No ask raises this count by more than one. By default nothing
+    // is counted.
     ghost asks: { Self → ℕ } = { λ _. 0 };
 
     /// Asks for bytes, as `Read::read` does.

@@ -1,4 +1,5 @@
-//! Why a name or a moment was not made. Each fault has a number and a word, by which the interface tells it.
+//! Why a name or a moment was not made. Each fault has a number and a word, which the interface
+//! shows.
 ghost use Rattle.std.specs.Prelude.{◌≡◌, Some};
 
 use crate::{Fault, RefusalKind};
@@ -20,14 +21,14 @@ impl OutOfMemory {
         (90, "memory")
     }
 
-    /// The fault's number.
+    /// The number of the fault.
     pub fn number(&self) -> Option<u32>
         ensures { result ≡ Some memory_entry.number }
     {
         Some(self.entry().0)
     }
 
-    /// The fault's word.
+    /// The word of the fault.
     pub fn word(&self) -> &'static str
         ensures { result.now ≡ memory_entry.word }
     {
@@ -62,7 +63,7 @@ impl<T: Drop> From<AllocFailed<T>> for OutOfMemory {
     }
 }
 
-/// The text is none that the name's rule admits.
+/// The rule of the name doesn't admit the text.
 #[derive(Clone, Copy, Debug, PartialEq, Eq)]
 pub struct BadName;
 
@@ -76,13 +77,14 @@ impl RefusalKind for BadName {
     }
 }
 
-/// Why a text was not made a name. Want of memory is the answer only where the name's rule admits the text.
+/// Why a text was not made a name. Memory is the fault only if the rule of the name admits the
+/// text.
 pub type NameFault = Fault<BadName>;
 
 /// Why a number or a text was not made a moment.
 #[derive(Clone, Copy, Debug, PartialEq, Eq, Error)]
 pub enum MomentFault {
-    /// The number or the text is that of no moment.
+    /// No moment has the number or the text.
     BadMoment,
 }
 
@@ -98,14 +100,14 @@ impl MomentFault {
         }
     }
 
-    /// The fault's number.
+    /// The number of the fault.
     pub fn number(&self) -> Option<u32>
         ensures { result ≡ Some (moment_fault_entry self.now).number }
     {
         Some(self.entry().0)
     }
 
-    /// The fault's word.
+    /// The word of the fault.
     pub fn word(&self) -> &'static str
         ensures { result.now ≡ (moment_fault_entry self.now).word }
     {

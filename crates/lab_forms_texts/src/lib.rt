@@ -1,4 +1,5 @@
-//! The names, moments and ticks that every other part of the system speaks of, read exactly from their texts.
+//! The names, moments and ticks that every other part of the system uses, and how they are read
+//! from their texts.
 #![tactic(auto)]
 
 mod faults;

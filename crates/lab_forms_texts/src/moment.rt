@@ -1,4 +1,4 @@
-//! Moments, and the one text that each has.
+//! Moments, each with exactly one text.
 ghost use Rattle.std.specs.Prelude.{◌≡◌, ◌≢◌, ℕ, ◌+◌, ◌<◌, ◌≤◌, pos, length, IsTrue, IfOk, IfErr};
 ghost use Rattle.lab_forms_texts.specs.Calendar.{day_of, year_of, month_of, day_of_month, two_digits};
 ghost use Rattle.lab_forms_texts.specs.Moment.{is_moment, last_day, moment_text, two_at, moment_of, IsNoMoment};
@@ -11,12 +11,12 @@ use std::marker::Model;
 /// The seconds of the last moment, 9999-12-31T23:59:59Z.
 const LAST_SECOND: i64 = 253_402_300_799;
 
-/// The bytes of a moment's text.
+/// The length of a moment's text in bytes.
 const TEXT_LEN: usize = 20;
 
 const SECONDS_IN_DAY: u64 = 86_400;
 
-/// The days from the first date of `jiff` to 1970-01-01.
+/// The number of days from the first date of `jiff` to 1970-01-01.
 const DAYS_BEFORE_EPOCH: u32 = 4_371_587;
 
 /// A whole second from 1970-01-01T00:00:00Z to 9999-12-31T23:59:59Z, in UTC without leap seconds.
@@ -41,10 +41,10 @@ impl Model for Moment {
 }
 
 impl Moment {
-    /// The moment so many seconds after 1970-01-01T00:00:00Z.
+    /// Makes the moment that is this number of seconds after 1970-01-01T00:00:00Z.
     ///
     /// # Errors
-    /// The number or the text is that of no moment.
+    /// `BadMoment` if no moment has this number.
     pub fn from_seconds(seconds: i64) -> Result<Moment, MomentFault>
         ensures value { IfOk result (λ moment. IsTrue (is_moment moment) × (seconds ≡ pos moment)) }
         ensures fault { IfErr result (λ _. (n : ℕ) → IsTrue (is_moment n) → seconds ≢ pos n) }
@@ -57,7 +57,7 @@ impl Moment {
         })
     }
 
-    /// The seconds since 1970-01-01T00:00:00Z.
+    /// Returns the seconds since 1970-01-01T00:00:00Z.
     pub fn seconds(&self) -> i64
         ensures value { result ≡ pos self.now }
         ensures in_range { IsTrue (is_moment self.now) }
@@ -65,7 +65,7 @@ impl Moment {
         self.seconds as i64
     }
 
-    /// The whole days since 1970-01-01.
+    /// Returns the whole days since 1970-01-01.
     pub fn day(&self) -> u64
         ensures value { result ≡ day_of self.now }
         ensures in_range { result ≤ last_day }
@@ -93,10 +93,10 @@ impl Moment {
         ];
     }
 
-    /// Reads the text that `print` writes, and no other text.
+    /// Reads a text that `print` writes, and no other text.
     ///
     /// # Errors
-    /// The number or the text is that of no moment.
+    /// `BadMoment` if the text isn't that of a moment.
     pub fn parse(text: &str) -> Result<Moment, MomentFault>
         ensures read { result ≡ ok_or (moment_of text.now) MomentFault.BadMoment }
         ensures value { IfOk result
@@ -109,7 +109,7 @@ impl Moment {
     }
 }
 
-// The moment that has this text.
+// The moment with this text.
 fn moment_spelled(text: &[u8]) -> Option<Moment>
     ensures { result ≡ moment_of text.now }
 {
@@ -123,7 +123,7 @@ fn moment_spelled(text: &[u8]) -> Option<Moment>
     }
 }
 
-// The moment that the digits tell, where the text is a moment's.
+// The moment that the digits write, if the text is that of a moment.
 fn moment_of_digits(text: &[u8]) -> Option<Moment>
     ensures { (n : ℕ) → IsTrue (is_moment n) → text.now ≡ moment_text n → result ≡ Some n }
 {
@@ -142,7 +142,7 @@ fn moment_of_digits(text: &[u8]) -> Option<Moment>
     Moment::from_seconds(DateTime { date, time }.to_second()).ok()
 }
 
-// The number that two digits at a place show. Of other bytes it is some number below 100.
+// The number that the two digits at a place write. For other bytes it is some number below 100.
 fn number_at(text: &[u8], place: usize) -> u8
     requires { place + 1 < length text.now }
     ensures shown { two_at text.now place < 100 → result ≡ two_at text.now place }

@@ -1,5 +1,5 @@
-//! The texts that name a laboratory, a person, a form, a field or a thing, and those that say why: codes, keys, names, notes
-//! and units, each with its rule.
+//! The texts that name a laboratory, a person, a form, a field or a thing, and the texts that give
+//! a reason: codes, keys, names, notes and units, each with its rule.
 ghost use Rattle.std.specs.Prelude.{◌≡◌};
 ghost use Rattle.std.specs.List.{list_all};
 ghost use Rattle.lab_forms_texts.specs.Names.{is_code_byte, is_code, is_lab_code, is_person_code, is_key, is_name_byte, is_name, is_note_byte, is_note, is_unit, is_writing};
@@ -42,7 +42,7 @@ fn are_code_characters(bytes: &[u8], mark: u8) -> bool
     bytes.iter().all(|byte| is_code_character(*byte, mark))
 }
 
-// Whether the text is a code of `least` to `most` characters, in which `mark` may stand beside letters and digits.
+// Whether the text is a code of `least` to `most` characters: letters, digits and `mark`.
 fn is_code_text(text: &str, mark: u8, least: usize, most: usize) -> bool
     ensures { result ≡ is_code mark least most text.now }
 {
@@ -125,7 +125,8 @@ impl Rule for Keys {
     }
 }
 
-/// The key of a form or of a field: 1 to 24 characters of `a` to `z`, `0` to `9` and `_`, the first a letter.
+/// The key of a form or of a field: 1 to 24 characters of `a` to `z`, `0` to `9` and `_`, the first
+/// a letter.
 pub type Key = Text<Keys>;
 
 /// The rule of names.
@@ -148,8 +149,8 @@ impl Rule for Names {
     }
 }
 
-/// The printed name of a laboratory, a person or a thing: 1 to 120 bytes of UTF-8 without control characters, and with no
-/// space at either end.
+/// The printed name of a laboratory, a person or a thing: 1 to 120 bytes of UTF-8, without control
+/// characters, and without a space at either end.
 pub type Name = Text<Names>;
 
 /// The rule of notes.
@@ -166,8 +167,8 @@ impl Rule for Notes {
     }
 }
 
-/// What a person writes, as the reason of a change: 1 to 1,000 bytes of UTF-8 without control characters but the line
-/// feed.
+/// What a person writes, such as the reason of a change: 1 to 1,000 bytes of UTF-8, without control
+/// characters except the line feed.
 pub type Note = Text<Notes>;
 
 /// The rule of units.
@@ -183,10 +184,10 @@ impl Rule for Units {
     }
 }
 
-/// The unit of a number: nothing, or a name of 20 bytes at most.
+/// The unit of a number: empty, or a name of at most 20 bytes.
 pub type Unit = Text<Units>;
 
-/// The rule of texts as they are written, which asks nothing of them.
+/// The rule of texts as they are written, which admits every text.
 #[derive(Drop)]
 pub struct Writings;
 
@@ -198,5 +199,5 @@ impl Rule for Writings {
     }
 }
 
-/// A text as it is written, of which no rule is asked.
+/// A text as it is written, which no rule has checked.
 pub type Writing = Text<Writings>;

@@ -1,4 +1,4 @@
-//! Ordinals: the numbers by which the laboratories count what they keep.
+//! Ordinals: the numbers with which a laboratory counts what it keeps.
 ghost use Rattle.std.specs.Prelude.{◌≡◌, ◌+◌, IsTrue};
 ghost use Rattle.lab_forms_texts.specs.Ordinals.{is_ordinal, ordinal_of};
 
@@ -7,7 +7,7 @@ use std::marker::Model;
 /// The last ordinal.
 const LAST: u32 = 1_000_000_000;
 
-/// A number from 1 to 1,000,000,000, as records, versions, sessions and rows of a trail have them.
+/// A number from 1 to 1,000,000,000, for records, versions, sessions and rows of a trail.
 ///
 /// A contract sees it as the number.
 #[derive(Clone, Copy, Debug, PartialEq, Eq, PartialOrd, Ord)]
@@ -29,10 +29,10 @@ impl Model for Ordinal {
 }
 
 impl Ordinal {
-    /// The ordinal of what comes first.
+    /// The first ordinal.
     pub const FIRST: Ordinal = Ordinal { number: 1 };
 
-    /// The number as an ordinal, if it is one.
+    /// Makes an ordinal of a number, if the number is in its range.
     pub fn new(number: u32) -> Option<Ordinal>
         ensures { result ≡ ordinal_of number }
     {
@@ -42,7 +42,7 @@ impl Ordinal {
         Some(Ordinal { number })
     }
 
-    /// The next ordinal where so many were given, if there is one.
+    /// Returns the ordinal after the first `count` ordinals, if there is one.
     pub fn after(count: u32) -> Option<Ordinal>
         ensures { result ≡ ordinal_of (count + 1) }
     {
@@ -60,7 +60,7 @@ impl Ordinal {
         self.number
     }
 
-    /// The ordinal that follows, if there is one.
+    /// Returns the next ordinal, if there is one.
     pub fn next(self) -> Option<Ordinal>
         ensures { result ≡ ordinal_of (self + 1) }
     {

@@ -1,4 +1,4 @@
-//! A fault is a refusal or want of memory. One type says so for every kind of refusals.
+//! A fault is a refusal, or memory ran out. One type serves every kind of refusal.
 ghost use Rattle.std.specs.Prelude.{◌≡◌, Some};
 ghost use Rattle.lab_forms_texts.specs.Faults.{Entry, fault_entry};
 
@@ -7,24 +7,24 @@ use std::alloc::{AllocError, AllocFailed};
 use std::error::Error;
 use std::fmt;
 
-/// A kind of refusals. Each has a number and a word, by which the interface names it.
+/// A kind of refusal. Each refusal has a number and a word, which the interface shows.
 pub trait RefusalKind {
-    /// The refusal's row in the table of refusals.
+    /// The row of the refusal in the table of refusals.
     ghost listed: { Self → Entry };
 
-    /// The number and the word.
+    /// The number and the word of the refusal.
     fn entry(&self) -> (u32, &'static str)
         ensures number { result.0 ≡ (listed self.now).number }
         ensures word { result.1.now ≡ (listed self.now).word };
 
-    /// The number.
+    /// The number of the refusal.
     fn number(&self) -> Option<u32>
         ensures { result ≡ Some (listed self.now).number }
     {
         Some(self.entry().0)
     }
 
-    /// The word.
+    /// The word of the refusal.
     fn word(&self) -> &'static str
         ensures { result.now ≡ (listed self.now).word }
     {
@@ -35,14 +35,14 @@ pub trait RefusalKind {
 /// Why nothing was made. Its text is its word.
 #[derive(Clone, Copy, Debug, PartialEq, Eq, Drop)]
 pub enum Fault<R> {
-    /// It is refused.
+    /// The input was refused.
     Refused(R),
     /// Memory ran out.
     Memory,
 }
 
 impl<R: RefusalKind> Fault<R> {
-    /// The number: the refusal's, or that of want of memory.
+    /// The number of the refusal. If memory ran out, the number of that fault.
     pub fn number(&self) -> Option<u32>
         ensures { result ≡ Some (fault_entry R.listed self.now).number }
     {
@@ -52,7 +52,7 @@ impl<R: RefusalKind> Fault<R> {
         }
     }
 
-    /// The word: the refusal's, or that of want of memory.
+    /// The word of the refusal. If memory ran out, the word of that fault.
     pub fn word(&self) -> &'static str
         ensures { result.now ≡ (fault_entry R.listed self.now).word }
     {

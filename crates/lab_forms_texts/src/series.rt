@@ -1,4 +1,4 @@
-//! Lists of values, in order, as records and reports have them.
+//! Lists of values, in order, for records and reports.
 ghost use Rattle.std.specs.Prelude.{◌≡◌, ◌++◌, ◌-◌, [], ◌∷◌, length, slice_get, option_copied, OnOk, OnErr};
 
 use std::alloc::{AllocError, Global};
@@ -6,7 +6,8 @@ use std::marker::Model;
 
 /// Values in order.
 ///
-/// A contract sees them as a list, so that two series of equal values are equal, whatever memory they stand in.
+/// A contract sees them as a list, so two series of equal values are equal, wherever in memory they
+/// are.
 #[derive(Debug)]
 pub struct Series<T> {
     list: Vec<T>,
@@ -28,7 +29,7 @@ impl<T> Model for Series<T> {
 }
 
 impl<T> Series<T> {
-    /// No value. It takes no memory.
+    /// Makes a series without values. It takes no memory.
     pub fn new(alloc: Global) -> Series<T>
         ensures { result ≡ [] }
     {
@@ -37,14 +38,14 @@ impl<T> Series<T> {
         }
     }
 
-    /// The values of a list. It takes no memory.
+    /// Makes a series of the values of a list. It takes no memory.
     pub fn from_vec(list: Vec<T>) -> Series<T>
         ensures { result ≡ list.items }
     {
         Series { list }
     }
 
-    /// Gives the list back. It takes no memory.
+    /// Returns the list. It takes no memory.
     pub fn into_vec(self) -> Vec<T>
         ensures { result.items ≡ self }
     {
@@ -68,7 +69,8 @@ impl<T> Series<T> {
 }
 
 impl<T: Drop> Series<T> {
-    /// One value more, at the end. The only error is that memory ran out, and the series is then as before.
+    /// Adds a value at the end. The only error is that memory ran out; the series then is as
+    /// before.
     ///
     /// # Errors
     /// Memory ran out.

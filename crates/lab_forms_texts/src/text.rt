@@ -1,4 +1,5 @@
-//! One type of text for codes, keys, names, notes and units. Which texts a kind admits is its rule.
+//! One type of text for codes, keys, names, notes and units. A kind of text has a rule, which says
+//! which texts it admits.
 ghost use Rattle.std.specs.Prelude.{◌≡◌, List, ℕ, Bool, IsTrue, IfOk, IfErr, Some, nat_eq, string_bytes};
 ghost use Rattle.std.specs.Ordering.{nat_cmp};
 ghost use Rattle.std.specs.Cmp.Lexicographic.{pointwise, slice_cmp, nat_list_eq_equiv, nat_list_cmp_total, texts_po, texts_ties};
@@ -11,9 +12,9 @@ use std::cmp::Ordering;
 use std::fmt;
 use std::marker::{Model, PhantomData};
 
-/// Which texts a kind of text admits.
+/// The rule of a kind of text: which texts it admits.
 pub trait Rule {
-    /// The rule, of the bytes of a text.
+    /// The rule, over the bytes of a text.
     ghost admits: { List ℕ → Bool };
 
     /// Whether the kind admits a text.
@@ -47,10 +48,10 @@ impl<R: Rule> Model for Text<R> {
 }
 
 impl<R: Rule> Text<R> {
-    /// Reads a text, and copies it. `BadName` where the rule does not admit it.
+    /// Checks a text against the rule, and returns a copy.
     ///
     /// # Errors
-    /// The rule doesn't admit the text, or memory ran out.
+    /// `BadName` if the rule doesn't admit the text, or memory ran out.
     pub fn parse(alloc: Global, text: &str) -> Result<Text<R>, NameFault>
         ensures admitted { IfOk result (λ _. IsTrue (R.admits text.now)) }
         ensures value { IfOk result (λ read. read ≡ text.now) }
@@ -86,7 +87,7 @@ impl<R: Rule> Text<R> {
 }
 
 impl Text<Writings> {
-    /// The text, as it is written. It takes no memory.
+    /// Makes a writing of a text, which stays as it is. It takes no memory.
     pub fn new(text: String) -> Text<Writings>
         ensures { result ≡ string_bytes text }
     {
@@ -135,7 +136,7 @@ impl<R: Rule> PartialOrd for Text<R> {
     }
 }
 
-/// Texts stand in the order of their bytes.
+/// Texts are in the order of their bytes.
 impl<R: Rule> Ord for Text<R> {
     ghost use Rattle.std.specs.Prelude.{refl};
 

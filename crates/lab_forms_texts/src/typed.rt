@@ -1,11 +1,11 @@
-//! A text as somebody typed it, of which no rule has been asked yet.
+//! A text as somebody typed it, which no rule has checked yet.
 
 ghost use Rattle.std.specs.Prelude.{◌≡◌, string_bytes};
 
 use std::marker::Model;
 
-/// A text as somebody typed it: a password, or a value that no form has read yet. It is no `Writing`, since a password is
-/// neither printed nor copied.
+/// A text as somebody typed it: a password, or a value that no form has read yet. It isn't a
+/// `Writing`, since a password is neither printed nor copied.
 ///
 /// A contract sees it as the list of its bytes.
 pub struct Typed {
@@ -28,7 +28,7 @@ impl Model for Typed {
 }
 
 impl Typed {
-    /// The text, typed.
+    /// Makes a typed text of a string.
     pub fn new(text: String) -> Typed
         ensures { result ≡ string_bytes text }
     {

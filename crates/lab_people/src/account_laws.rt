@@ -1,5 +1,5 @@
-//! Laws of accounts, which users rely on. Each function does nothing: its contract says the law, for all persons, sessions and
-//! moments.
+//! Laws of accounts, on which users rely. Each function does nothing: its contract states the law,
+//! for all persons, sessions and moments.
 ghost use Rattle.std.specs.Prelude.{◌≡◌, ◌≢◌, ℕ, Bool, List, length, true, false, Option, Some, Ok, Err};
 ghost use Rattle.lab_forms_texts.specs.declared.tick.Tick.{Tick as AnyTick};
 ghost use Rattle.lab_people_access.specs.declared.persons.Person.{Person as AnyPerson};
@@ -20,7 +20,7 @@ ghost use Rattle.lab_people_access.specs.Openings.{opening, token_digest};
 ghost use Rattle.lab_people.specs.Accounts.{changing, with_new_password, enrolling, setting_roles, retiring, unlocking};
 ghost use Rattle.lab_people.specs.Issues.{asking, confirming};
 
-/// Law: a code is given to one person only, also where that one is retired.
+/// Law: a code is given to one person only, even after that person has retired.
 pub fn a_code_is_given_once()
     ensures { (persons : List AnyPerson) (code name : List ℕ) (roles : AnyRoles)
         (person : AnyPerson) →
@@ -28,7 +28,7 @@ pub fn a_code_is_given_once()
         (person.code ≡ code) × IsNewCode person.code persons }
 {}
 
-/// Law: no two sessions of a laboratory have a token of one digest, also where one is closed.
+/// Law: no two sessions of a laboratory have tokens with the same digest, even if one is closed.
 pub fn a_token_is_given_once()
     ensures { (sessions : List AnySession) (code text : List ℕ) (person : Option AnyPerson)
         (tick : AnyTick) (opened : AnyOpened) →
@@ -36,13 +36,15 @@ pub fn a_token_is_given_once()
         ≡ Ok opened → IsNewToken opened.session.token sessions }
 {}
 
-/// Law: nobody asks, confirms, sets roles, retires or unlocks for the own account.
+/// Law: nobody asks for a one-time word, confirms one, sets roles, retires or unlocks on their own
+/// account.
 pub fn accounts_are_kept_by_others()
     ensures { (person : AnyPerson) (tick : AnyTick) (roles : AnyRoles) →
         AreRefused person.code person tick roles (own_refusal person) }
 {}
 
-/// Law: who asked for a one-time word for another doesn't confirm it, and is told so while it stands.
+/// Law: the administrator who asked for a one-time word for another person can't confirm it, and is
+/// refused with `SamePerson` while it can be confirmed.
 pub fn a_one_time_word_takes_two()
     ensures refused { (person : AnyPerson) (ask : AnyAsk) (tick : AnyTick) → person.ask ≡ Some ask →
         IsRefused (confirming ask.asker (Some person) tick) }
@@ -52,8 +54,9 @@ pub fn a_one_time_word_takes_two()
         confirming ask.asker (Some person) tick ≡ Err SamePerson }
 {}
 
-/// Law: who is retired is left without an open session. A retired person opens none and has no password accepted, which counts
-/// for nobody, and is changed by no command. Nothing revives a session that is closed: no request, no signing, no change of the
+/// Law: retiring a person closes all sessions of the person. A retired person can't open a session,
+/// no password of theirs is accepted, no attempt with one is counted for any person, and no command
+/// changes the person. Nothing reopens a closed session: no request, no signing, no change of the
 /// password, and no closing.
 pub fn retirement_is_for_good()
     ensures leaves { (caller : List ℕ) (person : AnyPerson) (effect : AnyEffect)

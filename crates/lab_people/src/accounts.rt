@@ -1,4 +1,4 @@
-//! What is done to persons' accounts.
+//! The changes of persons' accounts.
 ghost use Rattle.std.specs.Prelude.{◌≡◌, option_copied};
 ghost use Rattle.lab_people.specs.Accounts.{changing, enrolling, person_meant, setting_roles, retiring, unlocking};
 
@@ -8,31 +8,32 @@ use lab_people_access::{
 };
 use lab_seal_hashes::salt;
 
-/// The most persons that a laboratory has.
+/// The most persons of a laboratory.
 const PERSONS_LIMIT: u32 = 500;
 
-/// A password that was changed.
+/// The result of a change of a password.
 #[derive(Drop)]
 pub struct PasswordChanged {
     /// The person, with the new password.
     pub person: Person,
-    /// The session in which it was changed.
+    /// The session in which the password was changed.
     pub session: Session,
-    /// Which of the person's sessions are closed.
+    /// Which sessions of the person are closed.
     pub closing: Closing,
 }
 
-/// A change of a person's account by an administrator.
+/// The result of a change of a person's account by an administrator.
 #[derive(Drop)]
 pub struct Effect {
-    /// The person, changed.
+    /// The person, after the change.
     pub person: Person,
-    /// Which of the person's sessions are closed.
+    /// Which sessions of the person are closed.
     pub closing: Closing,
 }
 
-/// Changes a person's own password in a session, by the old one. The session, which has taken note of the request already, is
-/// left as before its first signature, and the person's others are closed.
+/// Changes a person's own password in a session, with the old password. The session must already
+/// have noted the request. It is then as before its first signature, and the other sessions of the
+/// person are closed.
 ///
 /// # Errors
 /// In this order: `Failed`, `BadPassword`, `SamePassword`.
@@ -63,8 +64,8 @@ pub fn change_password(
     })
 }
 
-/// Enrols a person, who has no password yet. Who has or had the code was looked up, and the laboratory has so many persons,
-/// those who are retired among them.
+/// Enrols a person, who has no password yet. `holder` is the person who has or had the code, if
+/// there is one, and `persons` is how many persons the laboratory has, retired ones too.
 ///
 /// # Errors
 /// In this order: `CodeTaken`, `LabFull`.
@@ -96,7 +97,7 @@ pub fn enrol(
     })
 }
 
-// Whom a command of the caller is about: somebody who is there, and isn't the caller.
+// The person whom a command of the caller names, if that person isn't retired and isn't the caller.
 pub(crate) fn person_meant_by(
     caller: &PersonCode,
     person: Option<Person>,
@@ -115,7 +116,7 @@ pub(crate) fn person_meant_by(
     Ok(person)
 }
 
-/// Sets the roles of a person, who was looked up.
+/// Sets the roles of a person, who was already looked up.
 ///
 /// # Errors
 /// In this order: `NoSuchPerson`, `OwnIssue`.
@@ -135,7 +136,7 @@ pub fn set_roles(
     })
 }
 
-/// Retires a person, who was looked up, for good. All of the person's sessions are closed.
+/// Retires a person, who was already looked up, for good. All sessions of the person are closed.
 ///
 /// # Errors
 /// In this order: `NoSuchPerson`, `OwnIssue`.
@@ -151,7 +152,7 @@ pub fn retire(caller: &PersonCode, person: Option<Person>) -> Result<Effect, Peo
     })
 }
 
-/// Unlocks a person, who was looked up: no failed password counts any more.
+/// Unlocks a person, who was already looked up: the failed passwords no longer count.
 ///
 /// # Errors
 /// In this order: `NoSuchPerson`, `OwnIssue`.

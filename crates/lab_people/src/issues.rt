@@ -1,4 +1,4 @@
-//! One-time words, which two administrators give a person, each a half.
+//! One-time words, of which two administrators each give a person one half.
 ghost use Rattle.std.specs.Prelude.{◌≡◌};
 ghost use Rattle.lab_seal_hashes.specs.Words.{half_of};
 ghost use Rattle.lab_people.specs.Issues.{half_verifier, asking, confirming};
@@ -11,15 +11,15 @@ use lab_seal_hashes::{Half, Verifier, salt};
 /// A half of a one-time word that was issued.
 #[derive(Drop)]
 pub struct Issued {
-    /// The person for whom.
+    /// The person who gets the one-time word.
     pub person: Person,
-    /// The half, which is told once and not kept.
+    /// The half. It is returned once and not kept.
     pub half: Half,
-    /// Which of the person's sessions are closed.
+    /// Which sessions of the person are closed.
     pub closing: Closing,
 }
 
-// The verifier of a half of a one-time word, as it is written.
+// The verifier of the written half of a one-time word.
 fn verifier_of_half(half: &Half, tick: &Tick) -> Verifier
     requires { half.now ≡ half_of tick.now.words }
     ensures { result ≡ half_verifier tick.now }
@@ -27,8 +27,8 @@ fn verifier_of_half(half: &Half, tick: &Tick) -> Verifier
     Verifier::make(&half.digits(), salt(&tick.words), ROUNDS)
 }
 
-/// Asks for a one-time word for a person, who was looked up, and answers its first half. What the caller asked for before, or
-/// what has lapsed, is replaced.
+/// Asks for a one-time word for a person, who was already looked up, and returns its first half. It
+/// replaces what the same caller asked for before, and what is too old to be confirmed.
 ///
 /// # Errors
 /// In this order: `NoSuchPerson`, `OwnIssue`, `IssueOpen`.
@@ -59,8 +59,9 @@ pub fn ask_issue(
     })
 }
 
-/// Confirms what another administrator asked for, and answers the second half. The one-time word stands in place of the
-/// person's password, and all of the person's sessions are closed; failed passwords and a lock stay.
+/// Confirms what another administrator asked for, and returns the second half. The one-time word
+/// replaces the person's password, and all sessions of the person are closed; failed passwords and
+/// a lock stay.
 ///
 /// # Errors
 /// In this order: `NoSuchPerson`, `OwnIssue`, `NoIssue`, `SamePerson`.

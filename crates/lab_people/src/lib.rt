@@ -1,6 +1,6 @@
-//! Persons' accounts: passwords that are changed, persons who are enrolled, given one-time words by two administrators, given
-//! roles, unlocked and retired. Each call answers the changed values, or the first refusal, and takes no memory (21 CFR
-//! 11.100(a) and 11.300).
+//! Persons' accounts: changing a password, enrolling, issuing one-time words by two administrators,
+//! setting roles, unlocking and retiring. Each call returns the changed values or the first
+//! refusal, and takes no memory (21 CFR 11.100(a) and 11.300).
 #![tactic(auto)]
 
 mod account_laws;

@@ -1,5 +1,5 @@
-//! Laws of passwords, which users rely on. Each function does nothing: its contract says the law, for all persons, texts and
-//! moments.
+//! Laws of passwords, on which users rely. Each function does nothing: its contract states the law,
+//! for all persons, texts and moments.
 ghost use Rattle.std.specs.Prelude.{◌≡◌, ◌≢◌, ℕ, Bool, ◌+◌, ◌-◌, ◌<◌, List, [], ◌∷◌, ◌++◌, length, nat_lt, true, false, Option, Some, None, Ok, Err};
 ghost use Rattle.hex.specs.Hex.{encode_lower};
 ghost use Rattle.lab_forms_texts.specs.declared.tick.Tick.{Tick as AnyTick};
@@ -16,8 +16,8 @@ ghost use Rattle.lab_people_access.specs.Attempts.{failures_to_lock, attempt_by,
 ghost use Rattle.lab_people_access.specs.Refusals.{failure_person, failure_closing};
 ghost use Rattle.lab_people_access.specs.Sessions.{sessions_after};
 
-/// Law: wrong passwords that follow one another are counted, and the one with which `failures_to_lock` count locks. No earlier one
-/// does.
+/// Law: wrong passwords in a row are counted, and the one that brings the count to
+/// `failures_to_lock` locks the account. No earlier one locks it.
 pub fn repeated_failures_lock()
     ensures earlier { (person : AnyPerson) (tries : List Try) → HasAccount person →
         person.locked ≡ None → AreWrong person tries →
@@ -34,8 +34,8 @@ pub fn repeated_failures_lock()
         ≡ Err (Locking (locked_person last.moment person)) }
 {}
 
-/// Law: an attempt that locks a person, at an opening, a signing or a change of the password, leaves none of the person's
-/// sessions open.
+/// Law: an attempt that locks a person leaves no session of the person open, whether it opens a
+/// session, signs or changes the password.
 pub fn a_lock_closes_all_sessions()
     ensures { (person after : AnyPerson) (is_own : Bool) (text : List ℕ) (moment : ℕ)
         (failure : AnyFailure) (sessions : List AnySession) →
@@ -45,7 +45,8 @@ pub fn a_lock_closes_all_sessions()
         AreClosed person.code (sessions_after (failure_closing failure) person.code sessions) }
 {}
 
-/// Law: a lock lasts 1,800 seconds, to the second. Then a right password is accepted, and a wrong one is the first again.
+/// Law: a lock lasts 1,800 seconds, to the second. After that a right password is accepted, and a
+/// wrong one counts as the first again.
 pub fn a_lock_lasts_half_an_hour()
     ensures locked { (since seconds : ℕ) →
         is_locked (Some since) (since + seconds) ≡ nat_lt seconds 1800 }
@@ -59,23 +60,25 @@ pub fn a_lock_lasts_half_an_hour()
         person_after person (one ∷ []) ≡ Some (counted_person 1 person) }
 {}
 
-/// Law: whatever is given as the password of a person who is locked, with whichever code, it is refused and leaves the person,
-/// count and lock, as before.
+/// Law: while a person is locked, every password is refused, whatever the code is, and leaves the
+/// person, the count and the lock as before.
 pub fn an_attempt_leaves_a_lock()
     ensures { (person : AnyPerson) (is_own : Bool) (text : List ℕ) (moment : ℕ) →
         HasAccount person → is_locked person.locked moment ≡ true →
         attempt_by person is_own text moment ≡ Err (AlreadyLocked person) }
 {}
 
-/// Law: where another's code is given at a signing, whatever the password, it comes to what a wrong password comes to.
+/// Law: if the code of another person is given for a signature, the result is that of a wrong
+/// password, whatever the password is.
 pub fn another_code_is_a_wrong_password()
     ensures { (person : AnyPerson) (code text wrong : List ℕ) (moment : ℕ) → code ≢ person.code →
         accepts person.password wrong moment ≡ false →
         signing_attempt person (Some code) text moment ≡ signing_attempt person None wrong moment }
 {}
 
-/// Law: the halves of a one-time word that two administrators were given are, one after the other, a text that the person's
-/// password accepts, exactly while the word serves. Neither half alone is accepted.
+/// Law: the two halves of a one-time word, which two administrators were given, make together the
+/// text that the person's password accepts, exactly while the word is valid. Neither half alone is
+/// accepted.
 pub fn the_halves_make_the_word()
     ensures together { (person : Option AnyPerson) (caller other : List ℕ) (tick later : AnyTick)
         (asked confirmed : AnyIssued) (moment : ℕ) →

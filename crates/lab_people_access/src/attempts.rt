@@ -1,4 +1,4 @@
-//! Passwords that are given.
+//! How a password that somebody gives is checked.
 ghost use Rattle.std.specs.Prelude.{◌≡◌, option_copied};
 ghost use Rattle.lab_people_access.specs.Attempts.{attempt_of, signing_attempt, is_own_code, attempt_by, failure_of};
 
@@ -7,14 +7,14 @@ use crate::persons::Person;
 use crate::refusals::Failure;
 use lab_forms_texts::{Moment, PersonCode};
 
-/// The failed passwords of which the last locks.
+/// The number of failed passwords that locks an account.
 const FAILURES_TO_LOCK: u32 = 5;
 
-/// Tries a text as the password of a person, who was looked up by a code. It answers the person with no failed password and no
-/// lock.
+/// Checks a text as the password of a person, who was looked up by a code. Returns the person
+/// without failed passwords and without a lock.
 ///
 /// # Errors
-/// What comes of a text that isn't accepted.
+/// What follows from a text that isn't accepted.
 pub fn attempt(person: Option<Person>, text: &str, moment: Moment) -> Result<Person, Failure>
     ensures { result ≡ attempt_of person text.now moment }
 {
@@ -27,11 +27,12 @@ pub fn attempt(person: Option<Person>, text: &str, moment: Moment) -> Result<Per
     }
 }
 
-/// Tries a text as the password of a person who signs in a session, and the code, if it is given. A code of somebody else counts
-/// as a failed password of the one who signs. It answers the person with no failed password and no lock.
+/// Checks a text as the password of a person who signs in a session, and the code, if one is given.
+/// The code of another person counts as a failed password of the person who signs. Returns the
+/// person without failed passwords and without a lock.
 ///
 /// # Errors
-/// What comes of a code or a text that isn't accepted.
+/// What follows from a code or a text that isn't accepted.
 pub fn attempt_signing(
     person: Person,
     code: Option<&PersonCode>,
@@ -44,7 +45,7 @@ pub fn attempt_signing(
     try_password(person, is_own, text, moment)
 }
 
-// Whether a code is the person's, if it is given.
+// Whether the code is that of the person; `true` if no code is given.
 fn is_own(code: Option<&PersonCode>, person: &Person) -> bool
     ensures { result ≡ is_own_code (option_copied code.entry) person.now }
 {
@@ -72,7 +73,7 @@ fn try_password(person: Person, is_own: bool, text: &str, moment: Moment) -> Res
     Err(fail(person, moment))
 }
 
-// One failed password more; the fifth locks.
+// Counts one more failed password; the fifth locks the account.
 fn fail(mut person: Person, moment: Moment) -> Failure
     ensures { result ≡ failure_of person moment }
 {

@@ -1,6 +1,7 @@
-//! Who gets in, and what each may do: persons with their passwords and roles, sessions and the policy. One person and one
-//! session at a time, with no table and no other laboratory (21 CFR 11.10(g), 11.200(a)(1)(i), and those parts of
-//! 11.300(a), (b) and (d) that `specs/` quotes).
+//! Who may log in, and what each person may do: persons with their passwords and roles, sessions
+//! and the policy. Each function sees one person and one session, no table and no other laboratory
+//! (21 CFR 11.10(g), 11.200(a)(1)(i), and those parts of 11.300(a), (b) and (d) that `specs/`
+//! quotes).
 #![tactic(auto)]
 
 mod attempts;

@@ -1,4 +1,4 @@
-//! Sessions, as they are opened.
+//! How sessions are opened.
 ghost use Rattle.std.specs.Prelude.{◌≡◌, option_copied};
 ghost use Rattle.lab_people_access.specs.Openings.{opening};
 
@@ -9,21 +9,22 @@ use crate::sessions::Session;
 use lab_forms_texts::{Ordinal, PersonCode, Tick};
 use lab_seal_hashes::Token;
 
-/// A session that was opened.
+/// A session that was just opened.
 #[derive(Drop)]
 pub struct Opened {
-    /// The person, whose failed passwords are forgotten.
+    /// The person, without failed passwords.
     pub person: Person,
     /// The new session.
     pub session: Session,
-    /// The session's token, which is told once and not kept.
+    /// The token of the session. It is returned once and not kept.
     pub token: Token,
-    /// Whether the password, as it was before, is due to be changed.
+    /// Whether the person's password was due to be changed at the opening.
     pub due: bool,
 }
 
-/// Opens a session by a code, by which the person was looked up, and a password. The laboratory gave so many numbers of
-/// sessions before, and the session that has the token of the tick already, if there is one, was looked up too.
+/// Opens a session with a code, with which the person was looked up, and a password. `sessions` is
+/// how many session numbers the laboratory has used, and `repeated` is the session that already has
+/// the token of the tick, if there is one.
 ///
 /// # Errors
 /// In this order: `Failed`, `RandomRepeated`, `LabFull`.

@@ -6,28 +6,28 @@ use crate::times::{days_since, seconds_since};
 use lab_forms_texts::Moment;
 use lab_seal_hashes::Verifier;
 
-/// The rounds of PBKDF2 by which every new verifier is made.
+/// The rounds of PBKDF2 for every new verifier.
 pub const ROUNDS: u32 = 100_000;
 
-/// The rounds by which verifiers were made before. One that stands keeps them, and is tried with them.
+/// The rounds of older verifiers. An old verifier keeps its rounds, and is checked with them.
 const OLD_ROUNDS: u32 = 10_000;
 
-/// The fewest bytes of a password that may be chosen.
+/// The fewest bytes of a new password.
 const PASSWORD_LEAST: usize = 12;
 
-/// The most bytes of a password that may be chosen.
+/// The most bytes of a new password.
 const PASSWORD_LIMIT: usize = 128;
 
-/// The most days since the day of a password's choice on which it isn't due.
+/// The most days after the day of its choice on which a password isn't due yet.
 const DAYS_OF_PASSWORD: u64 = 90;
 
-/// The most seconds since its confirmation at which a one-time word serves.
+/// The most seconds after its confirmation at which a one-time word is accepted.
 const SECONDS_OF_ONE_TIME_WORD: u64 = 604_800;
 
-/// The bytes of a half of a one-time word, as it is written.
+/// The length of a written half of a one-time word, in bytes.
 const HALF_LEN: usize = 32;
 
-/// Whether a verifier has so many rounds: those of a new one, or those by which they were made before.
+/// Whether a verifier may have this number of rounds: that of new verifiers or that of older ones.
 pub fn are_rounds(rounds: u32) -> bool
     ensures value { result ≡ are_rounds rounds }
     ensures some { result ≡ true → 1 ≤ rounds }
@@ -35,26 +35,26 @@ pub fn are_rounds(rounds: u32) -> bool
     rounds == ROUNDS || rounds == OLD_ROUNDS
 }
 
-/// What is kept of a person's password. It can't be printed.
+/// What is kept of a person's password. It isn't printable.
 #[derive(Clone, Copy)]
 pub enum Password {
-    /// The person never had one.
+    /// The person never had a password.
     Unset,
-    /// The person chose it.
+    /// The person chose the password.
     Chosen {
-        /// By which it is known again.
+        /// The verifier that checks the password.
         verifier: Verifier,
-        /// When it was chosen.
+        /// When the password was chosen.
         changed: Moment,
     },
-    /// A one-time word, of two halves that two administrators were given. It opens sessions for seven days, in which another
-    /// password has to be chosen before all else.
+    /// A one-time word of two halves, each given to another administrator. It opens sessions for
+    /// seven days, and in such a session a new password must be chosen before anything else.
     OneTime {
-        /// By which the first half is known again.
+        /// The verifier that checks the first half.
         first: Verifier,
-        /// By which the second half is known again.
+        /// The verifier that checks the second half.
         second: Verifier,
-        /// When the second administrator confirmed it.
+        /// When the second administrator confirmed the one-time word.
         confirmed: Moment,
     },
 }
@@ -68,7 +68,8 @@ impl Password {
         PASSWORD_LEAST <= length && length <= PASSWORD_LIMIT
     }
 
-    /// The password that is chosen at the moment, kept with the salt. Whether the text may be chosen is for the caller to ask.
+    /// Makes the password that is chosen at the moment, with the salt. The caller has to check
+    /// first whether the text may be chosen.
     pub fn choose(text: &str, salt: [u8; 16], moment: Moment) -> Password
         ensures { result ≡ chosen_password text.now salt moment }
     {
@@ -78,7 +79,8 @@ impl Password {
         }
     }
 
-    /// Whether the text is the password, at the moment. Where it isn't, as many rounds were run as a new verifier has.
+    /// Whether the text is the password at the moment. If it isn't, the call has run as many rounds
+    /// as a new verifier has.
     #[tactic(auto, unfolding(crate::specs::Passwords::accepts))]
     pub fn accepts(&self, text: &str, moment: Moment) -> bool
         ensures { result ≡ accepts self.now text.now moment }
@@ -109,7 +111,8 @@ impl Password {
         !matches!(self, Password::Unset)
     }
 
-    /// Whether the password is due to be changed at the moment. A person without one counts as due.
+    /// Whether the password is due to be changed at the moment. A person without a password counts
+    /// as due.
     pub fn is_due(&self, moment: Moment) -> bool
         ensures { result ≡ is_due self.now moment }
     {
@@ -120,7 +123,7 @@ impl Password {
     }
 }
 
-// Whether the text has 64 bytes, and each half has its verifier.
+// Whether the text has 64 bytes, and each verifier accepts its half.
 fn are_verified_by(first: &Verifier, second: &Verifier, text: &[u8]) -> bool
     ensures { result ≡ are_verified first.now second.now text.now }
 {
@@ -134,8 +137,8 @@ fn are_verified_by(first: &Verifier, second: &Verifier, text: &[u8]) -> bool
     second.accepts(second_half) || fails(text, second.parts().rounds)
 }
 
-/// No, after the rounds that a new verifier has, of which so many were run already. So the time of a refusal doesn't tell whose
-/// password is kept, nor how.
+/// Returns `false` after the rounds of a new verifier, of which `run` rounds were already run. So
+/// the time of a refusal doesn't show whose password is kept, nor how.
 pub(crate) fn fails(text: &[u8], run: u32) -> bool
     ensures { result ≡ false }
 {

@@ -13,26 +13,28 @@ use std::fmt;
 /// The seconds for which a lock lasts.
 const SECONDS_OF_LOCK: u64 = 1800;
 
-/// The most seconds for which it stands what an administrator asked for.
+/// The most seconds for which a request of an administrator can be confirmed.
 const SECONDS_OF_ASK: u64 = 604_800;
 
-/// A person of a laboratory, with the account. Printed for whoever mends a program, it is its code alone.
+/// A person of a laboratory, with the account. Its `Debug` text is the code only.
 pub struct Person {
-    /// The code, which is never given to another.
+    /// The code. It is never given to another person.
     pub code: PersonCode,
     /// The name that is printed beside signatures.
     pub name: Name,
-    /// What the person may be.
+    /// The roles of the person.
     pub roles: Roles,
-    /// Whether the person has left, which is for good.
+    /// Whether the person is retired. Retirement is for good.
     pub retired: bool,
-    /// The failed passwords since the last success or unlocking. After a lock has ended, the next password counts anew.
+    /// The number of failed passwords since the last success or unlocking. After a lock has ended,
+    /// counting starts anew.
     pub failures: u32,
-    /// When the account was locked, if it was.
+    /// When the account was locked, if it was locked.
     pub locked: Option<Moment>,
     /// What is kept of the password.
     pub password: Password,
-    /// What an administrator asked for, until it is confirmed or replaced; it may have lapsed.
+    /// What an administrator asked for, until it is confirmed or replaced; it may be too old to be
+    /// confirmed.
     pub ask: Option<Ask>,
 }
 
@@ -52,13 +54,13 @@ impl Drop for Person {
     }
 }
 
-/// A one-time word that one administrator asked for, and another is to confirm.
+/// A one-time word that one administrator asked for, and that another has to confirm.
 pub struct Ask {
     /// Who asked.
     pub asker: PersonCode,
-    /// When.
+    /// When the administrator asked.
     pub asked: Moment,
-    /// By which the first half is known again.
+    /// The verifier that checks the first half.
     pub first: Verifier,
 }
 
@@ -74,7 +76,7 @@ impl Drop for Ask {
 }
 
 impl Ask {
-    /// A copy. The only error is out of memory.
+    /// Returns a copy. The only error is that memory ran out.
     ///
     /// # Errors
     /// Memory ran out.
@@ -101,7 +103,7 @@ impl Clone for Ask {
 }
 
 impl Person {
-    /// A copy. The only error is out of memory.
+    /// Returns a copy. The only error is that memory ran out.
     ///
     /// # Errors
     /// Memory ran out.
@@ -111,7 +113,8 @@ impl Person {
         Ok(self.clone()?)
     }
 
-    /// Whether the account is locked at the moment: for 1,800 seconds from the fifth failed password on.
+    /// Whether the account is locked at the moment: for 1,800 seconds after the fifth failed
+    /// password.
     pub fn is_locked(&self, moment: Moment) -> bool
         ensures { result ≡ is_locked self.now.locked moment }
     {
@@ -121,7 +124,7 @@ impl Person {
         }
     }
 
-    /// What an administrator asked for, while it stands: for seven days.
+    /// Returns what an administrator asked for, while it can be confirmed: for seven days.
     pub fn standing_ask(&self, moment: Moment) -> Option<&Ask>
         ensures { option_copied result ≡ standing_ask self.now.ask moment }
     {
@@ -132,7 +135,7 @@ impl Person {
         Some(ask)
     }
 
-    /// The person with no failed password and no lock.
+    /// Returns the person without failed passwords and without a lock.
     pub fn without_lock(mut self) -> Person
         ensures { result ≡ unlocked_person self }
     {
@@ -141,7 +144,7 @@ impl Person {
         self
     }
 
-    /// The person's code, alone.
+    /// Returns the person's code only.
     pub fn into_code(self) -> PersonCode
         ensures { result ≡ self.code }
     {

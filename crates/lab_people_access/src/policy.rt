@@ -7,16 +7,16 @@ use crate::refusals::PeopleRefusal;
 use crate::roles::Roles;
 use lab_forms_texts::Tick;
 
-/// A rule of the policy: one for each thing that a person in a session may do.
+/// A rule of the policy. There is one for each thing that a person in a session may do.
 #[derive(Clone, Copy, Debug, PartialEq, Eq)]
 pub enum Rule {
-    /// Close the own session.
+    /// Close one's own session.
     CloseSession,
-    /// Change the own password.
+    /// Change one's own password.
     ChangePassword,
     /// Enrol a person.
     Enrol,
-    /// See the persons.
+    /// List the persons.
     ReadPersons,
     /// Ask for a one-time word for another person.
     AskIssue,
@@ -42,24 +42,24 @@ pub enum Rule {
     SignAuthorship,
     /// Sign as reviewer.
     SignReview,
-    /// Reject.
+    /// Reject a version.
     SignRejection,
     /// Read a record.
     ReadRecord,
     /// Read a version of a record.
     ReadVersion,
-    /// See a range of records.
+    /// List a range of records.
     ReadRecords,
-    /// See a range of the trail.
+    /// List a range of the trail.
     ReadTrail,
     /// Take an inspection copy.
     TakeCopy,
-    /// Sign as the one who approves.
+    /// Sign as approver.
     SignApproval,
 }
 
 impl Rule {
-    /// Whether a person of these roles may do it.
+    /// Whether a person with these roles may do what the rule is for.
     pub fn is_open_to(self, roles: &Roles) -> bool
         ensures { result ≡ is_open_to self roles.now }
     {
@@ -85,14 +85,14 @@ impl Rule {
         }
     }
 
-    /// Whether it has to wait until a due password is changed.
+    /// Whether the rule refuses until a due password is changed.
     pub fn is_barred_by_due(self) -> bool
         ensures { result ≡ is_barred_by_due self }
     {
         !matches!(self, Rule::CloseSession | Rule::ChangePassword)
     }
 
-    /// The word by which a refusal names the rule.
+    /// The word with which a refusal names the rule.
     pub fn word(self) -> &'static str
         ensures { result.now ≡ rule_word self }
     {
@@ -124,11 +124,11 @@ impl Rule {
     }
 }
 
-/// Lets a person do what a rule is for, or refuses it. It takes no memory.
+/// Lets a person do what a rule is for, or refuses. It takes no memory.
 ///
 /// # Errors
-/// `PasswordDue`, where the rule has to wait for a due password, and else `RoleWanted`, where the person has none of the
-/// rule's roles.
+/// `PasswordDue` if the person's password is due and the rule refuses until it is changed; else
+/// `RoleWanted` if the person has none of the roles of the rule.
 #[tactic(auto, unfolding(crate::specs::Policy::denial))]
 pub fn permission(person: &Person, rule: Rule, tick: &Tick) -> Result<(), PeopleRefusal>
     ensures permitted { OnOk result (denial person.now rule tick.now.moment ≡ None) }

@@ -1,5 +1,5 @@
-//! Why a person was refused, and what a failed password leaves. Each refusal has a number and a word, which customers and
-//! programs rely on.
+//! Why a person was refused, and what a failed password leaves. Each refusal has a number and a
+//! word, on which users and programs rely.
 ghost use Rattle.std.specs.Prelude.{◌≡◌, Some, option_copied};
 ghost use Rattle.lab_people_access.specs.declared.refusals.PeopleFault.TheVariants.{Failed, Refused};
 ghost use Rattle.lab_people_access.specs.Refusals.{people_refusal_entry, fault_refusal, failure_person, failure_closing};
@@ -14,33 +14,33 @@ use thiserror::Error;
 /// Why a person was refused. Its text is its word.
 #[derive(Clone, Copy, Debug, PartialEq, Eq, Error)]
 pub enum PeopleRefusal {
-    /// The code and the password are no person's, or the person's account is locked or retired.
+    /// No person has the code and the password, or the account of the person is locked or retired.
     Credentials,
-    /// A session of the laboratory has the token that the random words make.
+    /// A session of the laboratory already has the token that the random words make.
     RandomRepeated,
-    /// The session doesn't live.
+    /// No session with the token is open: there is none, it is closed, or its time has passed.
     NoSession,
     /// The password has to be changed first.
     PasswordDue,
-    /// The person has none of the roles that the rule asks for.
+    /// The person has none of the roles that the rule wants.
     RoleWanted(Rule),
-    /// A password of fewer than 12 or more than 128 bytes.
+    /// The password has fewer than 12 or more than 128 bytes.
     BadPassword,
     /// The new password is the old one.
     SamePassword,
-    /// The code was given to somebody before.
+    /// Another person has or had the code.
     CodeTaken,
     /// The laboratory has no room for one more.
     LabFull,
     /// The command is about the caller's own account.
     OwnIssue,
-    /// What another administrator asked for stands.
+    /// What another administrator asked for can still be confirmed.
     IssueOpen,
-    /// Who asked may not confirm.
+    /// The person who asked may not confirm.
     SamePerson,
-    /// Nothing was asked for, or it has lapsed.
+    /// Nothing was asked for, or it is too old.
     NoIssue,
-    /// There is no such person, or one who is retired.
+    /// There is no such person, or the person is retired.
     NoSuchPerson,
 }
 
@@ -78,21 +78,22 @@ impl fmt::Display for PeopleRefusal {
     }
 }
 
-/// What comes of a password that isn't accepted. Whoever gave it is told the same in every case.
+/// What follows from a password that isn't accepted. The reply is the same in every case.
 #[derive(Debug, Drop)]
 pub enum Failure {
-    /// The person with one failed password more.
+    /// The person, with one more failed password.
     Counted(Person),
     /// The person with the fifth failed password: locked from now on, with all sessions closed.
     Locking(Person),
-    /// The person, who is locked and stays as before, whatever the password.
+    /// The person, who was already locked and stays as before, whatever the password was.
     AlreadyLocked(Person),
-    /// There is no such person, or one who is retired or never had a password. The laboratory's stray counter has one more.
+    /// There is no such person, or the person is retired or never had a password. The stray counter
+    /// of the laboratory rises by one.
     Stray,
 }
 
 impl Failure {
-    /// The person as counted; none where the stray counter is meant.
+    /// The person as counted; `None` if the failure counts as stray.
     pub fn person(&self) -> Option<&Person>
         ensures { option_copied result ≡ failure_person self.now }
     {
@@ -103,7 +104,7 @@ impl Failure {
         }
     }
 
-    /// Which of the person's sessions are closed.
+    /// Which sessions of the person are closed.
     pub fn closing(&self) -> Closing
         ensures { result ≡ failure_closing self.now }
     {
@@ -114,17 +115,17 @@ impl Failure {
     }
 }
 
-/// Why a call on persons gave no answer of its kind. Its text is its word.
+/// Why a call about persons failed. Its text is its word.
 #[derive(Debug, Drop, Error)]
 pub enum PeopleFault {
-    /// The code and the password weren't accepted, with what that leaves.
+    /// The code and the password weren't accepted, and this follows.
     Failed(Failure),
-    /// Refused.
+    /// The call was refused.
     Refused(PeopleRefusal),
 }
 
 impl PeopleFault {
-    /// The refusal as which it is told: whoever fails by a password is told no more than that.
+    /// The refusal in the reply. After a failed password it is `Credentials` in every case.
     pub fn refusal(&self) -> PeopleRefusal
         ensures { result ≡ fault_refusal self.now }
     {
@@ -134,14 +135,14 @@ impl PeopleFault {
         }
     }
 
-    /// The number by which the fault is known: its refusal's.
+    /// The number of the fault: that of its refusal.
     pub fn number(&self) -> Option<u32>
         ensures { result ≡ Some (people_refusal_entry (fault_refusal self.now)).number }
     {
         self.refusal().number()
     }
 
-    /// The word by which the fault is known: its refusal's.
+    /// The word of the fault: that of its refusal.
     pub fn word(&self) -> &'static str
         ensures { result.now ≡ (people_refusal_entry (fault_refusal self.now)).word }
     {

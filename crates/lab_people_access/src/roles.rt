@@ -21,7 +21,7 @@ pub enum Role {
 }
 
 impl Role {
-    /// The roles in the order in which they are told.
+    /// The roles in the order in which they are listed.
     pub const ALL: [Role; 5] = [
         Role::Analyst,
         Role::Reviewer,
@@ -30,7 +30,7 @@ impl Role {
         Role::Inspector,
     ];
 
-    /// The word by which the role is known.
+    /// The word of the role.
     pub fn word(self) -> &'static str
         ensures { result.now ≡ role_word self }
     {
@@ -44,7 +44,7 @@ impl Role {
     }
 }
 
-/// The roles of one person: any of them, or none.
+/// The roles of one person: any number of them, also none.
 #[derive(Clone, Copy, Debug, PartialEq, Eq)]
 pub struct Roles {
     /// Whether the person is an analyst.
@@ -60,7 +60,7 @@ pub struct Roles {
 }
 
 impl Roles {
-    /// No role.
+    /// Makes roles without any role.
     pub fn none() -> Roles
         ensures { result ≡ no_roles }
     {
@@ -73,7 +73,7 @@ impl Roles {
         }
     }
 
-    /// The roles with one more.
+    /// Returns the roles with one more.
     pub fn with(self, role: Role) -> Roles
         ensures { result ≡ with_role self role }
     {
@@ -101,7 +101,7 @@ impl Roles {
         }
     }
 
-    /// Whether the role is among them.
+    /// Whether the role is one of these.
     pub fn has(&self, role: Role) -> bool
         ensures { result ≡ has_role self.now role }
     {
@@ -114,7 +114,8 @@ impl Roles {
         }
     }
 
-    /// The roles as a list, in the order in which they are told. The only error is out of memory.
+    /// Returns the roles as a list, in the order in which they are listed. The only error is that
+    /// memory ran out.
     ///
     /// # Errors
     /// Memory ran out.

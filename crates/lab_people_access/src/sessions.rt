@@ -9,10 +9,10 @@ use lab_forms_texts::{Moment, Ordinal, OutOfMemory, PersonCode, Tick};
 use lab_seal_hashes::Digest;
 use std::alloc::AllocError;
 
-/// The most seconds since its last request at which a session lives.
+/// The most seconds that a session stays open after its last request.
 const REST_SPAN: u64 = 900;
 
-/// The most seconds since its opening at which a session lives.
+/// The most seconds that a session stays open after its opening.
 const SECONDS_OF_SESSION: u64 = 28_800;
 
 /// One continuous period in which a person works.
@@ -22,15 +22,15 @@ pub struct Session {
     pub number: Ordinal,
     /// Whose session it is.
     pub person: PersonCode,
-    /// The SHA-256 digest of the session's token, by which requests name it.
+    /// The SHA-256 digest of the session's token, with which requests name the session.
     pub token: Digest,
-    /// When it was opened.
+    /// When the session was opened.
     pub opened: Moment,
-    /// When its last request came.
+    /// When the last request in the session came.
     pub last: Moment,
-    /// Whether it is closed.
+    /// Whether the session was closed.
     pub closed: bool,
-    /// Whether something was signed in it, so that the code needn't be given again.
+    /// Whether the person signed in the session, so that the code needn't be given again.
     pub signed: bool,
 }
 
@@ -50,7 +50,7 @@ impl Drop for Session {
 }
 
 impl Session {
-    /// A copy. The only error is out of memory.
+    /// Returns a copy. The only error is that memory ran out.
     ///
     /// # Errors
     /// Memory ran out.
@@ -60,7 +60,7 @@ impl Session {
         Ok(self.clone()?)
     }
 
-    // Whether it lives at the moment.
+    // Whether the session is open at the moment: not closed, and within both times.
     fn is_live(&self, moment: Moment) -> bool
         ensures { result ≡ is_live self.now moment }
     {
@@ -69,7 +69,7 @@ impl Session {
             && seconds_since(self.opened, moment) <= SECONDS_OF_SESSION
     }
 
-    /// Takes note of a request at the moment.
+    /// Notes a request at the moment.
     pub fn touch(&mut self, moment: Moment)
         ensures { self.new ≡ touched_session moment self.old }
     {
@@ -83,7 +83,7 @@ impl Session {
         self.closed = true;
     }
 
-    /// Takes note of an accepted signing.
+    /// Notes an accepted signature.
     pub fn mark_signed(&mut self)
         ensures { self.new ≡ signed_session self.old }
     {
@@ -110,19 +110,19 @@ impl Clone for Session {
     }
 }
 
-/// Which sessions of a person are closed by a change of the account.
+/// Which sessions of a person a change of the account closes.
 #[derive(Clone, Copy, Debug, PartialEq, Eq)]
 pub enum Closing {
-    /// None.
+    /// No session.
     Nothing,
-    /// All of the person's.
+    /// All sessions of the person.
     All,
-    /// All of the person's but the one of this number.
+    /// All sessions of the person except the one with this number.
     Others(Ordinal),
 }
 
 impl Closing {
-    /// Whether it closes the session, the person's code being this one.
+    /// Whether the session is closed, for a person with this code.
     pub fn closes(&self, person: &PersonCode, session: &Session) -> bool
         ensures { result ≡ is_closed_by self.now person.now session.now }
     {
@@ -134,10 +134,10 @@ impl Closing {
     }
 }
 
-/// Lets a session be used at a tick, or refuses it. It takes no memory.
+/// Lets a session be used at a tick, or refuses. It takes no memory.
 ///
 /// # Errors
-/// `NoSession`, where it is closed or its time has passed.
+/// `NoSession` if the session is closed or its time has passed.
 pub fn live(session: &Session, tick: &Tick) -> Result<(), PeopleRefusal>
     ensures live { OnOk result (is_live session.now tick.now.moment ≡ true) }
     ensures refused { IfErr result (λ refusal.

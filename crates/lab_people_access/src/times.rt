@@ -3,7 +3,7 @@ ghost use Rattle.std.specs.Prelude.{◌≡◌, ◌-◌, ◌/◌};
 
 use lab_forms_texts::Moment;
 
-/// The whole seconds from the earlier moment to the later one; 0 where it isn't later.
+/// Returns the whole seconds from the earlier moment to the later one; 0 if it isn't later.
 pub(crate) fn seconds_since(earlier: Moment, later: Moment) -> u64
     ensures { result ≡ later - earlier }
 {
@@ -14,7 +14,8 @@ pub(crate) fn seconds_since(earlier: Moment, later: Moment) -> u64
     (to - from) as u64
 }
 
-/// The days from the day of the earlier moment to that of the later one; 0 where it isn't later.
+/// Returns the days from the day of the earlier moment to the day of the later one; 0 if it isn't
+/// later.
 pub(crate) fn days_since(earlier: Moment, later: Moment) -> u64
     ensures { result ≡ later / 86400 - earlier / 86400 }
 {

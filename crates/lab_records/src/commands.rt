@@ -1,4 +1,4 @@
-//! What each command comes to in a session.
+//! The result of each command in a session.
 ghost use Rattle.std.specs.Prelude.{◌≡◌, IfOk, IsTrue, OnErr};
 ghost use Rattle.lab_records_machine.specs.Done.{done_on_account, done_on_record, done_reading, done_of};
 ghost use Rattle.lab_records_machine.specs.Makings.{is_made_of, makes_on_record, makes_reading, makes};
@@ -18,8 +18,9 @@ use lab_records_machine::{
 use std::alloc::Global;
 use std::mem;
 
-/// What a command comes to in the session of the caller, on the part of the laboratory that it needs. The only error is out
-/// of memory, and only where something is made: what is refused is told as it is. What is left of the part isn't said.
+/// Returns the result of a command in the session of the caller, on the part of the laboratory that
+/// the command needs. Fails only if memory runs out, and only if something is made: a refusal is
+/// always returned. The contract doesn't say what is left of the part.
 ///
 /// # Errors
 /// Memory ran out.
@@ -45,7 +46,7 @@ pub fn done_of(
     }
 }
 
-// What a command on a session or an account comes to.
+// The result of a command on a session or an account.
 #[tactic(auto, unfolding(lab_records_machine::specs::Done::done_on_account))]
 fn done_on_account(
     alloc: Global,
@@ -87,7 +88,7 @@ fn done_on_account(
     }
 }
 
-// What a command comes to that makes something of forms and records.
+// The result of a command that makes something of forms and records.
 #[tactic(auto, unfolding(lab_records_machine::specs::Done::done_on_record, lab_records_machine::specs::Makings::makes_on_record))]
 fn done_on_record(
     alloc: Global,
@@ -139,7 +140,7 @@ fn done_on_record(
     }
 }
 
-// What a command comes to that only reads.
+// The result of a command that only reads.
 #[tactic(auto, unfolding(lab_records_machine::specs::Done::done_reading, lab_records_machine::specs::Makings::makes_reading))]
 fn done_reading(
     alloc: Global,

@@ -19,9 +19,10 @@ use lab_records_outcomes::{
 use lab_records_rules::{Refusal, Typed};
 use std::alloc::Global;
 
-/// What is decided of a command at a tick, on the part of a laboratory that it needs: the reply, and the changes, in order.
-/// The only error is out of memory, and only where something is made: a refusal that notes nothing is told as it is. If the
-/// command makes a form, it is one, as `what_is_decided` wants it.
+/// Decides a command at a tick, on the part of a laboratory that the command needs, and returns the
+/// reply and the changes, in order. Fails only if memory runs out, and only if something is made: a
+/// refusal that notes nothing is always returned. If the command makes a form, the form is well
+/// formed, as `what_is_decided` wants it.
 ///
 /// # Errors
 /// Memory ran out.
@@ -47,7 +48,8 @@ pub fn decide(
     outcome
 }
 
-/// The form that a command makes is one, as every form of the code is. A law: the command is left as it is.
+/// Law: the form that a command makes is well formed, as every form of the code is. The command is
+/// left as it is.
 pub fn command_is_formed(command: &Command)
     ensures { IsCommandFormed command.now }
 {
@@ -56,7 +58,8 @@ pub fn command_is_formed(command: &Command)
     }
 }
 
-// What is decided of a command, where the clock isn't behind. What is left of the part isn't said.
+// Decides a command, if the moment of the tick isn't before the last one. The contract doesn't say
+// what is left of the part.
 fn decide_by(
     alloc: Global,
     slice: &mut Slice,
@@ -77,14 +80,14 @@ fn decide_by(
     }
 }
 
-// Who comes: the session of the token, and its person, where they are there.
+// Who gives the command: the session of the token, and the person of the session, if both exist.
 #[derive(Drop)]
 struct Comer {
     session: Option<Session>,
     caller: Option<Person>,
 }
 
-// Takes the session and its person out of a part.
+// Takes the session and the person of the session out of a part.
 fn take_comer(slice: &mut Slice) -> Comer
     ensures taken { result ≡ record { session = slice.old.session; caller = slice.old.caller } }
     ensures left { slice.new ≡ record slice.old { session = None; caller = None } }
@@ -95,7 +98,7 @@ fn take_comer(slice: &mut Slice) -> Comer
     }
 }
 
-// A command in a session.
+// Decides a command in a session.
 #[tactic(auto, using(crate::proofs::Taken::same_decided))]
 fn decide_in(
     alloc: Global,
@@ -113,7 +116,7 @@ fn decide_in(
     decide_passed(alloc, slice, tick, command, reached)
 }
 
-// The same by how far the command gets.
+// Decides a command in a session, depending on how far the command gets.
 fn decide_passed(
     alloc: Global,
     slice: &mut Slice,
@@ -143,8 +146,8 @@ fn decide_passed(
     }
 }
 
-// A command that its session may not give: that its request came is noted, where it isn't already.
-// The only error is out of memory, where it is noted.
+// Refuses a command that its session may not give. The request is noted, if it isn't already noted.
+// Fails only if memory runs out, and only if the request is noted.
 fn barred_outcome(
     alloc: Global,
     last: Moment,
@@ -160,7 +163,7 @@ fn barred_outcome(
     noted_end(alloc, last, moment, session, refused)
 }
 
-// The card, of which code and name are copied in any case. The only error is out of memory.
+// Replies with the card, whose code and name are always copied. Fails only if memory runs out.
 fn show_card(alloc: Global, slice: &Slice) -> Result<Outcome, OutOfMemory>
     ensures { IfOk result
         (λ shown. shown ≡ outcome (Reply.Card slice.now.code slice.now.name) []) }
@@ -173,8 +176,9 @@ fn show_card(alloc: Global, slice: &Slice) -> Result<Outcome, OutOfMemory>
     })
 }
 
-// An opening: its moment is noted where it is accepted, and where the password fails. The code is copied for the trail, and
-// that there is no memory for it counts only where the opening is accepted.
+// Decides an opening: its moment is noted if it is accepted, and if the password fails. The code is
+// copied for the trail; if there is no memory for the copy, that is a fault only if the opening is
+// accepted.
 #[tactic(auto, using(crate::proofs::Taken::opened_is_made))]
 fn decide_opening(
     alloc: Global,
@@ -209,14 +213,14 @@ fn decide_opening(
     }
 }
 
-// What a command in a session is given: the session, as its request leaves it, and its person.
+// What a command in a session gets: the session after its request, and the person of the session.
 struct Arrival {
     session: Session,
     caller: Person,
 }
 
-// A command that its session may give: that its request came is noted before what it changes. The
-// only error is out of memory: session and person are copied in any case.
+// Decides a command that its session may give: the request is noted before the other changes. The
+// session and the person are always copied. Fails only if memory runs out.
 fn decide_allowed(
     alloc: Global,
     slice: &mut Slice,
@@ -243,8 +247,8 @@ fn decide_allowed(
     }
 }
 
-// A session as a request at the moment leaves it, and its person. The only error is out of memory:
-// both are copied in any case.
+// The session after a request at the moment, and the person of the session. Both are always copied.
+// Fails only if memory runs out.
 fn arrival_of(moment: Moment, session: &Session, caller: &Person) -> Result<Arrival, OutOfMemory>
     ensures { IfOk result (λ arrived. arrived
         ≡ record { session = touched_session moment session.now; caller = caller.now }) }
@@ -260,9 +264,9 @@ fn arrival_of(moment: Moment, session: &Session, caller: &Person) -> Result<Arri
     }
 }
 
-// A command in a session that has the moment of its request, but for the note of that. The only
-// error is out of memory, where the command makes something, or where something is written of what
-// it comes to: what is refused is told as it is.
+// Decides a command in a session that already has the moment of its request, without the note of
+// the request. Fails only if memory runs out, and only if the command makes something, or if its
+// result is written: a refusal is always returned.
 fn decide_touched(
     alloc: Global,
     slice: &mut Slice,

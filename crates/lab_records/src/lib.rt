@@ -1,5 +1,6 @@
-//! What is decided on the part of a laboratory that a command needs: the reply, and the changes that are to
-//! be made of it (ISO/IEC 17025:2017, 7.5; 21 CFR Part 11). It knows no bytes, no tables and no keeper.
+//! What is decided on the part of a laboratory that a command needs: the reply, and the changes
+//! that have to be made (ISO/IEC 17025:2017, 7.5; 21 CFR Part 11). This crate knows no bytes, no
+//! tables and no keeper.
 #![tactic(auto)]
 
 mod commands;

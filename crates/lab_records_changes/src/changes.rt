@@ -1,4 +1,4 @@
-//! The changes that are made of a laboratory in memory. Where memory runs out, the laboratory is as before.
+//! The changes of a laboratory in memory. If memory runs out, the laboratory is as before.
 ghost use Rattle.std.specs.Prelude.{◌≡◌, ◌++◌, ◌∷◌, [], option_and_then, IsSome, IsTrue, OnOk, OnErr};
 ghost use Rattle.lab_people_access.specs.Persons.{has_code};
 ghost use Rattle.lab_people_access.specs.Sessions.{has_token, session_after, sessions_after};
@@ -17,8 +17,8 @@ use lab_records_kept::{
 use std::alloc::Global;
 use std::mem;
 
-/// Makes the change of the laboratory, by copies of what it brings. The only error is out of memory, where something is made; the
-/// laboratory is then as before.
+/// Makes the change of the laboratory, with copies of what the change holds. Fails only if memory
+/// runs out, and only if something has to be made; the laboratory is then as before.
 ///
 /// # Errors
 /// Memory ran out.
@@ -70,7 +70,8 @@ fn add_person(
     insert_person(alloc, persons, person.copy()?)
 }
 
-/// Adds the person, in the order of codes. The only error is out of memory; the persons are then as before.
+/// Adds the person, in the order of codes. Fails only if memory runs out; the persons are then as
+/// before.
 ///
 /// # Errors
 /// Memory ran out.
@@ -230,7 +231,7 @@ fn add_signature(
     Ok(())
 }
 
-// A copy of the person takes the place of the one of the same code.
+// Puts a copy of the person in place of the person with the same code.
 fn set_person_in(persons: &mut [Person], person: &Person) -> Result<(), OutOfMemory>
     ensures ok { OnOk result (persons.new ≡ with_person person.now persons.old) }
     ensures err { OnErr result (persons.new ≡ persons.old) }
@@ -244,7 +245,7 @@ fn set_person_in(persons: &mut [Person], person: &Person) -> Result<(), OutOfMem
     Ok(())
 }
 
-// A copy of the session takes the place of the one of the same token.
+// Puts a copy of the session in place of the session with the same token.
 fn set_session_in(sessions: &mut [Session], session: &Session) -> Result<(), OutOfMemory>
     ensures ok { OnOk result (sessions.new ≡ with_session session.now sessions.old) }
     ensures err { OnErr result (sessions.new ≡ sessions.old) }
@@ -258,7 +259,7 @@ fn set_session_in(sessions: &mut [Session], session: &Session) -> Result<(), Out
     Ok(())
 }
 
-// The sessions after some of the person's are closed.
+// The sessions after some sessions of the person are closed.
 fn sessions_after(
     sessions: Series<Session>,
     person: &PersonCode,
@@ -287,7 +288,7 @@ fn close_one(session: &mut Session, person: &PersonCode, closing: &Closing)
     }
 }
 
-// A copy of the row is added to the last version of the record of the number.
+// Adds a copy of the row to the last version of the record with the number.
 fn enter_in(
     records: &mut [Record],
     alloc: Global,
@@ -305,7 +306,7 @@ fn enter_in(
     enter(&mut records[place], alloc, row)
 }
 
-// A copy of the version is added to the record of the number.
+// Adds a copy of the version to the record with the number.
 fn open_in(records: &mut [Record], number: Ordinal, version: &Version) -> Result<(), OutOfMemory>
     ensures ok { OnOk result (records.new ≡ in_record number (opened_in version.now) records.old) }
     ensures err { OnErr result (records.new ≡ records.old) }
@@ -317,7 +318,7 @@ fn open_in(records: &mut [Record], number: Ordinal, version: &Version) -> Result
     open(&mut records[place], version)
 }
 
-// A copy of the signature is added to the version of a number of the record of the number.
+// Adds a copy of the signature to a version of the record with the number.
 fn sign_in(
     records: &mut [Record],
     alloc: Global,

@@ -1,5 +1,5 @@
-//! The changes that are made of a laboratory in memory, each in its place: persons, sessions, forms,
-//! records, entries, signatures and the trail (21 CFR 11.10(e), 11.70). Where memory runs out, the
+//! The changes of a laboratory in memory, each made in its place: persons, sessions, forms,
+//! records, entries, signatures and the trail (21 CFR 11.10(e), 11.70). If memory runs out, the
 //! laboratory is as before.
 #![tactic(auto)]
 

@@ -1,4 +1,4 @@
-//! Where persons, sessions and records stand in their lists, and what is done to one record.
+//! The places of persons, sessions and records in their lists, and the changes of one record.
 ghost use Rattle.std.specs.Prelude.{◌≡◌, ◌≤◌, bytes_eq, is_some, length, position, IsSome, OnOk, OnErr};
 ghost use Rattle.std.specs.List.{position_or_len};
 ghost use Rattle.lab_people_access.specs.Persons.{has_code};
@@ -15,7 +15,7 @@ use std::alloc::Global;
 use std::cmp::Ordering;
 use std::mem;
 
-/// Where the person of the code stands, if somebody has it.
+/// Returns the place of the person with the code, if there is one.
 pub fn place_of_person(persons: &[Person], code: &PersonCode) -> Option<usize>
     ensures place { result ≡ position (λ one. bytes_eq one.code code.now) persons.now }
     ensures found { is_some result ≡ has_code persons.now code.now }
@@ -31,7 +31,7 @@ fn first_of_code(persons: &[Person], code: &PersonCode) -> Option<usize>
         .position(|one| one.code.as_str() == code.as_str())
 }
 
-// Whether a text comes before another in the order of their bytes.
+// Whether one text is before the other in the order of their bytes.
 fn comes_before<R: Rule>(one: &Text<R>, other: &Text<R>) -> bool
     ensures { result ≡ comes_before one.now other.now }
 {
@@ -41,7 +41,8 @@ fn comes_before<R: Rule>(one: &Text<R>, other: &Text<R>) -> bool
     }
 }
 
-/// Where a person of the code is added: before the first of a later code, or at the end.
+/// Returns the place at which a person with the code is added: before the first person with a later
+/// code, or at the end.
 #[tactic(auto, using(crate::proofs::Replacing::place_found, crate::proofs::Replacing::place_at_end, crate::proofs::Replacing::place_within))]
 pub fn place_for_person(persons: &[Person], code: &PersonCode) -> usize
     ensures value { result ≡ position_or_len (λ one. comes_before code.now one.code) persons.now }
@@ -59,7 +60,7 @@ fn later_person(persons: &[Person], code: &PersonCode) -> Option<usize>
     persons.iter().position(|one| comes_before(code, &one.code))
 }
 
-/// Where a version of a form of the code is added.
+/// Returns the place at which a version of a form with the code is added.
 #[tactic(auto, using(crate::proofs::Replacing::place_found, crate::proofs::Replacing::place_at_end, crate::proofs::Replacing::place_within))]
 pub fn place_for_form(forms: &[FormVersion], code: &Key) -> usize
     ensures value { result ≡ position_or_len (λ one. comes_before code.now one.code) forms.now }
@@ -77,7 +78,7 @@ fn later_form(forms: &[FormVersion], code: &Key) -> Option<usize>
     forms.iter().position(|one| comes_before(code, &one.code))
 }
 
-/// Where the session of the token stands, if there is one.
+/// Returns the place of the session with the token, if there is one.
 pub fn place_of_session(sessions: &[Session], token: &Digest) -> Option<usize>
     ensures place { result ≡ position (λ one. bytes_eq one.token token.now) sessions.now }
     ensures found { is_some result ≡ has_token sessions.now token.now }
@@ -91,15 +92,15 @@ fn first_of_token(sessions: &[Session], token: &Digest) -> Option<usize>
     sessions.iter().position(|one| one.token == *token)
 }
 
-/// Where the record of the number stands.
+/// Returns the place of the record with the number, if there is one.
 pub fn place_of_record(records: &[Record], number: Ordinal) -> Option<usize>
     ensures { result ≡ position (has_number number) records.now }
 {
     records.iter().position(|kept| kept.number == number)
 }
 
-/// A copy of the row more in the last version. The only error is out of memory, where there is a version; the record is then as
-/// before.
+/// Adds a copy of the row to the last version. Fails only if memory runs out, and only if there is
+/// a version; the record is then as before.
 ///
 /// # Errors
 /// Memory ran out.
@@ -115,7 +116,7 @@ pub fn enter(kept: &mut Record, alloc: Global, row: &EntryRow) -> Result<(), Out
     Ok(())
 }
 
-/// A copy of the version more. The only error is out of memory, in any case; the record is then as before.
+/// Adds a copy of the version. Fails only if memory runs out; the record is then as before.
 ///
 /// # Errors
 /// Memory ran out.
@@ -128,8 +129,8 @@ pub fn open(kept: &mut Record, version: &Version) -> Result<(), OutOfMemory>
     Ok(())
 }
 
-/// A copy of the signature more in the version of the number. The only error is out of memory, where there is that version; the
-/// record is then as before.
+/// Adds a copy of the signature to the version with the number. Fails only if memory runs out, and
+/// only if there is that version; the record is then as before.
 ///
 /// # Errors
 /// Memory ran out.
@@ -150,7 +151,7 @@ pub fn sign(
     Ok(())
 }
 
-// A row more in the last of the versions.
+// Adds a row to the last version.
 fn enter_last(versions: &mut [Version], alloc: Global, row: &EntryRow) -> Result<(), OutOfMemory>
     ensures ok { OnOk result (versions.new ≡ in_last (with_row row.now) versions.old) }
     ensures err { OnErr result (versions.new ≡ versions.old) }
@@ -163,7 +164,7 @@ fn enter_last(versions: &mut [Version], alloc: Global, row: &EntryRow) -> Result
     enter_version(&mut versions[count - 1], alloc, row)
 }
 
-// A row more.
+// Adds a row.
 fn enter_version(version: &mut Version, alloc: Global, row: &EntryRow) -> Result<(), OutOfMemory>
     ensures ok { OnOk result (version.new ≡ with_row row.now version.old) }
     ensures err { OnErr result (version.new ≡ version.old) }
@@ -176,7 +177,7 @@ fn enter_version(version: &mut Version, alloc: Global, row: &EntryRow) -> Result
     Ok(())
 }
 
-// A signature more in the version of the number.
+// Adds a signature to the version with the number.
 fn sign_in(
     versions: &mut [Version],
     number: Ordinal,
@@ -193,7 +194,7 @@ fn sign_in(
     sign_version(&mut versions[place], signature)
 }
 
-// A signature more.
+// Adds a signature.
 fn sign_version(version: &mut Version, signature: &Signature) -> Result<(), OutOfMemory>
     ensures ok { OnOk result (version.new ≡ with_signature signature.now version.old) }
     ensures err { OnErr result (version.new ≡ version.old) }

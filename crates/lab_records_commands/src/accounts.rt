@@ -1,4 +1,4 @@
-//! What commands on accounts come to.
+//! The results of commands on accounts.
 ghost use Rattle.std.specs.Prelude.{◌≡◌, [], ◌∷◌, Ok, IfOk, IsTrue, OnErr};
 ghost use Rattle.lab_people.specs.Accounts.{changing, enrolling, setting_roles, retiring, unlocking};
 ghost use Rattle.lab_people.specs.Issues.{asking, confirming};
@@ -17,7 +17,8 @@ use lab_records_machine::{Done, Reply, pair, single, triple};
 use lab_records_rules::{Refusal, Typed};
 use std::alloc::Global;
 
-/// What a change of the own password comes to. The only error is out of memory, where it is changed.
+/// Returns the result of a change of one's own password. Fails only if memory runs out, and only if
+/// both passwords are accepted.
 ///
 /// # Errors
 /// Memory ran out.
@@ -43,7 +44,7 @@ pub fn changing_done(
     }
 }
 
-// A password that was changed.
+// The result after the password was changed.
 fn changed_done(
     alloc: Global,
     moment: Moment,
@@ -70,8 +71,8 @@ fn changed_done(
     ))
 }
 
-/// What an enrolment comes to, where the laboratory has so many persons. The only error is out of memory, where the person is
-/// enrolled.
+/// Returns the result of an enrolment; `persons` is how many persons the laboratory has. Fails only
+/// if memory runs out, and only if the result isn't a refusal.
 ///
 /// # Errors
 /// Memory ran out.
@@ -111,7 +112,7 @@ fn enrolled_done(alloc: Global, person: Person) -> Result<Done, OutOfMemory>
     ))
 }
 
-// An account is set, and its sessions are closed, where some are to be.
+// The changes that set an account, and close its sessions if any have to be closed.
 fn person_changes(
     alloc: Global,
     person: Person,
@@ -144,7 +145,8 @@ fn closing_changes(
     )
 }
 
-/// What it comes to that a one-time word is asked for. The only error is out of memory, where it is given.
+/// Returns the result of a request for a one-time word. Fails only if memory runs out, and only if
+/// the result isn't a refusal.
 ///
 /// # Errors
 /// Memory ran out.
@@ -174,7 +176,8 @@ fn asked_done(alloc: Global, issued: Issued) -> Result<Done, OutOfMemory>
     Ok(Done::Made(Reply::HalfTold { half }, Deed::Issue { person }, changes))
 }
 
-/// What it comes to that a one-time word is confirmed. The only error is out of memory, where it is.
+/// Returns the result of a confirmation of a one-time word. Fails only if memory runs out, and only
+/// if the result isn't a refusal.
 ///
 /// # Errors
 /// Memory ran out.
@@ -204,7 +207,8 @@ fn confirmed_done(alloc: Global, issued: Issued) -> Result<Done, OutOfMemory>
     Ok(Done::Made(Reply::HalfTold { half }, Deed::Confirm { person }, changes))
 }
 
-/// What it comes to that a person is given roles. The only error is out of memory, where they are given.
+/// Returns the result of setting a person's roles. Fails only if memory runs out, and only if the
+/// result isn't a refusal.
 ///
 /// # Errors
 /// Memory ran out.
@@ -239,7 +243,8 @@ fn roles_done(alloc: Global, effect: Effect) -> Result<Done, OutOfMemory>
     ))
 }
 
-/// What a retirement comes to. The only error is out of memory, where the person retires.
+/// Returns the result of a retirement. Fails only if memory runs out, and only if the result isn't
+/// a refusal.
 ///
 /// # Errors
 /// Memory ran out.
@@ -268,7 +273,8 @@ fn retired_done(alloc: Global, effect: Effect) -> Result<Done, OutOfMemory>
     Ok(Done::Made(Reply::PersonDone { code }, Deed::Retire { person }, changes))
 }
 
-/// What it comes to that a lock is taken away. The only error is out of memory, where it is.
+/// Returns the result of unlocking an account. Fails only if memory runs out, and only if the
+/// result isn't a refusal.
 ///
 /// # Errors
 /// Memory ran out.

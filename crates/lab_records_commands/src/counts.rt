@@ -1,4 +1,4 @@
-//! Rules that count in 32 bits, where a laboratory counts in 64: what is greater than every limit is cut.
+//! Rules that count in 32 bits, while a laboratory counts in 64: a count above every limit is cut.
 ghost use Rattle.std.specs.Prelude.{◌≡◌, min, option_copied};
 ghost use Rattle.lab_people_access.specs.Openings.{opening};
 ghost use Rattle.lab_people.specs.Accounts.{enrolling};
@@ -7,7 +7,7 @@ use lab_forms_texts::{Name, PersonCode, Tick};
 use lab_people::enrol;
 use lab_people_access::{Opened, PeopleFault, PeopleRefusal, Person, Roles, Session, open_session};
 
-/// The greatest count of 32 bits, which is above the limits of sessions and of persons.
+/// The greatest count of 32 bits. It is above the limits of sessions and of persons.
 const MOST: u64 = 4_294_967_295;
 
 // A count in 32 bits.
@@ -17,10 +17,10 @@ fn count_of_32_bits(count: u64) -> u32
     count.min(MOST) as u32
 }
 
-/// Opens a session. The laboratory has had so many sessions before.
+/// Opens a session; `sessions` is how many sessions the laboratory has had.
 ///
 /// # Errors
-/// Those of `open_session`.
+/// The errors of `open_session`.
 #[tactic(auto, using(crate::proofs::Cuts::opening_cut))]
 pub fn open_counted(
     code: PersonCode,
@@ -43,10 +43,10 @@ pub fn open_counted(
     )
 }
 
-/// A person who is enrolled, where the laboratory has so many.
+/// Enrols a person; `persons` is how many persons the laboratory has.
 ///
 /// # Errors
-/// Those of `enrol`.
+/// The errors of `enrol`.
 #[tactic(auto, using(crate::proofs::Cuts::enrolling_cut))]
 pub fn enrol_counted(
     code: PersonCode,

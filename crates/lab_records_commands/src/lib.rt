@@ -1,5 +1,5 @@
-//! What each command comes to: on sessions and accounts (21 CFR 11.10(d) and 11.300), on forms and
-//! records (ISO/IEC 17025:2017, 7.5; 21 CFR 11.10, 11.50).
+//! The result of each command: on sessions and accounts (21 CFR 11.10(d) and 11.300), and on forms
+//! and records (ISO/IEC 17025:2017, 7.5; 21 CFR 11.10, 11.50).
 #![tactic(auto)]
 
 mod accounts;

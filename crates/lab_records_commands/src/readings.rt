@@ -1,4 +1,4 @@
-//! What commands come to that read.
+//! The results of commands that read.
 ghost use Rattle.std.specs.Prelude.{◌≡◌, is_ok, IfOk, IsTrue, OnErr, map};
 ghost use Rattle.lab_records_rules.specs.Reading.{reading_form, reading_record, reading_version, record_line, person_line};
 ghost use Rattle.lab_records_copies.specs.CopyLines.{copy_rows};
@@ -17,7 +17,7 @@ use lab_records_rules::{
 };
 use std::alloc::Global;
 
-/// What the reading of a version of a form comes to.
+/// Returns the result of reading a version of a form.
 pub fn form_read_done(form: Option<FormVersion>) -> Done
     ensures { result ≡ then_read_done (reading_form form) Reply.FormRead }
 {
@@ -27,7 +27,8 @@ pub fn form_read_done(form: Option<FormVersion>) -> Done
     }
 }
 
-/// What the reading of a record comes to. The only error is out of memory, where it is read.
+/// Returns the result of reading a record. Fails only if memory runs out, and only if the result
+/// isn't a refusal.
 ///
 /// # Errors
 /// Memory ran out.
@@ -49,7 +50,8 @@ pub fn record_read_done(
     }
 }
 
-/// What the reading of a version of a record comes to. The only error is out of memory, where it is read.
+/// Returns the result of reading a version of a record. Fails only if memory runs out, and only if
+/// the result isn't a refusal.
 ///
 /// # Errors
 /// Memory ran out.
@@ -72,7 +74,8 @@ pub fn version_read_done(
     }
 }
 
-/// Persons in a line each, at the moment. The only error is out of memory, where there is one.
+/// Returns a line for each person, at the moment. Fails only if memory runs out, and only if there
+/// is a person.
 ///
 /// # Errors
 /// Memory ran out.
@@ -91,7 +94,7 @@ pub fn person_lines(
     Ok(lines)
 }
 
-/// Records in a line each. The only error is out of memory, where there is one.
+/// Returns a line for each record. Fails only if memory runs out, and only if there is a record.
 ///
 /// # Errors
 /// Memory ran out.
@@ -106,8 +109,8 @@ pub fn record_lines(alloc: Global, records: &[Record]) -> Result<Series<RecordSt
     Ok(lines)
 }
 
-/// The rows of a copy of the part's records, which are those from a number to a number, made for a person at a moment. The only
-/// error is out of memory: the row at its head is made in any case.
+/// Returns the rows of a copy of the part's records, which are those from a number to a number,
+/// made for a person at a moment. The header is always made. Fails only if memory runs out.
 ///
 /// # Errors
 /// Memory ran out.

@@ -1,4 +1,4 @@
-//! What commands come to that make something of forms and records.
+//! The results of commands that make something of forms and records.
 ghost use Rattle.std.specs.Prelude.{◌≡◌, ◌∷◌, [], Ok, false, IfOk, IsTrue, OnErr, if◌then◌else◌};
 ghost use Rattle.lab_people_access.specs.Attempts.{signing_attempt};
 ghost use Rattle.lab_people_access.specs.Sessions.{signed_session};
@@ -21,7 +21,8 @@ use lab_records_versions::{amend, enter, is_code_wanted, sign};
 use lab_seal_versions::Digest;
 use std::alloc::Global;
 
-/// What it comes to that a form is made. The only error is out of memory, where it is.
+/// Returns the result of making a form. Fails only if memory runs out, and only if the result isn't
+/// a refusal.
 ///
 /// # Errors
 /// Memory ran out.
@@ -41,7 +42,7 @@ pub fn making_done(
     }
 }
 
-// A version of a form that was made.
+// The result after a version of a form was made.
 fn form_done(alloc: Global, form: FormVersion) -> Result<Done, OutOfMemory>
     ensures { IfOk result (λ done. done ≡ form_done form) }
 {
@@ -62,7 +63,8 @@ fn form_done(alloc: Global, form: FormVersion) -> Result<Done, OutOfMemory>
     ))
 }
 
-/// What it comes to that a record is opened. The only error is out of memory, where it is.
+/// Returns the result of opening a record. Fails only if memory runs out, and only if the result
+/// isn't a refusal.
 ///
 /// # Errors
 /// Memory ran out.
@@ -90,7 +92,7 @@ pub fn opening_record_done(
     }
 }
 
-// A record that was opened.
+// The result after a record was opened.
 fn record_done(alloc: Global, kept: Record) -> Result<Done, OutOfMemory>
     ensures { IfOk result (λ done. done ≡ record_done kept) }
 {
@@ -106,7 +108,8 @@ fn record_done(alloc: Global, kept: Record) -> Result<Done, OutOfMemory>
     ))
 }
 
-/// What it comes to that a value is entered. The only error is out of memory, where it is.
+/// Returns the result of entering a value. Fails only if memory runs out, and only if the result
+/// isn't a refusal.
 ///
 /// # Errors
 /// Memory ran out.
@@ -141,7 +144,7 @@ pub fn entering_done(
     }
 }
 
-// A value that was entered: one row more, whatever stood under its key.
+// The result after a value was entered: one more row, whether or not its key already had a value.
 fn entry_done(alloc: Global, made: EntryMade) -> Result<Done, OutOfMemory>
     ensures { IfOk result (λ done. done ≡ entry_done made) }
 {
@@ -173,7 +176,8 @@ fn entry_done(alloc: Global, made: EntryMade) -> Result<Done, OutOfMemory>
     ))
 }
 
-/// What it comes to that a record is amended. The only error is out of memory, once the values are held against a table.
+/// Returns the result of amending a record. Fails only if memory runs out, and only from the point
+/// where the values are compared with a table.
 ///
 /// # Errors
 /// Memory ran out.
@@ -208,7 +212,7 @@ pub fn amending_done(
     }
 }
 
-// A version that an amendment opened, by its own number.
+// The result after an amendment opened a version, with the number of that version.
 fn amendment_done(alloc: Global, made: AmendmentMade) -> Result<Done, OutOfMemory>
     ensures { IfOk result (λ done. done ≡ amendment_done made) }
 {
@@ -247,8 +251,9 @@ pub struct Asked {
     pub signing: Signing,
 }
 
-/// What it comes to that a version is signed: the first signing of a session wants the code, then the password is looked at.
-/// The only error is out of memory, once the version's digest is made.
+/// Returns the result of signing a version: the first signature in a session wants the code, then
+/// the password is checked. Fails only if memory runs out, and only from the point where the digest
+/// of the version is made.
 ///
 /// # Errors
 /// Memory ran out.
@@ -279,7 +284,7 @@ pub fn asked_signing_done(
     }
 }
 
-// What the signing of a person comes to whose password was accepted.
+// The result of signing by a person whose password was accepted.
 #[tactic(auto, using(crate::proofs::MadeBefore::digest_was_made))]
 fn signing_done(
     alloc: Global,
@@ -313,7 +318,7 @@ fn signing_done(
     }
 }
 
-// A signature that was given: the session is marked as one that has signed.
+// The result after a signature was given: the session is marked as one that has signed.
 fn signature_done(
     alloc: Global,
     session: Session,
@@ -333,7 +338,7 @@ fn signature_done(
     }
 }
 
-// What is told of a signature: itself, and in the trail what it means.
+// What is stated about a signature: the signature in the reply, and its meaning in the trail.
 #[derive(Drop)]
 struct Told {
     signature: Signature,

@@ -1,4 +1,4 @@
-//! What the opening and the closing of a session come to.
+//! The results of opening and closing a session.
 ghost use Rattle.std.specs.Prelude.{◌≡◌, Ok, is_ok, IfOk, IsTrue, OnErr};
 ghost use Rattle.lab_people_access.specs.Openings.{opening};
 ghost use Rattle.lab_records_machine.specs.Done.{opened_done, closed_done};
@@ -11,8 +11,8 @@ use lab_records_machine::{Done, Reply, pair, single};
 use lab_records_rules::{Refusal, Typed};
 use std::alloc::Global;
 
-/// What the opening of a session comes to, by a code, whose person was looked up, and a password. The only error is out of
-/// memory, where it is opened.
+/// Returns the result of opening a session with a code, with which the person was looked up, and a
+/// password. Fails only if memory runs out, and only if the result is an open session.
 ///
 /// # Errors
 /// Memory ran out.
@@ -46,7 +46,7 @@ pub fn opening_done(
     }
 }
 
-// A session that was opened.
+// The result after a session was opened.
 fn opened_done(alloc: Global, opened: Opened) -> Result<Done, OutOfMemory>
     ensures { IfOk result (λ done. done ≡ opened_done (Ok opened)) }
 {
@@ -73,8 +73,8 @@ fn opened_done(alloc: Global, opened: Opened) -> Result<Done, OutOfMemory>
     ))
 }
 
-/// What the closing of the session by its person comes to. The only error is out of memory: the closed session is a change in any
-/// case.
+/// Returns the result when a person closes the session. The closed session is always a change.
+/// Fails only if memory runs out.
 ///
 /// # Errors
 /// Memory ran out.

@@ -1,4 +1,5 @@
-//! Copies of a laboratory's records, for inspection (21 CFR 11.10(b)): their rows, made of what is kept.
+//! Copies of a laboratory's records for inspection (21 CFR 11.10(b)): their rows, made of what is
+//! kept.
 #![tactic(auto)]
 
 mod laws;

@@ -1,15 +1,15 @@
-//! What a copy is asked to be.
+//! The order of a copy.
 use lab_copy_rows::{Moment, Ordinal, PersonCode};
 
-/// What a copy is asked to be: of which records, for whom, and when.
+/// The order of a copy: which records are asked for, who asks, and when.
 #[derive(Drop)]
 pub struct CopyOrder {
     /// The number of the first record that is asked for.
     pub from: Ordinal,
     /// The number of the last record that is asked for.
     pub to: Ordinal,
-    /// Who asks; nobody where the copy is made at the desk's own machine.
+    /// Who asks; `None` if the copy is made on the machine of the desk.
     pub person: Option<PersonCode>,
-    /// When it is made.
+    /// When the copy is made.
     pub moment: Moment,
 }

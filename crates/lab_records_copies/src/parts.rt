@@ -1,4 +1,4 @@
-//! The rows of one record's parts.
+//! The rows of one record.
 ghost use Rattle.std.specs.Prelude.{◌≡◌, ◌++◌, IfOk, OnOk, map, unwrap_or, option_map};
 ghost use Rattle.lab_records_copies.specs.CopyLines.{entry_line, fields_of_line, reason_of, record_line, rows_of_lines, signature_line, state_shown, version_line, version_lines};
 ghost use Rattle.lab_records_kept.specs.Digests.{sealed_parts};
@@ -12,7 +12,7 @@ use lab_copy_rows::{
 use lab_records_kept::{Record, Signature, Version};
 use std::alloc::Global;
 
-/// The row with which a record begins. The only error of these calls is out of memory.
+/// Makes the row with which a record begins. The functions here fail only if memory runs out.
 ///
 /// # Errors
 /// Memory ran out.
@@ -34,7 +34,7 @@ pub fn record_row(alloc: Global, lab: &LabCode, kept: &Record) -> Result<CopyRow
     )
 }
 
-/// The rows of a version: its own, those of its entries, and those of its signatures.
+/// Makes the rows of a version: its own, those of its entries, and those of its signatures.
 ///
 /// # Errors
 /// Memory ran out.

@@ -9,7 +9,8 @@ use lab_copy_rows::{CopyLine, CopyRow, Counts, Edition, EndLine, LabCode, Name, 
 use lab_records_kept::Record;
 use std::alloc::Global;
 
-/// The rows of records, one after the other: each with its versions, their entries and their signatures.
+/// Makes the rows of records, one record after the other: each with its versions, their entries and
+/// their signatures.
 ///
 /// # Errors
 /// Memory ran out.
@@ -44,8 +45,8 @@ fn push_record(
     Ok(())
 }
 
-/// The rows of a copy of records: the header, what the copy is of, the records, and how many rows of each kind these came to. The
-/// records are those that the order asks for.
+/// Makes the rows of a copy of records: the header, the copy row, the rows of the records, and the
+/// end row with the number of rows of each kind. The records must be those that the order asks for.
 ///
 /// # Errors
 /// Memory ran out.
@@ -92,7 +93,7 @@ fn order_row(
     )
 }
 
-// The row that ends a copy whose records have these rows.
+// The row that ends a copy with these rows of records.
 fn end_row(alloc: Global, lab: &LabCode, body: &[CopyRow]) -> Result<CopyRow, OutOfMemory>
     ensures { IfOk result (λ row.
         row ≡ fields_in (end_row (end_line lab.now (counts_in body.now)))) }
@@ -107,7 +108,7 @@ fn end_row(alloc: Global, lab: &LabCode, body: &[CopyRow]) -> Result<CopyRow, Ou
     )
 }
 
-// How many rows of each kind there are.
+// The number of rows of each kind.
 fn counts_in(rows: &[CopyRow]) -> Counts
     ensures { result ≡ counts_in rows.now }
 {

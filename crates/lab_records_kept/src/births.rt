@@ -1,15 +1,15 @@
-//! What a laboratory is founded from.
+//! The data of which a laboratory is founded.
 use lab_forms_texts::{LabCode, Moment, Name};
 use lab_people_access::Person;
 
-/// A laboratory that is to be founded, with the three persons that it has then.
+/// A laboratory that is to be founded, with the three persons whom it begins with.
 #[derive(Drop)]
 pub struct Newborn {
-    /// The laboratory's code.
+    /// The code of the laboratory.
     pub code: LabCode,
-    /// Its name.
+    /// The name of the laboratory.
     pub name: Name,
-    /// The moment of its founding.
+    /// The moment of the founding.
     pub moment: Moment,
     /// The first founder.
     pub first: Person,

@@ -1,4 +1,4 @@
-//! The changes that are made of a laboratory.
+//! The changes of a laboratory.
 use crate::records::{FormVersion, Record, Signature, Version};
 use crate::trails::TrailRow;
 use lab_forms_texts::{Moment, Ordinal, PersonCode};
@@ -7,17 +7,17 @@ use lab_seal_versions::EntryRow;
 
 /// One change of a laboratory.
 pub enum Change {
-    /// The moment of the last activity becomes this one.
+    /// The moment of the last activity becomes this moment.
     Last(Moment),
-    /// The number of passwords that were given for nobody's account becomes this one.
+    /// The number of passwords that count as stray becomes this number.
     Strays(u64),
     /// A person is added.
     PersonAdded(Person),
-    /// The person of that code becomes this one.
+    /// The person with that code becomes this person.
     PersonSet(Person),
     /// A session is added.
     SessionAdded(Session),
-    /// The session of that token becomes this one.
+    /// The session with that token becomes this session.
     SessionSet(Session),
     /// Sessions of the person are closed.
     SessionsClosed {

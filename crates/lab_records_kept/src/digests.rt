@@ -1,4 +1,4 @@
-//! The digest of a version of a record as it is now, and signatures with their seals.
+//! The digest of the present text of a version, and signatures with their seals.
 ghost use Rattle.std.specs.Prelude.{◌≡◌, [], IfOk};
 ghost use Rattle.lab_seal_versions.specs.Versions.{with_rows};
 ghost use Rattle.lab_records_kept.specs.Digests.{parts_of, digest_of, signature_of};
@@ -11,8 +11,8 @@ use lab_seal_versions::{
 use std::alloc::Global;
 
 impl Record {
-    /// The digest of a version of the record, in the laboratory of the code: of its text as it is now. The only error is out
-    /// of memory.
+    /// Returns the digest of a version of the record, in the laboratory with the code: the digest
+    /// of its present text. The only error is that memory ran out.
     ///
     /// # Errors
     /// Memory ran out.
@@ -30,7 +30,7 @@ impl Record {
         Ok(digest(&text?))
     }
 
-    // What the text of the version says, as copies, but for its rows: there are none.
+    // The parts of the version's text, copied, without any rows.
     fn parts_without_rows(
         &self,
         alloc: Global,
@@ -61,7 +61,7 @@ impl Record {
 }
 
 impl Signature {
-    /// The signature of these parts, with its seal.
+    /// Makes the signature with these parts, and its seal.
     pub fn of_parts(parts: SealParts) -> Signature
         ensures { result ≡ signature_of parts }
     {

@@ -1,5 +1,5 @@
-//! Why a keeper gave no answer: its store refused, memory ran out, or the laboratory to be founded
-//! is there.
+//! Why a call on a keeper failed: its store failed, memory ran out, or the laboratory to be founded
+//! already exists.
 
 ghost use Rattle.std.specs.Prelude.{◌≡◌, Some};
 ghost use Rattle.lab_records_kept.specs.declared.faults.PlacingFault.TheVariants.{Memory as NoMemory};
@@ -10,7 +10,7 @@ use std::alloc::{AllocError, AllocFailed};
 use std::fmt;
 use thiserror::Error;
 
-/// The store refused.
+/// The store failed.
 #[derive(Clone, Copy, Debug, PartialEq, Eq)]
 pub struct BadStore;
 
@@ -24,15 +24,17 @@ impl RefusalKind for BadStore {
     }
 }
 
-/// Why a keeper's read or change failed. Nothing was changed, where no fault shut the keeper. Its text is its word.
+/// Why a read or a change of a keeper failed. Nothing was changed, unless a fault has shut the
+/// keeper. Its text is its word.
 pub type KeeperFault = Fault<BadStore>;
 
-/// Why a keeper's founding failed. Nothing was changed, where no fault shut the keeper. Its text is its word.
+/// Why a founding by a keeper failed. Nothing was changed, unless a fault has shut the keeper. Its
+/// text is its word.
 #[derive(Clone, Copy, Debug, PartialEq, Eq, Error)]
 pub enum PlacingFault {
-    /// The laboratory is there already.
+    /// The laboratory already exists.
     LabExists,
-    /// The store refused.
+    /// The store failed.
     Storage,
     /// Memory ran out.
     Memory,
@@ -50,14 +52,14 @@ impl PlacingFault {
         }
     }
 
-    /// The number by which the fault is known.
+    /// The number of the fault.
     pub fn number(&self) -> Option<u32>
         ensures { result ≡ Some (placing_fault_entry self.now).number }
     {
         Some(self.entry().0)
     }
 
-    /// The word by which the fault is known.
+    /// The word of the fault.
     pub fn word(&self) -> &'static str
         ensures { result.now ≡ (placing_fault_entry self.now).word }
     {

@@ -1,4 +1,4 @@
-//! A record as it was looked up, with what is known of its versions' digests.
+//! A record that was looked up, and what is known about the digests of its versions.
 ghost use Rattle.std.specs.Prelude.{◌≡◌, ◌<◌, length, None, Some, IfOk, IfSome, IsTrue, option_and_then, option_map, position, slice_get};
 ghost use Rattle.lab_records_kept.specs.Bound.{IsChain};
 ghost use Rattle.lab_records_kept.specs.Digests.{digest_of};
@@ -10,10 +10,11 @@ use lab_seal_versions::Digest;
 use std::alloc::Global;
 use std::marker::Model;
 
-/// A record as it was looked up. A contract sees the record.
+/// A record that was looked up. A contract sees the record.
 ///
-/// If the laboratory's code stands beside the record, each later version is known to name the digest of the version before it.
-/// `digest_at` then returns the digest that the next version names, and hashes the last version alone.
+/// If the code of the laboratory is kept with the record, it is known that each later version names
+/// the digest of the version before it. `digest_at` then returns the digest that the next version
+/// names, and hashes only the last version.
 pub struct FoundRecord {
     kept: Record,
     // The code of the laboratory in which the versions are known to be chained.
@@ -45,7 +46,7 @@ impl Model for FoundRecord {
 }
 
 impl FoundRecord {
-    /// The record, of whose digests nothing is known. It takes no memory.
+    /// Makes a found record without knowledge of its digests. It takes no memory.
     pub fn new(kept: Record) -> FoundRecord
         ensures { result ≡ kept }
     {
@@ -55,8 +56,8 @@ impl FoundRecord {
         }
     }
 
-    /// The record, whose later versions each name the digest of the version before, in the laboratory of the code. It takes no
-    /// memory.
+    /// Makes a found record in which each later version names the digest of the version before, in
+    /// the laboratory with the code. It takes no memory.
     pub fn chained(kept: Record, lab: LabCode) -> FoundRecord
         requires { IsChain lab kept None kept.versions }
         ensures { result ≡ kept }
@@ -74,7 +75,7 @@ impl FoundRecord {
         &self.kept
     }
 
-    /// The record, alone.
+    /// Returns the record only.
     pub fn into_kept(self) -> Record
         ensures { result ≡ self }
     {
@@ -85,7 +86,7 @@ impl FoundRecord {
         kept
     }
 
-    /// The place of the version that has the number.
+    /// Returns the place of the version with the number.
     pub fn place_of(&self, number: Ordinal) -> Option<usize>
         ensures value { option_and_then (slice_get self.now.versions) result
             ≡ version_of self.now.versions number }
@@ -94,7 +95,8 @@ impl FoundRecord {
         place_of_version(self.kept.versions.as_slice(), number)
     }
 
-    /// The digest of the version at the place, in the laboratory of the code. The only error is out of memory.
+    /// Returns the digest of the version at the place, in the laboratory with the code. The only
+    /// error is that memory ran out.
     ///
     /// # Errors
     /// Memory ran out.
@@ -128,7 +130,8 @@ impl FoundRecord {
         Some(amendment.previous)
     }
 
-    // Whether each later version is known to name the digest of the version before it, in the laboratory of the code.
+    // Whether it is known that each later version names the digest of the version before it, in the
+    // laboratory with the code.
     fn is_chained_in(&self, lab: &LabCode) -> bool
         ensures { IsTrue result → IsChain lab.now self.now None self.now.versions }
     {
@@ -139,7 +142,7 @@ impl FoundRecord {
     }
 }
 
-/// Where the version of the number stands.
+/// Returns the place of the version with the number.
 pub fn place_of_version(versions: &[Version], number: Ordinal) -> Option<usize>
     ensures place { result ≡ position (is_numbered number) versions.now }
     ensures within { IfSome result (λ place. place < length versions.now) }

@@ -1,7 +1,7 @@
-//! Who keeps laboratories: a list in memory, or the tables of a database. One body of the desk
-//! serves every keeper, so what a keeper promises is said here: of the meaning of each laboratory,
-//! of the keeper's own rows, of what passes from one call to the next, and of what a crash may
-//! leave.
+//! Keepers of laboratories: a list in memory, or the tables of a database. The same code of the
+//! desk works with every keeper, so a keeper's promises are stated here: about the meaning of each
+//! laboratory, about the keeper's own rows, about what stays true from one call to the next, and
+//! about what a crash may leave.
 
 ghost use Rattle.std.specs.Prelude.{◌≡◌, ◌≢◌, ℕ, List, [], Option, Some, Err, IsSome, IfOk, IfErr, OnOk, OnErr};
 ghost use Rattle.lab_records_kept.specs.declared.labs.Lab.{Lab as WholeLab};
@@ -20,19 +20,19 @@ use lab_forms_texts::{LabCode, Series};
 
 /// A keeper of laboratories.
 pub trait Keeper {
-    /// What is known of the keeper at a moment.
+    /// What is known about the keeper at a moment.
     ghost world: { Self → World };
 
-    /// The rows are as they were.
+    /// The rows are as they were before.
     ghost rests: { Self → Self → Type 0 };
 
-    /// The rows are as they were but for these changes of the laboratory of this code.
+    /// The rows are as they were before, except for these changes of the laboratory with this code.
     ghost moves: { Self → Self → List ℕ → List OneChange → Type 0 };
 
-    /// The rows are as they were but for this laboratory, which is new.
+    /// The rows are as they were before, except for this laboratory, which is new.
     ghost places: { Self → Self → WholeLab → Type 0 };
 
-    /// The part of a laboratory that is needed, or none where there is no laboratory of that code.
+    /// Returns the part of a laboratory that is needed, or `None` if no laboratory has that code.
     fn load(&mut self, code: &LabCode, need: &Need) -> Result<Option<Slice>, KeeperFault>
         ensures part { Given (world self.old) (world self.new)
             (IfOk result (λ found. found ≡ part_of need.now ((world self.old).meaning code.now))) }
@@ -52,10 +52,10 @@ pub trait Keeper {
             (Shuts (world self.old) (world self.new)) }
         ensures passes { Passes (world self.old) (world self.new) };
 
-    /// Makes changes of one laboratory, all or none, by one commit; by none where there is no
-    /// change.
+    /// Makes changes of one laboratory, all or none, in one commit; without a commit if there are
+    /// no changes.
     fn apply(&mut self, code: &LabCode, changes: Series<Change>) -> Result<(), KeeperFault>
-        // Where the changes fit:
+        // If the changes fit:
         ensures changed { ChangesFit ((world self.old).meaning code.now) changes →
             Given (world self.old) (world self.new)
             (OnOk result (Changes code.now changes (world self.old).meaning
@@ -75,7 +75,7 @@ pub trait Keeper {
         ensures reached { ChangesFit ((world self.old).meaning code.now) changes →
             Given (world self.old) (world self.new) (world self.new).is_reached }
 
-        // Whatever they are:
+        // For any changes:
         ensures err { Given (world self.old) (world self.new)
             (OnErr result (Leaves (world self.old) (world self.new))) }
         ensures rows_err { Given (world self.old) (world self.new)
@@ -91,7 +91,7 @@ pub trait Keeper {
             (Shuts (world self.old) (world self.new)) }
         ensures passes { Passes (world self.old) (world self.new) };
 
-    /// Founds a laboratory by one commit, where there is none of that code.
+    /// Founds a laboratory in one commit, if no laboratory has that code.
     fn found(&mut self, newborn: Newborn) -> Result<(), PlacingFault>
         ensures founded { Given (world self.old) (world self.new)
             (OnOk result (Places (newborn_lab newborn)
@@ -126,23 +126,25 @@ pub trait Keeper {
         (world keeper).is_live → (world keeper).is_reached →
         (world keeper).meaning code ≡ Some lab → lab.code ≡ code };
 
-    /// So is one that a crash leaves, where it leaves well-kept tables alone.
+    /// A laboratory that a crash leaves is also kept under its own code, if the crash leaves
+    /// well-kept tables alone.
     ghost kept_left: { (keeper : Self) (held : AnyMeaning) (code : List ℕ) (lab : WholeLab) →
         (world keeper).is_honest → (world keeper).is_live → (world keeper).is_safe →
         (world keeper).may_leave held → held code ≡ Some lab → lab.code ≡ code };
 
-    /// Rows that nobody touched are as they were.
+    /// Rows that no call changed are as they were before.
     ghost still: { (keeper : Self) → rests keeper keeper };
 
-    /// Rows that stay as they were stay so over two calls.
+    /// Rows that stay the same in each of two calls stay the same over both.
     ghost rests_on: { (first next last : Self) → rests first next → rests next last →
         rests first last };
 
-    /// Rows that stay as they were have made no change.
+    /// Rows that stay the same show no change.
     ghost rests_unchanged: { (first next : Self) (code : List ℕ) → rests first next →
         moves first next code [] };
 
-    /// Changes after a call that left the rows are the same changes of the rows before it.
+    /// Changes after a call that left the rows as they were are the same changes of the rows before
+    /// that call.
     ghost moves_on: { (first next last : Self) (code : List ℕ) (changes : List OneChange) →
         rests first next → moves next last code changes → moves first last code changes };
 }

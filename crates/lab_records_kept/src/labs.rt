@@ -6,23 +6,24 @@ use lab_people_access::{Person, Session};
 
 /// One laboratory, whole.
 pub struct Lab {
-    /// The code by which requests name it.
+    /// The code with which requests name the laboratory.
     pub code: LabCode,
-    /// Its name, as founded.
+    /// The name of the laboratory, as founded.
     pub name: Name,
-    /// The moment of its last activity; no later request may come before it.
+    /// The moment of the last activity. No later request may have an earlier moment.
     pub last: Moment,
-    /// How many passwords were given for an unknown code, or for a person who is retired or has none; counted up to a limit.
+    /// How many passwords were given for a code that nobody has, or for a person who is retired or
+    /// has no password; counted up to a limit.
     pub strays: u64,
-    /// Its persons, in the order of their codes.
+    /// The persons, in the order of their codes.
     pub persons: Series<Person>,
-    /// Its sessions, by number.
+    /// The sessions, by number.
     pub sessions: Series<Session>,
-    /// The versions of its forms, in the order of their codes and numbers.
+    /// The versions of the forms, in the order of their codes and numbers.
     pub forms: Series<FormVersion>,
-    /// Its records, by number.
+    /// The records, by number.
     pub records: Series<Record>,
-    /// Its trail, by number.
+    /// The rows of the trail, by number.
     pub trail: Series<TrailRow>,
 }
 

@@ -1,7 +1,8 @@
-//! What is kept of a laboratory: its persons and sessions, forms, records with their versions and signatures, and its
-//! trail; which part of it a command needs, and which changes are made of it (ISO/IEC 17025:2017, 7.5 and 8.4). It knows
-//! no command, no bytes of a request and no tables. The names of the crates below that these types are made of are passed
-//! on. A `Drop` that is written out spares each caller the proof of how each part is dropped.
+//! What is kept of a laboratory: its persons and sessions, forms, records with their versions and
+//! signatures, and its trail; which part of a laboratory a command needs, and which changes are
+//! made (ISO/IEC 17025:2017, 7.5 and 8.4). This crate knows no commands, no bytes of requests and
+//! no tables. It re-exports the names of the crates below of which these types are made. A `Drop`
+//! that is written out saves each caller the proof of how each part is dropped.
 #![tactic(auto)]
 
 mod births;

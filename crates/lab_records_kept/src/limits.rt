@@ -1,5 +1,6 @@
-//! How much a laboratory holds at the most, but for its persons and for the fields of a form. The definitions stand in
-//! `specs/Limits.antt`; that code refuses by the same number is what its contracts say.
+//! The limits of a laboratory, except those of its persons and of the fields of a form. The
+//! definitions are in `specs/Limits.antt`; the contracts state that the code refuses at the same
+//! numbers.
 
 /// The most versions of a form.
 pub const FORM_VERSIONS_LIMIT: u32 = 99;

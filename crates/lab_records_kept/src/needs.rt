@@ -1,4 +1,4 @@
-//! Which part of a laboratory is needed, and that part.
+//! The part of a laboratory that a command needs.
 ghost use Rattle.std.specs.Prelude.{◌≡◌, option_copied};
 
 use crate::found::FoundRecord;
@@ -13,16 +13,16 @@ use lab_seal_versions::Digest;
 pub enum FormWanted {
     /// The last version of the form.
     Last { code: Key },
-    /// The version of the number.
+    /// The version with the number.
     Exact { code: Key, version: Ordinal },
 }
 
 /// Which record is needed.
 #[derive(Drop)]
 pub enum RecordWanted {
-    /// The record of the number.
+    /// The record with the number.
     Numbered { number: Ordinal },
-    /// The record of the form and the sample, whatever the form's version.
+    /// The record of the form and the sample, with any version of the form.
     About { form: Key, sample: Name },
 }
 
@@ -37,11 +37,11 @@ pub enum ListWanted {
     Trail { from: Ordinal, to: Ordinal },
 }
 
-/// Which part of a laboratory is needed. Nothing else of it is.
+/// Which part of a laboratory is needed. Nothing else is loaded.
 pub struct Need {
-    /// The session whose token has the digest, and its person.
+    /// The session whose token has the digest, and the person of that session.
     pub token: Option<Digest>,
-    /// The person of the code.
+    /// The person with the code.
     pub person: Option<PersonCode>,
     /// A version of a form.
     pub form: Option<FormWanted>,
@@ -63,40 +63,40 @@ impl Drop for Need {
     }
 }
 
-/// How many a laboratory has.
+/// The numbers of things that a laboratory has.
 #[derive(Clone, Copy)]
 pub struct Counts {
-    /// Persons, retired ones too.
+    /// The number of persons, retired ones too.
     pub persons: u64,
-    /// Sessions, closed ones too.
+    /// The number of sessions, closed ones too.
     pub sessions: u64,
-    /// Records.
+    /// The number of records.
     pub records: u64,
-    /// Rows of the trail.
+    /// The number of rows of the trail.
     pub trail: u64,
 }
 
 /// A part of a laboratory.
 pub struct Slice {
-    /// The laboratory's code.
+    /// The code of the laboratory.
     pub code: LabCode,
-    /// Its name.
+    /// The name of the laboratory.
     pub name: Name,
-    /// The moment of its last activity.
+    /// The moment of the last activity.
     pub last: Moment,
-    /// How many passwords were given for nobody's account.
+    /// The number of passwords that count as stray.
     pub strays: u64,
-    /// How many persons, sessions, records and rows of the trail it has.
+    /// How many persons, sessions, records and rows of the trail the laboratory has.
     pub counts: Counts,
-    /// The session that is needed, where it is there.
+    /// The session that is needed, if it exists.
     pub session: Option<Session>,
     /// The person of that session.
     pub caller: Option<Person>,
-    /// The person who is needed, where somebody has or had the code.
+    /// The person who is needed, if somebody has or had the code.
     pub person: Option<Person>,
-    /// The version of a form that is needed, where it is there.
+    /// The version of a form that is needed, if it exists.
     pub form: Option<FormVersion>,
-    /// The record that is needed, where it is there.
+    /// The record that is needed, if it exists.
     pub filed: Option<FoundRecord>,
     /// The persons that are needed.
     pub persons: Series<Person>,
@@ -127,7 +127,7 @@ impl Drop for Slice {
 }
 
 impl Slice {
-    /// The record that is needed, alone.
+    /// Returns only the record that is needed.
     pub fn into_filed(self) -> Option<Record>
         ensures { result ≡ self.filed }
     {
@@ -162,7 +162,7 @@ impl Slice {
         }
     }
 
-    /// The laboratory's code and name, alone.
+    /// Returns only the code and the name of the laboratory.
     pub fn into_naming(self) -> (LabCode, Name)
         ensures code { result.0 ≡ self.code }
         ensures name { result.1 ≡ self.name }

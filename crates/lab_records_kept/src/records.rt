@@ -1,4 +1,5 @@
-//! Records with their versions and signatures, and the versions of forms by which they are filled in.
+//! Records with their versions and signatures, and the versions of the forms with which they are
+//! filled in.
 ghost use Rattle.std.specs.Prelude.{◌≡◌, IfOk, map, option_copied};
 ghost use Rattle.lab_seal_versions.specs.States.{state_of as state_by};
 ghost use Rattle.lab_records_kept.specs.Lookups.{last_of, version_of};
@@ -11,11 +12,11 @@ use std::alloc::AllocError;
 
 /// One version of a form.
 pub struct FormVersion {
-    /// By what the form is known.
+    /// The key of the form.
     pub code: Key,
-    /// The number of the version, from 1 on.
+    /// The number of the version, from 1.
     pub version: Ordinal,
-    /// What it asks for.
+    /// The form: what the version asks for.
     pub form: Form,
 }
 
@@ -60,17 +61,17 @@ impl Drop for Signature {
 
 /// A version of a record.
 pub struct Version {
-    /// The format of its text.
+    /// The format of the version's text.
     pub format: Format,
-    /// Its number, and what a later version amends and why.
+    /// The number of the version, and what a later version amends and why.
     pub origin: Origin,
-    /// Who opened it.
+    /// Who opened the version.
     pub opener: PersonCode,
-    /// When it was opened.
+    /// When the version was opened.
     pub opened: Moment,
-    /// Its rows in the order in which they were entered.
+    /// The rows of the version, in the order in which they were entered.
     pub rows: EntryRows,
-    /// Its signatures in the order in which they were given.
+    /// The signatures of the version, in the order in which they were given.
     pub signatures: Series<Signature>,
 }
 
@@ -89,13 +90,13 @@ impl Drop for Version {
 
 /// A record: a form filled in for a sample.
 pub struct Record {
-    /// Its number in the laboratory.
+    /// The number of the record in the laboratory.
     pub number: Ordinal,
-    /// The version of the form that it is filled in by.
+    /// The version of the form with which the record is filled in.
     pub form: FormVersion,
-    /// The sample that it is about.
+    /// The sample that the record is about.
     pub sample: Name,
-    /// Its versions, the first of them first.
+    /// The versions of the record, the first version first.
     pub versions: Series<Version>,
 }
 
@@ -111,7 +112,7 @@ impl Drop for Record {
 }
 
 impl FormVersion {
-    /// A copy. The only error is out of memory.
+    /// Returns a copy. The only error is that memory ran out.
     ///
     /// # Errors
     /// Memory ran out.
@@ -139,7 +140,7 @@ impl Clone for FormVersion {
 }
 
 impl Signature {
-    /// A copy. The only error is out of memory.
+    /// Returns a copy. The only error is that memory ran out.
     ///
     /// # Errors
     /// Memory ran out.
@@ -171,7 +172,7 @@ impl Clone for Signature {
 }
 
 impl Version {
-    /// Whether the person entered a row of it.
+    /// Whether the person entered a row of the version.
     pub fn has_entered(&self, person: &PersonCode) -> bool
         ensures { result ≡ has_entered person.now self.now }
     {
@@ -181,7 +182,7 @@ impl Version {
             .any(|row| row.person.as_str() == person.as_str())
     }
 
-    /// A copy. The only error is out of memory.
+    /// Returns a copy. The only error is that memory ran out.
     ///
     /// # Errors
     /// Memory ran out.
@@ -214,7 +215,7 @@ impl Clone for Version {
 }
 
 impl Record {
-    /// The version of a form that it fills in, and its sample, alone.
+    /// Returns only the version of a form that the record fills in, and the sample.
     pub fn into_heading(self) -> (FormVersion, Name)
         ensures form { result.0 ≡ self.form }
         ensures sample { result.1 ≡ self.sample }
@@ -228,7 +229,7 @@ impl Record {
         (form, sample)
     }
 
-    /// The version that has the number.
+    /// The version with the number.
     pub fn version(&self, number: Ordinal) -> Option<&Version>
         ensures { option_copied result ≡ version_of self.now.versions number }
     {
@@ -252,7 +253,7 @@ impl Record {
         state_by(version.signatures.as_slice(), self.form.form.approval())
     }
 
-    /// A copy. The only error is out of memory.
+    /// Returns a copy. The only error is that memory ran out.
     ///
     /// # Errors
     /// Memory ran out.
@@ -281,7 +282,7 @@ impl Clone for Record {
     }
 }
 
-// The state that signatures make, in order; none where no version has such.
+// The state that signatures make, in order; `None` if no version has such signatures.
 fn state_by(signatures: &[Signature], approval: bool) -> Option<State>
     ensures { result ≡ state_by (map meaning_of signatures.now) approval }
 {

@@ -1,4 +1,4 @@
-//! The trail: what it tells of each action, by which word and with which subject.
+//! The trail: the word and the subject with which it lists each action.
 ghost use Rattle.std.specs.Prelude.{◌≡◌, IfOk};
 ghost use Rattle.lab_records_kept.specs.Trails.{action_word, action_of};
 
@@ -7,7 +7,7 @@ use lab_people_access::Roles;
 use lab_seal_versions::Meaning;
 use std::alloc::AllocError;
 
-/// What a row of the trail tells of.
+/// The action that a row of the trail lists.
 #[derive(Clone, Copy)]
 pub enum Action {
     /// The laboratory was founded.
@@ -20,7 +20,7 @@ pub enum Action {
     Refuse,
     /// An account was locked.
     Lock,
-    /// A person changed the own password.
+    /// A person changed their own password.
     Password,
     /// A person was enrolled.
     Enrol,
@@ -47,7 +47,7 @@ pub enum Action {
 }
 
 impl Action {
-    /// The word by which the action is known.
+    /// The word of the action.
     pub fn word(self) -> &'static str
         ensures { result.now ≡ action_word self }
     {
@@ -84,18 +84,18 @@ pub enum Occasion {
     Signing,
 }
 
-/// What was done, with what it was done to.
+/// What was done, and to what it was done.
 #[derive(Drop)]
 pub enum Deed {
-    /// The laboratory of the code was founded.
+    /// The laboratory with the code was founded.
     Found {
         lab: LabCode,
     },
-    /// The session of the number was opened.
+    /// The session with the number was opened.
     Open {
         session: Ordinal,
     },
-    /// The session of the number was closed by its person.
+    /// The session with the number was closed by its person.
     Close {
         session: Ordinal,
     },
@@ -107,7 +107,7 @@ pub enum Deed {
     Lock {
         person: PersonCode,
     },
-    /// The person changed the own password.
+    /// The person changed their own password.
     Password {
         person: PersonCode,
     },
@@ -166,7 +166,7 @@ pub enum Deed {
 }
 
 impl Deed {
-    /// What the trail tells of it.
+    /// The action with which the trail lists the deed.
     pub fn action(&self) -> Action
         ensures { result ≡ action_of self.now }
     {
@@ -197,11 +197,11 @@ pub type Subject = Writing;
 
 /// A row of the trail.
 pub struct TrailRow {
-    /// Its number in the laboratory, from 1 on.
+    /// The number of the row in the laboratory, from 1.
     pub number: Ordinal,
     /// When it was done.
     pub moment: Moment,
-    /// Who did it, or whose password was given; nobody at a founding.
+    /// Who did it, or whose password was given; `None` at a founding.
     pub person: Option<PersonCode>,
     /// What was done.
     pub action: Action,
@@ -222,7 +222,7 @@ impl Drop for TrailRow {
 }
 
 impl TrailRow {
-    /// A copy. The only error is out of memory.
+    /// Returns a copy. The only error is that memory ran out.
     ///
     /// # Errors
     /// Memory ran out.

@@ -1,4 +1,4 @@
-//! The laws of births.
+//! The laws of foundings.
 ghost use Rattle.std.specs.Prelude.{◌≡◌, ◌≢◌, ℕ, List, true, false, Some, None, Ok};
 ghost use Rattle.lab_forms_texts.specs.declared.tick.Tick.{Tick};
 ghost use Rattle.lab_records_kept.specs.declared.labs.Lab.{Lab};
@@ -11,8 +11,9 @@ ghost use Rattle.lab_records_machine.specs.Births.{is_code_shared, are_passwords
 ghost use Rattle.lab_records_machine.specs.Machine.{step};
 ghost use Rattle.lab_records_laws.specs.Births.{IsFounded};
 
-/// Law: where three founders have three codes and passwords that may be chosen, a laboratory is born. It has them as
-/// administrators, one row in its trail, and nothing else, and so it is within its limits, bound and under dual control.
+/// Law: if three founders have three different codes, and passwords that may be chosen, a
+/// laboratory is founded. It has them as administrators, one row in its trail, and nothing else; so
+/// it is within its limits, bound and under dual control.
 pub fn a_birth_is_right()
     ensures taken { (code : List ℕ) (tick : Tick) (founding : Founding)
         → is_code_shared founding ≡ false → are_passwords founding ≡ true
@@ -23,7 +24,8 @@ pub fn a_birth_is_right()
         → born None code tick founding ≡ Ok lab → IsWithin lab × IsBound lab × IsDual lab }
 {}
 
-/// Law: a laboratory comes by its birth alone: no step makes one, and none is born where there is one.
+/// Law: a laboratory begins only with a founding: no step makes one, and none is founded if one has
+/// the code already.
 pub fn a_laboratory_is_born_once()
     ensures step { (tick : Tick) (instruction : Instruction)
         → (step None tick instruction).after ≡ None }

@@ -6,8 +6,9 @@ ghost use Rattle.lab_records_machine.specs.declared.commands.Instruction.{Instru
 ghost use Rattle.lab_records_machine.specs.Machine.{step};
 ghost use Rattle.lab_records_laws.specs.Stepping.{HoldsOf};
 
-/// Law: where each signature of a laboratory names the digest of its version and bears its own seal, and each version names
-/// the digest of the one that it amends, they do so after a step as well, whatever the instruction.
+/// Law: if each signature of a laboratory names the digest of its version and has its own seal, and
+/// each version names the digest of the version that it amends, this holds after a step too,
+/// whatever the instruction is.
 pub fn a_step_keeps_bound()
     ensures { (lab : Lab) → (tick : Tick) → (instruction : Instruction) → IsBound lab
         → HoldsOf IsBound (step (Some lab) tick instruction).after }

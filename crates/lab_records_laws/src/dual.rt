@@ -6,9 +6,9 @@ ghost use Rattle.lab_records_machine.specs.declared.commands.Instruction.{Instru
 ghost use Rattle.lab_records_machine.specs.Machine.{step};
 ghost use Rattle.lab_records_laws.specs.Stepping.{HoldsOf};
 
-/// Law: where the signatures of each version of a laboratory are those of a state and are given by whom they may be, and
-/// every version but the last of a record is released or rejected, they are so after a step as well, whatever the
-/// instruction.
+/// Law: if the signatures of each version of a laboratory make a state and were given by persons
+/// who may give them, and every version of a record except the last is released or rejected, this
+/// holds after a step too, whatever the instruction is.
 pub fn a_step_keeps_dual()
     ensures { (lab : Lab) → (tick : Tick) → (instruction : Instruction) → IsDual lab
         → HoldsOf IsDual (step (Some lab) tick instruction).after }

@@ -1,8 +1,8 @@
-//! The laws of the small machine, over its definitions alone: every birth leaves a laboratory within its
-//! limits, bound and under dual control, and every step keeps it so and keeps what was; a copy that is
-//! handed out is sound; and what is decided on a part is the step of the whole laboratory (21 CFR
-//! 11.10(b) and (e), 11.70; ISO/IEC 17025:2017, 7.5 and 8.4). Each function does nothing: its contract
-//! says the law, for all laboratories.
+//! The laws of the small machine, over its definitions only: every founding leaves a laboratory
+//! within its limits, bound and under dual control; every step keeps it so, and keeps what was; a
+//! copy in a reply is sound; and what is decided on a part is the step of the whole laboratory (21
+//! CFR 11.10(b) and (e), 11.70; ISO/IEC 17025:2017, 7.5 and 8.4). Each function does nothing: its
+//! contract states the law, for all laboratories.
 #![tactic(auto)]
 
 mod births;

@@ -8,15 +8,16 @@ ghost use Rattle.lab_records_machine.specs.Machine.{step};
 ghost use Rattle.lab_records_laws.specs.Asking.{IsAskedRightly, IsCommandFormed};
 ghost use Rattle.lab_records_laws.specs.Stepping.{HoldsOf};
 
-/// Law: a step leaves a laboratory within its limits, and what is numbered in it without gaps, where it was so before, and
-/// where the form of a command that makes one has no more fields than it may.
+/// Law: a step leaves a laboratory within its limits, and its numbers without gaps, if both held
+/// before the step, and if a form that the command makes has no more fields than it may have.
 pub fn a_step_keeps_limits()
     ensures { (lab : Lab) (tick : Tick) (instruction : Instruction) → IsWithin lab
         → IsAskedRightly instruction
         → HoldsOf IsWithin (step (Some lab) tick instruction).after }
 {}
 
-/// Law: whoever asks for a form asks rightly, since a form has no more fields than it may.
+/// Law: an instruction asks rightly if its form is well formed, since such a form has no more
+/// fields than it may have.
 pub fn a_form_is_asked_rightly()
     ensures { (instruction : Instruction) → IsCommandFormed instruction.command
         → IsAskedRightly instruction }

@@ -1,4 +1,4 @@
-//! One laboratory in memory, with the changes that are still to be made of it.
+//! One laboratory in memory, with the changes that still have to be made.
 ghost use Rattle.std.specs.Prelude.{◌≡◌, ◌-◌, ◌<◌, [], length, OnOk, OnErr, IfOk};
 ghost use Rattle.lab_records_kept.specs.Changes.{changed};
 ghost use Rattle.lab_records_kept.specs.Parts.{part};
@@ -9,10 +9,10 @@ use lab_records_kept::{Change, Lab, LabCode, Need, OutOfMemory, Series, Slice};
 use std::alloc::Global;
 use std::marker::Model;
 
-/// A laboratory, and changes that were taken and are not made yet, the first of them first.
+/// A laboratory, and changes that were taken but aren't made yet, the first change first.
 ///
-/// A contract sees the laboratory that it is once they are made. They are made at once; only where memory ran out in the middle are
-/// some left, and the next call makes them before all else.
+/// A contract sees the laboratory as it is after these changes. Changes are made at once; some are
+/// left only if memory ran out in the middle, and the next call makes them before anything else.
 pub struct Held {
     lab: Lab,
     left: Vec<Change>,
@@ -35,7 +35,7 @@ impl Model for Held {
 }
 
 impl Held {
-    /// The laboratory, with no change left.
+    /// Makes a laboratory without changes that are left.
     pub fn new(alloc: Global, lab: Lab) -> Held
         ensures { result ≡ lab }
     {
@@ -45,7 +45,7 @@ impl Held {
         }
     }
 
-    /// Whether the laboratory has the code, which no change changes.
+    /// Whether the laboratory has the code. No change alters the code.
     #[tactic(auto, using(crate::proofs::Listing::code_kept))]
     pub fn has_code(&self, code: &LabCode) -> bool
         ensures { result ≡ has_code code.now self.now }
@@ -53,7 +53,7 @@ impl Held {
         self.lab.code.as_str() == code.as_str()
     }
 
-    /// The part of it that is needed. The only error is out of memory.
+    /// Returns the part of the laboratory that is needed. Fails only if memory runs out.
     ///
     /// # Errors
     /// Memory ran out.
@@ -65,7 +65,8 @@ impl Held {
         crate::part(alloc, &self.lab, need)
     }
 
-    /// Takes the changes, all or none. The only error is out of memory, for changes that were left; the laboratory is then as before.
+    /// Takes all the changes or none. Fails only if memory runs out for changes that were left; the
+    /// laboratory is then as before.
     ///
     /// # Errors
     /// Memory ran out.
@@ -75,13 +76,14 @@ impl Held {
     {
         settle(alloc, &mut self.lab, &mut self.left)?;
         self.left = changes.into_vec();
-        // What memory is lacking for is left for the next call.
+        // Changes for which there is no memory are left for the next call.
         let _ = settle(alloc, &mut self.lab, &mut self.left);
         Ok(())
     }
 }
 
-// Makes the changes that are left, as far as there is memory for them. Out of memory is an error only where some are left.
+// Makes the changes that are left, as far as there is memory for them. Fails only if memory runs
+// out, and only if changes were left.
 fn settle(alloc: Global, lab: &mut Lab, left: &mut Vec<Change>) -> Result<(), OutOfMemory>
     ensures same { changed lab.new left.new.items ≡ changed lab.old left.old.items }
     ensures ok { OnOk result (left.new.items ≡ []) }
@@ -93,7 +95,7 @@ fn settle(alloc: Global, lab: &mut Lab, left: &mut Vec<Change>) -> Result<(), Ou
     Ok(())
 }
 
-// Makes the first of the changes that are left.
+// Makes the first change that is left.
 fn make_first(alloc: Global, lab: &mut Lab, left: &mut Vec<Change>) -> Result<(), OutOfMemory>
     ensures same { changed lab.new left.new.items ≡ changed lab.old left.old.items }
     ensures ok { OnOk result (length left.new.items ≡ length left.old.items - 1) }

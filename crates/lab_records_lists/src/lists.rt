@@ -39,7 +39,7 @@ impl Model for Lists {
 }
 
 impl Lists {
-    /// No laboratories.
+    /// Makes a list without laboratories.
     pub fn new(alloc: Global) -> Lists
         ensures { result ≡ [] }
     {
@@ -97,21 +97,22 @@ impl Keeper for Lists {
     ghost moves_on = { changed_after_rest };
 }
 
-// The laboratory of the code, if there is one.
+// The laboratory with the code, if there is one.
 fn held_of<'a>(labs: &'a [Held], code: &LabCode) -> Option<&'a Held>
     ensures { option_copied result ≡ lab_of labs.now code.now }
 {
     labs.iter().find(|held| held.has_code(code))
 }
 
-// Where the laboratory of the code stands, if there is one.
+// The place of the laboratory with the code, if there is one.
 fn place_of(labs: &[Held], code: &LabCode) -> Option<usize>
     ensures { result ≡ position (has_code code.now) labs.now }
 {
     labs.iter().position(|held| held.has_code(code))
 }
 
-// The part of the laboratory of the code that is needed, where there is one. The only error is out of memory, where there is.
+// The part that is needed of the laboratory with the code, if there is one. Fails only if memory
+// runs out, and only if there is that laboratory.
 fn part_in(
     labs: &mut Vec<Held>,
     alloc: Global,
@@ -131,7 +132,8 @@ fn part_in(
     Ok(Some(slice))
 }
 
-// Makes the changes of the laboratory of the code, where there is one. The only error is out of memory, where there is.
+// Makes the changes of the laboratory with the code, if there is one. Fails only if memory runs
+// out, and only if there is that laboratory.
 fn apply_in(
     labs: &mut Vec<Held>,
     alloc: Global,
@@ -152,7 +154,8 @@ fn apply_in(
     Ok(())
 }
 
-// The laboratory that is founded, where there is none of its code. The only error is out of memory, where there is none.
+// The founded laboratory, if no laboratory has its code. Fails only if memory runs out, and only if
+// no laboratory has the code.
 fn founded_beside(
     labs: &[Held],
     alloc: Global,
@@ -173,7 +176,7 @@ fn founded_beside(
     }
 }
 
-// The laboratory that is founded.
+// The founded laboratory.
 fn founded_lab(alloc: Global, newborn: Newborn) -> Result<Lab, OutOfMemory>
     ensures { IfOk result (λ lab. lab ≡ newborn_lab newborn) }
 {
@@ -217,7 +220,7 @@ fn founders(
     Ok(persons)
 }
 
-// The first row of the trail: that the laboratory was founded.
+// The first row of the trail, which states that the laboratory was founded.
 fn first_trail(alloc: Global, newborn: &Newborn) -> Result<Series<TrailRow>, OutOfMemory>
     ensures { IfOk result (λ trail.
         trail ≡ row_of 1 newborn.now.moment None (Found newborn.now.code) ∷ []) }

@@ -1,4 +1,4 @@
-//! Who and what is meant by a code, a token or a number.
+//! The persons, sessions, forms and records that have a code, a token or a number.
 ghost use Rattle.std.specs.Prelude.{◌≡◌, bytes_eq, find, option_copied};
 ghost use Rattle.lab_people_access.specs.Persons.{person_of};
 ghost use Rattle.lab_people_access.specs.Sessions.{session_of};
@@ -8,7 +8,7 @@ use lab_records_kept::{
     Digest, FormVersion, Key, Name, Ordinal, Person, PersonCode, Record, Session,
 };
 
-/// Who has the code, or had it.
+/// Returns the person who has or had the code.
 #[tactic(auto, using(crate::proofs::Finds::person_found))]
 pub fn person_of<'a>(persons: &'a [Person], code: &PersonCode) -> Option<&'a Person>
     ensures { option_copied result ≡ person_of persons.now code.now }
@@ -24,7 +24,7 @@ fn first_person<'a>(persons: &'a [Person], code: &PersonCode) -> Option<&'a Pers
         .find(|one| one.code.as_str() == code.as_str())
 }
 
-/// The session whose token has the digest, open or closed.
+/// Returns the session whose token has the digest, open or closed.
 #[tactic(auto, using(crate::proofs::Finds::session_found))]
 pub fn session_of<'a>(sessions: &'a [Session], digest: &Digest) -> Option<&'a Session>
     ensures { option_copied result ≡ session_of sessions.now digest.now }
@@ -38,7 +38,7 @@ fn first_session<'a>(sessions: &'a [Session], digest: &Digest) -> Option<&'a Ses
     sessions.iter().find(|one| one.token == *digest)
 }
 
-/// The last version of a form: the one that was made last.
+/// Returns the last version of a form: the one that was made last.
 pub fn last_form<'a>(forms: &'a [FormVersion], code: &Key) -> Option<&'a FormVersion>
     ensures { option_copied result ≡ last_form forms.now code.now }
 {
@@ -48,7 +48,7 @@ pub fn last_form<'a>(forms: &'a [FormVersion], code: &Key) -> Option<&'a FormVer
         .find(|one| one.code.as_str() == code.as_str())
 }
 
-/// The version of a form that has the number.
+/// Returns the version of a form with the number.
 pub fn exact_form<'a>(
     forms: &'a [FormVersion],
     code: &Key,
@@ -59,14 +59,14 @@ pub fn exact_form<'a>(
     forms.iter().find(|one| one.code.as_str() == code.as_str() && one.version == version)
 }
 
-/// The record of a number.
+/// Returns the record with the number.
 pub fn record_of(records: &[Record], number: Ordinal) -> Option<&Record>
     ensures { option_copied result ≡ record_of records.now number }
 {
     records.iter().find(|kept| kept.number == number)
 }
 
-/// The record of a form and a sample, whatever the form's version.
+/// Returns the record of a form and a sample, with any version of the form.
 pub fn record_about<'a>(records: &'a [Record], form: &Key, sample: &Name) -> Option<&'a Record>
     ensures { option_copied result ≡ record_about records.now form.now sample.now }
 {

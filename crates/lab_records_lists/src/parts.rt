@@ -1,4 +1,4 @@
-//! The part of a laboratory that is needed, as copies.
+//! The part of a laboratory that is needed, in copies.
 ghost use Rattle.std.specs.Prelude.{◌≡◌, ◌⊎◌, ◌<◌, ◌++◌, ◌∷◌, [], Ok, IfOk, IsErr, IsSome, OnErr, OnOk, length, option_and_then, option_copied};
 ghost use Rattle.lab_records_kept.specs.Lookups.{session_at, person_at, caller_of, is_within, records_within, rows_within};
 ghost use Rattle.lab_records_kept.specs.Parts.{part, counts_of, form_meant, record_meant, persons_meant, records_meant, rows_meant};
@@ -10,7 +10,7 @@ use lab_records_kept::{
 };
 use std::alloc::Global;
 
-/// The session that is needed, and its person.
+/// The session that is needed, and the person of that session.
 #[derive(Drop)]
 struct Callers {
     session: Option<Session>,
@@ -33,8 +33,8 @@ struct Listed {
     trail: Series<TrailRow>,
 }
 
-/// The part of the laboratory that is needed, as copies. The only error is out of memory; its code and its name are copied in any
-/// case, and all else only where it is found.
+/// Returns the part of the laboratory that is needed, in copies. Fails only if memory runs out. The
+/// code and the name of the laboratory are always copied, everything else only if it is found.
 ///
 /// # Errors
 /// Memory ran out.
@@ -63,7 +63,7 @@ pub fn part(alloc: Global, lab: &Lab, need: &Need) -> Result<Slice, OutOfMemory>
     })
 }
 
-// Two values, where both are made. Memory ran out only where it did for one of them.
+// Both values, if both were made. Fails only if memory ran out for one of them.
 fn both<A: Drop, B: Drop>(
     one: Result<A, OutOfMemory>,
     other: Result<B, OutOfMemory>,
@@ -77,7 +77,7 @@ fn both<A: Drop, B: Drop>(
     Ok((one, other))
 }
 
-// How many persons, sessions, records and rows of the trail it has.
+// The number of persons, sessions, records and rows of the trail of the laboratory.
 fn counts(lab: &Lab) -> Counts
     ensures { result ≡ counts_of lab.now }
 {
@@ -315,7 +315,7 @@ fn rows_listed(
     }
 }
 
-// The records whose numbers lie in the range.
+// The records with numbers in the range.
 fn records_within(
     alloc: Global,
     records: &[Record],
@@ -335,7 +335,7 @@ fn records_within(
     }
 }
 
-// The records whose numbers lie in the range, behind others.
+// Adds the records with numbers in the range, after the others.
 fn add_records_within(
     list: &mut Series<Record>,
     records: &[Record],
@@ -361,7 +361,7 @@ fn add_record(list: &mut Series<Record>, kept: &Record) -> Result<(), OutOfMemor
     Ok(())
 }
 
-// The rows of a trail whose numbers lie in the range.
+// The rows of a trail with numbers in the range.
 fn rows_within(
     alloc: Global,
     trail: &[TrailRow],
@@ -381,7 +381,7 @@ fn rows_within(
     }
 }
 
-// The rows of a trail whose numbers lie in the range, behind others.
+// Adds the rows of a trail with numbers in the range, after the others.
 fn add_rows_within(
     list: &mut Series<TrailRow>,
     trail: &[TrailRow],

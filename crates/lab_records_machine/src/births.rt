@@ -1,4 +1,5 @@
-//! What a founding gives a laboratory, why one is refused, and what a keeper founds a laboratory from.
+//! What a founding brings to a laboratory, why a founding is refused, and the data of which a
+//! keeper founds a laboratory.
 ghost use Rattle.std.specs.Prelude.{◌≡◌, Some, None, Ok, Err, bytes_eq, IfOk, IfErr};
 ghost use Rattle.lab_records_kept.specs.Births.{newborn_lab};
 ghost use Rattle.lab_records_machine.specs.Births.{birth_entry, is_code_shared, are_passwords, founder_person, newborn, born};
@@ -9,7 +10,7 @@ use lab_records_kept::Newborn;
 use lab_records_rules::Typed;
 use lab_seal_hashes::founder_salts;
 
-/// One of the persons by whom a laboratory is founded, who become its administrators.
+/// One of the persons who found a laboratory, and who become its administrators.
 #[derive(Drop)]
 pub struct Founder {
     /// The code.
@@ -20,7 +21,7 @@ pub struct Founder {
     pub password: Typed,
 }
 
-/// What a founding gives a laboratory: its name, and three administrators.
+/// What a founding brings to a laboratory: its name, and three administrators.
 #[derive(Drop)]
 pub struct Founding {
     /// The laboratory's name.
@@ -36,11 +37,11 @@ pub struct Founding {
 /// Why a laboratory isn't founded.
 #[derive(Clone, Copy, Debug, PartialEq, Eq)]
 pub enum BirthRefusal {
-    /// Two founders have one code.
+    /// Two founders have the same code.
     CodeTaken,
-    /// A password has fewer than 12 bytes or more than 128.
+    /// A password has fewer than 12 or more than 128 bytes.
     BadPassword,
-    /// There is a laboratory of the code.
+    /// A laboratory already has the code.
     LabExists,
 }
 
@@ -57,7 +58,7 @@ impl RefusalKind for BirthRefusal {
 }
 
 impl Founding {
-    // Whether two of the founders have one code.
+    // Whether two of the founders have the same code.
     fn is_code_shared(&self) -> bool
         ensures { result ≡ is_code_shared self.now }
     {
@@ -77,7 +78,7 @@ impl Founding {
 }
 
 impl Founder {
-    // The founder as an administrator, whose password was chosen at the moment and is kept with the salt.
+    // The founder as an administrator, with the password, chosen at the moment, and the salt.
     fn into_person(self, salt: [u8; 16], moment: Moment) -> Person
         ensures { result ≡ founder_person self salt moment }
     {
@@ -100,11 +101,12 @@ fn is_same(one: &PersonCode, other: &PersonCode) -> bool
     one.as_str() == other.as_str()
 }
 
-/// What a keeper founds the laboratory of the code from, where there is none of the code; or why it isn't founded. That there is
-/// one already comes last, and is the keeper's refusal.
+/// Returns the data of which a keeper founds the laboratory with the code, if no laboratory has
+/// that code; or why it isn't founded. Whether the code is already taken is tested last, and by the
+/// keeper.
 ///
 /// # Errors
-/// Why no laboratory is born.
+/// The reason why no laboratory is founded.
 pub fn bear(code: LabCode, founding: Founding, tick: &Tick) -> Result<Newborn, BirthRefusal>
     ensures ok { IfOk result (λ newborn.
         born None code tick.now founding ≡ Ok (newborn_lab newborn)) }
@@ -119,7 +121,7 @@ pub fn bear(code: LabCode, founding: Founding, tick: &Tick) -> Result<Newborn, B
     Ok(newborn(code, founding, tick))
 }
 
-// The laboratory with its three administrators, each with a salt of their own.
+// The laboratory with its three administrators. Each administrator has a salt of their own.
 fn newborn(code: LabCode, founding: Founding, tick: &Tick) -> Newborn
     ensures { newborn_lab result ≡ newborn code tick.now founding }
 {

@@ -1,4 +1,4 @@
-//! What a laboratory can be asked.
+//! The commands of a laboratory.
 ghost use Rattle.std.specs.Prelude.{◌≡◌};
 ghost use Rattle.lab_records_machine.specs.Policy.{rule_on_account, rule_on_record, rule_of_reading, rule_of};
 
@@ -8,62 +8,62 @@ use lab_people_access::{Roles, Rule};
 use lab_records_rules::{Altered, Item, Signing, Typed};
 use lab_seal_hashes::{Digest, Token};
 
-/// What is asked of a laboratory.
+/// What a request asks of a laboratory.
 #[derive(Drop)]
 pub enum Command {
     /// The laboratory's card: its code and its name.
     Card,
-    /// A session for a person, by code and password.
+    /// Open a session for a person, with code and password.
     Open { code: PersonCode, password: Typed },
-    /// What is asked in a session.
+    /// A command in a session.
     In(SessionCommand),
 }
 
-/// What is asked in a session.
+/// A command in a session.
 #[derive(Drop)]
 pub enum SessionCommand {
-    /// Something is done to the session, or to an account.
+    /// A command on the session or an account.
     OnAccount(AccountCommand),
-    /// Something is made of forms and records.
+    /// A command that makes something of forms and records.
     OnRecord(RecordCommand),
-    /// Something is read.
+    /// A command that only reads.
     Reading(ReadingCommand),
 }
 
 /// A command on a session or an account.
 #[derive(Drop)]
 pub enum AccountCommand {
-    /// The end of the session.
+    /// Close the session.
     Close,
-    /// Another password, by the old one.
+    /// Change the password, with the old one.
     ChangePassword {
         old: Typed,
         new: Typed,
     },
-    /// A new person.
+    /// Enrol a person.
     Enrol {
         code: PersonCode,
         name: Name,
         roles: Roles,
     },
-    /// A one-time word for a person.
+    /// Ask for a one-time word for a person.
     AskIssue {
         code: PersonCode,
     },
-    /// The confirmation of what another administrator asked for.
+    /// Confirm what another administrator asked for.
     ConfirmIssue {
         code: PersonCode,
     },
-    /// Other roles for a person.
+    /// Set the roles of a person.
     SetRoles {
         code: PersonCode,
         roles: Roles,
     },
-    /// That a person has left.
+    /// Retire a person.
     Retire {
         code: PersonCode,
     },
-    /// That a person's lock is taken away.
+    /// Unlock a person.
     Unlock {
         code: PersonCode,
     },
@@ -72,29 +72,29 @@ pub enum AccountCommand {
 /// A command that makes something of forms and records.
 #[derive(Drop)]
 pub enum RecordCommand {
-    /// A form, or its next version.
+    /// Make a form, or its next version.
     MakeForm {
         code: Key,
         form: Form,
     },
-    /// A new record.
+    /// Open a record.
     OpenRecord {
         form: Key,
         sample: Name,
     },
-    /// A value of a record.
+    /// Enter a value of a record.
     Enter {
         number: Ordinal,
         item: Item,
         reason: Option<Note>,
     },
-    /// A new version of a record, with other values.
+    /// Amend a record: a new version with other values.
     Amend {
         number: Ordinal,
         reason: Option<Note>,
         altered: Altered,
     },
-    /// A signature of a version of a record.
+    /// Sign a version of a record.
     Sign {
         number: Ordinal,
         version: Ordinal,
@@ -108,23 +108,23 @@ pub enum RecordCommand {
 /// A command that only reads.
 #[derive(Drop)]
 pub enum ReadingCommand {
-    /// The persons.
+    /// List the persons.
     ReadPersons,
-    /// A version of a form.
+    /// Read a version of a form.
     ReadForm { code: Key, version: Ordinal },
-    /// A record, by its versions' states.
+    /// Read a record, with the states of its versions.
     ReadRecord { number: Ordinal },
-    /// A version of a record.
+    /// Read a version of a record.
     ReadVersion { number: Ordinal, version: Ordinal },
-    /// The records from a number to a number.
+    /// List the records from a number to a number.
     ReadRecords { from: Ordinal, to: Ordinal },
-    /// The rows of the trail from a number to a number.
+    /// List the rows of the trail from a number to a number.
     ReadTrail { from: Ordinal, to: Ordinal },
-    /// A copy, for inspection, of the records from a number to a number (21 CFR 11.10(b)).
+    /// Take an inspection copy of the records from a number to a number (21 CFR 11.10(b)).
     TakeCopy { from: Ordinal, to: Ordinal },
 }
 
-/// A command, and the token of the session in which it is given, if one is named.
+/// A command, and the token of the session in which it is given, if the request has one.
 #[derive(Drop)]
 pub struct Instruction {
     /// The token.
@@ -134,7 +134,7 @@ pub struct Instruction {
 }
 
 impl SessionCommand {
-    /// The rule by which the policy lets a person give the command.
+    /// The rule of the policy for the command.
     pub fn rule(&self) -> Rule
         ensures { result ≡ rule_of self.now }
     {

@@ -1,18 +1,18 @@
-//! What a command comes to by its own case.
+//! The result of a command by itself.
 use crate::replies::Reply;
 use lab_people_access::Failure;
 use lab_records_kept::{Change, Deed, Occasion, Series};
 use lab_records_rules::Refusal;
 
-/// What a command comes to by its own case, before the trail is looked at.
+/// The result of a command by itself, before the trail is looked at.
 #[derive(Drop)]
 pub enum Done {
-    /// It is refused.
+    /// The command is refused.
     Refused(Refusal),
-    /// A password that was given for it failed.
+    /// A password that was given for the command failed.
     Failed(Occasion, Failure),
-    /// Something is read.
+    /// Something was read.
     Read(Reply),
-    /// Something is made: the reply, what the trail tells, and the changes.
+    /// Something was made: the reply, what the trail lists, and the changes.
     Made(Reply, Deed, Series<Change>),
 }

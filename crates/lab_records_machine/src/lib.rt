@@ -1,5 +1,6 @@
-//! What is decided of a laboratory: the commands that it can be asked, what it replies and refuses, and
-//! what each command makes of it (ISO/IEC 17025:2017, 7.5 and 8.4; 21 CFR Part 11). It knows no bytes of a request and no tables.
+//! What is decided about a laboratory: the commands that it has, what it replies and refuses, and
+//! what each command changes (ISO/IEC 17025:2017, 7.5 and 8.4; 21 CFR Part 11). This crate knows no
+//! bytes of requests and no tables.
 #![tactic(auto)]
 
 mod births;

@@ -1,10 +1,11 @@
-//! Short lists, as the changes of a command are. What their values are is left open, so that no list is proved twice.
+//! Short lists, such as the changes of a command. Their functions are generic, so that no list is
+//! proved twice.
 ghost use Rattle.std.specs.Prelude.{◌≡◌, ◌++◌, ◌∷◌, [], IfOk};
 
 use lab_forms_texts::{OutOfMemory, Series};
 use std::alloc::Global;
 
-/// A list of one value. The only error is out of memory.
+/// Makes a list of one value. Fails only if memory runs out.
 ///
 /// # Errors
 /// Memory ran out.
@@ -16,7 +17,7 @@ pub fn single<T: Drop>(alloc: Global, first: T) -> Result<Series<T>, OutOfMemory
     Ok(list)
 }
 
-/// A list of two values. The only error is out of memory.
+/// Makes a list of two values. Fails only if memory runs out.
 ///
 /// # Errors
 /// Memory ran out.
@@ -28,7 +29,7 @@ pub fn pair<T: Drop>(alloc: Global, first: T, second: T) -> Result<Series<T>, Ou
     Ok(list)
 }
 
-/// A list of three values. The only error is out of memory.
+/// Makes a list of three values. Fails only if memory runs out.
 ///
 /// # Errors
 /// Memory ran out.
@@ -45,7 +46,7 @@ pub fn triple<T: Drop>(
     Ok(list)
 }
 
-/// A list behind another. The only error is out of memory.
+/// Appends the second list to the first. Fails only if memory runs out.
 ///
 /// # Errors
 /// Memory ran out.

@@ -1,4 +1,4 @@
-//! How far a command in a session gets before its own case.
+//! How far a command in a session gets before it is carried out.
 ghost use Rattle.std.specs.Prelude.{◌≡◌};
 ghost use Rattle.lab_people_access.specs.Policy.{denial};
 ghost use Rattle.lab_records_machine.specs.Machine.{passage, allowed_passage};
@@ -10,15 +10,16 @@ use lab_records_rules::Refusal;
 /// How far a command in a session gets.
 #[derive(Drop)]
 pub enum Passage {
-    /// There is no live session of its token.
+    /// No open session has the token.
     Stranger,
-    /// The session lives; its person may not give the command.
+    /// The session is open, but its person may not give the command.
     Barred(Session, Refusal),
-    /// The session lives, and its person may give the command.
+    /// The session is open, and its person may give the command.
     Passes(Session, Person),
 }
 
-/// How far a command of a rule gets at a tick, by the session of the token and its person, where they are there.
+/// Returns how far a command with a rule gets at a tick, in the session with the token and for its
+/// person, if both exist.
 pub fn pass(session: Option<Session>, caller: Option<Person>, tick: &Tick, rule: Rule) -> Passage
     ensures { result ≡ passage session caller tick.now.moment rule }
 {

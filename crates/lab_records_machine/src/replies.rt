@@ -1,4 +1,4 @@
-//! What a laboratory replies.
+//! The replies of a laboratory.
 use lab_forms_texts::{Key, LabCode, Moment, Name, Ordinal, PersonCode, Series};
 use lab_people_access::Roles;
 use lab_records_copies::CopyRow;
@@ -7,7 +7,7 @@ use lab_records_rules::{PersonLine, RecordRead, RecordState, Refusal, VersionRea
 use lab_seal_hashes::{Half, Token};
 use lab_seal_versions::{Digest, State};
 
-/// What a laboratory replies.
+/// A reply of a laboratory.
 pub enum Reply {
     /// A refusal.
     Refused(Refusal),
@@ -16,7 +16,8 @@ pub enum Reply {
         lab: LabCode,
         name: Name,
     },
-    /// A session, its token, which is told once, and whether the password is due to be changed.
+    /// A session was opened: the session, its token, which is returned once, and whether the
+    /// password is due to be changed.
     Opened {
         session: Ordinal,
         token: Token,
@@ -34,7 +35,7 @@ pub enum Reply {
     PersonDone {
         code: PersonCode,
     },
-    /// A half of a one-time word, which is told once.
+    /// A half of a one-time word, which is returned once.
     HalfTold {
         half: Half,
     },
@@ -43,7 +44,7 @@ pub enum Reply {
         code: PersonCode,
         roles: Roles,
     },
-    /// The persons, by code.
+    /// The persons, in the order of their codes.
     Persons(Series<PersonLine>),
     /// A version of a form was made.
     FormMade {
@@ -57,7 +58,7 @@ pub enum Reply {
         number: Ordinal,
         version: Ordinal,
     },
-    /// A value was entered; so many rows has the version, and this digest.
+    /// A value was entered; the version has this number of rows and this digest.
     Entered {
         number: Ordinal,
         version: Ordinal,
@@ -83,7 +84,7 @@ pub enum Reply {
     Records(Series<RecordState>),
     /// Rows of the trail.
     Trail(Series<TrailRow>),
-    /// The rows of a copy for inspection, the header first.
+    /// The rows of an inspection copy, the header first.
     Copied(Series<CopyRow>),
 }
 

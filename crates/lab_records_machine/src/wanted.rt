@@ -1,4 +1,4 @@
-//! Which part of a laboratory an instruction needs.
+//! The part of a laboratory that an instruction needs.
 ghost use Rattle.std.specs.Prelude.{◌≡◌, IfOk, IsTrue, OnErr};
 ghost use Rattle.lab_records_machine.specs.declared.commands.Command.TheVariants.{In};
 ghost use Rattle.lab_records_machine.specs.declared.commands.SessionCommand.TheVariants.{OnAccount, OnRecord};
@@ -11,8 +11,8 @@ use lab_forms_texts::{OutOfMemory, PersonCode, Tick};
 use lab_records_kept::{FormWanted, ListWanted, Need, RecordWanted};
 use lab_seal_hashes::{Digest, Token};
 
-/// Which part of a laboratory is needed to decide an instruction. The only error is out of memory, where the command names a
-/// code, a key or a name, which is copied.
+/// Returns the part of a laboratory that is needed to decide an instruction. Fails only if memory
+/// runs out, and only if the command names a code, a key or a name, which is copied.
 ///
 /// # Errors
 /// Memory ran out.
@@ -35,7 +35,7 @@ pub fn needs(tick: &Tick, instruction: &Instruction) -> Result<Need, OutOfMemory
     })
 }
 
-// The digest of the token by whose session the command is given.
+// The digest of the token of the session in which the command is given.
 fn token_in(tick: &Tick, token: &Option<Token>, command: &Command) -> Option<Digest>
     ensures { result ≡ token_in tick.now token.now command.now }
 {
@@ -47,7 +47,7 @@ fn token_in(tick: &Tick, token: &Option<Token>, command: &Command) -> Option<Dig
     }
 }
 
-// The person whom the command is about.
+// The person whom the command names.
 fn person_in(command: &Command) -> Result<Option<PersonCode>, OutOfMemory>
     ensures person { IfOk result (λ person. person ≡ person_in command.now) }
     ensures memory { OnErr result (IsTrue (names_text command.now)) }
@@ -59,7 +59,7 @@ fn person_in(command: &Command) -> Result<Option<PersonCode>, OutOfMemory>
     }
 }
 
-// The person whom a command on accounts is about.
+// The person whom a command on accounts names.
 fn person_on_account(command: &AccountCommand) -> Result<Option<PersonCode>, OutOfMemory>
     ensures person { IfOk result (λ person. person ≡ person_on_account command.now) }
     ensures memory { OnErr result (IsTrue (names_text (In (OnAccount command.now)))) }
@@ -75,7 +75,7 @@ fn person_on_account(command: &AccountCommand) -> Result<Option<PersonCode>, Out
     }
 }
 
-// The version of a form.
+// The version of a form that the command needs.
 fn form_in(command: &Command) -> Result<Option<FormWanted>, OutOfMemory>
     ensures form { IfOk result (λ form. form ≡ form_in command.now) }
     ensures memory { OnErr result (IsTrue (names_text command.now)) }
@@ -97,7 +97,7 @@ fn form_in(command: &Command) -> Result<Option<FormWanted>, OutOfMemory>
     }
 }
 
-// The record.
+// The record that the command needs.
 fn record_in(command: &Command) -> Result<Option<RecordWanted>, OutOfMemory>
     ensures wanted { IfOk result (λ wanted. wanted ≡ record_in command.now) }
     ensures memory { OnErr result (IsTrue (names_text command.now)) }
@@ -109,7 +109,7 @@ fn record_in(command: &Command) -> Result<Option<RecordWanted>, OutOfMemory>
     }
 }
 
-// The record of a command that makes something of forms and records.
+// The record that a command needs which makes something of forms and records.
 fn record_on_record(command: &RecordCommand) -> Result<Option<RecordWanted>, OutOfMemory>
     ensures wanted { IfOk result (λ wanted. wanted ≡ record_on_record command.now) }
     ensures memory { OnErr result (IsTrue (names_text (In (OnRecord command.now)))) }
@@ -128,7 +128,7 @@ fn record_on_record(command: &RecordCommand) -> Result<Option<RecordWanted>, Out
     }
 }
 
-// The record that is read.
+// The record that a command reads.
 fn record_read(command: &ReadingCommand) -> Option<RecordWanted>
     ensures { result ≡ record_read command.now }
 {
@@ -144,7 +144,7 @@ fn record_read(command: &ReadingCommand) -> Option<RecordWanted>
     }
 }
 
-// The list.
+// The list that the command needs.
 fn list_in(command: &Command) -> Option<ListWanted>
     ensures { result ≡ list_in command.now }
 {
@@ -154,7 +154,7 @@ fn list_in(command: &Command) -> Option<ListWanted>
     }
 }
 
-// The list that is read.
+// The list that a command reads.
 fn list_read(command: &ReadingCommand) -> Option<ListWanted>
     ensures { result ≡ list_read command.now }
 {

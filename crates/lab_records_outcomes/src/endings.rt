@@ -1,5 +1,5 @@
-//! How a command ends on a part of a laboratory: what notes that its request came, what is made of a failed password, and what a
-//! full trail refuses.
+//! How a command ends on a part of a laboratory: how its request is noted, what a failed password
+//! changes, and what a full trail refuses.
 ghost use Rattle.std.specs.Prelude.{◌≡◌, ◌++◌, ◌∷◌, [], Some, false, nat_le, IfOk, OnErr};
 ghost use Rattle.lab_records_kept.specs.Limits.{count_limit};
 ghost use Rattle.lab_records_kept.specs.Trails.{row_of};
@@ -15,9 +15,9 @@ use lab_records_machine::{Done, Reply, joined_list, pair, single};
 use lab_records_rules::Refusal;
 use std::alloc::Global;
 
-/// The end of a request by the session at the moment: that it came is noted before what else it
-/// changes. Where it changes nothing else, and laboratory and session have the moment already, there
-/// is no change. The only error is out of memory, where there is one.
+/// Ends a request in the session at the moment: the request is noted before its other changes. If
+/// it has no other changes, and the laboratory and the session already have the moment, there is no
+/// change. Fails only if memory runs out, and only if there is a change.
 ///
 /// # Errors
 /// Memory ran out.
@@ -41,8 +41,8 @@ pub fn noted_end(
     }
 }
 
-// The note of a request by the session, and then what else it changes; no change, where it is noted
-// already. The only error is out of memory, where it isn't.
+// The note of a request in the session, and then its other changes; no change if it is already
+// noted. Fails only if memory runs out, and only if it isn't already noted.
 fn noted_changes(
     alloc: Global,
     last: Moment,
@@ -67,16 +67,16 @@ fn noted_changes(
     }
 }
 
-// Whether a request by the session is noted already: it changes nothing else, and laboratory and
-// session have the moment.
+// Whether a request in the session is already noted: it has no other changes, and the laboratory
+// and the session have the moment.
 fn is_noted(last: Moment, moment: Moment, session: &Session, own: &Series<Change>) -> bool
     ensures { result ≡ is_noted last moment session.now own.now }
 {
     own.as_slice().is_empty() && last == moment && session.last == moment
 }
 
-// That a request came by the session at the moment. The only error is out of memory: two changes are
-// made in any case.
+// The note of a request in the session at the moment: always two changes. Fails only if memory runs
+// out.
 fn touch_changes(
     alloc: Global,
     moment: Moment,
@@ -89,8 +89,8 @@ fn touch_changes(
     pair(alloc, Change::Last(moment), Change::SessionSet(touched))
 }
 
-/// The end of an opening whose password failed: its moment is noted. The only error is out of memory: the moment is a change in any
-/// case.
+/// Ends an opening with a failed password: its moment is noted, always as a change. Fails only if
+/// memory runs out.
 ///
 /// # Errors
 /// Memory ran out.
@@ -115,8 +115,8 @@ pub fn failed_opening(
     }
 }
 
-/// The end of an opening that is accepted: a full trail refuses it; else its moment is noted, and the deed is told. The only error
-/// is out of memory, where the trail has room.
+/// Ends an opening that is accepted: a full trail refuses it, else its moment is noted, and the
+/// deed is logged in the trail. Fails only if memory runs out, and only if the trail has room.
 ///
 /// # Errors
 /// Memory ran out.
@@ -150,7 +150,8 @@ pub fn made_opening(
     }
 }
 
-// The moment of the last activity, a change in any case, and changes behind it. The only error is out of memory.
+// The moment of the last activity, always as a change, and other changes after it. Fails only if
+// memory runs out.
 fn with_moment(
     alloc: Global,
     moment: Moment,
@@ -167,8 +168,8 @@ fn with_moment(
     }
 }
 
-/// The end of a command in a session, but for the note that its request came. The only error is out
-/// of memory, where something is written of it.
+/// Ends a command in a session, without the note of its request. Fails only if memory runs out, and
+/// only if the command writes something.
 ///
 /// # Errors
 /// Memory ran out.
@@ -197,7 +198,8 @@ pub fn end(
     }
 }
 
-// Something is made: a full trail refuses last; else the deed is told. The only error is out of memory, where the trail has room.
+// Ends a command that made something: a full trail refuses it last, else the deed is logged in the
+// trail. Fails only if memory runs out, and only if the trail has room.
 fn made_end(
     alloc: Global,
     rows: u64,
@@ -221,7 +223,8 @@ fn made_end(
     told_end(alloc, number, moment, person, reply, deed, own)
 }
 
-// What was made is told, by the number that the trail gives it. The only error is out of memory: its row is made in any case.
+// Logs in the trail what was made, with the next number of the trail. The row is always made. Fails
+// only if memory runs out.
 fn told_end(
     alloc: Global,
     number: Ordinal,

@@ -1,5 +1,6 @@
-//! What is decided on a part of a laboratory, as it is defined, how a command ends, and what its ends are put together from: the
-//! rows that the trail is given, what a failed password changes, and what is told (21 CFR 11.10(e) and 11.300(d)).
+//! What is decided on a part of a laboratory, as it is defined; how a command ends; and the pieces
+//! of these ends: the rows that are added to the trail, what a failed password changes, and the
+//! replies (21 CFR 11.10(e) and 11.300(d)).
 #![tactic(auto)]
 
 mod endings;

@@ -1,4 +1,4 @@
-//! Subjects of the trail, as they are written.
+//! Subjects of the trail, as texts.
 ghost use Rattle.std.specs.Prelude.{◌≡◌, ◌++◌, OnOk, IfOk, codes, decimal, string_bytes};
 ghost use Rattle.std.specs.List.{flat_map};
 ghost use Rattle.lab_records_kept.specs.Trails.{occasion_word, spaced_role, slashed, subject_text};
@@ -9,7 +9,7 @@ use lab_people_access::Role;
 use lab_records_kept::{Deed, Occasion, Subject};
 use std::alloc::Global;
 
-/// The subject of a deed, as the trail writes it. The only error is out of memory.
+/// Returns the text of a deed's subject in the trail. Fails only if memory runs out.
 ///
 /// # Errors
 /// Memory ran out.
@@ -21,7 +21,7 @@ pub(crate) fn subject_of(alloc: Global, deed: &Deed) -> Result<Subject, OutOfMem
     Ok(Subject::new(text))
 }
 
-// The word by which an occasion is known.
+// The word of an occasion.
 fn occasion_word(occasion: Occasion) -> &'static str
     ensures { result.now ≡ occasion_word occasion }
 {
@@ -86,7 +86,7 @@ fn push_slashed(text: &mut String, number: Ordinal) -> Result<(), OutOfMemory>
     push_number(text, number)
 }
 
-// A record's number and a version's.
+// Adds the number of a record and that of a version.
 fn push_version(text: &mut String, number: Ordinal, version: Ordinal) -> Result<(), OutOfMemory>
     ensures { OnOk result (string_bytes text.new
         ≡ string_bytes text.old ++ decimal number ++ slashed version) }
@@ -95,7 +95,8 @@ fn push_version(text: &mut String, number: Ordinal, version: Ordinal) -> Result<
     push_slashed(text, version)
 }
 
-// What belongs to a version, by its record's number, its own and the word of the part.
+// Adds a part of a version: the number of its record, the number of the version, and the word of
+// the part.
 fn push_in_version(
     text: &mut String,
     number: Ordinal,
@@ -110,7 +111,7 @@ fn push_in_version(
     push_text(text, part)
 }
 
-// A form's key and a version's number.
+// Adds the key of a form and the number of a version.
 fn push_form(text: &mut String, form: &Key, version: Ordinal) -> Result<(), OutOfMemory>
     ensures { OnOk result (string_bytes text.new
         ≡ string_bytes text.old ++ form.now ++ slashed version) }
@@ -119,7 +120,7 @@ fn push_form(text: &mut String, form: &Key, version: Ordinal) -> Result<(), OutO
     push_slashed(text, version)
 }
 
-// A person's code and roles.
+// Adds the code of a person and roles.
 fn push_roles(text: &mut String, person: &PersonCode, roles: &[Role]) -> Result<(), OutOfMemory>
     ensures { OnOk result (string_bytes text.new
         ≡ string_bytes text.old ++ person.now ++ flat_map spaced_role roles.now) }

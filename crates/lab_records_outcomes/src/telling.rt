@@ -1,4 +1,4 @@
-//! What is told: a refusal, a failed password, and the row behind what is made.
+//! Replies and rows of the trail: for a refusal, for a failed password, and for what was made.
 ghost use Rattle.std.specs.Prelude.{◌≡◌, ◌++◌, ◌∷◌, [], Some, IfOk, OnErr};
 ghost use Rattle.lab_records_kept.specs.Trails.{row_of};
 ghost use Rattle.lab_records_outcomes.specs.Deciding.{IsFailureWritten, failure_changes, outcome};
@@ -12,7 +12,7 @@ use lab_records_machine::Reply;
 use lab_records_rules::Refusal;
 use std::alloc::Global;
 
-/// A command that is refused, with what is changed nevertheless.
+/// Returns the outcome of a command that is refused, with the changes that are made nevertheless.
 pub fn refusal_outcome(changes: Series<Change>, refusal: Refusal) -> Outcome
     ensures { result ≡ outcome (Reply.Refused refusal) changes }
 {
@@ -22,7 +22,8 @@ pub fn refusal_outcome(changes: Series<Change>, refusal: Refusal) -> Outcome
     }
 }
 
-/// A password that was given for a command failed. The only error is out of memory, where that changes something.
+/// Returns the outcome of a failed password for a command. Fails only if memory runs out, and only
+/// if the failure changes something.
 ///
 /// # Errors
 /// Memory ran out.
@@ -45,7 +46,8 @@ pub fn failure_outcome(
     Ok(refusal_outcome(changes, Refusal::People(PeopleRefusal::Credentials)))
 }
 
-/// Changes, and behind them the row that tells of the deed. The only error is out of memory: the row is made in any case.
+/// Returns changes, and after them the row of the trail that logs the deed. The row is always made.
+/// Fails only if memory runs out.
 ///
 /// # Errors
 /// Memory ran out.

@@ -1,4 +1,4 @@
-//! The rows that the trail is given, where it has so many, and what a failed password changes.
+//! The rows that are added to a trail of a given length, and what a failed password changes.
 ghost use Rattle.std.specs.Prelude.{◌≡◌, ◌+◌, ◌++◌, ◌∷◌, Some, true, false, nat_le, IfOk, OnOk, OnErr, MatchOption};
 ghost use Rattle.lab_records_kept.specs.Limits.{count_limit};
 ghost use Rattle.lab_records_kept.specs.Trails.{row_of};
@@ -11,10 +11,10 @@ use lab_people_access::{Closing, Failure, Person};
 use lab_records_kept::{COUNT_LIMIT, Change, Deed, Occasion, TrailRow};
 use std::alloc::Global;
 
-/// The count at which passwords that were given for nobody's account are counted no further.
+/// The count at which passwords that count as stray are no longer counted.
 const STRAYS_LIMIT: u64 = 9_223_372_036_854_775_807;
 
-/// The number of the row behind so many, where the trail has room for it.
+/// Returns the number of the next row, if the trail has room for it.
 pub fn next_number(rows: u64) -> Option<Ordinal>
     ensures { MatchOption result (nat_le count_limit rows ≡ true)
         (λ number. (nat_le count_limit rows ≡ false) × (number ≡ rows + 1)) }
@@ -25,7 +25,8 @@ pub fn next_number(rows: u64) -> Option<Ordinal>
     Ordinal::after(rows as u32)
 }
 
-/// The row of the number that tells of the deed. The only error is out of memory: the code is copied in any case.
+/// Makes the row with the number that logs the deed. The code is always copied. Fails only if
+/// memory runs out.
 ///
 /// # Errors
 /// Memory ran out.
@@ -49,7 +50,8 @@ pub fn row_of(
     })
 }
 
-// The row that tells of the deed, where the trail has room for it. The only error is out of memory, where it has.
+// The row that logs the deed, if the trail has room for it. Fails only if memory runs out, and only
+// if there is room.
 fn add_row_if_room(
     alloc: Global,
     changes: &mut Series<Change>,
@@ -70,7 +72,8 @@ fn add_row_if_room(
     Ok(())
 }
 
-// The rows that tell of two deeds, where the trail has room for them. The only error is out of memory, where it has room for one.
+// The rows that log two deeds, if the trail has room for them. Fails only if memory runs out, and
+// only if there is room for one.
 fn add_rows_if_room(
     alloc: Global,
     changes: &mut Series<Change>,
@@ -93,7 +96,8 @@ fn add_rows_if_room(
     add_row_if_room(alloc, changes, told, moment, person, second)
 }
 
-/// What a failed password changes. The only error is out of memory, where it changes something.
+/// Adds what a failed password changes. Fails only if memory runs out, and only if something
+/// changes.
 ///
 /// # Errors
 /// Memory ran out.
@@ -124,7 +128,7 @@ pub fn fail(
     }
 }
 
-// What a failed password changes that is counted: the person, in any case.
+// Adds the changes of a failed password that is counted. The person always changes.
 fn fail_counted(
     alloc: Global,
     changes: &mut Series<Change>,
@@ -142,7 +146,7 @@ fn fail_counted(
     add_row_if_room(alloc, changes, rows, moment, &code, &refused)
 }
 
-// What a failed password changes that locks: the person, in any case.
+// Adds the changes of a failed password that locks the account. The person always changes.
 fn fail_locking(
     alloc: Global,
     changes: &mut Series<Change>,
@@ -168,7 +172,7 @@ fn fail_locking(
     add_rows_if_room(alloc, changes, rows, moment, &code, &refused, &lock)
 }
 
-// One password more that was given for nobody's account.
+// The count after one more stray password.
 fn more_strays(strays: u64) -> u64
     ensures { result ≡ more_strays strays }
 {

@@ -7,7 +7,7 @@ use lab_forms_texts::Fault;
 /// Why a command makes nothing.
 pub type CommandFault = Fault<Refusal>;
 
-/// The error, where nothing comes of what was given. One call lets it all go.
+/// Returns the error, and drops all that was given, in one call.
 pub fn fail<T, E, G: Drop>(error: E, _given: G) -> Result<T, E>
     ensures { result ≡ Err error }
 {

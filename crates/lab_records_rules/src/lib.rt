@@ -1,5 +1,6 @@
-//! The rules on forms and records, over what was looked up: the first refusal in order, or what is made or read
-//! (ISO/IEC 17025:2017, 7.5; 21 CFR Part 11). They know no laboratory as a whole and no command.
+//! The rules on forms and records, for things that were already looked up: each returns the first
+//! refusal in order, or what is made or read (ISO/IEC 17025:2017, 7.5; 21 CFR Part 11). They know
+//! no whole laboratory and no command.
 #![tactic(auto)]
 
 mod faults;

@@ -1,4 +1,4 @@
-//! Forms that are made, and records that are opened.
+//! How forms are made, and how records are opened.
 ghost use Rattle.std.specs.Prelude.{◌≡◌, ◌∷◌, [], None, IfOk};
 ghost use Rattle.lab_records_rules.specs.Following.{Follows};
 ghost use Rattle.lab_records_rules.specs.Making.{making, first_version, opening_new, opening_record};
@@ -14,10 +14,10 @@ use lab_records_kept::{
 use lab_seal_versions::{EntryRows, Format, Origin};
 use std::alloc::Global;
 
-/// The first version of a form, or its next one, which differs from the present one.
+/// Makes the first version of a form, or its next one, which must differ from the present one.
 ///
 /// # Errors
-/// Why the command is refused.
+/// The refusal of the command.
 pub fn make_form(code: Key, form: Form, last: Option<FormVersion>) -> Result<FormVersion, Refusal>
     ensures { result ≡ making code form last }
 {
@@ -48,11 +48,11 @@ pub fn make_form(code: Key, form: Form, last: Option<FormVersion>) -> Result<For
     }
 }
 
-/// A record as it is opened by the last version of its form, once for a form and a sample; `records` is how many the
-/// laboratory has. Memory may run out only for a record that is opened.
+/// Opens a record with the last version of its form, once for a form and a sample; `records` is how
+/// many records the laboratory has. Memory is the fault only if these rules accept the command.
 ///
 /// # Errors
-/// The command's refusal, or memory ran out.
+/// The refusal of the command, or memory ran out.
 pub fn open_record(
     alloc: Global,
     form: Option<FormVersion>,
@@ -82,7 +82,7 @@ pub fn open_record(
     }
 }
 
-// A record of a form and a sample that have none.
+// A record of a form and a sample that have no record yet.
 fn open_new(
     alloc: Global,
     form: FormVersion,
@@ -117,7 +117,7 @@ fn open_new(
     }
 }
 
-// The versions of a record that has one.
+// The versions of a record that has only its first version.
 fn one_version(alloc: Global, first: Version) -> Result<Series<Version>, OutOfMemory>
     ensures { IfOk result (λ versions. versions ≡ first ∷ []) }
 {
@@ -126,7 +126,7 @@ fn one_version(alloc: Global, first: Version) -> Result<Series<Version>, OutOfMe
     Ok(versions)
 }
 
-// The first version of a record, as it is opened. It takes no memory.
+// The first version of a record when it is opened. It takes no memory.
 fn first_version(alloc: Global, approval: bool, caller: PersonCode, moment: Moment) -> Version
     ensures { result ≡ first_version approval caller moment }
 {

@@ -1,4 +1,4 @@
-//! What a signature is asked for, and what commands on records make.
+//! What a signature is asked for, and what commands on records return.
 ghost use Rattle.std.specs.Prelude.{◌≡◌};
 ghost use Rattle.lab_records_rules.specs.SigningPolicy.{signing_rule};
 
@@ -10,18 +10,18 @@ use lab_seal_versions::{Digest, EntryRow, State};
 /// What a person asks to sign a version as.
 #[derive(Drop)]
 pub enum Signing {
-    /// As its author.
+    /// As author.
     Authorship,
-    /// As its reviewer.
+    /// As reviewer.
     Review,
-    /// To reject it, and why, if that is said.
+    /// To reject it, with the reason, if one is given.
     Rejection(Option<Note>),
-    /// As the third person, who approves it.
+    /// As the third person, who approves.
     Approval,
 }
 
 impl Signing {
-    /// The rule by which the policy lets a person sign so.
+    /// The rule of the policy for this kind of signature.
     pub fn rule(&self) -> Rule
         ensures { result ≡ signing_rule self.now }
     {
@@ -34,33 +34,33 @@ impl Signing {
     }
 }
 
-/// A value that is entered: the row, and what its version is like with it.
+/// A value that was entered: its row, and how many rows and which digest the version has then.
 #[derive(Drop)]
 pub struct EntryMade {
     /// The record's number.
     pub number: Ordinal,
     /// The version's number.
     pub version: Ordinal,
-    /// The row.
+    /// The row of the value.
     pub row: EntryRow,
-    /// How many rows the version has with it.
+    /// The number of rows of the version, with this row.
     pub rows: u64,
-    /// The version's digest with it.
+    /// The digest of the version, with this row.
     pub digest: Digest,
 }
 
-/// A version that an amendment opens.
+/// A version that an amendment opened.
 #[derive(Drop)]
 pub struct AmendmentMade {
     /// The record's number.
     pub number: Ordinal,
     /// The version.
     pub version: Version,
-    /// Its digest.
+    /// The digest of the version.
     pub digest: Digest,
 }
 
-/// A signature that is given.
+/// A signature that was given.
 #[derive(Drop)]
 pub struct SignatureMade {
     /// The record's number.
@@ -69,6 +69,6 @@ pub struct SignatureMade {
     pub version: Ordinal,
     /// The signature.
     pub signature: Signature,
-    /// The version's state with it.
+    /// The state of the version, with this signature.
     pub state: Option<State>,
 }

@@ -1,4 +1,5 @@
-//! What is read: a version of a form, a record, a version of a record, and a line of each record and each person.
+//! What commands read: a version of a form, a record, a version of a record, and a line for each
+//! record and each person.
 ghost use Rattle.std.specs.Prelude.{◌≡◌, Some, IfOk, map, slice_get};
 ghost use Rattle.lab_records_kept.specs.Digests.{digest_of};
 ghost use Rattle.lab_records_kept.specs.Lookups.{version_of};
@@ -16,10 +17,10 @@ use lab_records_kept::{FormVersion, FoundRecord, Record, Version};
 use lab_seal_versions::{Digest, EntryRow, State};
 use std::alloc::Global;
 
-/// The version of a form that was looked up.
+/// Returns the version of a form that was looked up.
 ///
 /// # Errors
-/// Why the command is refused.
+/// The refusal of the command.
 pub fn read_form(form: Option<FormVersion>) -> Result<FormVersion, Refusal>
     ensures { result ≡ reading_form form }
 {
@@ -29,10 +30,11 @@ pub fn read_form(form: Option<FormVersion>) -> Result<FormVersion, Refusal>
     }
 }
 
-/// The record that was looked up, with its versions' states and digests. Memory may run out only for what is read.
+/// Returns the record that was looked up, with the states and digests of its versions. Memory is
+/// the fault only if these rules accept the command.
 ///
 /// # Errors
-/// The command's refusal, or memory ran out.
+/// The refusal of the command, or memory ran out.
 pub fn read_record(
     alloc: Global,
     lab: &LabCode,
@@ -90,10 +92,11 @@ fn version_line(
     })
 }
 
-/// The version of the number of the record, with the record's values at it. Memory may run out only for what is read.
+/// Returns the version of the record with the number, and the values of the record at it. Memory is
+/// the fault only if these rules accept the command.
 ///
 /// # Errors
-/// The command's refusal, or memory ran out.
+/// The refusal of the command, or memory ran out.
 pub fn read_version(
     alloc: Global,
     lab: &LabCode,
@@ -108,7 +111,7 @@ pub fn read_version(
     }
 }
 
-// The version of the number of a record.
+// The version of a record with the number.
 fn read_found(
     alloc: Global,
     lab: &LabCode,
@@ -130,7 +133,7 @@ fn read_found(
     }
 }
 
-/// What is read of a version beside its record's number, form and sample.
+/// What is read of a version, without the number, form and sample of its record.
 #[derive(Drop)]
 struct VersionReadParts {
     version: Version,
@@ -140,7 +143,7 @@ struct VersionReadParts {
     values: Series<EntryRow>,
 }
 
-// What the version at the place comes to, with a copy of it.
+// What is read of the version at the place, with a copy of it.
 fn version_parts(
     alloc: Global,
     lab: &LabCode,
@@ -197,7 +200,7 @@ fn version_read(kept: Record, parts: VersionReadParts) -> VersionRead
     }
 }
 
-/// A record in a line, by its last version. The only error is out of memory.
+/// Returns the line of a record, which shows its last version. Fails only if memory runs out.
 ///
 /// # Errors
 /// Memory ran out.
@@ -219,7 +222,7 @@ pub fn record_line(kept: &Record) -> Result<RecordState, OutOfMemory>
     })
 }
 
-/// A person in a line, at the moment. The only error is out of memory.
+/// Returns the line of a person at the moment. Fails only if memory runs out.
 ///
 /// # Errors
 /// Memory ran out.

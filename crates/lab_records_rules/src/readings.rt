@@ -1,4 +1,4 @@
-//! What is read of a laboratory.
+//! What commands read of a laboratory.
 use lab_forms_texts::{Key, Name, Ordinal, PersonCode, Series};
 use lab_people_access::Roles;
 use lab_records_kept::{FormVersion, Version};
@@ -9,21 +9,21 @@ use lab_seal_versions::{Digest, EntryRow, State};
 pub struct VersionState {
     /// The version's number.
     pub version: Ordinal,
-    /// Its state; none only where the laboratory isn't under dual control.
+    /// The state of the version; `None` only if the laboratory isn't under dual control.
     pub state: Option<State>,
-    /// Its digest.
+    /// The digest of the version.
     pub digest: Digest,
 }
 
 /// A record with the states of its versions.
 pub struct RecordRead {
-    /// Its number.
+    /// The number of the record.
     pub number: Ordinal,
-    /// The version of the form that it is filled in by.
+    /// The version of the form with which the record is filled in.
     pub form: FormVersion,
-    /// The sample that it is about.
+    /// The sample that the record is about.
     pub sample: Name,
-    /// Its versions' states and digests, in order.
+    /// The states and digests of the versions, in order.
     pub versions: Series<VersionState>,
 }
 
@@ -39,21 +39,21 @@ impl Drop for RecordRead {
     }
 }
 
-/// A version of a record, with what it comes to.
+/// A version of a record, with its state, its digest and the values at it.
 pub struct VersionRead {
     /// The record's number.
     pub number: Ordinal,
-    /// The version of the form that the record is filled in by.
+    /// The version of the form with which the record is filled in.
     pub form: FormVersion,
     /// The sample that the record is about.
     pub sample: Name,
     /// The version.
     pub version: Version,
-    /// Its state; none only where the laboratory isn't under dual control.
+    /// The state of the version; `None` only if the laboratory isn't under dual control.
     pub state: Option<State>,
-    /// Its digest.
+    /// The digest of the version.
     pub digest: Digest,
-    /// The keys that it altered, in the order of the form.
+    /// The keys that the version altered, in the order of the form.
     pub altered: Series<Key>,
     /// The values of the record at this version, in the order of the form.
     pub values: Series<EntryRow>,
@@ -75,17 +75,17 @@ impl Drop for VersionRead {
     }
 }
 
-/// A record, by its last version.
+/// A record as lists show it, with the state of its last version.
 pub struct RecordState {
-    /// Its number.
+    /// The number of the record.
     pub number: Ordinal,
-    /// The form's code.
+    /// The key of the form.
     pub form: Key,
-    /// The sample that it is about.
+    /// The sample that the record is about.
     pub sample: Name,
-    /// The number of its last version.
+    /// The number of the last version.
     pub current: Option<Ordinal>,
-    /// The state of that version.
+    /// The state of the last version.
     pub state: Option<State>,
 }
 
@@ -102,15 +102,15 @@ impl Drop for RecordState {
     }
 }
 
-/// A person, as persons are read.
+/// A person as lists show persons.
 pub struct PersonLine {
     /// The code.
     pub code: PersonCode,
     /// The printed name.
     pub name: Name,
-    /// What the person may be.
+    /// The roles of the person.
     pub roles: Roles,
-    /// Whether the person has left.
+    /// Whether the person is retired.
     pub retired: bool,
     /// Whether the account is locked at the moment.
     pub locked: bool,

@@ -1,4 +1,4 @@
-//! What a laboratory's machine refuses.
+//! What the machine of a laboratory refuses.
 ghost use Rattle.lab_records_rules.specs.Refusals.{refusal_entry};
 
 use lab_forms::FormRefusal;
@@ -6,20 +6,20 @@ use lab_forms_texts::{Key, Ordinal, RefusalKind};
 use lab_people_access::PeopleRefusal;
 use lab_seal_hashes::Digest;
 
-/// What a laboratory's machine refuses, with what it tells.
+/// What the machine of a laboratory refuses, with what the refusal states.
 #[derive(Debug)]
 pub enum Refusal {
     /// There is no such laboratory.
     NoSuchLab,
-    /// The moment is before the laboratory's last one.
+    /// The moment is before the moment of the laboratory's last activity.
     ClockBehind,
     /// A refusal of persons and sessions.
     People(PeopleRefusal),
     /// A refusal of a form.
     Form(FormRefusal),
-    /// There is no such form, or no such version of it.
+    /// There is no such form, or no such version of the form.
     NoSuchForm,
-    /// There is a record of the form and the sample, of this number.
+    /// The form and the sample already have a record, with this number.
     RecordExists(Ordinal),
     /// There is no such record.
     NoSuchRecord,
@@ -31,23 +31,23 @@ pub enum Refusal {
     ReasonWanted,
     /// Nothing is altered.
     NothingAltered,
-    /// The value of the key is the one that stands.
+    /// The value is the present value of the key.
     NotAltered(Key),
     /// The last version of the record is neither released nor rejected.
     AmendmentOpen,
     /// Entries that the form requires are missing.
     EntriesMissing,
-    /// The digest is another one than the version's, which is this one.
+    /// The digest isn't that of the version, which has this one.
     StaleDigest(Digest),
-    /// The version is signed already.
+    /// The version is already signed.
     AlreadySigned,
-    /// Who signs entered a row of the version, or reviewed it.
+    /// The person who signs entered a row of the version, or reviewed the version.
     OwnWork,
-    /// Who signs as the author entered no row of the version.
+    /// The person who signs as author entered no row of the version.
     NotAuthor,
-    /// The version isn't signed as far as this signature wants.
+    /// The version lacks a signature that must come before this one.
     NotSigned,
-    /// The code is wanted at the first signing of a session.
+    /// The code is wanted for the first signature in a session.
     CodeWanted,
     /// The form wants no approval.
     ApprovalNotWanted,

@@ -1,5 +1,6 @@
-//! What the versions of a record say together: its values, and the keys that a version altered. They are looked up in a
-//! table of the last row of each key, which one walk over the rows makes.
+//! What the versions of a record state together: its values, and the keys that a version altered.
+//! They are looked up in a table of the last row of each key, which is made in one walk over the
+//! rows.
 ghost use Rattle.std.specs.Prelude.{◌≡◌, ◌-◌, ℕ, List, Some, cond, map, filter, take, IfOk, OnOk, option_copied};
 ghost use Rattle.std.specs.List.{filter_map};
 ghost use Rattle.std.specs.Option.{option_or};
@@ -14,15 +15,17 @@ use lab_seal_versions::EntryRow;
 use std::alloc::Global;
 use std::collections::BTreeMap;
 
-/// What is told of a record at a version: the keys that the version altered, and the record's values at it.
+/// What a reply states about a record at a version: the keys that the version altered, and the
+/// values of the record at it.
 #[derive(Drop)]
 pub struct ValuesTold {
     pub altered: Series<Key>,
     pub values: Series<EntryRow>,
 }
 
-/// The keys that the version of the number altered, and the values of the record at it: of each field that has one, the last
-/// row of all versions up to that one. Both are in the order of the form. The only error is out of memory.
+/// Returns the keys that the version with the number altered, and the values of the record at that
+/// version: for each field that has a value, its last row in all versions up to that one. Both are
+/// in the order of the form. Fails only if memory runs out.
 ///
 /// # Errors
 /// Memory ran out.
@@ -40,8 +43,8 @@ pub fn values_told(alloc: Global, kept: &Record, number: Ordinal) -> Result<Valu
     Ok(ValuesTold { altered, values })
 }
 
-/// The keys that the version of the number altered, in the order of the form: those whose value differs from the one before
-/// it. The only error is out of memory.
+/// Returns the keys that the version with the number altered, in the order of the form: those whose
+/// value differs from that at the version before. Fails only if memory runs out.
 ///
 /// # Errors
 /// Memory ran out.
@@ -55,7 +58,7 @@ pub fn altered_at(alloc: Global, kept: &Record, number: Ordinal) -> Result<Serie
     altered_by(alloc, kept.form.form.fields(), &before, &after)
 }
 
-/// The first versions, so many of them.
+/// Returns the first versions, at most `count`.
 pub fn first_versions(versions: &[Version], count: usize) -> &[Version]
     ensures { result.now ≡ take count versions.now }
 {
@@ -66,7 +69,8 @@ pub fn first_versions(versions: &[Version], count: usize) -> &[Version]
     }
 }
 
-/// The last row of each key in the versions, by one walk over their rows. The only error is out of memory.
+/// Makes the table of the last row of each key in the versions, in one walk over their rows. Fails
+/// only if memory runs out.
 ///
 /// # Errors
 /// Memory ran out.
@@ -84,7 +88,7 @@ pub fn latest<'a>(
     Ok(table)
 }
 
-// Notes the rows, each in place of an earlier one of its key.
+// Notes the rows. Each replaces an earlier row with the same key.
 fn note_each<'a>(
     table: &mut BTreeMap<&'a str, &'a EntryRow>,
     rows: &'a [EntryRow],
@@ -109,7 +113,7 @@ fn note<'a>(
     Ok(())
 }
 
-/// The row that is noted under a key.
+/// Returns the row that is noted under a key.
 pub fn row_of_key<'a>(table: &BTreeMap<&'a str, &'a EntryRow>, key: &Key) -> Option<&'a EntryRow>
     ensures { option_copied result ≡ noted table.now key.now }
 {
@@ -134,7 +138,8 @@ fn values_by<'a>(
     Ok(rows)
 }
 
-// The fields' keys under which the second table has another value than the first, or one where that has none.
+// The keys of fields for which the second table has another value than the first, or a value where
+// the first has none.
 fn altered_by<'a>(
     alloc: Global,
     fields: &[Field],

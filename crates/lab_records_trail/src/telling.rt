@@ -1,4 +1,4 @@
-//! The law of telling.
+//! The law of what the trail logs.
 ghost use Rattle.std.specs.Prelude.{◌≡◌, IsTrue, Some};
 ghost use Rattle.lab_forms_texts.specs.declared.tick.Tick.{Tick};
 ghost use Rattle.lab_records_kept.specs.declared.labs.Lab.{Lab};
@@ -9,10 +9,10 @@ ghost use Rattle.lab_records_machine.specs.Machine.{step};
 ghost use Rattle.lab_records_laws.specs.Stepping.{HoldsOf};
 ghost use Rattle.lab_records_trail.specs.Telling.{is_accepted, AcceptedTells, RefusedTells};
 
-/// Law: of each accepted command, but for the card and what only reads, the trail has one row more,
-/// which says who gave the command, when, what was done and to what. A refused command adds no row,
-/// but for a failed password of an account: that has a row, and a second one where it locks the
-/// account, as long as the trail has room.
+/// Law: for each accepted command, except the card and commands that only read, the trail has one
+/// more row, which states who gave the command, when, what was done and to what. A refused command
+/// adds no row, except for a failed password of an account: as long as the trail has room, that
+/// adds a row, and a second one if it locks the account.
 pub fn a_step_is_told()
     ensures accepted { (lab : Lab) (tick : Tick) (instruction : Instruction)
         → IsTrue (is_accepted (step (Some lab) tick instruction).reply)

@@ -1,4 +1,4 @@
-//! Records that are amended.
+//! How records are amended.
 ghost use Rattle.std.specs.Prelude.{◌≡◌, ◌+◌, ◌<◌, ◌==◌, ℕ, List, length, not, true, Some, Ok, map, is_none, IfOk, IfSome, IsSome, option_copied};
 ghost use Rattle.lab_records_rules.specs.Latest.{noted};
 ghost use Rattle.lab_records_kept.specs.Limits.{version_limit};
@@ -15,11 +15,12 @@ use lab_seal_versions::{Amendment, EntryRow, EntryRows, Format, Origin, State};
 use std::alloc::Global;
 use std::collections::BTreeMap;
 
-/// The next version of the record that was looked up, once its last one is released or rejected: with a reason, and with
-/// values that differ from those that stand. Memory may run out once these are held against a table of the rows.
+/// Makes the next version of the record that was looked up, if its last version is released or
+/// rejected: with a reason, and with values that differ from the present ones. Memory can run out
+/// only from the point where these values are compared with a table of the rows.
 ///
 /// # Errors
-/// The command's refusal, or memory ran out.
+/// The refusal of the command, or memory ran out.
 pub fn amend(
     alloc: Global,
     lab: &LabCode,
@@ -47,7 +48,7 @@ pub fn amend(
     amend_by(alloc, lab, kept, last, reason, altered, caller, moment)
 }
 
-// The next version behind the last one, for the reason.
+// The next version after the last one, with the reason.
 #[tactic(auto, using(crate::proofs::AlteringLemmas::amended))]
 fn amend_by(
     alloc: Global,
@@ -92,7 +93,7 @@ fn next_origin(
     }
 }
 
-// The origin of the version behind the one of the number; there is none behind the last ordinal.
+// The origin of the version after the version with the number; `None` after the last ordinal.
 fn origin_after(number: Ordinal, amendment: Amendment) -> Option<Origin>
     ensures next { IfSome result (λ origin. origin
         ≡ record { number = number + 1; amendment = Some amendment }) }
@@ -101,7 +102,7 @@ fn origin_after(number: Ordinal, amendment: Amendment) -> Option<Origin>
     Origin::amending(number.next()?, amendment)
 }
 
-// A version of these rows, by the record's form. It takes no memory.
+// A version with these rows, of the record's form. It takes no memory.
 fn opened_version(
     alloc: Global,
     kept: &Record,
@@ -123,7 +124,7 @@ fn opened_version(
     }
 }
 
-// A version that is opened, and its digest.
+// The version that the amendment opened, and its digest.
 fn amendment_made(
     alloc: Global,
     lab: &LabCode,
@@ -149,7 +150,7 @@ fn has_settled(state: Option<State>) -> bool
     }
 }
 
-// The rows of a new version, each with the reason, where no item is refused.
+// The rows of a new version, each with the reason, if no item is refused.
 fn altered_rows(
     alloc: Global,
     kept: &Record,
@@ -173,7 +174,7 @@ fn altered_rows(
     Ok(EntryRows::new(rows))
 }
 
-// The value of an item that differs from the one that stands.
+// The value of an item, which must differ from the present one.
 fn altered_value<'a>(
     alloc: Global,
     kept: &Record,

@@ -1,4 +1,4 @@
-//! Values that are entered.
+//! How values are entered.
 ghost use Rattle.std.specs.Prelude.{◌≡◌, IfOk, Err, is_none, option_copied};
 ghost use Rattle.std.specs.List.{list_any};
 ghost use Rattle.std.specs.Option.{option_map_or};
@@ -16,11 +16,12 @@ use lab_records_rules::{CommandFault, EntryMade, Item, Refusal, fail};
 use lab_seal_versions::{Digest, EntryRow, State};
 use std::alloc::Global;
 
-/// A value as it is entered into the last version of the record that was looked up, while that is open; a key that has a
-/// value wants a reason. Memory may run out only for what is entered.
+/// Enters a value into the last version of the record that was looked up, if that version is open.
+/// A key that already has a value wants a reason. Memory is the fault only if these rules accept
+/// the command.
 ///
 /// # Errors
-/// The command's refusal, or memory ran out.
+/// The refusal of the command, or memory ran out.
 pub fn enter(
     alloc: Global,
     lab: &LabCode,
@@ -54,7 +55,8 @@ pub fn enter(
     enter_item(alloc, lab, kept, version, item, reason, caller, moment)
 }
 
-// An item into a version that is open. What refuses it is told, also where there was no memory for its value.
+// Enters an item into a version that is open. A refusal is returned even if there was no memory for
+// the value.
 fn enter_item(
     alloc: Global,
     lab: &LabCode,
@@ -111,10 +113,11 @@ fn is_open(state: Option<State>) -> bool
     }
 }
 
-/// The value of an item, as the form of the record reads it. Memory may run out only for a value that the form takes.
+/// Reads the value of an item with the form of the record. Memory is the fault only if the form
+/// takes the value.
 ///
 /// # Errors
-/// The command's refusal, or memory ran out.
+/// The refusal of the command, or memory ran out.
 #[tactic(auto, using(crate::proofs::ValueLemmas::no_refusal))]
 pub(crate) fn read_item(alloc: Global, kept: &Record, item: &Item) -> Result<Note, CommandFault>
     ensures { IsReadWhere (is_none (item_refusal kept.now item.now))
@@ -131,7 +134,7 @@ pub(crate) fn read_item(alloc: Global, kept: &Record, item: &Item) -> Result<Not
     }
 }
 
-// Whether the key has a value in the record already: one walk over the rows, which takes no memory.
+// Whether the record already has a value of the key: one walk over the rows, which takes no memory.
 fn has_value(kept: &Record, key: &Key) -> bool
     ensures { result ≡ has_value kept.now key.now }
 {
@@ -149,7 +152,7 @@ fn is_entered(rows: &[EntryRow], key: &Key) -> bool
     rows.iter().any(|row| row.key.as_str() == key.as_str())
 }
 
-// A row that is entered, and its version with it.
+// The row that was entered, with its version.
 fn entry_made(
     alloc: Global,
     lab: &LabCode,
@@ -171,7 +174,7 @@ fn entry_made(
     }
 }
 
-// The digest of a version with a row more.
+// The digest of a version with one more row.
 fn digest_with(
     alloc: Global,
     lab: &LabCode,
@@ -188,7 +191,7 @@ fn digest_with(
     digest
 }
 
-// A version with a row more.
+// A version with one more row.
 fn with_row(version: &Version, row: &EntryRow) -> Result<Version, OutOfMemory>
     ensures { IfOk result (λ next. next ≡ with_row row.now version.now) }
 {

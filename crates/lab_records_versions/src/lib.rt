@@ -1,6 +1,6 @@
-//! What is done to the versions of a record that was looked up: entries, amendments, signatures with their
-//! seals, each with the first refusal in order (ISO/IEC 17025:2017, 7.5; 21 CFR 11.50, 11.70 and
-//! 11.200(a)). Nothing is changed here.
+//! What is done to the versions of a record that was looked up: entries, amendments, and signatures
+//! with their seals, each with the first refusal in order (ISO/IEC 17025:2017, 7.5; 21 CFR 11.50,
+//! 11.70 and 11.200(a)). Nothing is changed here.
 #![tactic(auto)]
 
 mod amending;

@@ -1,4 +1,5 @@
-//! Who may sign a version, as what, and when: each refusal by itself, in the order in which they are asked.
+//! Who may sign a version, as what, and when: each refusal by itself, in the order in which they
+//! are tested.
 ghost use Rattle.std.specs.Prelude.{◌≡◌, option_copied};
 ghost use Rattle.lab_records_versions.specs.Signing.{is_code_wanted, approval_refusal, state_refusal, digest_refusal, is_second, signer_refusal, reason_refusal};
 
@@ -8,7 +9,8 @@ use lab_records_kept::{Signature, Version};
 use lab_records_rules::{Refusal, Signing};
 use lab_seal_versions::{Digest, State};
 
-/// Whether the code is wanted beside the password: at the first signing of a session, where none is given.
+/// Whether the code is wanted in addition to the password: if it is the first signature in a
+/// session, and no code is given.
 pub fn is_code_wanted(session: &Session, code: Option<&PersonCode>) -> bool
     ensures { result ≡ is_code_wanted session.now (option_copied code.entry) }
 {
@@ -41,7 +43,7 @@ pub fn state_refusal(signing: &Signing, state: Option<State>) -> Option<Refusal>
     }
 }
 
-/// The refusal of a digest that isn't the version's as it is now.
+/// The refusal of a digest that isn't the present one of the version.
 pub fn digest_refusal(now: Digest, digest: Digest) -> Option<Refusal>
     ensures { result ≡ digest_refusal now digest }
 {
@@ -62,7 +64,7 @@ fn is_second(person: &PersonCode, signatures: &[Signature]) -> bool
     }
 }
 
-/// The refusal of a person who may not sign the version so.
+/// The refusal of a person who may not sign the version as this.
 pub fn signer_refusal(signing: &Signing, version: &Version, person: &PersonCode) -> Option<Refusal>
     ensures { result ≡ signer_refusal signing.now version.now person.now }
 {
@@ -85,7 +87,7 @@ pub fn signer_refusal(signing: &Signing, version: &Version, person: &PersonCode)
     }
 }
 
-/// The refusal of a rejection that doesn't say why.
+/// The refusal of a rejection without a reason.
 pub fn reason_refusal(signing: &Signing) -> Option<Refusal>
     ensures { result ≡ reason_refusal signing.now }
 {

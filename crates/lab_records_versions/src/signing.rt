@@ -1,4 +1,4 @@
-//! Signatures that are given (21 CFR 11.50, 11.70 and 11.200(a)).
+//! How signatures are given (21 CFR 11.50, 11.70 and 11.200(a)).
 ghost use Rattle.std.specs.Prelude.{◌≡◌, ◌++◌, ◌∷◌, [], None, is_none, ◌&&◌, map, IfOk, IfErr, IsTrue, option_copied};
 ghost use Rattle.std.specs.List.{list_any};
 ghost use Rattle.lab_records_kept.specs.Digests.{signature_of};
@@ -22,11 +22,12 @@ use lab_seal_versions::{Digest, EntryRow, Meaning, SealParts, state_of};
 use std::alloc::Global;
 use std::collections::BTreeMap;
 
-/// The signature of a person whose password was accepted, under the version of the number of the record that was looked up;
-/// `digest` is the one that the person saw. Memory may run out once the version's own is made, to compare them.
+/// Signs the version with the number of the record that was looked up, for a person whose password
+/// was accepted; `digest` is the digest that the person saw. Memory can run out only from the point
+/// where the version's own digest is made, to compare the two.
 ///
 /// # Errors
-/// The command's refusal, or memory ran out.
+/// The refusal of the command, or memory ran out.
 pub fn sign(
     alloc: Global,
     lab: &LabCode,
@@ -62,7 +63,8 @@ pub fn sign(
     }
 }
 
-/// The first refusal of a signature of a version. The only error is out of memory, once the version's digest is made.
+/// Returns the first refusal of a signature of a version. Fails only if memory runs out, and only
+/// once the digest of the version has to be made.
 ///
 /// # Errors
 /// Memory ran out.
@@ -98,7 +100,8 @@ pub fn version_refusal(
     Ok(reason_refusal(signing))
 }
 
-/// The refusal of an authorship of a version that lacks what its form requires, or alters nothing; it alone wants memory.
+/// The refusal of an authorship of a version that lacks what its form requires, or that alters
+/// nothing. Only for an authorship it takes memory.
 ///
 /// # Errors
 /// Memory ran out.
@@ -128,7 +131,7 @@ pub fn content_refusal(
     Ok(None)
 }
 
-// Whether a field that the form requires has no value at the version of the number.
+// Whether a required field of the form has no value at the version with the number.
 fn is_any_missing(alloc: Global, kept: &Record, number: Ordinal) -> Result<bool, OutOfMemory>
     ensures { IfOk result (λ missing. missing
         ≡ list_any (is_missing (rows_to number kept.now)) kept.now.form.form.fields) }
@@ -150,7 +153,7 @@ fn is_missing<'a>(table: &BTreeMap<&'a str, &'a EntryRow>, field: &Field) -> boo
     field.required && row_of_key(table, &field.key).is_none()
 }
 
-// What the signature means. A rejection without a reason was refused.
+// The meaning of the signature. A rejection without a reason was refused before.
 fn signed_meaning(signing: Signing) -> Meaning
     requires { reason_refusal signing ≡ None }
     ensures { result ≡ signed_meaning signing }
@@ -166,7 +169,7 @@ fn signed_meaning(signing: Signing) -> Meaning
     }
 }
 
-// The person's signature of that meaning, with its seal.
+// The signature of the person with that meaning, and its seal.
 fn new_signature(
     lab: &LabCode,
     person: &Person,
@@ -190,7 +193,7 @@ fn new_signature(
     }))
 }
 
-// A signature that is given, and its version's state with it.
+// A signature that was given, and the state of its version with it.
 fn signature_made(
     alloc: Global,
     kept: &Record,
@@ -208,7 +211,7 @@ fn signature_made(
     })
 }
 
-// What signatures mean, and one more behind them.
+// The meanings of the signatures, and one more after them.
 fn meanings_with(
     alloc: Global,
     signatures: &[Signature],

@@ -1,4 +1,4 @@
-//! Why a copy didn't go out whole.
+//! Why a copy wasn't written whole.
 
 ghost use Rattle.std.specs.Prelude.{◌≡◌};
 ghost use Rattle.lab_records_walks.specs.Faults.{copy_fault_number, copy_fault_word};
@@ -9,13 +9,13 @@ use lab_records_kept::KeeperFault;
 use std::fmt;
 use thiserror::Error;
 
-/// Why a copy didn't go out whole. The front of its text went out, or nothing. The fault's own text
-/// is its word.
+/// Why a copy wasn't written whole. The beginning of its text was written, or nothing. The text of
+/// the fault is its word.
 #[derive(Clone, Copy, Debug, PartialEq, Eq, Error)]
 pub enum CopyOutFault {
-    /// There is no laboratory of the code. Nothing went out.
+    /// No laboratory has the code. Nothing was written.
     NoSuchLab,
-    /// The keeper's store refused.
+    /// The store of the keeper failed.
     Storage,
     /// Memory ran out.
     Memory,
@@ -36,15 +36,14 @@ impl CopyOutFault {
         }
     }
 
-    /// The number by which the fault is known: none where the writer failed, since no reply can
-    /// tell of it.
+    /// The number of the fault; `None` if the writer failed, since no reply can state that.
     pub fn number(&self) -> Option<u32>
         ensures { result ≡ copy_fault_number self.now }
     {
         self.entry().0
     }
 
-    /// The word by which the fault is known.
+    /// The word of the fault.
     pub fn word(&self) -> &'static str
         ensures { result.now ≡ copy_fault_word self.now }
     {

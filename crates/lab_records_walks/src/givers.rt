@@ -1,4 +1,4 @@
-//! How the rows of records go out of a keeper.
+//! How the rows of records are written from a keeper.
 
 ghost use Rattle.std.specs.Prelude.{◌≡◌, ◌≤◌, IfErr, OnOk};
 ghost use Rattle.lab_copy_rows.specs.Outs.{Sends, counted_all};
@@ -17,13 +17,14 @@ use lab_records_kept::{Keeper, LabCode, Ordinal};
 use std::alloc::Global;
 use std::io::Write;
 
-/// How the rows of records go out of a keeper.
+/// A way to write the rows of records from a keeper.
 pub trait RecordGiver<S: Keeper> {
-    /// Writes the rows of the records from a number to a last one, and tells the progress after each.
+    /// Writes the rows of the records from a number to a last one, and reports the progress after
+    /// each record.
     ///
     /// # Errors
-    /// The store's refusal, that memory ran out, and a write that failed or took no byte. The front
-    /// of the rows' text went out.
+    /// The store failed, memory ran out, or a write failed or took no byte. The beginning of the
+    /// rows' text was written.
     fn give_records<W: Write, P: Progress>(
         &self,
         alloc: Global,
@@ -54,7 +55,7 @@ pub trait RecordGiver<S: Keeper> {
         ensures read { IsRead S.world S.rests keeper.old keeper.new };
 }
 
-/// Each record is read whole, and then its rows go out: a way for every keeper.
+/// Reads each record whole, and then writes its rows: a way for every keeper.
 #[derive(Clone, Copy, Debug, PartialEq, Eq)]
 pub struct WholeRecords;
 

@@ -1,4 +1,4 @@
-//! What the definitions say of laboratories whose copies go out.
+//! What the definitions state about laboratories whose copies are written.
 ghost use Rattle.lab_records_walks.specs.Legible.{AllGiveSoundCopies};
 ghost use Rattle.lab_records_walks.specs.Walks.{AllCanBeWalked};
 
@@ -8,7 +8,8 @@ pub fn a_laboratory_can_be_walked()
     ensures { AllCanBeWalked }
 {}
 
-/// Law: a laboratory within its limits, bound, under dual control and legible gives sound copies.
+/// Law: the copies of a laboratory within its limits, bound, under dual control and legible are
+/// sound.
 #[tactic(auto, using(crate::proofs::LegibleLemmas::all_give_sound_copies))]
 pub fn a_legible_laboratory_gives_sound_copies()
     ensures { AllGiveSoundCopies }

@@ -1,5 +1,5 @@
-//! Why what is kept is legible: its types admit nothing else. Each of these calls is a law: what it
-//! is given is left as it is.
+//! Why what is kept is legible: its types admit nothing else. Each function here is a law: it
+//! leaves its arguments as they are.
 
 ghost use Rattle.std.specs.Prelude.{All};
 ghost use Rattle.lab_copy_rows.specs.Lines.{IsMeaning, IsVersionReason};
@@ -23,7 +23,7 @@ fn digest_has_bytes(digest: &Digest)
     let _digits = digest.digits();
 }
 
-// And so has a seal.
+// A seal has 32 bytes.
 fn seal_has_bytes(seal: &Seal)
     ensures { IsDigest seal.now }
 {
@@ -39,7 +39,7 @@ fn reason_is_note(reason: &Option<Note>)
     }
 }
 
-// A row's parts are what their types admit.
+// The parts of a row are what their types admit.
 fn row_is_legible(row: &EntryRow)
     ensures { IsRow row.now }
 {
@@ -157,7 +157,7 @@ pub fn lab_is_legible(lab: &Lab)
     records_are_legible(lab.records.as_slice());
 }
 
-// What a change brings is what its types admit.
+// What a change adds is what its types admit.
 fn change_is_legible(change: &Change)
     ensures { IsLegibleChange change.now }
 {
@@ -172,7 +172,7 @@ fn change_is_legible(change: &Change)
     }
 }
 
-/// Law: what changes bring is legible.
+/// Law: what changes add is legible.
 pub fn changes_are_legible(changes: &Series<Change>)
     ensures { All IsLegibleChange changes.now }
 {
@@ -181,7 +181,7 @@ pub fn changes_are_legible(changes: &Series<Change>)
     }
 }
 
-/// Law: a laboratory is born legible.
+/// Law: a new laboratory is legible.
 #[tactic(auto, using(crate::proofs::LegibleLemmas::born_legible))]
 pub fn newborn_is_legible(newborn: &Newborn)
     ensures { IsLegible (newborn_lab newborn.now) }

@@ -1,5 +1,6 @@
-//! Inspection copies that go out of a keeper one record at a time (21 CFR 11.10(b)), so that a copy
-//! of any length takes the memory of its longest record, or of less where a record goes out in parts.
+//! Inspection copies that are written from a keeper one record at a time (21 CFR 11.10(b)), so a
+//! copy of any length takes only the memory of its longest record, or less if a record is written
+//! in parts.
 #![tactic(auto)]
 
 mod faults;

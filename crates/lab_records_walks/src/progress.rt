@@ -1,12 +1,12 @@
-//! How far a copy is, for whoever waits for it.
+//! The progress of a copy, for those who wait for it.
 
-/// Who hears how far a copy is.
+/// Something that is informed about the progress of a copy.
 pub trait Progress {
-    /// So many of so many records are done.
+    /// Is called when `done` of `all` records are done.
     fn tell_records(&mut self, done: u32, all: u32);
 }
 
-/// Nobody hears of it.
+/// Ignores the progress.
 #[derive(Clone, Copy, Debug, PartialEq, Eq)]
 pub struct Unheard;
 

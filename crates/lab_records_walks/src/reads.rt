@@ -1,4 +1,4 @@
-//! What the walk reads of a keeper: how a laboratory is headed, and one record of it.
+//! What the walk reads from a keeper: the head of a laboratory, and one of its records.
 
 ghost use Rattle.std.specs.Prelude.{◌≡◌, ◌≤◌, None, IfOk, IfErr, OnOk, option_and_then, option_map};
 ghost use Rattle.lab_records_copies.specs.CopyLines.{copy_line};
@@ -14,10 +14,10 @@ use lab_records_kept::{
     Keeper, KeeperFault, LabCode, Moment, Need, Ordinal, Record, RecordWanted, Slice,
 };
 
-/// How a laboratory is headed: the part of it of which nothing more is needed.
+/// Reads the head of a laboratory: the part that is loaded when nothing more is needed.
 ///
 /// # Errors
-/// The store refused, or memory ran out.
+/// The store failed, or memory ran out.
 pub(crate) fn head_of<S: Keeper>(
     keeper: &mut S,
     lab: &LabCode,
@@ -41,10 +41,10 @@ pub(crate) fn head_of<S: Keeper>(
     loaded
 }
 
-/// The record of a number, where there is a laboratory that has one.
+/// Reads the record with the number, if there is a laboratory that has one.
 ///
 /// # Errors
-/// The store refused, or memory ran out.
+/// The store failed, or memory ran out.
 pub(crate) fn read_record<S: Keeper>(
     keeper: &mut S,
     lab: &LabCode,
@@ -68,7 +68,7 @@ pub(crate) fn read_record<S: Keeper>(
     }
 }
 
-// The record of the number is needed, and nothing else.
+// The need of the record with the number, and of nothing else.
 fn need_of(number: u32) -> Need
     ensures { result ≡ record_need (option_map (λ n. Numbered n) (ordinal_of number)) }
 {
@@ -81,14 +81,14 @@ fn need_of(number: u32) -> Need
     }
 }
 
-// The record of a part, where it has one.
+// The record in a part, if it has one.
 fn filed_in(slice: Option<Slice>) -> Option<Record>
     ensures { result ≡ option_and_then (λ slice. slice.filed) slice }
 {
     slice?.into_filed()
 }
 
-/// The number of the last record of a range that is kept: the records are numbered from 1 on.
+/// Returns the number of the last record of a range that is kept: records are numbered from 1.
 pub(crate) fn last_kept(slice: &Slice, to: Ordinal) -> u32
     ensures { result ≡ last_walked to slice.now.counts.records }
 {
@@ -99,7 +99,7 @@ pub(crate) fn last_kept(slice: &Slice, to: Ordinal) -> u32
     }
 }
 
-/// The line with which the copy begins.
+/// Makes the line with which the copy begins.
 pub(crate) fn first_line(slice: Slice, from: Ordinal, to: Ordinal, moment: Moment) -> CopyLine
     ensures { result ≡ copy_line slice.code slice.name (desk_order from to moment) }
 {

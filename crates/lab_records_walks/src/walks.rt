@@ -1,4 +1,4 @@
-//! A copy that goes out: how it begins, the rows of its records, and its end.
+//! How a copy is written: its beginning, the rows of its records, and its end.
 
 ghost use Rattle.std.specs.Prelude.{◌≡◌, ◌≤◌, None, Err, IsSome, IfErr, MatchOption, OnOk};
 ghost use Rattle.lab_copy_rows.specs.Outs.{Sends};
@@ -19,15 +19,14 @@ use lab_records_kept::{Keeper, LabCode, Moment, Ordinal};
 use std::alloc::Global;
 use std::io::Write;
 
-/// Writes the inspection copy of a laboratory's records from a number to a number, made for nobody
-/// at this moment (21 CFR 11.10(b)). The giver has the rows of one record after the other go out, and
-/// the progress is told after each. A copy that went out whole is sound: the checker finds no flaw in
-/// it.
+/// Writes the inspection copy of a laboratory's records from a number to a number, at this moment
+/// and without a person who asks (21 CFR 11.10(b)). The giver writes the rows of one record after
+/// the other, and the progress is reported after each. A copy that was written whole is sound: the
+/// checker finds no flaw in it.
 ///
 /// # Errors
-/// That there is no laboratory of the code, the store's refusal, that memory ran out, and a write
-/// that failed or took no byte. The front of the copy's text went out, and the rows are as they
-/// were.
+/// No laboratory has the code, the store failed, memory ran out, or a write failed or took no byte.
+/// The beginning of the copy's text was written, and the rows of the keeper are as they were.
 pub fn copy_out<S: Keeper, G: RecordGiver<S>, W: Write, P: Progress>(
     alloc: Global,
     keeper: &mut S,
@@ -39,20 +38,20 @@ pub fn copy_out<S: Keeper, G: RecordGiver<S>, W: Write, P: Progress>(
     writer: &mut W,
     progress: &mut P,
 ) -> Result<(), CopyOutFault>
-    // Where the laboratory's records can be walked:
+    // If the records of the laboratory can be walked:
     ensures text { CanWalk (S.world keeper.old) lab.now →
         Given (S.world keeper.old) (S.world keeper.new)
         (Sends (W.contents writer.old) (W.contents writer.new)
         (copy_text (desk_order from to moment) ((S.world keeper.old).meaning lab.now)) result) }
 
-    // Where the laboratory is within its limits, bound, under dual control and legible:
+    // If the laboratory is within its limits, bound, under dual control and legible:
     ensures sound { CanCopy (S.world keeper.old) lab.now → from ≤ to →
         Given (S.world keeper.old) (S.world keeper.new)
         (OnOk result (MatchOption ((S.world keeper.old).meaning lab.now) ⊥
         (SendsSound (desk_order from to moment)
         (W.contents writer.old) (W.contents writer.new)))) }
 
-    // Whatever they are:
+    // In every case:
     ensures found { Given (S.world keeper.old) (S.world keeper.new)
         (OnOk result (IsSome ((S.world keeper.old).meaning lab.now))) }
     ensures fault { IfErr result (CopyFaultFits
@@ -78,7 +77,7 @@ pub fn copy_out<S: Keeper, G: RecordGiver<S>, W: Write, P: Progress>(
     }
 }
 
-// Writes a copy under its first line: the records up to a last one.
+// Writes a copy that begins with a line: its records up to a last one.
 fn copy_under<S: Keeper, G: RecordGiver<S>, W: Write, P: Progress>(
     alloc: Global,
     keeper: &mut S,

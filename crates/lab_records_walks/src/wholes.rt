@@ -1,4 +1,5 @@
-//! Records that go out whole, one after the other: each is read, its rows go out, and it is let go.
+//! Records that are written whole, one after the other: each is read, its rows are written, and it
+//! is dropped.
 
 ghost use Rattle.std.specs.Prelude.{◌≡◌, ◌≤◌, [], ◌∷◌, IfErr, OnOk, option_to_list};
 ghost use Rattle.lab_copy_rows.specs.Outs.{Sends, counted_all};
@@ -18,11 +19,12 @@ use lab_records_kept::{Keeper, LabCode, Ordinal, Record};
 use std::alloc::Global;
 use std::io::Write;
 
-/// Writes the rows of the records from a number to a last one, each read whole, and tells the progress after each.
+/// Writes the rows of the records from a number to a last one, reads each record whole, and reports
+/// the progress after each.
 ///
 /// # Errors
-/// The store's refusal, that memory ran out, and a write that failed or took no byte. The front of
-/// the rows' text went out.
+/// The store failed, memory ran out, or a write failed or took no byte. The beginning of the rows'
+/// text was written.
 pub(crate) fn give_wholes<S: Keeper, W: Write, P: Progress>(
     alloc: Global,
     keeper: &mut S,
@@ -60,7 +62,7 @@ pub(crate) fn give_wholes<S: Keeper, W: Write, P: Progress>(
     Ok(())
 }
 
-// Writes the rows of the record of a number, where there is one.
+// Writes the rows of the record with the number, if there is one.
 fn give_at<S: Keeper, W: Write>(
     alloc: Global,
     keeper: &mut S,

@@ -1,7 +1,8 @@
-//! Why bytes were not read as the text of a version. Each fault has a number and a word, by which the interface tells it.
+//! Why bytes were not read as the text of a version. Each fault has a number and a word, which the
+//! interface shows.
 use lab_forms_texts::{Fault, RefusalKind};
 
-/// The bytes are the text of no version.
+/// The bytes aren't the text of a version.
 #[derive(Clone, Copy, Debug, PartialEq, Eq)]
 pub struct BadText;
 
@@ -15,5 +16,6 @@ impl RefusalKind for BadText {
     }
 }
 
-/// Why bytes were not read as the text of a version. Want of memory is the answer only where they are one.
+/// Why bytes were not read as the text of a version. Memory is the fault only if they are such a
+/// text.
 pub type TextFault = Fault<BadText>;

@@ -1,5 +1,6 @@
-//! Fields: the items at the front of a text, each read as a value of its type: a number, a word, a moment or a digest. The
-//! value comes with the rest of the text. None of them takes memory.
+//! Fields: the items at the front of a text, each read as a value of its type: a number, a word, a
+//! moment or a digest. Each call returns the value and the rest of the text. Reading a field takes
+//! no memory.
 ghost use Rattle.std.specs.Prelude.{◌≡◌, ◌==◌, ◌+◌, ◌<◌, ◌≤◌, if◌then◌else◌, Some, None, IfOk, IsTrue, option_map};
 ghost use Rattle.std.specs.List.{position};
 ghost use Rattle.std.specs.Str.{is_utf8};
@@ -12,7 +13,7 @@ use lab_forms_texts::{Moment, NameFault, Notes, Ordinal, OutOfMemory, Rule, Text
 use lab_seal_hashes::Digest;
 use std::alloc::Global;
 
-/// A copy of a text that the rule admits.
+/// Returns a copy of a text that the rule admits.
 ///
 /// # Errors
 /// Memory ran out.
@@ -27,10 +28,11 @@ pub fn own_copy<R: Rule>(alloc: Global, text: &str) -> Result<Text<R>, OutOfMemo
     }
 }
 
-/// The number of which these are the decimal digits, without leading zeros. `None` where they are none of a
-/// number of 64 bits.
+/// Returns the number with these decimal digits, without leading zeros. `None` if the bytes aren't
+/// the digits of a number of 64 bits.
 //
-// Most items are shorter than a hundred bytes, and one or two digits are read by themselves.
+// Most items are shorter than a hundred bytes, so numbers of one and two digits are read
+// separately.
 pub fn value_of(digits: &[u8]) -> Option<usize>
     ensures { result ≡ number_of digits.now }
 {
@@ -71,7 +73,7 @@ fn first_colon(text: &[u8]) -> Option<usize>
     text.iter().position(|byte| *byte == b':')
 }
 
-// So many bytes, where a line feed follows them.
+// This number of bytes, if a line feed follows them.
 #[tactic(auto, unfolding(crate::specs::Reading::line_of))]
 fn line_of(text: &[u8], count: usize) -> Option<(&[u8], &[u8])>
     ensures { option_map (λ parts. (parts.0.now, parts.1.now)) result ≡ line_of count text.now }
@@ -82,7 +84,7 @@ fn line_of(text: &[u8], count: usize) -> Option<(&[u8], &[u8])>
     Some((&text[..count], &text[count + 1..]))
 }
 
-/// The bytes of the item at the front.
+/// Returns the bytes of the item at the front, and the rest.
 #[tactic(auto, unfolding(crate::specs::Reading::first_item))]
 pub fn bytes(text: &[u8]) -> Option<(&[u8], &[u8])>
     ensures { option_map (λ parts. (parts.0.now, parts.1.now)) result ≡ first_item text.now }
@@ -92,7 +94,7 @@ pub fn bytes(text: &[u8]) -> Option<(&[u8], &[u8])>
     line_of(&text[colon + 1..], count)
 }
 
-/// A text that the rule admits.
+/// Reads a text that the rule admits.
 #[tactic(auto, unfolding(crate::specs::Reading::first_as))]
 pub fn text<R: Rule>(front: &[u8]) -> Option<(&str, &[u8])>
     ensures { option_map (λ found. (found.0.now, found.1.now)) result
@@ -109,7 +111,7 @@ fn admitted_in<R: Rule>(bytes: &[u8]) -> Option<&str>
     if R::admits(text) { Some(text) } else { None }
 }
 
-/// The text that the bytes are, where they are text.
+/// Returns the bytes as a text, if they are UTF-8.
 pub fn text_in(bytes: &[u8]) -> Option<&str>
     ensures { option_map (λ text. text.now) result
         ≡ (if is_utf8 bytes.now then Some bytes.now else None) }
@@ -117,7 +119,7 @@ pub fn text_in(bytes: &[u8]) -> Option<&str>
     str::from_utf8(bytes).ok()
 }
 
-/// What follows an item that has these bytes.
+/// Returns what follows the item at the front, if it has these bytes.
 #[tactic(auto, unfolding(crate::specs::Reading::first_as))]
 pub fn after<'a>(text: &'a [u8], expected: &[u8]) -> Option<&'a [u8]>
     ensures { option_map (λ rest. (tt, rest.now)) result
@@ -127,7 +129,7 @@ pub fn after<'a>(text: &'a [u8], expected: &[u8]) -> Option<&'a [u8]>
     if bytes == expected { Some(rest) } else { None }
 }
 
-/// Which of two words the item at the front is.
+/// Returns which of two words the item at the front is.
 #[tactic(auto, unfolding(crate::specs::Reading::first_as))]
 pub fn choice<'a>(text: &'a [u8], yes: &[u8], no: &[u8]) -> Option<(bool, &'a [u8])>
     ensures { option_map (λ found. (found.0, found.1.now)) result
@@ -143,7 +145,7 @@ pub fn choice<'a>(text: &'a [u8], yes: &[u8], no: &[u8]) -> Option<(bool, &'a [u
     }
 }
 
-/// The number of a list's elements.
+/// Reads the number of a list's elements.
 #[tactic(auto, unfolding(crate::specs::Reading::first_as))]
 pub fn count(text: &[u8]) -> Option<(usize, &[u8])>
     ensures { option_map (λ found. (found.0, found.1.now)) result ≡ first_as number_of text.now }
@@ -153,7 +155,7 @@ pub fn count(text: &[u8]) -> Option<(usize, &[u8])>
     Some((count, rest))
 }
 
-/// The number of a record, a version or a form's version.
+/// Reads the number of a record, a version or a form's version.
 #[tactic(auto, unfolding(crate::specs::Reading::first_as))]
 pub fn ordinal(text: &[u8]) -> Option<(u32, &[u8])>
     ensures { option_map (λ found. (found.0, found.1.now)) result ≡ first_as ordinal_in text.now }
@@ -172,7 +174,7 @@ fn ordinal_in(digits: &[u8]) -> Option<u32>
     }
 }
 
-/// A note, or nothing where the item is empty.
+/// Reads a note, or nothing if the item is empty.
 #[tactic(auto, unfolding(crate::specs::Reading::first_as))]
 pub fn reason(text: &[u8]) -> Option<(Option<&str>, &[u8])>
     ensures { option_map (λ found. (option_map (λ note. note.now) found.0, found.1.now)) result
@@ -192,7 +194,7 @@ fn reason_in(bytes: &[u8]) -> Option<Option<&str>>
     Some(Some(admitted_in::<Notes>(bytes)?))
 }
 
-/// The moment that has this text.
+/// Returns the moment with this text.
 pub fn moment_of(text: &str) -> Option<Moment>
     ensures { result ≡ moment_of text.now }
 {
@@ -206,7 +208,7 @@ fn moment_in(bytes: &[u8]) -> Option<u64>
     Some(moment.seconds() as u64)
 }
 
-/// A moment.
+/// Reads a moment.
 #[tactic(auto, unfolding(crate::specs::Reading::first_as))]
 pub fn moment(text: &[u8]) -> Option<(u64, &[u8])>
     ensures { option_map (λ found. (found.0, found.1.now)) result ≡ first_as moment_in text.now }
@@ -215,7 +217,7 @@ pub fn moment(text: &[u8]) -> Option<(u64, &[u8])>
     Some((moment_in(bytes)?, rest))
 }
 
-/// A digest.
+/// Reads a digest.
 #[tactic(auto, unfolding(crate::specs::Reading::first_as))]
 pub fn digest(text: &[u8]) -> Option<([u8; 32], &[u8])>
     ensures { option_map (λ found. (found.0, found.1.now)) result

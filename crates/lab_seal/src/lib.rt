@@ -1,5 +1,5 @@
-//! The text of a version as it is read: its items, its parts, and which bytes are the text of which version.
-//! The calls of the crates below that hash, sign and write are passed on.
+//! The reading of a version's text: its items, its parts, and which bytes are the text of which
+//! version. The calls of the crates below, which hash, sign and write, are re-exported.
 #![tactic(auto)]
 
 mod faults;

@@ -1,4 +1,5 @@
-//! The parts of a version's text, each found at the front of what is left of it. None of them takes memory.
+//! The parts of a version's text, each read from the front of the rest of the text. No call takes
+//! memory.
 ghost use Rattle.std.specs.Prelude.{◌≡◌, option_map};
 ghost use Rattle.lab_seal.specs.Parts.{first_heading, first_format, first_subject, first_no_amendment, first_amendment, first_origin, first_opening, first_front, first_row, first_rows, heading_of, subject_of, amendment_of, amends_of, opening_of, front_of, row_of};
 
@@ -6,7 +7,7 @@ use crate::fields;
 use lab_forms_texts::{Keys, LabCodes, Names, Notes, Ordinal, PersonCodes, Units};
 use lab_seal_versions::Format;
 
-/// Which version it is.
+/// Which version the text is of.
 #[derive(Clone, Copy)]
 pub struct Heading<'a> {
     pub is_newer: bool,
@@ -39,7 +40,7 @@ pub struct Opening<'a> {
     pub rows: usize,
 }
 
-/// All that stands before the rows.
+/// Everything before the rows.
 #[derive(Clone, Copy)]
 pub struct Front<'a> {
     pub heading: Heading<'a>,
@@ -48,7 +49,7 @@ pub struct Front<'a> {
     pub opening: Opening<'a>,
 }
 
-/// A row.
+/// A row of a version.
 #[derive(Clone, Copy)]
 pub struct Row<'a> {
     pub key: &'a str,
@@ -59,7 +60,7 @@ pub struct Row<'a> {
     pub reason: Option<&'a str>,
 }
 
-/// All that stands before the rows, at the front of a text.
+/// Reads everything before the rows, from the front of a text.
 #[tactic(auto, unfolding(crate::specs::Parts::first_front))]
 pub fn first_front(text: &[u8]) -> Option<(Front<'_>, &[u8])>
     ensures { option_map (λ found. (front_of found.0, found.1.now)) result ≡ first_front text.now }
@@ -113,7 +114,7 @@ fn first_subject(is_newer: bool, text: &[u8]) -> Option<(Subject<'_>, &[u8])>
     Some((subject, rest))
 }
 
-// The format, of which the newer one says whether an approval is wanted.
+// The format. The newer one says whether an approval is wanted.
 #[tactic(auto, unfolding(crate::specs::Parts::first_format))]
 fn first_format(is_newer: bool, text: &[u8]) -> Option<(Format, &[u8])>
     ensures { option_map (λ found. (found.0, found.1.now)) result ≡ first_format is_newer text.now }
@@ -174,7 +175,7 @@ fn first_opening(text: &[u8]) -> Option<(Opening<'_>, &[u8])>
     Some((opening, rest))
 }
 
-/// The row at the front of a text.
+/// Reads the row at the front of a text.
 #[tactic(auto, unfolding(crate::specs::Parts::first_row))]
 pub fn first_row(text: &[u8]) -> Option<(Row<'_>, &[u8])>
     ensures { option_map (λ found. (row_of found.0, found.1.now)) result ≡ first_row text.now }
@@ -208,7 +209,7 @@ pub fn first_row(text: &[u8]) -> Option<(Row<'_>, &[u8])>
     Some((row, rest))
 }
 
-/// What follows so many rows.
+/// Returns what follows this number of rows.
 pub fn after_rows(count: usize, text: &[u8]) -> Option<&[u8]>
     ensures { option_map (λ rest. rest.now) result
         ≡ option_map (λ found. found.1) (first_rows count text.now) }

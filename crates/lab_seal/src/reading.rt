@@ -1,6 +1,6 @@
-//! The reading of a version's text: of every text that `write_version` gives, and of no other bytes.
-//! The rows are made while they are read; where memory runs out for one, what is left is read before
-//! that is told.
+//! The reading of a version's text: it accepts every text that `write_version` returns, and no
+//! other bytes. The rows are made while they are read. If memory runs out for a row, the rest is
+//! read before that fault is returned.
 ghost use Rattle.std.specs.Prelude.{◌≡◌, [], ◌∷◌, ◌++◌, IsTrue, IfOk, IfErr, OnOk, Some};
 ghost use Rattle.lab_forms_texts.specs.Moment.{is_moment};
 ghost use Rattle.lab_forms_texts.specs.Names.{is_lab_code, is_key, is_name, is_person_code};
@@ -16,14 +16,15 @@ use lab_seal_hashes::Digest;
 use lab_seal_versions::{Amendment, EntryRow, EntryRows, Origin, OriginParts, VersionParts};
 use std::alloc::Global;
 
-/// The fewest bytes of a row's text. Room for no more rows than a text can have is made at once.
+/// The fewest bytes of a row's text. Memory is reserved at once, for no more rows than the text can
+/// have.
 const SHORTEST_ROW: usize = 43;
 
-/// Reads the text of a version. `BadText` where the bytes are not the whole text of a version; memory runs out only where
-/// they are.
+/// Reads the text of a version. `BadText` if the bytes aren't the whole text of a version; the
+/// fault is `Memory` only if they are.
 ///
 /// # Errors
-/// The bytes are the text of no version, or memory ran out.
+/// The bytes aren't the text of a version, or memory ran out.
 pub fn read_version(alloc: Global, bytes: &[u8]) -> Result<VersionParts, TextFault>
     ensures read { IfOk result (λ parts. IsVersion parts × (version_text parts ≡ bytes.now)) }
     ensures fault { IfErr result (TextFaultFits (IsNoVersion bytes.now) (IsSomeVersion bytes.now)) }
@@ -33,7 +34,7 @@ pub fn read_version(alloc: Global, bytes: &[u8]) -> Result<VersionParts, TextFau
     Ok(owned_parts(alloc, &front, rows)?)
 }
 
-// Why a row is not made that memory has run out for, where so many rows are left with it.
+// The fault after memory ran out for a row, with `left` rows still to be read from the text.
 fn fault_of_memory(left: usize, text: &[u8]) -> TextFault
     ensures { TextFaultFits (AreAllRows left text.now → ⊥) (AreAllRows left text.now) result }
 {
@@ -43,7 +44,7 @@ fn fault_of_memory(left: usize, text: &[u8]) -> TextFault
     }
 }
 
-// All rows of a text that has so many, copied.
+// All rows of a text that has `count` rows, copied.
 fn all_rows(alloc: Global, count: usize, text: &[u8]) -> Result<EntryRows, TextFault>
     ensures rows { IfOk result (λ rows. first_rows count text.now ≡ Some (rows, [])) }
     ensures fault { IfErr result
@@ -96,7 +97,7 @@ fn owned_row(alloc: Global, row: &Row<'_>) -> Result<EntryRow, OutOfMemory>
     })
 }
 
-// The version that has what stands before its rows, copied, and these rows.
+// The version with these parts before its rows, copied, and with these rows.
 fn owned_parts(
     alloc: Global,
     front: &Front<'_>,
@@ -121,7 +122,7 @@ fn owned_parts(
     })
 }
 
-// The texts before the rows, copied.
+// The texts among the parts before the rows, copied.
 fn owned_texts(
     alloc: Global,
     front: &Front<'_>,
@@ -183,7 +184,8 @@ fn owned_moment(seconds: u64) -> Moment
     }
 }
 
-/// Law: no text of a version is the front of another, and a version has one text.
+/// Law: no text of a version is the beginning of another version's text, and a version has one
+/// text.
 pub fn one_spelling()
     ensures { OneSpelling }
 {}

@@ -25,14 +25,14 @@ impl Model for Digest {
 }
 
 impl Digest {
-    /// The digest that has these bytes.
+    /// Makes the digest with these bytes.
     pub fn from_bytes(bytes: [u8; 32]) -> Digest
         ensures { result ≡ bytes }
     {
         Digest { sum: bytes }
     }
 
-    /// The digest that has these 64 lower hexadecimal digits.
+    /// Reads a digest from its 64 lower-case hexadecimal digits.
     pub fn from_digits(digits: &[u8]) -> Option<Digest>
         ensures value { result ≡ bytes_of_digits 32 digits.now }
         ensures exact { IsSome result ↔ AreLowerDigits 64 digits.now }
@@ -42,14 +42,14 @@ impl Digest {
         Some(Digest::from_bytes(bytes))
     }
 
-    /// The digest's bytes.
+    /// The bytes of the digest.
     pub fn bytes(&self) -> [u8; 32]
         ensures { result ≡ self.now }
     {
         self.sum
     }
 
-    /// The digest as 64 lower hexadecimal digits.
+    /// Returns the digest as 64 lower-case hexadecimal digits.
     pub fn digits(&self) -> [u8; 64]
         ensures digits { result ≡ encode_lower self.now }
         ensures bytes { (length self.now ≡ 32) × IsBytes self.now }

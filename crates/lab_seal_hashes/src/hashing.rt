@@ -5,7 +5,7 @@ ghost use Rattle.sha2.specs.Sha256.{sha256};
 use crate::Digest;
 use sha2::{Digest as Hash, Sha256};
 
-/// The SHA-256 digest of a text (FIPS 180-4).
+/// Returns the SHA-256 digest of a text (FIPS 180-4).
 pub fn digest(text: &[u8]) -> Digest
     ensures { result ≡ sha256 text.now }
 {

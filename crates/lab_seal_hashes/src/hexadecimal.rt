@@ -1,10 +1,10 @@
-//! Bytes written as lower hexadecimal digits, and read from them.
+//! Bytes as lower-case hexadecimal digits: how they are written and read.
 ghost use Rattle.std.specs.Prelude.{◌≡◌, ◌↔◌, ◌*◌, length, IsSome, IfSome};
 ghost use Rattle.std.specs.List.{list_all};
 ghost use Rattle.hex.specs.Hex.{encode_lower};
 ghost use Rattle.lab_seal_hashes.specs.Digits.{is_lower_digit, AreLowerDigits, bytes_of_digits};
 
-// Writes the bytes' digits.
+// Writes the digits of the bytes.
 pub(crate) fn write_digits(bytes: &[u8], digits: &mut [u8])
     requires { length digits.old ≡ 2 * length bytes.now }
     ensures { digits.new ≡ encode_lower bytes.now }
@@ -27,7 +27,7 @@ fn are_lower_digits(digits: &[u8]) -> bool
     digits.iter().all(|digit| is_lower_digit(*digit))
 }
 
-// The 32 bytes that have these digits.
+// The 32 bytes with these digits.
 pub(crate) fn bytes_of_digits(digits: &[u8]) -> Option<[u8; 32]>
     ensures value { result ≡ bytes_of_digits 32 digits.now }
     ensures exact { IsSome result ↔ AreLowerDigits 64 digits.now }

@@ -6,7 +6,7 @@ ghost use Rattle.lab_seal_hashes.specs.Keyed.{IsKeyed};
 
 use sha2::{Digest, Sha256};
 
-/// The bytes of a block of SHA-256.
+/// The length of a block of SHA-256 in bytes.
 const BLOCK: usize = 64;
 
 /// The byte that a key is combined with before the text.
@@ -15,14 +15,14 @@ const INNER_PAD: u8 = 0x36;
 /// The byte that a key is combined with before the inner digest.
 const OUTER_PAD: u8 = 0x5c;
 
-/// HMAC with SHA-256 of a text under a key (RFC 2104, section 2).
+/// Returns the HMAC with SHA-256 of a text under a key (RFC 2104, section 2).
 pub fn hmac(key: &[u8], text: &[u8]) -> [u8; 32]
     ensures { result ≡ hmac_sha256 key.now text.now }
 {
     KeyedHash::new(key).tag(text)
 }
 
-// A key of HMAC whose two blocks are hashed already.
+// A key of HMAC, of which both blocks are already hashed.
 #[derive(Drop)]
 pub(crate) struct KeyedHash {
     inner: Sha256,
@@ -59,7 +59,7 @@ impl KeyedHash {
         )
     }
 
-    // HMAC of the text that the inner hasher has taken in after the key's inner block.
+    // HMAC of the text that the inner hasher has read after the inner block of the key.
     fn finish(&self, inner: Sha256) -> [u8; 32]
         ensures { (key text : List ℕ) → IsKeyed key self.now
             → Holds256 inner (inner_block key ++ text)
@@ -70,7 +70,7 @@ impl KeyedHash {
     }
 }
 
-// The key as a block: hashed if it is longer, and filled with zeros.
+// The key as a block: it is hashed if it is longer than a block, and filled up with zeros.
 #[tactic(auto, unfolding(crate::specs::Hmac::block_key))]
 fn block_of(key: &[u8]) -> [u8; BLOCK]
     ensures { result ≡ block_key key.now }

@@ -1,6 +1,6 @@
-//! Digests, keyed hashes and the secrets that are checked by them: SHA-256 (FIPS 180-4), HMAC (RFC
-//! 2104), PBKDF2 (RFC 8018), the verifiers of passwords, the tokens of sessions and the halves of
-//! one-time words. None of the calls takes memory.
+//! Digests, keyed hashes, and the secrets that are checked with them: SHA-256 (FIPS 180-4), HMAC
+//! (RFC 2104), PBKDF2 (RFC 8018), the verifiers of passwords, the tokens of sessions and the halves
+//! of one-time words. No call takes memory.
 #![tactic(auto)]
 
 mod digests;

@@ -1,4 +1,4 @@
-//! Passwords, stretched: PBKDF2 with HMAC-SHA-256.
+//! Stretched passwords: PBKDF2 with HMAC-SHA-256.
 ghost use Rattle.std.specs.Prelude.{◌≡◌, ◌≤◌};
 ghost use Rattle.lab_seal_hashes.specs.Pbkdf2.{xor_bytes, pbkdf2_block};
 
@@ -7,8 +7,8 @@ use crate::keyed::KeyedHash;
 /// The number of the one block that is derived.
 const FIRST_BLOCK: u32 = 1;
 
-/// One block of PBKDF2 with HMAC-SHA-256 (RFC 8018, section 5.2): what so many rounds make of a
-/// password and a salt.
+/// Returns one block of PBKDF2 with HMAC-SHA-256 (RFC 8018, section 5.2), made of a password and a
+/// salt in this number of rounds.
 pub fn pbkdf2(password: &[u8], salt: &[u8], rounds: u32) -> [u8; 32]
     requires { 1 ≤ rounds }
     ensures { result ≡ pbkdf2_block password.now salt.now rounds }

@@ -1,4 +1,4 @@
-//! What is kept of a password, and by which it is known again.
+//! What is kept of a password, and how a password is checked against it.
 ghost use Rattle.std.specs.Prelude.{◌≡◌, ◌≤◌};
 ghost use Rattle.lab_seal_hashes.specs.Verifiers.{verifier_of, is_verified};
 
@@ -6,20 +6,20 @@ use crate::pbkdf2;
 use std::fmt;
 use std::marker::Model;
 
-/// What a verifier is made of. It isn't printed.
+/// The parts of a verifier. They aren't printed.
 #[derive(Clone, Copy)]
 pub struct VerifierParts {
     /// The salt of the password.
     pub salt: [u8; 16],
-    /// The rounds of PBKDF2, 1 or more.
+    /// The number of rounds of PBKDF2, 1 or more.
     pub rounds: u32,
     /// What PBKDF2 made of the password, the salt and the rounds.
     pub bytes: [u8; 32],
 }
 
-/// What is kept of a password in its place.
+/// What is kept in place of a password.
 ///
-/// A contract sees its parts. `Debug` prints none of them.
+/// A contract sees its parts. `Debug` doesn't print them.
 #[derive(Clone, Copy)]
 pub struct Verifier {
     kept: VerifierParts,
@@ -49,7 +49,7 @@ impl fmt::Debug for Verifier {
 }
 
 impl Verifier {
-    /// The verifier of a password, by PBKDF2 with HMAC-SHA-256 (RFC 8018, section 5.2).
+    /// Makes the verifier of a password, with PBKDF2 and HMAC-SHA-256 (RFC 8018, section 5.2).
     pub fn make(password: &[u8], salt: [u8; 16], rounds: u32) -> Verifier
         requires { 1 ≤ rounds }
         ensures { result ≡ verifier_of password.now salt rounds }
@@ -58,7 +58,7 @@ impl Verifier {
         Verifier::from_parts(salt, rounds, bytes)
     }
 
-    /// The verifier that has these parts.
+    /// Makes the verifier with these parts.
     pub fn from_parts(salt: [u8; 16], rounds: u32, bytes: [u8; 32]) -> Verifier
         requires { 1 ≤ rounds }
         ensures { result ≡ record { salt = salt; rounds = rounds; bytes = bytes } }
@@ -72,7 +72,7 @@ impl Verifier {
         }
     }
 
-    /// The verifier's parts.
+    /// The parts of the verifier.
     pub fn parts(&self) -> VerifierParts
         ensures value { result ≡ self.now }
         ensures rounds { 1 ≤ result.rounds }

@@ -28,7 +28,7 @@ impl Model for Token {
 }
 
 impl Token {
-    /// The token that is words 0 to 3 of a tick.
+    /// Makes the token of words 0 to 3 of a tick.
     pub fn from_words(words: &[u64; 8]) -> Token
         ensures { result ≡ token_of words.now }
     {
@@ -37,14 +37,15 @@ impl Token {
         Token::from_bytes(bytes)
     }
 
-    /// The token that has these bytes.
+    /// Makes the token with these bytes.
     pub fn from_bytes(bytes: [u8; 32]) -> Token
         ensures { result ≡ bytes }
     {
         Token { secret: bytes }
     }
 
-    /// The token that has these 64 lower hexadecimal digits, as a request names its session.
+    /// Reads a token from its 64 lower-case hexadecimal digits, with which a request names its
+    /// session.
     pub fn from_digits(digits: &[u8]) -> Option<Token>
         ensures value { result ≡ bytes_of_digits 32 digits.now }
         ensures exact { IsSome result ↔ AreLowerDigits 64 digits.now }
@@ -54,14 +55,14 @@ impl Token {
         Some(Token::from_bytes(bytes))
     }
 
-    /// The token's bytes.
+    /// The bytes of the token.
     pub fn bytes(&self) -> [u8; 32]
         ensures { result ≡ self.now }
     {
         self.secret
     }
 
-    /// The token as 64 lower hexadecimal digits.
+    /// Returns the token as 64 lower-case hexadecimal digits.
     pub fn digits(&self) -> [u8; 64]
         ensures { result ≡ encode_lower self.now }
     {
@@ -70,7 +71,7 @@ impl Token {
         digits
     }
 
-    /// The SHA-256 digest of the token's bytes, by which it is known without being kept.
+    /// Returns the SHA-256 digest of the token's bytes, which is kept in place of the token.
     pub fn digest(&self) -> Digest
         ensures { result ≡ sha256 self.now }
     {
@@ -97,7 +98,7 @@ impl Model for Half {
 }
 
 impl Half {
-    /// The half that is words 0 and 1 of a tick.
+    /// Makes the half of words 0 and 1 of a tick.
     pub fn from_words(words: &[u64; 8]) -> Half
         ensures { result ≡ half_of words.now }
     {
@@ -106,7 +107,7 @@ impl Half {
         Half { bytes }
     }
 
-    /// The half as 32 lower hexadecimal digits.
+    /// Returns the half as 32 lower-case hexadecimal digits.
     pub fn digits(&self) -> [u8; 32]
         ensures { result ≡ encode_lower self.now }
     {
@@ -116,22 +117,22 @@ impl Half {
     }
 }
 
-/// The salt that is words 4 and 5 of a tick.
+/// Returns the salt that words 4 and 5 of a tick make.
 pub fn salt(words: &[u64; 8]) -> [u8; 16]
     ensures { result ≡ salt_of words.now }
 {
     salt_at(words, 2)
 }
 
-/// The salts of the three founders of a laboratory: words 0 and 1, words 2 and 3, and words 4 and 5
-/// of a tick.
+/// Returns the salts of the three founders of a laboratory, made of words 0 and 1, words 2 and 3,
+/// and words 4 and 5 of a tick.
 pub fn founder_salts(words: &[u64; 8]) -> [[u8; 16]; 3]
     ensures { result ≡ founder_salts words.now }
 {
     [salt_at(words, 0), salt_at(words, 1), salt_at(words, 2)]
 }
 
-// The salt that is the words of this pair.
+// The salt that this pair of words makes.
 fn salt_at(words: &[u64; 8], pair: usize) -> [u8; 16]
     requires { pair < 4 }
     ensures { result ≡ salt_at words.now pair }
@@ -141,7 +142,7 @@ fn salt_at(words: &[u64; 8], pair: usize) -> [u8; 16]
     bytes
 }
 
-// Writes the words' bytes, the most significant first.
+// Writes the bytes of the words, the most significant byte first.
 fn write_words(words: &[u64], bytes: &mut [u8])
     requires { length bytes.old ≡ 8 * length words.now }
     ensures { bytes.new ≡ big_endian words.now }

@@ -1,4 +1,5 @@
-//! Items: texts that are written one after the other, each behind its length, so that no two lists of texts are written alike.
+//! Items: texts that are written one after the other, each after its length, so two different lists
+//! of texts are never written alike.
 ghost use Rattle.std.specs.Prelude.{◌≡◌, ◌++◌, OnOk, IsTrue, decimal};
 ghost use Rattle.hex.specs.Hex.{encode_lower};
 ghost use Rattle.lab_forms_texts.specs.Moment.{is_moment, moment_text};
@@ -21,7 +22,7 @@ pub(crate) fn push_item(text: &mut Vec<u8>, bytes: &[u8]) -> Result<(), OutOfMem
     Ok(())
 }
 
-// Adds a number's decimal digits as an item.
+// Adds the decimal digits of a number as an item.
 pub(crate) fn push_number(text: &mut Vec<u8>, number: u64) -> Result<(), OutOfMemory>
     ensures { OnOk result (text.new.items ≡ text.old.items ++ item (decimal number)) }
 {
@@ -29,7 +30,7 @@ pub(crate) fn push_number(text: &mut Vec<u8>, number: u64) -> Result<(), OutOfMe
     push_item(text, buffer.format(number).as_bytes())
 }
 
-// Adds a moment's text as an item.
+// Adds the text of a moment as an item.
 pub(crate) fn push_moment(text: &mut Vec<u8>, moment: Moment) -> Result<(), OutOfMemory>
     ensures text { OnOk result (text.new.items ≡ text.old.items ++ item (moment_text moment)) }
     ensures in_range { IsTrue (is_moment moment) }
@@ -39,7 +40,7 @@ pub(crate) fn push_moment(text: &mut Vec<u8>, moment: Moment) -> Result<(), OutO
     push_item(text, &printed)
 }
 
-// Adds a digest's digits as an item.
+// Adds the digits of a digest as an item.
 pub(crate) fn push_digest(text: &mut Vec<u8>, digest: &Digest) -> Result<(), OutOfMemory>
     ensures text { OnOk result (text.new.items ≡ text.old.items ++ item (encode_lower digest.now)) }
     ensures bytes { IsDigest digest.now }

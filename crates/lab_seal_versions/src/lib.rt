@@ -1,5 +1,5 @@
-//! The text of a version as it is written, over which its digest is taken; the seals of signatures over
-//! that digest (21 CFR 11.70); and the states that signatures make.
+//! The text of a version as it is written, of which its digest is taken; the seals of signatures
+//! over that digest (21 CFR 11.70); and the states that signatures make.
 #![tactic(auto)]
 
 mod items;

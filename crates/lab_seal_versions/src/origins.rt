@@ -1,4 +1,5 @@
-//! Which version of a record it is, and what it amends: the first version amends none, every later one the version before.
+//! Which version of a record a version is, and what it amends: the first version amends nothing,
+//! every later one amends the version before.
 ghost use Rattle.std.specs.Prelude.{◌≡◌, IfOk, None, option_map};
 ghost use Rattle.lab_seal_versions.specs.Origins.{AmendsUnlessFirst, amending};
 
@@ -52,12 +53,12 @@ impl Clone for Amendment {
     }
 }
 
-/// The number of a version, and what it amends.
+/// The number of a version, and what the version amends.
 #[derive(Debug)]
 pub struct OriginParts {
     /// The version's number.
     pub number: Ordinal,
-    /// What it amends, and why.
+    /// What the version amends, and why.
     pub amendment: Option<Amendment>,
 }
 
@@ -85,7 +86,8 @@ impl Clone for OriginParts {
     }
 }
 
-/// Where a version comes from: the first version amends none, and every later one does.
+/// The origin of a version: the first version amends nothing, every later one amends the version
+/// before.
 ///
 /// A contract sees its parts.
 #[derive(Debug)]
@@ -112,7 +114,7 @@ impl Model for Origin {
 }
 
 impl Origin {
-    /// The origin of a first version.
+    /// Makes the origin of a first version.
     pub fn first() -> Origin
         ensures { result ≡ record { number = 1; amendment = None } }
     {
@@ -124,7 +126,7 @@ impl Origin {
         }
     }
 
-    /// The origin of a later version, if the number is that of one.
+    /// Makes the origin of a later version, if the number is that of a later version.
     pub fn amending(number: Ordinal, amendment: Amendment) -> Option<Origin>
         ensures { result ≡ amending number amendment }
     {
@@ -139,7 +141,7 @@ impl Origin {
         })
     }
 
-    /// The origin that has these parts.
+    /// Makes the origin with these parts.
     pub fn of(parts: OriginParts) -> Origin
         requires { AmendsUnlessFirst parts.number parts.amendment }
         ensures { result ≡ parts }

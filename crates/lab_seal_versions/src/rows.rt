@@ -1,4 +1,4 @@
-//! The rows of a version: what persons entered, in order.
+//! The rows of a version: what people entered, in order.
 ghost use Rattle.std.specs.Prelude.{◌≡◌, ◌++◌, ◌∷◌, [], IfOk, OnOk, OnErr};
 
 use lab_forms_texts::{Key, Moment, Note, OutOfMemory, PersonCode, Unit};
@@ -14,11 +14,11 @@ pub struct EntryRow {
     pub value: Note,
     /// The value's unit.
     pub unit: Unit,
-    /// Who entered it.
+    /// Who entered the value.
     pub person: PersonCode,
-    /// When it was entered.
+    /// When the value was entered.
     pub moment: Moment,
-    /// Why it was entered in place of an earlier one.
+    /// Why the value replaces an earlier one.
     pub reason: Option<Note>,
 }
 
@@ -95,7 +95,7 @@ impl Model for EntryRows {
 }
 
 impl EntryRows {
-    /// The rows that the list has.
+    /// Makes rows of a list.
     pub fn new(rows: Vec<EntryRow>) -> EntryRows
         ensures { result ≡ rows.items }
     {
@@ -120,7 +120,7 @@ impl EntryRows {
         Ok(self.rows.push(row)?)
     }
 
-    /// Gives the list back.
+    /// Returns the list of the rows.
     pub fn into_rows(self) -> Vec<EntryRow>
         ensures { result.items ≡ self }
     {

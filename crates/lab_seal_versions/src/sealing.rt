@@ -8,7 +8,7 @@ use crate::{Seal, SealParts};
 use itoa::Buffer;
 use sha2::{Digest as Hash, Sha256};
 
-/// The seal of a signature: the SHA-256 (FIPS 180-4) of its seven items.
+/// Returns the seal of a signature: the SHA-256 (FIPS 180-4) of its seven items.
 #[tactic(auto, unfolding(crate::specs::Seals::seal_text))]
 pub fn seal(parts: &SealParts) -> Seal
     ensures { result ≡ seal_of parts.now }
@@ -17,7 +17,7 @@ pub fn seal(parts: &SealParts) -> Seal
     Seal::from_bytes(hash.finalize())
 }
 
-// The hash of what is signed and by whom.
+// The hash, with what is signed and who signs.
 #[tactic(auto, unfolding(crate::specs::Seals::signer_text))]
 fn with_signer(hash: Sha256, parts: &SealParts) -> Sha256
     ensures { (text : List ℕ) → Holds256 hash text
@@ -29,7 +29,7 @@ fn with_signer(hash: Sha256, parts: &SealParts) -> Sha256
     with_item(hash, parts.name.as_str().as_bytes())
 }
 
-// The hash of the meaning, the moment and the reason as well.
+// The hash, with the meaning, the moment and the reason.
 #[tactic(auto, unfolding(crate::specs::Seals::signing_text))]
 fn with_signing(hash: Sha256, parts: &SealParts) -> Sha256
     ensures { (text : List ℕ) → Holds256 hash text
@@ -42,7 +42,7 @@ fn with_signing(hash: Sha256, parts: &SealParts) -> Sha256
     with_item(hash, parts.meaning.reason().as_bytes())
 }
 
-// Hashes a text as an item.
+// The hash, with a text as an item.
 #[tactic(auto, unfolding(crate::specs::Versions::item))]
 fn with_item(hash: Sha256, bytes: &[u8]) -> Sha256
     ensures { (text : List ℕ) → Holds256 hash text → Holds256 result (text ++ item bytes.now) }

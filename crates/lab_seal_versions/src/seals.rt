@@ -28,7 +28,7 @@ impl Model for Seal {
 }
 
 impl Seal {
-    /// The seal that has these bytes.
+    /// Makes the seal with these bytes.
     pub fn from_bytes(bytes: [u8; 32]) -> Seal
         ensures { result ≡ bytes }
     {
@@ -37,7 +37,7 @@ impl Seal {
         }
     }
 
-    /// The seal that has these 64 lower hexadecimal digits.
+    /// Reads a seal from its 64 lower-case hexadecimal digits.
     pub fn from_digits(digits: &[u8]) -> Option<Seal>
         ensures value { result ≡ bytes_of_digits 32 digits.now }
         ensures exact { IsSome result ↔ AreLowerDigits 64 digits.now }
@@ -47,14 +47,14 @@ impl Seal {
         Some(Seal { sum })
     }
 
-    /// The seal's bytes.
+    /// The bytes of the seal.
     pub fn bytes(&self) -> [u8; 32]
         ensures { result ≡ self.now }
     {
         self.sum.bytes()
     }
 
-    /// The seal as 64 lower hexadecimal digits.
+    /// Returns the seal as 64 lower-case hexadecimal digits.
     pub fn digits(&self) -> [u8; 64]
         ensures { result ≡ encode_lower self.now }
     {
@@ -62,21 +62,21 @@ impl Seal {
     }
 }
 
-/// What a person signs a version as.
+/// The meaning of a signature: what a person signs a version as.
 #[derive(Debug, Drop)]
 pub enum Meaning {
     /// The author's signature.
     Authorship,
-    /// The second person's signature: it releases the version where its form wants no approval.
+    /// The signature of the second person. It releases the version if its form wants no approval.
     Review,
-    /// The signature that rejects a version, and why.
+    /// The signature that rejects a version, and the reason.
     Rejection(Note),
-    /// The third person's signature, which releases the version.
+    /// The signature of the third person. It releases the version.
     Approval,
 }
 
 impl Meaning {
-    /// The word by which the meaning is known.
+    /// The word of the meaning.
     pub fn word(&self) -> &'static str
         ensures { result.now ≡ meaning_word self.now }
     {
@@ -88,7 +88,7 @@ impl Meaning {
         }
     }
 
-    /// The reason of a rejection; the other meanings have none, and it is then empty.
+    /// The reason of a rejection. It is empty for the other meanings, which have no reason.
     pub fn reason(&self) -> &str
         ensures { result.now ≡ meaning_reason self.now }
     {
@@ -124,7 +124,7 @@ impl Clone for Meaning {
     }
 }
 
-/// A signature, as its seal covers it.
+/// A signature, with all that its seal covers.
 #[derive(Debug, Drop)]
 pub struct SealParts {
     /// The digest of the version that is signed.
@@ -137,7 +137,7 @@ pub struct SealParts {
     pub name: Name,
     /// What the person signs the version as.
     pub meaning: Meaning,
-    /// When it is signed.
+    /// When the person signs.
     pub moment: Moment,
 }
 

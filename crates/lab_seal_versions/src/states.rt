@@ -7,20 +7,20 @@ use crate::Meaning;
 /// The state of a version.
 #[derive(Clone, Copy, Debug, PartialEq, Eq)]
 pub enum State {
-    /// Nobody signed it, and rows may be entered.
+    /// Nobody has signed the version, and rows may be entered.
     Open,
-    /// Its author signed it.
+    /// The author has signed the version.
     Signed,
-    /// A second person reviewed it, and an approval is wanted.
+    /// A second person has reviewed the version, and an approval is wanted.
     Reviewed,
-    /// All signatures that are wanted stand.
+    /// The version has all signatures that are wanted.
     Released,
-    /// Its last signature rejects it.
+    /// The last signature of the version rejects it.
     Rejected,
 }
 
 impl State {
-    /// The word by which the state is known.
+    /// The word of the state.
     pub fn word(&self) -> &'static str
         ensures { result.now ≡ state_word self.now }
     {
@@ -44,7 +44,8 @@ impl State {
     }
 }
 
-/// The state of a version that has these signatures, in order; none where no version has such.
+/// Returns the state of a version with these signatures, in order; `None` if no version has such
+/// signatures.
 pub fn state_of(meanings: &[Meaning], approval: bool) -> Option<State>
     ensures { result ≡ state_of meanings.now approval }
 {

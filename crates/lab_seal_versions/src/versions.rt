@@ -1,4 +1,4 @@
-//! The text of a version, over which its digest is taken.
+//! The text of a version, of which its digest is taken.
 ghost use Rattle.std.specs.Prelude.{◌≡◌, ◌++◌, ◌<◌, ◌^◌, OnOk, IfOk, All, length};
 ghost use Rattle.std.specs.List.{flat_map};
 ghost use Rattle.lab_forms_texts.specs.Ordinals.{is_ordinal};
@@ -12,13 +12,13 @@ use std::alloc::Global;
 /// The format of a version's text.
 #[derive(Clone, Copy, Debug, PartialEq, Eq)]
 pub enum Format {
-    /// The older one, which tells of no approval.
+    /// The older format, which doesn't mention an approval.
     One,
-    /// The one that says whether the form wants an approval.
+    /// The format that says whether the form wants an approval.
     Two { approval: bool },
 }
 
-/// The version of a record, as its digest covers it.
+/// The version of a record, with all that its digest covers.
 pub struct VersionParts {
     /// The format of the text.
     pub format: Format,
@@ -26,9 +26,9 @@ pub struct VersionParts {
     pub lab: LabCode,
     /// The record's number.
     pub record_number: Ordinal,
-    /// The version's number, and what a later version amends.
+    /// The number of the version, and what it amends.
     pub origin: Origin,
-    /// The form that the record is filled in by.
+    /// The key of the form with which the record is filled in.
     pub form: Key,
     /// The version of the form.
     pub form_version: Ordinal,
@@ -36,7 +36,7 @@ pub struct VersionParts {
     pub sample: Name,
     /// Who opened the version.
     pub opener: PersonCode,
-    /// When it was opened.
+    /// When the version was opened.
     pub opened: Moment,
     /// The rows in the order in which they were entered.
     pub rows: EntryRows,
@@ -100,7 +100,7 @@ impl VersionParts {
     }
 }
 
-/// The text of a version, which `read_version` reads back.
+/// Returns the text of a version, which `read_version` reads back.
 ///
 /// # Errors
 /// Memory ran out.
@@ -111,8 +111,8 @@ pub fn write_version(alloc: Global, parts: &VersionParts) -> Result<Vec<u8>, Out
     write_with_rows(alloc, parts, &parts.rows)
 }
 
-/// The text of the version that these parts are of, but for its rows, which stand apart: none of them is copied. The rows among
-/// the parts aren't looked at.
+/// Returns the text of the version with these parts and these rows. No row is copied. The rows
+/// among the parts aren't used.
 ///
 /// # Errors
 /// Memory ran out.
@@ -132,7 +132,7 @@ pub fn write_with_rows(
     Ok(text)
 }
 
-// Adds all that stands before the rows.
+// Adds everything before the rows.
 #[tactic(auto, unfolding(crate::specs::Versions::front_text, crate::specs::Versions::heading_text, crate::specs::Versions::subject_text))]
 fn push_front(text: &mut Vec<u8>, parts: &VersionParts, rows: &EntryRows) -> Result<(), OutOfMemory>
     ensures text { OnOk result (text.new.items
@@ -176,7 +176,8 @@ fn push_subject(text: &mut Vec<u8>, parts: &VersionParts) -> Result<(), OutOfMem
     push_item(text, parts.sample.as_str().as_bytes())
 }
 
-// Adds whether an approval is wanted, of which only the newer format tells.
+// Adds whether an approval is wanted, if the format is the newer one; the older one doesn't mention
+// it.
 fn push_approval(text: &mut Vec<u8>, format: Format) -> Result<(), OutOfMemory>
     ensures { OnOk result (text.new.items ≡ text.old.items ++ approval_text format) }
 {
