@@ -42,7 +42,7 @@ const AMENDMENT: [Member; 3] = [
 /// A record is opened.
 ///
 /// # Errors
-/// The body's refusal, or memory ran out.
+/// The body is refused, or memory ran out.
 #[tactic(auto, using(lab_wire_members::proofs::ReadingLemmas::in_turn), unfolding(crate::specs::Records::record_named))]
 pub fn record(alloc: Global, value: &Value) -> Result<Command, BodyFault>
     ensures read { IfOk result (λ command. record_named (view value.now) ≡ Ok command) }
@@ -56,7 +56,7 @@ pub fn record(alloc: Global, value: &Value) -> Result<Command, BodyFault>
     Ok(Command::In(SessionCommand::OnRecord(RecordCommand::OpenRecord { form, sample })))
 }
 
-/// What the bodies on records have lists of.
+/// The group of the lists in bodies about records.
 pub struct OfRecords;
 
 impl Element<OfRecords> for Item {
@@ -80,7 +80,7 @@ impl Element<OfRecords> for Item {
 /// A value is entered.
 ///
 /// # Errors
-/// The body's refusal, or memory ran out.
+/// The body is refused, or memory ran out.
 #[tactic(auto, using(lab_wire_members::proofs::ReadingLemmas::in_turn), unfolding(crate::specs::Records::entry_named))]
 pub fn entry(alloc: Global, value: &Value) -> Result<Command, BodyFault>
     ensures read { IfOk result (λ command. entry_named (view value.now) ≡ Ok command) }
@@ -150,7 +150,7 @@ fn altered_items(alloc: Global, value: &Value) -> Result<Altered, BodyFault>
 /// A record is amended.
 ///
 /// # Errors
-/// The body's refusal, or memory ran out.
+/// The body is refused, or memory ran out.
 #[tactic(auto, using(lab_wire_members::proofs::ReadingLemmas::in_turn), unfolding(crate::specs::Records::amendment_named))]
 pub fn amendment(alloc: Global, value: &Value) -> Result<Command, BodyFault>
     ensures read { IfOk result (λ command. amendment_named (view value.now) ≡ Ok command) }
