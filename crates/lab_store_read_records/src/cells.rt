@@ -1,5 +1,4 @@
-//! One column of a row, read as its type. A value of another type is a fault of the store, and
-//! nothing else is one.
+//! One column of a row, read as its type. The only fault of the store is a value of another type.
 
 ghost use Rattle.std.specs.Prelude.{◌≡◌, IfOk, IfErr};
 ghost use Rattle.sqlite_value.specs.Order.{column};

@@ -1,5 +1,5 @@
-//! One column of a row, read as its type. A value of another type is a fault of the store, and
-//! nothing else is one; only for texts can memory run out.
+//! One column of a row, read as its type. The only fault of the store is a value of another type;
+//! memory can run out only for texts.
 
 ghost use Rattle.std.specs.Prelude.{◌≡◌, ◌&&◌, IfOk, IfErr};
 ghost use Rattle.std.specs.Str.{is_utf8};
