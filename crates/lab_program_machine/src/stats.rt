@@ -21,7 +21,7 @@ impl Stat {
         }
     }
 
-    /// The number of its bytes.
+    /// Returns the number of its bytes.
     pub(crate) fn length(&self) -> u64 {
         self.length
     }

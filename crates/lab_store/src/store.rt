@@ -67,7 +67,7 @@ impl<S: Alter> Model for Store<S> {
 }
 
 impl<S: Alter> Store<S> {
-    /// The keeper over a connection.
+    /// Returns the keeper over a connection.
     pub fn new(alloc: Global, conn: Connection<S>) -> Store<S>
         requires at_rest { IsAtRest (state S.Store conn) }
         ensures { result ≡ conn }

@@ -112,8 +112,8 @@ fn cover_after<D: Readable>(
     first_cover(alloc, conn, head)
 }
 
-/// The record of the row without its versions. Its form is read unless it is the form of the record
-/// before it.
+/// Returns the record of the row without its versions. Its form is read unless it is the form of
+/// the record before it.
 ///
 /// # Errors
 /// The store failed, a row isn't one that this program could have written, or memory ran out.

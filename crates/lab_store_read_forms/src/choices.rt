@@ -40,7 +40,7 @@ fn names_of_rows(alloc: Global, rows: &[Row]) -> Result<Vec<Name>, ReadFault>
     Ok(made)
 }
 
-/// The names of the choice with the id, in the order of their places.
+/// Returns the names of the choice with the id, in the order of their places.
 ///
 /// # Errors
 /// The store failed, a row isn't one that this program could have written, or memory ran out.

@@ -39,7 +39,7 @@ fn form_after<D: Readable>(
     form_with_id(alloc, conn, id)
 }
 
-/// The version of a form with the id. It is read unless it is the one before.
+/// Returns the version of a form with the id. Reads it unless it is the one before.
 ///
 /// # Errors
 /// The store failed, a row isn't one that this program could have written, or memory ran out.

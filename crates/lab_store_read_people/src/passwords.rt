@@ -101,7 +101,7 @@ pub(crate) fn password_of_row(row: &Row) -> Result<Password, ReadFault>
     }
 }
 
-/// What an administrator asked for.
+/// Returns what an administrator asked for.
 ///
 /// # Errors
 /// The store failed, a row isn't one that this program could have written, or memory ran out.

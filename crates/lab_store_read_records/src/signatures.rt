@@ -95,7 +95,7 @@ fn signatures_of_rows(alloc: Global, rows: &[Row]) -> Result<Vec<Signature>, Rea
     Ok(made)
 }
 
-/// The signatures of the version with the id, in the order of their places.
+/// Returns the signatures of the version with the id, in the order of their places.
 ///
 /// # Errors
 /// The store failed, a row isn't one that this program could have written, or memory ran out.

@@ -308,7 +308,7 @@ fn form_read(alloc: Global, value: &Value) -> Result<Command, BodyFault>
     Ok(Command::In(SessionCommand::OnRecord(RecordCommand::MakeForm { code, form })))
 }
 
-/// A form is made, or its next version.
+/// Reads the command that makes a form, or its next version.
 ///
 /// # Errors
 /// The body is refused, or memory ran out.

@@ -39,7 +39,7 @@ const AMENDMENT: [Member; 3] = [
     must!("altered", List),
 ];
 
-/// A record is opened.
+/// Reads the command that opens a record.
 ///
 /// # Errors
 /// The body is refused, or memory ran out.
@@ -77,7 +77,7 @@ impl Element<OfRecords> for Item {
     }
 }
 
-/// A value is entered.
+/// Reads the command that enters a value.
 ///
 /// # Errors
 /// The body is refused, or memory ran out.
@@ -147,7 +147,7 @@ fn altered_items(alloc: Global, value: &Value) -> Result<Altered, BodyFault>
     }
 }
 
-/// A record is amended.
+/// Reads the command that amends a record.
 ///
 /// # Errors
 /// The body is refused, or memory ran out.

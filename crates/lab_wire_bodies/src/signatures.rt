@@ -166,7 +166,7 @@ fn signature_read(alloc: Global, value: &Value) -> Result<Command, BodyFault>
     signature_by(alloc, value, number, version, digest, meant)
 }
 
-/// A version of a record is signed.
+/// Reads the command that signs a version of a record.
 ///
 /// # Errors
 /// The body is refused, or memory ran out.
